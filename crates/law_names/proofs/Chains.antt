@@ -1,5 +1,6 @@
 -- Leases on directories as the server's side has them: chains, and rows that fit, in each of its steps.
-use Rattle.std.proofs.Common.{◌≡◌, ◌<◌, ◌≤◌, ℕ, suc, ◌+◌, Bool, true, false, not, nat_lt, List, [], ◌∷◌, ◌++◌, Some, None, if◌then◌else◌, is_some, length, refl, sym, subst, ap, ◌∙◌, arith, inl, inr}
+use Rattle.std.proofs.Common.{◌≡◌, ◌<◌, ◌≤◌, ℕ, suc, ◌+◌, Bool, true, false, not, nat_lt, List, [], ◌∷◌, ◌++◌, Some, None, if◌then◌else◌, is_some}
+use Rattle.std.proofs.Common.{length, refl, sym, subst, ap, ◌∙◌, arith, inl, inr}
 use Rattle.std.specs.List.{position, prefix_len}
 use Rattle.std.proofs.lemmas.Bool.Decides.{nat_tests}
 use Rattle.nq_base.specs.declared.Mode.{Mode}
@@ -12,7 +13,6 @@ use Rattle.nq_model.specs.LeaseInterval.{claim_of, HasFitting}
 use Rattle.nq_model.specs.Profile.{same_bytes}
 use Rattle.nq_model.specs.Table.{caches, tag_below, find_row}
 use Rattle.nq_name_server.specs.Served.{Served, number_of}
-use Rattle.walk_steps.proofs.Covers.{GoesOnAt, fitting-goes-on}
 use Rattle.walk_steps.proofs.Packets.{In}
 use Rattle.walk_steps.proofs.TagFacts.{IsDrawn}
 use Rattle.walk_steps.proofs.Rows.{decided, found-row}
@@ -147,10 +147,12 @@ first-same p q [] k e f below = absurd (omega arith)
 first-same p q (d ∷ ds) k e f below = elim (decided (same_bytes d p)) [
   | inl a ↦ elim (decided (same_bytes d q)) [
     | inl b ↦ sym (same-name d p a) ∙ same-name d q b
-    | inr b ↦ absurd (apart (same_bytes d p) (same_bytes d q) (prefix_len (λ x. not (same_bytes x p)) ds) (prefix_len (λ x. not (same_bytes x q)) ds) a b (e ∙ sym f))
+    | inr b ↦ absurd (apart (same_bytes d p) (same_bytes d q) (prefix_len (λ x. not (same_bytes x p)) ds) (prefix_len (λ x. not (same_bytes x q)) ds)
+        a b (e ∙ sym f))
   ]
   | inr a ↦ elim (decided (same_bytes d q)) [
-    | inl b ↦ absurd (apart (same_bytes d q) (same_bytes d p) (prefix_len (λ x. not (same_bytes x q)) ds) (prefix_len (λ x. not (same_bytes x p)) ds) b a (f ∙ sym e))
+    | inl b ↦ absurd (apart (same_bytes d q) (same_bytes d p) (prefix_len (λ x. not (same_bytes x q)) ds) (prefix_len (λ x. not (same_bytes x p)) ds)
+        b a (f ∙ sym e))
     | inr b ↦
         let m = further (same_bytes d p) (prefix_len (λ x. not (same_bytes x p)) ds) k a e in
         let n = further (same_bytes d q) (prefix_len (λ x. not (same_bytes x q)) ds) k b f in
@@ -237,7 +239,8 @@ pub record Leads (s after : Served) : Type 0 where
   pub fits : IsServed after
   pub drawn : (tag : Tag) → WasDrawn s tag → WasDrawn after tag
   pub chain : (prefix : List ℕ) (who : Who) (tag : Tag) → WasDrawn s tag → Chained after prefix who tag → Chained s prefix who tag
-  pub since : (prefix : List ℕ) (who : Who) (tag : Tag) (d : WasDrawn s tag) (c : Chained after prefix who tag) → c.row.since ≡ (chain prefix who tag d c).row.since
+  pub since : (prefix : List ℕ) (who : Who) (tag : Tag) (d : WasDrawn s tag) (c : Chained after prefix who tag) → c.row.since
+      ≡ (chain prefix who tag d c).row.since
 
 pub same-leads : (s after : Served) → after.table ≡ s.table → after.directories ≡ s.directories → IsServed s → Leads s after
 same-leads s after table directories fits = record {
@@ -303,12 +306,3 @@ leads s after more directories fits f = record {
       → c.row.since ≡ (back prefix who tag d c f).row.since
   kept prefix who tag d c (is_new new) = let yes = new tag d in let no = c.began in absurd (cc)
   kept prefix who tag d c (went_on was found caching w since) = sym since
-
--- a fitting row that goes on fits
-pub fit-goes-on : (s after : Served) (more : List (List ℕ)) (prefix : List ℕ) (who : Who) (tag : Tag) (end : ℕ) → after.directories ≡ s.directories ++ more
-    → (h : HasFit s prefix who tag end) → GoesOnAt h.number who.host s.table.rows after.table.rows → HasFit after prefix who tag end
-fit-goes-on s after more prefix who tag end directories h goes = record {
-  number = h.number;
-  numbered = ap (number_of prefix) directories ∙ number-more prefix s.directories more h.number h.numbered;
-  fitting = fitting-goes-on who h.number Mode.Reading tag end s.table after.table refl goes h.fitting;
-}

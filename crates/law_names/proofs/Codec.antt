@@ -10,7 +10,8 @@ use Rattle.nq_datagrams.specs.Messages.{bytes_of}
 use Rattle.nq_directory.specs.Prefix.{IsPrefix, directory}
 use Rattle.nq_directory.specs.declared.listing.messages.DirTag.{DirTag}
 use Rattle.nq_directory.specs.declared.listing.messages.ReadDir.{ReadDir}
-use Rattle.nq_directory.specs.Messages.{Answer, IsEntry, IsReadDir, Listing, page, wait, most_names, answer_bytes, dir_evicted_bytes, dir_vacated_bytes, read_dir_bytes}
+use Rattle.nq_directory.specs.Messages.{Answer, IsEntry, IsReadDir, Listing, page, wait, most_names, answer_bytes, dir_evicted_bytes}
+use Rattle.nq_directory.specs.Messages.{dir_vacated_bytes, read_dir_bytes}
 use Rattle.nq_wire.specs.Parts.{IsGrant, IsTag}
 use Rattle.nq_directory.specs.Reading.{dir_evicted_in, dir_vacated_in, read_dir_in, told_in}
 use Rattle.nq_model.specs.Kept.{File, Kept, find_file}

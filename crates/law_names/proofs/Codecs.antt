@@ -1,5 +1,6 @@
 -- What is asked of the bytes of the messages holds of them.
-use Rattle.std.proofs.Common.{◌≡◌, ◌<◌, ◌^◌, ℕ, ◌==◌, Bool, true, false, List, ◌++◌, Option, Some, None, Ok, Err, if◌then◌else◌, refl, sym, subst, ap, ◌∙◌, arith}
+use Rattle.std.proofs.Common.{◌≡◌, ◌<◌, ◌^◌, ℕ, ◌==◌, Bool, true, false, List, ◌++◌, Option, Some, None, Ok, Err, if◌then◌else◌, refl, sym, subst, ap}
+use Rattle.std.proofs.Common.{◌∙◌, arith}
 use Rattle.std.specs.Prelude.{IfSome, Result}
 use Rattle.nq_base.specs.Name.{IsName}
 use Rattle.nq_base.specs.declared.Grant.{Grant}
@@ -12,8 +13,11 @@ use Rattle.nq_directory.specs.Prefix.{directory}
 use Rattle.nq_directory.proofs.Again.{answers-are-read, evicted-are-read, read-dirs-are-read, vacated-are-read}
 use Rattle.nq_directory.specs.declared.listing.messages.DirTag.{DirTag}
 use Rattle.nq_directory.specs.declared.listing.messages.ReadDir.{ReadDir}
-use Rattle.nq_directory.specs.Messages.{Answer, IsAnswer, IsDirTag, IsReadDir, answer_bytes, dir_evicted, dir_evicted_bytes, dir_tag_arguments, dir_vacated, dir_vacated_bytes, front_bytes, head_of, page, read_dir, read_dir_arguments, read_dir_bytes, results, wait}
-use Rattle.nq_directory.specs.Reading.{call_as, call_by, call_in, dir_evicted_in, dir_tag_by, dir_vacated_in, read_dir_by, read_dir_in, results_by, results_in, results_of, told_at, told_by, told_for, told_in}
+use Rattle.nq_directory.specs.Messages.{Answer, IsAnswer, IsDirTag, IsReadDir, answer_bytes, dir_evicted, dir_evicted_bytes, dir_tag_arguments}
+use Rattle.nq_directory.specs.Messages.{dir_vacated, dir_vacated_bytes, front_bytes, head_of, page, read_dir, read_dir_arguments, read_dir_bytes}
+use Rattle.nq_directory.specs.Messages.{results, wait}
+use Rattle.nq_directory.specs.Reading.{call_as, call_by, call_in, dir_evicted_in, dir_tag_by, dir_vacated_in, read_dir_by, read_dir_in, results_by}
+use Rattle.nq_directory.specs.Reading.{results_in, results_of, told_at, told_by, told_for, told_in}
 use Rattle.nq_model.specs.Kept.{File, Kept, find_file}
 use Rattle.nq_model.specs.Message.{call, request}
 use Rattle.nq_directory.specs.Asking.{is_reading}
@@ -51,7 +55,8 @@ call-other xid procedure other args small differs =
     ∙ rw differs refl
 
 -- no call is a reply
-call-untold : (number xid procedure : ℕ) (args : List ℕ) → procedure < 2 ^ 32 → results_in number (spelling (call_with (head_of xid procedure) args) null null) ≡ None
+call-untold : (number xid procedure : ℕ) (args : List ℕ) → procedure < 2 ^ 32 → results_in number (spelling (call_with (head_of xid procedure) args)
+    null null) ≡ None
 unfolding results_in
 call-untold number xid procedure args small =
     let n = same-word xid in
@@ -228,7 +233,8 @@ same-answer (page l) told = by l.grant refl
                 absurd (cc)
 
 -- what is read of the results
-results-read : (number xid : ℕ) (rs : List ℕ) → xid < 2 ^ 32 → results_in number (spelling (reply_with xid rs) null null) ≡ (if xid == number then Some rs else None)
+results-read : (number xid : ℕ) (rs : List ℕ) → xid < 2 ^ 32 → results_in number (spelling (reply_with xid rs) null null)
+    ≡ (if xid == number then Some rs else None)
 unfolding results_in results_of
 results-read number xid rs fits = ap (results_by number) (message_again (reply_with xid rs) null null (fits, tt) null_fits null_fits)
 
@@ -327,7 +333,8 @@ removes kept host xid who seq q file f found id low same =
     record {
       who = w;
       same = same;
-      changes = ap (changes_as kept host) is ∙ ap (λ o. own_changes host (changes_of w o)) found ∙ owned host (record { who = w; prefix = directory f.name }) same;
+      changes = ap (changes_as kept host) is ∙ ap (λ o. own_changes host (changes_of w o)) found
+          ∙ owned host (record { who = w; prefix = directory f.name }) same;
     }
 
 pub codec : IsCodec

@@ -102,7 +102,8 @@ ran-few head (event ∷ earlier) = by (ran-on (outside_run head earlier) event) 
     by (inr more) few = let e = ap (λ l. length l) more.1 in omega arith
 
 -- what was lawful was so before the last event
-before-last : (most : ℕ) (head : Head) (event : NameEvent) (earlier : List NameEvent) → IsNamesSchedule most head (event ∷ earlier) → IsNamesSchedule most head earlier
+before-last : (most : ℕ) (head : Head) (event : NameEvent) (earlier : List NameEvent) → IsNamesSchedule most head (event ∷ earlier)
+    → IsNamesSchedule most head earlier
 before-last most head event earlier s = record {
   few = let f = s.few in omega arith;
   prefixes = s.prefixes.1;
@@ -114,7 +115,8 @@ before-last most head event earlier s = record {
   ran : List Event
   ran = (outside_run head earlier).ran
 
-  bounds : {after : List Event} → RanOn (outside_run head earlier).ran after → KeepsBounds most head after → KeepsBounds most head (outside_run head earlier).ran
+  bounds : {after : List Event} → RanOn (outside_run head earlier).ran after → KeepsBounds most head after → KeepsBounds most head
+      (outside_run head earlier).ran
   bounds (inl same) k = subst (KeepsBounds most head) same k
   bounds (inr more) k = bounds-before most head more.0 (outside_run head earlier).ran (subst (KeepsBounds most head) more.1 k)
 

@@ -1,5 +1,6 @@
 -- The files of a directory with their names, as all that is said of the directory rests on them.
-use Rattle.std.proofs.Common.{◌≡◌, ◌<◌, ℕ, ◌==◌, Bool, true, false, nat_lt, List, [], ◌∷◌, ◌++◌, Option, Some, None, if◌then◌else◌, take, refl, sym, ap, ◌∙◌, arith, inl, inr}
+use Rattle.std.proofs.Common.{◌≡◌, ◌<◌, ℕ, ◌==◌, Bool, true, false, nat_lt, List, [], ◌∷◌, ◌++◌, Option, Some, None, if◌then◌else◌, take, refl, sym}
+use Rattle.std.proofs.Common.{ap, ◌∙◌, arith, inl, inr}
 use Rattle.std.specs.Prelude.{All}
 use Rattle.std.specs.List.{filter}
 use Rattle.std.proofs.lemmas.Bool.Decides.{nat_tests}
@@ -25,7 +26,8 @@ entries_in prefix files = entries_of prefix (names_of files)
 
 -- ---- what rests on them
 
-behind-entries : (prefix : List ℕ) (after : ℕ) (files : List File) → names_behind prefix after files ≡ filter (λ e. nat_lt after e.file) (entries_in prefix files)
+behind-entries : (prefix : List ℕ) (after : ℕ) (files : List File) → names_behind prefix after files ≡ filter (λ e. nat_lt after e.file)
+    (entries_in prefix files)
 behind-entries prefix after [] = refl
 behind-entries prefix after (f ∷ files) = elim (decided (nat_lt after f.id)) [
   | inl h ↦ elim (decided (same_bytes (directory f.name) prefix)) [

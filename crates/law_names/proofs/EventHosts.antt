@@ -1,5 +1,6 @@
 -- What an event of the inner world does to each client, and to the names that its host keeps.
-use Rattle.std.proofs.Common.{◌≡◌, ◌≢◌, ◌≤◌, ◌⊎◌, ℕ, ◌+◌, ◌==◌, Bool, true, false, List, ◌∷◌, Option, Some, None, if◌then◌else◌, refl, sym, subst, ap, ◌∙◌, arith, inl, inr}
+use Rattle.std.proofs.Common.{◌≡◌, ◌≢◌, ◌≤◌, ◌⊎◌, ℕ, ◌+◌, ◌==◌, Bool, true, false, List, ◌∷◌, Option, Some, None, if◌then◌else◌, refl, sym, subst, ap}
+use Rattle.std.proofs.Common.{◌∙◌, arith, inl, inr}
 use Rattle.std.specs.Prelude.{slice_get, slice_set}
 use Rattle.nq_base.specs.declared.Call.{Call}
 use Rattle.nq_base.specs.declared.Event.{Event}
@@ -65,7 +66,8 @@ pub at-there : (w : World) (host : ℕ) (f : Client → ClientStep) (c : Client)
 unfolding after_client
 at-there w host f c is = ap (λ o. slice_get (at_client w host f o).clients host) is ∙ set-there w.clients host (f c).client c is
 
-stepped-there : (w : World) (host : ℕ) (t : ClientStep) (c : Client) → slice_get w.clients host ≡ Some c → slice_get (after_client w host t).clients host ≡ Some t.client
+stepped-there : (w : World) (host : ℕ) (t : ClientStep) (c : Client) → slice_get w.clients host ≡ Some c → slice_get (after_client w host t).clients
+    host ≡ Some t.client
 unfolding after_client
 stepped-there w host t c is = set-there w.clients host t.client c is
 
@@ -125,7 +127,8 @@ module _ (most : ℕ) (head : Head) (w : World) (ran : List Event) (known : IsKn
         calls = (hear-fits c (known.tickets host c is) k p.message t a.alone e).0;
       }
 
-  delivered : (k host : ℕ) (c : Client) → slice_get w.clients host ≡ Some c → (o : Option Packet) → slice_get w.packets k ≡ o → GoesOn w (Event.Deliver k) host c
+  delivered : (k host : ℕ) (c : Client) → slice_get w.clients host ≡ Some c → (o : Option Packet) → slice_get w.packets k ≡ o
+      → GoesOn w (Event.Deliver k) host c
   delivered k host c is None e = stays-as w (Event.Deliver k) host c is (λ same. client-no-server host (same ∙ ap receiver_of e))
   delivered k host c is (Some p) e = by p.to refl
     where
@@ -177,7 +180,8 @@ pub data NamesGo (w : World) (e : Event) (sides : List Names) (host : ℕ) (n : 
 module _ (most : ℕ) (head : Head) (w : World) (e : Event) (ran : List Event) (known : IsKnown most head w ran) (served : Served) (sides : List Names)
     (sent : List Outer) (bound : ℕ) (standing later : Served) (inv : Inv w served sides sent ran bound standing) where
   -- so the host goes on, where its claims shift
-  pub host-goes : ((host : ℕ) (who : Who) (c d : Client) (prefix : List ℕ) (tag : Tag) (old : Names) → slice_get sides host ≡ Some old → old.who ≡ who → IsClaimed old prefix
+  pub host-goes : ((host : ℕ) (who : Who) (c d : Client) (prefix : List ℕ) (tag : Tag) (old : Names) → slice_get sides host ≡ Some old → old.who ≡ who
+      → IsClaimed old prefix
       → slice_get w.clients host ≡ Some c → slice_get (step w e).clients host ≡ Some d → d.who ≡ c.who → c.who ≡ who → c.now ≤ d.now
       → Shift (ground w standing sent ran) (ground (step w e) later sent (e ∷ ran)) host who c.now d.now prefix tag)
       → (host : ℕ) (n : Names) → NamesGo w e sides host n → HostGoes w (step w e) standing later sides sent ran (e ∷ ran) host n
@@ -194,7 +198,8 @@ module _ (most : ℕ) (head : Head) (w : World) (e : Event) (ran : List Event) (
       let s = inv.hosts host old before in
       let g = goes-on most head w ran known e host s.client s.there other in
       goes old s.client g.after before s.there g.there fewer number g.who g.time
-      (λ prefix tag claimed. shift host n.who s.client g.after prefix tag old before (sym fewer.who) (fewer-claims old n fewer prefix claimed) s.there g.there g.who
+      (λ prefix tag claimed. shift host n.who s.client g.after prefix tag old before (sym fewer.who) (fewer-claims old n fewer prefix claimed) s.there
+      g.there g.who
       (s.same ∙ sym fewer.who) g.time)
       (λ u is. calls s u (g.calls u is))
     where
@@ -217,7 +222,8 @@ called-names w sides h op host n is = by (slice_get sides h) refl is
         none true g o e = apart g
         none false g o e = let bad : None ≡ Some o = sym (rw g refl) ∙ e in cc
 
-    by : (x : Option Names) → slice_get sides h ≡ x → slice_get (at_side (λ y. before_call y op) sides h x) host ≡ Some n → NamesGo w (Event.Call h op) sides host n
+    by : (x : Option Names) → slice_get sides h ≡ x → slice_get (at_side (λ y. before_call y op) sides h x) host ≡ Some n
+        → NamesGo w (Event.Call h op) sides host n
     by None e there = plain there (λ g. none-some n (sym e ∙ ap (slice_get sides) (same-number h host g) ∙ there))
     by (Some old) e there = own (h == host) refl
       where
@@ -226,7 +232,8 @@ called-names w sides h op host n is = by (slice_get sides h) refl is
             let one : h ≡ host = same-number h host g in
             let new : n ≡ before_call old op =
             get-set-same sides h (before_call old op) n (ap (slice_get (slice_set sides h (before_call old op))) one ∙ there) in
-            keeps old (ap (slice_get sides) (sym one) ∙ e) (subst (KeepsFewer old) (sym new) (before-fewer old op)) (ap (λ x. x.next) new ∙ next op) (λ f. absurd (cc))
+            keeps old (ap (slice_get sides) (sym one) ∙ e) (subst (KeepsFewer old) (sym new) (before-fewer old op)) (ap (λ x. x.next) new ∙ next op)
+            (λ f. absurd (cc))
             (λ o f. let same : Some op ≡ Some o = sym (rw g refl) ∙ f in new ∙ ap (before_call old) (some-same op o same))
           where
             next : (o : Call) → (before_call old o).next ≡ old.next

@@ -107,7 +107,12 @@ call-data host x xid (Request.Evicted who file tag) r p is e = absurd (cc)
 call-data host x xid other r p is e =
     let number : x ≡ xid = cc in
     let same : other ≡ r = cc in
-    record { host = host; sender = ap (λ y. sending_host y.sender) is; is = is ∙ ap (λ n. from_host host (call n other)) number ∙ ap (λ y. from_host host (call xid y)) same }
+    record {
+      host = host;
+      sender = ap (λ y. sending_host y.sender) is;
+      is = is ∙ ap (λ n. from_host host (call n other)) number
+          ∙ ap (λ y. from_host host (call xid y)) same;
+    }
 
 pub sent-as : (p : Packet) (xid : ℕ) (r : Request) → IsSent p → p.to ≡ Party.Server → datagram_of p.message ≡ request xid r → SentAs p xid r
 sent-as p xid r (by_host host x q who is by) to e = call-data host x xid q r p is (ap (λ y. datagram_of y.message) (sym is) ∙ e)
@@ -116,7 +121,8 @@ sent-as p xid r (by_server host m is) to e = let bad : Party.Client host ≡ Par
 module _ (most : ℕ) (head : Head) (w : World) (ran : List Event) (known : IsKnown most head w ran) (served : Served) (sides : List Names) (sent : List Outer)
     (bound : ℕ) (standing : Served) (inv : Inv w served sides sent ran bound standing) (number : ℕ) (p : Packet)
     (there : slice_get w.packets number ≡ Some p) (to : p.to ≡ Party.Server)
-    (free : (prefix : List ℕ) → ChangesIn w.server (sending_host p.sender) (datagram_of p.message) prefix → (x : Who) (tag : Tag) → Chained standing prefix x tag
+    (free : (prefix : List ℕ) → ChangesIn w.server (sending_host p.sender) (datagram_of p.message) prefix → (x : Who) (tag : Tag)
+    → Chained standing prefix x tag
     → x.host ≡ sending_host p.sender) where
   abbrev t : ServerStep
   t = receive w.server (sending_host p.sender) (length w.packets) (datagram_of p.message)
@@ -169,7 +175,8 @@ module _ (most : ℕ) (head : Head) (w : World) (ran : List Event) (known : IsKn
         let on : who.host ≡ sending_host p.sender = free prefix (by_create xid by seq blocks name is of fresh.current.from serves) who tag chained in
         let one : by ≡ who = mine by fresh.current.from.host fresh.current.inc on in
         let at : by.host ≡ host = fresh.current.from.host ∙ sym on ∙ here in
-        let k = of-call host xid seq by (Request.Create by seq name blocks) c client (own ∙ sym one) (sent-as p xid _ (known.holds.sent p (in-get w.packets number p there)) to is)
+        let k = of-call host xid seq by (Request.Create by seq name blocks) c client (own ∙ sym one)
+        (sent-as p xid _ (known.holds.sent p (in-get w.packets number p there)) to is)
         refl refl (sym on ∙ here) (ap (λ h. (host_row w.server.kept h).inc) (sym at) ∙ sym fresh.current.inc)
         (subst (λ h. (host_row w.server.kept h).seq < seq) at fresh.above) (λ j h. create-job j by seq name blocks h) in
         let lost : IsForgotten old (Call.Create name blocks) = subst (IsForgotten old) k.2 (forgotten k.0 k.1) in
@@ -179,10 +186,12 @@ module _ (most : ℕ) (head : Head) (w : World) (ran : List Event) (known : IsKn
         → IsChanging w.server (sending_host p.sender) by seq f → prefix ≡ directory f.name → ⊥
     dropped xid by seq q f is changing of =
         let fresh = changing.fresh in
-        let on : who.host ≡ sending_host p.sender = free prefix (by_remove xid by seq q f is changing.found of fresh.current.from changing.serves) who tag chained in
+        let on : who.host ≡ sending_host p.sender = free prefix (by_remove xid by seq q f is changing.found of fresh.current.from changing.serves) who
+        tag chained in
         let one : by ≡ who = mine by fresh.current.from.host fresh.current.inc on in
         let at : by.host ≡ host = fresh.current.from.host ∙ sym on ∙ here in
-        let k = of-call host xid seq by (Request.Remove by seq q f.id) c client (own ∙ sym one) (sent-as p xid _ (known.holds.sent p (in-get w.packets number p there)) to is)
+        let k = of-call host xid seq by (Request.Remove by seq q f.id) c client (own ∙ sym one)
+        (sent-as p xid _ (known.holds.sent p (in-get w.packets number p there)) to is)
         refl refl (sym on ∙ here) (ap (λ h. (host_row w.server.kept h).inc) (sym at) ∙ sym fresh.current.inc)
         (subst (λ h. (host_row w.server.kept h).seq < seq) at fresh.above) (λ j h. remove-job j by seq q f.id h) in
         let lost : IsForgotten old (Call.Remove f.id) = subst (IsForgotten old) k.2 (forgotten k.0 k.1) in
@@ -196,7 +205,8 @@ module _ (most : ℕ) (head : Head) (w : World) (ran : List Event) (known : IsKn
         by (stay names) = ap (entries_of prefix) (sym names)
         by (made xid from seq blocks name is fresh serves files) = elim (decided (same_bytes (directory name) prefix)) [
           | inl on ↦ absurd (created xid from seq blocks name is fresh serves (sym (same-name (directory name) prefix on)))
-          | inr off ↦ sym (ap (entries_in prefix) files ∙ entries-added prefix w.server.kept.files (new_file w.server.kept.next name blocks) (new-other name blocks prefix off))
+          | inr off ↦ sym (ap (entries_in prefix) files ∙ entries-added prefix w.server.kept.files (new_file w.server.kept.next name blocks)
+              (new-other name blocks prefix off))
         ]
         by (removed xid from seq q f is changing files) = elim (decided (same_bytes (directory f.name) prefix)) [
           | inl on ↦ absurd (dropped xid from seq q f is changing (sym (same-name (directory f.name) prefix on)))

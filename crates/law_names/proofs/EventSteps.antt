@@ -95,7 +95,8 @@ module _ (most : ℕ) (head : Head) (w : World) (ran : List Event) (known : IsKn
   })
 
   pub receive-event : (number : ℕ) (p : Packet) → slice_get w.packets number ≡ Some p → p.to ≡ Party.Server
-      → ((prefix : List ℕ) → ChangesIn w.server (sending_host p.sender) (datagram_of p.message) prefix → (x : Who) (tag : Tag) → Chained standing prefix x tag → x.host ≡ sending_host p.sender)
+      → ((prefix : List ℕ) → ChangesIn w.server (sending_host p.sender) (datagram_of p.message) prefix → (x : Who) (tag : Tag)
+      → Chained standing prefix x tag → x.host ≡ sending_host p.sender)
       → IsKnown most head (step w (Event.Deliver number)) (Event.Deliver number ∷ ran)
       → ((host : ℕ) (n : Names) → slice_get sides host ≡ Some n → NamesGo w (Event.Deliver number) sides host n)
       → Inv (step w (Event.Deliver number)) served sides (sent ++ more_of w (Event.Deliver number)) (Event.Deliver number ∷ ran) (bound + 1) standing
@@ -104,9 +105,11 @@ module _ (most : ℕ) (head : Head) (w : World) (ran : List Event) (known : IsKn
       (Event.Deliver number ∷ ran) (record {
         fits = inv.fits;
         stands = subst (λ s. Stands s.phase served standing) (sym is)
-            (stands-on w.server.phase t.server.phase served standing (receive-phase w.server (sending_host p.sender) (length w.packets) (datagram_of p.message)).1 inv.stands);
+            (stands-on w.server.phase t.server.phase served standing (receive-phase w.server (sending_host p.sender) (length w.packets)
+            (datagram_of p.message)).1 inv.stands);
         time = inv.time ∙ sym (receive-keeps w.server (sending_host p.sender) (length w.packets) (datagram_of p.message)).1 ∙ ap (λ s. s.now) (sym is);
-        longest = inv.longest ∙ sym (receive-keeps w.server (sending_host p.sender) (length w.packets) (datagram_of p.message)).0 ∙ ap (λ s. s.longest) (sym is);
+        longest = inv.longest ∙ sym (receive-keeps w.server (sending_host p.sender) (length w.packets) (datagram_of p.message)).0
+            ∙ ap (λ s. s.longest) (sym is);
         boot = inv.boot ∙ sym (boot-stays w.server (sending_host p.sender) (length w.packets) (datagram_of p.message)) ∙ ap (λ s. s.kept.boot) (sym is);
         drawn = more-drawn;
         prefixes = inv.prefixes;
@@ -115,7 +118,8 @@ module _ (most : ℕ) (head : Head) (w : World) (ran : List Event) (known : IsKn
             host-goes most head w (Event.Deliver number) ran known served sides sent bound standing standing inv
             (λ h who c d prefix tag old before mine claimed client later who-is own time.
             kept-shift w (step w (Event.Deliver number)) standing sent ran (Event.Deliver number) h who c.now d.now prefix tag inv.fits (clock h c client) time
-            (received-kept most head w ran known served sides sent bound standing inv number p there to free (step w (Event.Deliver number)) is latter h who c d
+            (received-kept most head w ran known served sides sent bound standing inv number p there to free (step w (Event.Deliver number)) is latter
+            h who c d
             prefix tag old before mine claimed client later who-is own))
             host n (go host n here);
         inner = more-inner w (Event.Deliver number);
@@ -220,7 +224,8 @@ restart-names w served sides sent ran bound standing inv h host n is = by (h == 
     mine one s =
         let k = inv.hosts host s.0 s.1 in
         let after = at-there w host restart k.client k.there in
-        let here : slice_get (step w (Event.Restart h)).clients h ≡ Some (restart k.client).client = subst (λ x. slice_get (step w (Event.Restart x)).clients x ≡ Some (restart k.client).client) (sym one) after in
+        let here : slice_get (step w (Event.Restart h)).clients h ≡ Some (restart k.client).client =
+        subst (λ x. slice_get (step w (Event.Restart x)).clients x ≡ Some (restart k.client).client) (sym one) after in
         let new : n ≡ new_names (restart k.client).client.who =
         get-set-same sides host (new_names (restart k.client).client.who) n
         (subst (λ x. slice_get (slice_set sides x (new_names (restart k.client).client.who)) host ≡ Some n) one

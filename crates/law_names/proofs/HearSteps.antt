@@ -1,5 +1,6 @@
 -- A host hears, or asks for a list: what holds of every outer world is kept.
-use Rattle.std.proofs.Common.{◌≡◌, ◌<◌, ◌≤◌, ◌^◌, ◌⊎◌, ℕ, ◌+◌, Bool, true, false, not, nat_lt, List, [], ◌∷◌, ◌++◌, Option, Some, None, if◌then◌else◌, length, refl, sym, subst, ap, ◌∙◌, arith, inl, inr}
+use Rattle.std.proofs.Common.{◌≡◌, ◌<◌, ◌≤◌, ◌^◌, ◌⊎◌, ℕ, ◌+◌, Bool, true, false, not, nat_lt, List, [], ◌∷◌, ◌++◌, Option, Some, None, if◌then◌else◌}
+use Rattle.std.proofs.Common.{length, refl, sym, subst, ap, ◌∙◌, arith, inl, inr}
 use Rattle.std.specs.Prelude.{⊤, All, slice_get, slice_set}
 use Rattle.std.proofs.lemmas.List.Elements.{All-head, All-tail}
 use Rattle.nq_base.specs.declared.Call.{Call}
@@ -19,7 +20,8 @@ use Rattle.nq_model.specs.Profile.{same_bytes}
 use Rattle.nq_model.specs.Stepped.{most_events}
 use Rattle.nq_model.specs.Table.{same_who}
 use Rattle.nq_model.specs.World.{World}
-use Rattle.nq_directory.specs.Asking.{Asks, asks_behind, cleared, evicted, gives_up, goes_on, grown, heard, heard_as, heard_by, is_later, last_id, lease_by, lists_dir, noticed, request_of, silent, takes_page, told, vacated_of, with_page, with_room}
+use Rattle.nq_directory.specs.Asking.{Asks, asks_behind, cleared, evicted, gives_up, goes_on, grown, heard, heard_as, heard_by, is_later, last_id}
+use Rattle.nq_directory.specs.Asking.{lease_by, lists_dir, noticed, request_of, silent, takes_page, told, vacated_of, with_page, with_room}
 use Rattle.nq_directory.specs.NameCacheNames.{DirList, Names, Request, empty_list, forgets, list_of, most_lists, number_after, other_lists}
 use Rattle.nq_name_server.specs.Served.{Served}
 use Rattle.nq_name_server.specs.Outer.{Outer}
@@ -317,7 +319,8 @@ module _ (codec : IsCodec) (w : World) (served : Served) (sides : List Names) (s
       takes-after l reads (Some g) has = by (goes_on r.part (Some g)) refl
         where
           by : (b : Bool) → goes_on r.part (Some g) ≡ b
-              → After (if b then grown n r (with_page r.part r.sent g l.names) (last_id r.after l.names) l.more term now else silent (record n { asked = None }))
+              → After (if b then grown n r (with_page r.part r.sent g l.names) (last_id r.after l.names) l.more term now
+              else silent (record n { asked = None }))
           by true on = more-after l reads g has on l.more refl
           by false off = forgets-request
 
@@ -361,5 +364,13 @@ module _ (codec : IsCodec) (w : World) (served : Served) (sides : List Names) (s
       (λ l i. own.fits.lists l (filtered-in (λ x. not (same_bytes x.prefix prefix)) l n.lists (in-room l (other_lists prefix n.lists) i)))
       (record { xid = let k = own.next in omega arith; host = words.0; inc = words.1; prefix = fits; after = omega arith })
       refl refl refl refl refl refl (refl, refl)
-      (λ u is. not-changing (record (cleared prefix n) { next = number_after n.next; asked = Some (record { xid = n.next; after = 0; sent = now; part = empty_list prefix }) })
+      (λ u is. not-changing (record (cleared prefix n) {
+        next = number_after n.next;
+        asked = Some (record {
+          xid = n.next;
+          after = 0;
+          sent = now;
+          part = empty_list prefix;
+        });
+      })
       own.client.call idle u is)

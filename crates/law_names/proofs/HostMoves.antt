@@ -48,7 +48,8 @@ other-asked : (prefix : List ℕ) (o : Option Request) (r : Request) → other_r
 other-asked prefix None r h = absurd (cc)
 other-asked prefix (Some q) r h = step (same_bytes q.part.prefix prefix) refl h
   where
-    step : (b : Bool) → same_bytes q.part.prefix prefix ≡ b → (if b then None else Some q) ≡ Some r → (Some q ≡ Some r) × (same_bytes r.part.prefix prefix ≡ false)
+    step : (b : Bool) → same_bytes q.part.prefix prefix ≡ b → (if b then None else Some q) ≡ Some r → (Some q ≡ Some r)
+        × (same_bytes r.part.prefix prefix ≡ false)
     step true e f = absurd (cc)
     step false e f = (f, ap (λ x. same_bytes x.part.prefix prefix) (some-same r q (sym f)) ∙ e)
 

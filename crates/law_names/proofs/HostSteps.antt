@@ -1,5 +1,6 @@
 -- A host asks for lists, and hears: what holds of every outer world is kept.
-use Rattle.std.proofs.Common.{◌≡◌, ◌≢◌, ◌<◌, ◌≤◌, ◌^◌, ◌⊎◌, ℕ, ◌+◌, ◌==◌, Bool, true, false, List, [], ◌∷◌, ◌++◌, Some, None, length, refl, sym, subst, ap, ◌∙◌, arith, inl, inr}
+use Rattle.std.proofs.Common.{◌≡◌, ◌≢◌, ◌<◌, ◌≤◌, ◌^◌, ◌⊎◌, ℕ, ◌+◌, ◌==◌, Bool, true, false, List, [], ◌∷◌, ◌++◌, Some, None, length, refl, sym}
+use Rattle.std.proofs.Common.{subst, ap, ◌∙◌, arith, inl, inr}
 use Rattle.std.specs.Prelude.{slice_get, slice_set}
 use Rattle.nq_base.specs.declared.Event.{Event}
 use Rattle.nq_base.specs.declared.Party.{Party}
@@ -223,7 +224,8 @@ module _ (w : World) (served : Served) (sides : List Names) (sent : List Outer) 
 
   -- ---- a page is asked for
 
-  pub asking-inv : IsCodec → bound ≤ most_events → own.client.who.host ≡ host → (before : Names) (r : ReadDir) (part : Request) → before.who ≡ n.who → before.next ≡ n.next
+  pub asking-inv : IsCodec → bound ≤ most_events → own.client.who.host ≡ host → (before : Names) (r : ReadDir) (part : Request) → before.who ≡ n.who
+      → before.next ≡ n.next
       → ((l : DirList) → In before.lists l → ListFits (ground w standing sent ran) host n.who own.client.now l)
       → IsAsking r → r.who ≡ n.who → r.xid ≡ n.next → r.prefix ≡ part.part.prefix → r.after ≡ part.after → part.xid ≡ n.next → part.sent ≡ own.client.now
       → PartFits (ground w standing sent ran) host n.who own.client.now part part.part.lease

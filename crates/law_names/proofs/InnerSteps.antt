@@ -58,7 +58,8 @@ module _ (w : World) (sent more : List Outer) (inner : AreInner w more) where
   }
 
 -- what a host has after the event: nothing, since it started again, or no more than before, and its claims shift
-pub data HostGoes (w after : World) (standing later : Served) (sides : List Names) (sent : List Outer) (ran next : List Event) (host : ℕ) (n : Names) : Type 0 where
+pub data HostGoes (w after : World) (standing later : Served) (sides : List Names) (sent : List Outer) (ran next : List Event) (host : ℕ)
+    (n : Names) : Type 0 where
   anew : (old : Names) (c : Client) → slice_get sides host ≡ Some old → slice_get after.clients host ≡ Some c → n.lists ≡ [] → n.asked ≡ None
       → n.next ≡ first_number → c.who ≡ n.who → old.who.inc < n.who.inc → c.call ≡ None → HostGoes w after standing later sides sent ran next host n
   goes : (old : Names) (c d : Client) → slice_get sides host ≡ Some old → slice_get w.clients host ≡ Some c → slice_get after.clients host ≡ Some d
@@ -85,7 +86,8 @@ module _ (w : World) (served : Served) (sides : List Names) (sent : List Outer) 
     (inv : Inv w served sides sent ran bound standing) (after : World) (later now : Served) (names : List Names) (more : List Outer) (next : List Event)
     (k : InnerAfter w after standing later now sides names sent more ran next bound) where
   -- the same packets beside
-  ground-on : (host : ℕ) (n : Names) (time : ℕ) → HostFits (ground after later sent next) host n time → HostFits (ground after later (sent ++ more) next) host n time
+  ground-on : (host : ℕ) (n : Names) (time : ℕ) → HostFits (ground after later sent next) host n time
+      → HostFits (ground after later (sent ++ more) next) host n time
   ground-on host n time h =
       host-shifted (ground after later sent next) (ground after later (sent ++ more) next) host n time time
       (λ prefix tag claimed. sent-shift after later sent (sent ++ more) next host n.who time prefix tag k.fits

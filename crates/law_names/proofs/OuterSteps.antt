@@ -1,5 +1,6 @@
 -- Each event of a run with lists keeps what holds of every outer world.
-use Rattle.std.proofs.Common.{◌≡◌, ◌<◌, ◌≤◌, ◌^◌, ℕ, ◌+◌, ◌==◌, ◌&&◌, Bool, true, false, not, List, [], ◌∷◌, ◌++◌, Option, Some, None, if◌then◌else◌, drop, length, refl, sym, subst, ap, ◌∙◌, arith, inl, inr, append-nil}
+use Rattle.std.proofs.Common.{◌≡◌, ◌<◌, ◌≤◌, ◌^◌, ℕ, ◌+◌, ◌==◌, ◌&&◌, Bool, true, false, not, List, [], ◌∷◌, ◌++◌, Option, Some, None, if◌then◌else◌}
+use Rattle.std.proofs.Common.{drop, length, refl, sym, subst, ap, ◌∙◌, arith, inl, inr, append-nil}
 use Rattle.std.specs.Prelude.{All, slice_get, slice_set}
 use Rattle.std.proofs.lemmas.List.Elements.{All-head, All-tail}
 use Rattle.std.proofs.lemmas.Bool.{and_parts, not-true}
@@ -33,7 +34,9 @@ use Rattle.nq_name_server.specs.Serving.{Serves, ToHost, holds_up, puts_off, rea
 use Rattle.nq_name_server.proofs.Inner.{inner-ran}
 use Rattle.nq_name_server.specs.declared.run.event.NameEvent.{NameEvent}
 use Rattle.nq_name_server.specs.Outer.{Outer, Outside}
-use Rattle.nq_name_server.specs.Outside.{Changes, asks_as, at_side, beside, changes_as, delivers, heard_by, held_or, inner, is_changing, lists, new_side, outside_step, passes, reads, reads_in, renewed, sends, sends_all, sends_from, sends_these, served_as, served_read, served_vacated, serves, takes, to_host, to_server}
+use Rattle.nq_name_server.specs.Outside.{Changes, asks_as, at_side, beside, changes_as, delivers, heard_by, held_or, inner, is_changing, lists}
+use Rattle.nq_name_server.specs.Outside.{new_side, outside_step, passes, reads, reads_in, renewed, sends, sends_all, sends_from, sends_these}
+use Rattle.nq_name_server.specs.Outside.{served_as, served_read, served_vacated, serves, takes, to_host, to_server}
 use Rattle.nq_name_server.specs.Theorem.{BringsPrefix}
 use Rattle.walk_steps.proofs.ClientMoves.{none-some, some-same}
 use Rattle.walk_steps.proofs.Packets.{In, in-get}
@@ -124,7 +127,8 @@ module _ (codec : IsCodec) (most : ℕ) (head : Head) (o : Outside) (bound : ℕ
     first : (next : ℕ) (files : List File) (name : List ℕ) (f : File) → All (IsFileWithin next) files → find_name name files ≡ Some f → 1 ≤ f.id
     first next [] name f each is = absurd (cc)
     first next (g ∷ files) name f each is = elim (decided (same_bytes g.name name)) [
-      | inl e ↦ subst (λ x. 1 ≤ x.id) (found-first (same_bytes g.name name) g f (find_name name files) e is) (All-head (IsFileWithin next) g files each).from_one
+      | inl e ↦ subst (λ x. 1 ≤ x.id) (found-first (same_bytes g.name name) g f (find_name name files) e is) (All-head (IsFileWithin next) g files
+          each).from_one
       | inr e ↦ first next files name f (All-tail (IsFileWithin next) g files each) (found-later (same_bytes g.name name) g f (find_name name files) e is)
     ]
 
@@ -146,7 +150,8 @@ module _ (codec : IsCodec) (most : ℕ) (head : Head) (o : Outside) (bound : ℕ
       let one : s.client ≡ c = some-same s.client c (sym s.there ∙ f) in
       subst (λ x. Later (asks_as o host (heard n p.bytes c.term x)) bound) (ap (λ x. x.now) one)
       (as-asked host (heard n p.bytes c.term s.client.now)
-      (heard-after codec o.world o.served o.sides o.sent o.ran bound standing inv host n e short (own-host host n e) (words host n e) kept p there to alone c.term))
+      (heard-after codec o.world o.served o.sides o.sent o.ran bound standing inv host n e short (own-host host n e) (words host n e) kept p there to
+      alone c.term))
 
   listing : (host : ℕ) (prefix : List ℕ) → IsPrefix prefix → (side : Option Names) (client : Option Client)
       → slice_get o.sides host ≡ side → slice_get o.world.clients host ≡ client → Later (lists o host prefix side client) bound
@@ -158,10 +163,12 @@ module _ (codec : IsCodec) (most : ℕ) (head : Head) (o : Outside) (bound : ℕ
       asked g =
           let s = inv.hosts host n e in
           let one : s.client ≡ c = some-same s.client c (sym s.there ∙ f) in
-          let idle : is_changing s.client.call ≡ false = ap (λ x. is_changing x.call) one ∙ not-true (is_changing c.call) (and_parts c.attached (not (is_changing c.call)) g).1 in
+          let idle : is_changing s.client.call ≡ false = ap (λ x. is_changing x.call) one ∙ not-true (is_changing c.call)
+          (and_parts c.attached (not (is_changing c.call)) g).1 in
           subst (λ x. Later (asks_as o host (lists_dir n prefix c.term x)) bound) (ap (λ x. x.now) one)
           (as-asked host (lists_dir n prefix c.term s.client.now)
-          (lists-after codec o.world o.served o.sides o.sent o.ran bound standing inv host n e short (own-host host n e) (words host n e) kept prefix c.term fits idle))
+          (lists-after codec o.world o.served o.sides o.sent o.ran bound standing inv host n e short (own-host host n e) (words host n e) kept prefix
+          c.term fits idle))
 
       by : (b : Bool) → (c.attached && not (is_changing c.call)) ≡ b → Later (if b then asks_as o host (lists_dir n prefix c.term c.now) else o) bound
       by true g = asked g
@@ -180,7 +187,8 @@ module _ (codec : IsCodec) (most : ℕ) (head : Head) (o : Outside) (bound : ℕ
   no-server host e = cc
 
   -- a delivery to a host, or of no packet
-  to-client : (number host : ℕ) (q : Packet) → slice_get o.world.packets number ≡ Some q → q.to ≡ Party.Client host → Later (inner o (Event.Deliver number)) bound
+  to-client : (number host : ℕ) (q : Packet) → slice_get o.world.packets number ≡ Some q → q.to ≡ Party.Client host
+      → Later (inner o (Event.Deliver number)) bound
   to-client number host q there to =
       let same : (step o.world (Event.Deliver number)).server ≡ o.world.server =
       (of-one-host o.world (Event.Deliver number)).server (λ e. no-server host (e ∙ ap receiver_of there ∙ to)) in (
@@ -208,7 +216,8 @@ module _ (codec : IsCodec) (most : ℕ) (head : Head) (o : Outside) (bound : ℕ
   IsFree host number bytes = (c : Changes) → changes_as o.world.server.kept host (datagram_in bytes) ≡ Some c → holds_up o.served c.who c.prefix ≡ None
 
   to-serve : (number host : ℕ) (q : Packet) → slice_get o.world.packets number ≡ Some q → q.sender ≡ Party.Client host → q.to ≡ Party.Server
-      → CarriesText q.message → IsKnown most head (step o.world (Event.Deliver number)) (Event.Deliver number ∷ o.ran) → IsFree host number (bytes_of q.message)
+      → CarriesText q.message → IsKnown most head (step o.world (Event.Deliver number)) (Event.Deliver number ∷ o.ran)
+      → IsFree host number (bytes_of q.message)
       → Later (inner o (Event.Deliver number)) bound
   to-serve number host q there sender to text latter free = (
     standing,
@@ -230,7 +239,8 @@ module _ (codec : IsCodec) (most : ℕ) (head : Head) (o : Outside) (bound : ℕ
           (subst (λ y. Chained y prefix x tag) one chained)
           ∙ change.same ∙ sym from
 
-      alone : (prefix : List ℕ) → ChangesIn o.world.server (sending_host q.sender) (datagram_of q.message) prefix → (x : Who) (tag : Tag) → Chained standing prefix x tag
+      alone : (prefix : List ℕ) → ChangesIn o.world.server (sending_host q.sender) (datagram_of q.message) prefix → (x : Who) (tag : Tag)
+          → Chained standing prefix x tag
           → x.host ≡ sending_host q.sender
       alone prefix (by_create xid who seq blocks name is of owner serves) x tag chained =
           let s = sent-as q xid (Request.Create who seq name blocks) (known.holds.sent q (in-get o.world.packets number q there)) to is in
@@ -309,7 +319,8 @@ module _ (codec : IsCodec) (most : ℕ) (head : Head) (o : Outside) (bound : ℕ
       by (noticing h t fits drawn is) = absurd (no-server host (sym (ap (λ x. x.sender) is) ∙ sender))
 
   reading : (host : ℕ) (p : Outer) (r : ReadDir) → In o.sent p → p.sender ≡ Party.Client host → p.is ≡ None → read_dir_in p.bytes ≡ Some r
-      → r.who.host ≡ host → r.who.inc ≡ (host_row o.world.server.kept host).inc → (phase : Phase) → o.world.server.phase ≡ phase → Later (reads_in o r phase) bound
+      → r.who.host ≡ host → r.who.inc ≡ (host_row o.world.server.kept host).inc → (phase : Phase) → o.world.server.phase ≡ phase
+      → Later (reads_in o r phase) bound
   reading host p r there sender alone reads own inc serving e =
       as-served (reads_dir o.served r (leaf_behind r.prefix r.after o.world.server.kept.files)) _
       (reads-inv codec most head o.world o.served o.sides o.sent o.ran bound standing inv known short here host r
@@ -382,7 +393,8 @@ module _ (codec : IsCodec) (most : ℕ) (head : Head) (o : Outside) (bound : ℕ
       let w = step o.world e in (
         standing,
         as-inner (renewed o e w) (length o.world.packets) (drop (length o.world.packets) w.packets) (bound + 1) standing
-            (client-event most head o.world o.ran known o.served o.sides o.sent bound standing inv e (at_side (λ n. before_call n op) o.sides host (slice_get o.sides host))
+            (client-event most head o.world o.ran known o.served o.sides o.sent bound standing inv e (at_side (λ n. before_call n op) o.sides host
+            (slice_get o.sides host))
             ((of-one-host o.world e).server (λ same. no-server host same)) (λ h n is. called-names o.world o.sides host op h n is)),
       )
   step-inv (NameEvent.Plain Event.ServerTick) fits k =

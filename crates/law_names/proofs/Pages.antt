@@ -1,5 +1,6 @@
 -- Pages of a directory, put together, have what is kept of it.
-use Rattle.std.proofs.Common.{◌≡◌, ◌<◌, ◌≤◌, ℕ, zero, suc, Bool, true, false, nat_lt, nat_le, List, [], ◌∷◌, Option, Some, None, if◌then◌else◌, take, length, refl, sym, subst, ap, ◌∙◌, arith, inl, inr}
+use Rattle.std.proofs.Common.{◌≡◌, ◌<◌, ◌≤◌, ℕ, zero, suc, Bool, true, false, nat_lt, nat_le, List, [], ◌∷◌, Option, Some, None, if◌then◌else◌, take}
+use Rattle.std.proofs.Common.{length, refl, sym, subst, ap, ◌∙◌, arith, inl, inr}
 use Rattle.std.specs.Prelude.{All}
 use Rattle.std.specs.List.{filter}
 use Rattle.std.proofs.lemmas.List.Elements.{All-head, All-tail}
@@ -60,7 +61,8 @@ AreDistinct (e ∷ es) = (named e.name es ≡ None) × AreDistinct es
 -- names that were put are found, and the others are found as before
 pub named-puts : (name : List ℕ) (es xs : List FileName) → AreDistinct es → named name (put_names es xs) ≡ first_of (named name es) (named name xs)
 named-puts name [] xs d = refl
-named-puts name (e ∷ es) xs d = named-puts name es (put_name e xs) d.1 ∙ ap (first_of (named name es)) (named-put name e xs) ∙ step (same_bytes e.name name) refl
+named-puts name (e ∷ es) xs d = named-puts name es (put_name e xs) d.1 ∙ ap (first_of (named name es)) (named-put name e xs)
+    ∙ step (same_bytes e.name name) refl
   where
     step : (b : Bool) → same_bytes e.name name ≡ b
         → first_of (named name es) (if same_bytes e.name name then Some e.file else named name xs) ≡ first_of (named name (e ∷ es)) (named name xs)
@@ -183,7 +185,8 @@ low-none after None above = refl
 low-none after (Some x) above = let a = above x refl in let no : nat_le x after ≡ false = grind (arith, nat_tests) in rw no refl
 
 -- what a page has of a name
-pub named-taken : (k after : ℕ) (name : List ℕ) (es : List FileName) → Ascends after es → named name (take k es) ≡ cut (last_id after (take k es)) (named name es)
+pub named-taken : (k after : ℕ) (name : List ℕ) (es : List FileName) → Ascends after es → named name (take k es) ≡ cut (last_id after (take k es))
+    (named name es)
 named-taken zero after name es up = low-none after (named name es) (λ x e. named-above after name es x up e)
 named-taken (suc k) after name [] up = refl
 named-taken (suc k) after name (e ∷ es) up = elim (decided (same_bytes e.name name)) [
@@ -260,7 +263,8 @@ taken-whole (suc most) [] few = refl
 taken-whole zero (e ∷ es) few = absurd (omega arith)
 taken-whole (suc most) (e ∷ es) few = ap (λ l. e ∷ l) (taken-whole most es (omega arith))
 
-pub becomes-whole : (most : ℕ) (prefix : List ℕ) (after : ℕ) (names page : List FileName) (files : List File) → AreApart files → IsUpTo prefix after names files
+pub becomes-whole : (most : ℕ) (prefix : List ℕ) (after : ℕ) (names page : List FileName) (files : List File) → AreApart files
+    → IsUpTo prefix after names files
     → IsPage most prefix after page files → nat_lt most (length (names_behind prefix after files)) ≡ false → IsWhole prefix (put_names page names) files
 becomes-whole most prefix after names page files apart before is few name of =
     let ls = names_behind prefix after files in

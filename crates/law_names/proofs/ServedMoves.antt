@@ -1,5 +1,6 @@
 -- The other steps of the server's side: a change of a directory is held up, a list is given up, the clock ticks.
-use Rattle.std.proofs.Common.{◌≡◌, ◌≢◌, ◌<◌, ◌≤◌, ◌⊎◌, ℕ, ◌+◌, ◌%◌, ◌==◌, Bool, true, false, not, ◌&&◌, List, [], ◌∷◌, Option, Some, None, if◌then◌else◌, length, refl, sym, subst, ap, ◌∙◌, arith, inl, inr}
+use Rattle.std.proofs.Common.{◌≡◌, ◌≢◌, ◌<◌, ◌≤◌, ◌⊎◌, ℕ, ◌+◌, ◌%◌, ◌==◌, Bool, true, false, not, ◌&&◌, List, [], ◌∷◌, Option, Some, None}
+use Rattle.std.proofs.Common.{if◌then◌else◌, length, refl, sym, subst, ap, ◌∙◌, arith, inl, inr}
 use Rattle.std.specs.List.{find, filter}
 use Rattle.std.proofs.lemmas.Bool.{and_parts, and_from}
 use Rattle.std.proofs.lemmas.Bool.Decides.{nat_tests}
@@ -16,7 +17,8 @@ use Rattle.nq_model.specs.Profile.{xid_end}
 use Rattle.nq_model.specs.ServerStep.{is_over, vacated_rows}
 use Rattle.nq_model.specs.Table.{Table, caches, same_tag, tag_below, is_row_of, find_row, drop_row, with_rows}
 use Rattle.nq_name_server.specs.Served.{Served, number_of}
-use Rattle.nq_name_server.specs.Serving.{Serves, ToHost, notices, notice_to, changes_for, readers, holds, holds_for, holds_as, holds_up, gives_up, vacates, ticks}
+use Rattle.nq_name_server.specs.Serving.{Serves, ToHost, notices, notice_to, changes_for, readers, holds, holds_for, holds_as, holds_up, gives_up}
+use Rattle.nq_name_server.specs.Serving.{vacates, ticks}
 use Rattle.walk_steps.proofs.ClientMoves.{some-same, none-some}
 use Rattle.walk_steps.proofs.Covers.{GoesOnAt, fitting-goes-on, marked-goes-on, same-goes-on}
 use Rattle.walk_steps.proofs.ServerEffects.{unique-in}
@@ -106,7 +108,8 @@ pub record IsNotice (prefix : List ℕ) (s : Served) (d : ToHost) : Type 0 where
   pub boot : row.tag.boot ≡ s.table.boot
   pub number : row.tag.number ≤ s.table.drawn
 
-noticed : (prefix : List ℕ) (s : Served) (xid : ℕ) (rows : List Row) → ((row : Row) → In rows row → (row.tag.boot ≡ s.table.boot) × (row.tag.number ≤ s.table.drawn))
+noticed : (prefix : List ℕ) (s : Served) (xid : ℕ) (rows : List Row) → ((row : Row) → In rows row → (row.tag.boot ≡ s.table.boot)
+    × (row.tag.number ≤ s.table.drawn))
     → (d : ToHost) → In (notices prefix xid rows) d → IsNotice prefix s d
 noticed prefix s xid [] drawn d i = absurd i
 noticed prefix s xid (row ∷ rows) drawn d (inl same) =
@@ -217,7 +220,8 @@ pub record VacatedServed (s : Served) (t : DirTag) (after : Served) : Type 0 whe
 same-below : (a b c : Tag) → same_tag a b ≡ true → tag_below b c ≡ true → tag_below a c ≡ false → ⊥
 same-below a b c same below off = grind (arith, nat_tests)
 
-given-up : (s : Served) (t : DirTag) (number : ℕ) → number_of t.prefix s.directories ≡ Some number → IsServed s → VacatedServed s t (gives_up s t (Some number))
+given-up : (s : Served) (t : DirTag) (number : ℕ) → number_of t.prefix s.directories ≡ Some number → IsServed s
+    → VacatedServed s t (gives_up s t (Some number))
 unfolding with_rows
 given-up s t number numbered fits = record {
   leads = leads s (gives_up s t (Some number)) [] (sym (append-none s.directories)) fits
@@ -252,7 +256,8 @@ given-up s t number numbered fits = record {
           (number-same h.fitting.row.file number (key.0 ∙ f)) (number-same h.fitting.row.who.host t.who.host (key.1 ∙ g)) in
           absurd (cc)
 
-      kept : (row : Row) → h.fitting.row ≡ row → h.number ≡ number → who.host ≡ t.who.host → (b : Bool) → (row.who.inc == t.who.inc && same_tag row.tag t.tag) ≡ b
+      kept : (row : Row) → h.fitting.row ≡ row → h.number ≡ number → who.host ≡ t.who.host → (b : Bool)
+          → (row.who.inc == t.who.inc && same_tag row.tag t.tag) ≡ b
           → find_row h.number who.host (if b then drop_row number t.who.host s.table.rows else s.table.rows) ≡ Some h.fitting.row
       kept row one f g false e = h.fitting.stands
       kept row one f g true e =
@@ -270,7 +275,8 @@ given-up s t number numbered fits = record {
           let f : h.number ≡ number = sym key.0 ∙ same-number h.fitting.row.file number both.0 in
           let g : who.host ≡ t.who.host = sym key.1 ∙ same-number h.fitting.row.who.host t.who.host both.1 in
           let mine : find_row number t.who.host s.table.rows ≡ Some h.fitting.row =
-          subst (λ n. find_row n t.who.host s.table.rows ≡ Some h.fitting.row) f (subst (λ n. find_row h.number n s.table.rows ≡ Some h.fitting.row) g h.fitting.stands) in
+          subst (λ n. find_row n t.who.host s.table.rows ≡ Some h.fitting.row) f (subst (λ n. find_row h.number n s.table.rows ≡ Some h.fitting.row) g
+          h.fitting.stands) in
           ap (λ o. find_row h.number who.host (vacated_rows t.who number t.tag s.table.rows o)) mine
           ∙ kept h.fitting.row refl f g (h.fitting.row.who.inc == t.who.inc && same_tag h.fitting.row.tag t.tag) refl
 

@@ -1,5 +1,6 @@
 -- A READDIRLOOK that is served: what follows on the table, and what is granted.
-use Rattle.std.proofs.Common.{◌≡◌, ◌≢◌, ◌≤◌, ◌⊎◌, ℕ, ◌+◌, ◌==◌, Bool, true, false, not, ◌&&◌, ◌||◌, nat_lt, List, [], ◌∷◌, ◌++◌, Option, Some, None, if◌then◌else◌, is_some, length, refl, sym, subst, ap, ◌∙◌, arith, inl, inr}
+use Rattle.std.proofs.Common.{◌≡◌, ◌≢◌, ◌≤◌, ◌⊎◌, ℕ, ◌+◌, ◌==◌, Bool, true, false, not, ◌&&◌, ◌||◌, nat_lt, List, [], ◌∷◌, ◌++◌, Option, Some, None}
+use Rattle.std.proofs.Common.{if◌then◌else◌, is_some, length, refl, sym, subst, ap, ◌∙◌, arith, inl, inr}
 use Rattle.std.proofs.lemmas.Bool.{and_from}
 use Rattle.std.proofs.lemmas.Bool.Decides.{nat_tests}
 use Rattle.nq_base.specs.declared.Asked.{Asked}
@@ -19,7 +20,8 @@ use Rattle.nq_model.specs.Profile.{skew, granted_term}
 use Rattle.nq_model.specs.Table.{Table, caches, tag_below, is_row_of, find_row, drop_row, put_row, with_rows, after_draw}
 use Rattle.nq_directory.specs.Asking.{is_reading}
 use Rattle.nq_name_server.specs.Served.{Served, Leaf, most_directories, number_of}
-use Rattle.nq_name_server.specs.Serving.{Serves, ToHost, lists_for, tells, puts_off, notice_to, evicting, delays, answers, leased, own_again, for_asker, reads_numbered, reads_as, reads_dir}
+use Rattle.nq_name_server.specs.Serving.{Serves, ToHost, lists_for, tells, puts_off, notice_to, evicting, delays, answers, leased, own_again}
+use Rattle.nq_name_server.specs.Serving.{for_asker, reads_numbered, reads_as, reads_dir}
 use Rattle.walk_steps.proofs.ClientMoves.{some-same, none-some}
 use Rattle.walk_steps.proofs.Covers.{fitting-goes-on, granted-key}
 use Rattle.walk_steps.proofs.Packets.{In, in-append}
@@ -29,7 +31,8 @@ use Rattle.walk_steps.proofs.Incarnations.{who-same}
 use Rattle.walk_steps.proofs.RowChanges.{find-put-same, find-row-dropped, find-other-dropped}
 use Rattle.walk_steps.proofs.Rows.{decided, same-number, number-same, found-row}
 use Rattle.walk_steps.proofs.TableFits.{TableFits, fits-granted, tag-in-order}
-use Rattle.law_names.proofs.Chains.{Chained, HasFit, IsServed, Leads, WasDrawn, append-none, leads, more-served, number-below, number-more, number-new, then-leads}
+use Rattle.law_names.proofs.Chains.{Chained, HasFit, IsServed, Leads, WasDrawn, append-none, leads, more-served, number-below, number-more}
+use Rattle.law_names.proofs.Chains.{number-new, then-leads}
 use Rattle.law_names.proofs.Tables.{Follows, ask-follows, ask-goes-on, fewer-follows, fresh-above, same-follows, stand_ins, stands-in, then-follows}
 
 -- ---- the asker's row of another incarnation goes
@@ -76,7 +79,8 @@ asker-own t who number own found = step (find_row number who.host t.rows) refl f
     step None e f = none-some own (sym e ∙ f)
     step (Some row) e f = by (row.who.inc == who.inc) refl f
       where
-        by : (b : Bool) → (row.who.inc == who.inc) ≡ b → find_row number who.host (if b then t.rows else drop_row number who.host t.rows) ≡ Some own → own.who.inc ≡ who.inc
+        by : (b : Bool) → (row.who.inc == who.inc) ≡ b → find_row number who.host (if b then t.rows else drop_row number who.host t.rows) ≡ Some own
+            → own.who.inc ≡ who.inc
         by true i g = ap (λ r. r.who.inc) (some-same own row (sym g ∙ e)) ∙ same-number row.who.inc who.inc i
         by false i g = none-some own (sym (find-row-dropped number who.host t.rows) ∙ g)
 
@@ -122,7 +126,8 @@ granted-row t q want row term own-inc c (begins_caching none room shared is last
 granted-row t q want row term own-inc c (renews_row own found stays caching is lasts) =
     let k = found-row q.file q.who.host t.rows own found in
     let inc = own-inc own found in
-    let same : own.who ≡ q.who = who-same own.who q.who (and_from (own.who.host == q.who.host) (own.who.inc == q.who.inc) (number-same own.who.host q.who.host k.1) (number-same own.who.inc q.who.inc inc)) in
+    let same : own.who ≡ q.who = who-same own.who q.who (and_from (own.who.host == q.who.host) (own.who.inc == q.who.inc)
+    (number-same own.who.host q.who.host k.1) (number-same own.who.inc q.who.inc inc)) in
     subst (λ x. GrantedRow t q want x term) (sym is) (record { fresh = refl; who = same; lasts = omega (arith, lasts); short = lasts })
 
 module _ (s : Served) (r : ReadDir) (number : ℕ) (t : Table) (fits : TableFits (stand_ins (length s.directories)) t.boot t.drawn t.rows)
@@ -142,13 +147,15 @@ module _ (s : Served) (r : ReadDir) (number : ℕ) (t : Table) (fits : TableFits
       let c = reading-caches row.mode reads in
       let g = granted-row t q want row term own-inc c granting in
       let key = granted-key t q want row term granting in
-      let there : is_some (find_file q.file (stand_ins (length s.directories))) ≡ true = stands-in number (length s.directories) (number-below r.prefix s.directories number numbered) in
+      let there : is_some (find_file q.file (stand_ins (length s.directories))) ≡ true = stands-in number (length s.directories)
+      (number-below r.prefix s.directories number numbered) in
       let put : find_row number r.who.host (put_row row t.rows) ≡ Some row =
       subst (λ f. find_row f r.who.host (put_row row t.rows) ≡ Some row) key.0
       (subst (λ h. find_row row.file h (put_row row t.rows) ≡ Some row) key.1 (find-put-same row t.rows)) in
       let stands : find_row number r.who.host after.table.rows ≡ Some row = ap (λ x. find_row number r.who.host x.rows) table ∙ put in
       let all = fits-granted (stand_ins (length s.directories)) t q want there refl clear fits row term granting in
-      let in_order : tag_below row.tag row.since ≡ false = tag-in-order (stand_ins (length s.directories)) t.boot (t.drawn + 1) row (all.fits number r.who.host row put) in
+      let in_order : tag_below row.tag row.since ≡ false = tag-in-order (stand_ins (length s.directories)) t.boot (t.drawn + 1) row
+      (all.fits number r.who.host row put) in
       record {
         drawn = subst (λ x. IsDrawn x.boot x.drawn row.tag) (sym table) (inr (ap (λ x. x.boot) g.fresh, let n = ap (λ x. x.number) g.fresh in omega arith));
         above = λ tag d. ap (tag_below tag) g.fresh
@@ -174,7 +181,11 @@ module _ (s : Served) (r : ReadDir) (number : ℕ) (t : Table) (fits : TableFits
             ap (λ x. x.since) (some-same k.row row (sym k.stands ∙ ap (λ n. find_row n r.who.host after.table.rows) (sym same) ∙ stands));
         short = g.short;
         tag = (ap (λ x. x.boot) g.fresh ∙ boot, let n = ap (λ x. x.number) g.fresh in omega arith);
-        chain = (let f = all.fits number r.who.host row put in f.since_boot ∙ boot, let f = all.fits number r.who.host row put in let a = f.in_order in let b = f.drawn_before in omega arith);
+        chain = (
+          let f = all.fits number r.who.host row put in f.since_boot ∙ boot,
+          let f = all.fits number r.who.host row put in let a =
+              f.in_order in let b = f.drawn_before in omega arith,
+        );
         plain = (refl, refl);
       }
 

@@ -71,7 +71,8 @@ pub record ServedAfter (w : World) (standing after now : Served) (sides : List N
   pub besides : (p : Outer) → In more p → IsBeside after p
   -- what is told is told to a request of that host
   pub told : (host xid inc : ℕ) (a : Answer) → ToldTo more host xid inc a → (r : ReadDir) × AskedFor sent host r × (r.xid ≡ xid) × (r.who.inc ≡ inc)
-  pub pages : (host : ℕ) (n : Names) → slice_get sides host ≡ Some n → (s : IsSide w standing sent ran bound host n) → (r : Request) (l : Listing) (g : Grant) → n.asked ≡ Some r
+  pub pages : (host : ℕ) (n : Names) → slice_get sides host ≡ Some n → (s : IsSide w standing sent ran bound host n) → (r : Request) (l : Listing)
+      (g : Grant) → n.asked ≡ Some r
       → ToldTo more host r.xid n.who.inc (page l) → l.grant ≡ Some g → is_reading g.mode ≡ true
       → PageFits (ground w after (sent ++ more) ran) host n.who s.client.now r l g
 
@@ -124,7 +125,8 @@ module _ (w : World) (served : Served) (sides : List Names) (sent : List Outer) 
     }
 
     -- a host on the same ground but for what it is told now
-    side : (host : ℕ) (n : Names) → slice_get sides host ≡ Some n → IsSide w standing sent ran bound host n → IsSide w after (sent ++ more) ran (bound + 1) host n
+    side : (host : ℕ) (n : Names) → slice_get sides host ≡ Some n → IsSide w standing sent ran bound host n → IsSide w after (sent ++ more) ran
+        (bound + 1) host n
     side host n is s = record {
       client = s.client;
       there = s.there;

@@ -5,7 +5,8 @@ use Rattle.nq_base.specs.declared.Request.{Request}
 use Rattle.nq_base.specs.declared.Who.{Who}
 use Rattle.nq_model.specs.Change.{AreApart}
 use Rattle.nq_model.specs.Decide.{decides, creates, writes_through, stores, wrote, stores_recovering, resizes, removes, puts_off, commits}
-use Rattle.nq_model.specs.Kept.{File, Kept, find_file, drop_file, fenced_file, new_file, replace_file, written_file, resized_file, with_files, with_new_file, with_row, host_row}
+use Rattle.nq_model.specs.Kept.{File, Kept, find_file, drop_file, fenced_file, new_file, replace_file, written_file, resized_file, with_files}
+use Rattle.nq_model.specs.Kept.{with_new_file, with_row, host_row}
 use Rattle.nq_model.specs.Message.{Datagram, request}
 use Rattle.nq_model.specs.Profile.{write_slack}
 use Rattle.nq_model.specs.Server.{Phase, serving, recovering, Server, quiet, drops, says, after_notices, keeping, keeping_with, with_table}
@@ -78,7 +79,8 @@ fence-names kept (Some f) id apart found of =
 
 -- ---- incarnations
 
-pub receive-incs : (s : Server) (sender next : ℕ) (d : Datagram) (host : ℕ) → (host_row s.kept host).inc ≤ (host_row (receive s sender next d).server.kept host).inc
+pub receive-incs : (s : Server) (sender next : ℕ) (d : Datagram) (host : ℕ) → (host_row s.kept host).inc
+    ≤ (host_row (receive s sender next d).server.kept host).inc
 unfolding with_files with_new_file
 receive-incs s sender next d host = server-moves s sender next d (λ kept phase table. (host_row s.kept host).inc ≤ (host_row kept host).inc) (record {
   stays = omega arith;

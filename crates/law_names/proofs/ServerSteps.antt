@@ -1,5 +1,6 @@
 -- What comes to the server beside the inner world keeps what holds of every outer world.
-use Rattle.std.proofs.Common.{◌≡◌, ◌≤◌, ◌⊎◌, ℕ, zero, suc, ◌+◌, ◌==◌, Bool, true, false, List, [], ◌∷◌, ◌++◌, Option, Some, None, if◌then◌else◌, length, take, nat_lt, refl, sym, subst, ap, ◌∙◌, arith, inl, inr}
+use Rattle.std.proofs.Common.{◌≡◌, ◌≤◌, ◌⊎◌, ℕ, zero, suc, ◌+◌, ◌==◌, Bool, true, false, List, [], ◌∷◌, ◌++◌, Option, Some, None, if◌then◌else◌}
+use Rattle.std.proofs.Common.{length, take, nat_lt, refl, sym, subst, ap, ◌∙◌, arith, inl, inr}
 use Rattle.std.specs.Prelude.{All, slice_get}
 use Rattle.std.specs.List.{filter}
 use Rattle.std.proofs.lemmas.Bool.{and_from}
@@ -80,7 +81,10 @@ entries-fit next q (f ∷ files) low each = by (q f)
     (entries-fit next q files low (All-tail (IsFileWithin next) f files each)) (All-head (IsFileWithin next) f files each)
   where
     by : (b : Bool) → All IsEntry (names_of (filter q files)) → IsFileWithin next f → All IsEntry (names_of (if b then f ∷ filter q files else filter q files))
-    by true rest fits = All-cons IsEntry (record { file = f.id; name = f.name }) (names_of (filter q files)) (let b = fits.below_next in omega arith, fits.name) rest
+    by true rest fits = All-cons IsEntry (record { file = f.id; name = f.name }) (names_of (filter q files)) (
+      let b = fits.below_next in omega arith,
+      fits.name,
+    ) rest
     by false rest fits = rest
 
 taken-fit : (k : ℕ) (es : List FileName) → All IsEntry es → All IsEntry (take k es)
@@ -110,7 +114,8 @@ module _ (codec : IsCodec) (most : ℕ) (head : Head) (w : World) (served : Serv
 
   -- ---- a READDIRLOOK while the server serves
 
-  module _ (host : ℕ) (r : ReadDir) (asks : AskedFor sent host r) (fits : IsReadDir r) (own : r.who.host ≡ host) (inc : r.who.inc ≡ (host_row w.server.kept host).inc)
+  module _ (host : ℕ) (r : ReadDir) (asks : AskedFor sent host r) (fits : IsReadDir r) (own : r.who.host ≡ host) (inc : r.who.inc
+      ≡ (host_row w.server.kept host).inc)
       (p : w.server.phase ≡ serving) where
     one : standing ≡ served
     one = serving-same p
@@ -254,9 +259,11 @@ module _ (codec : IsCodec) (most : ℕ) (head : Head) (w : World) (served : Serv
                         let before = moment-past h q.sent ran (let a = (s.fits.part q asked).0 in omega arith) in
                         let time = inv.time in
                         let now = known.clocked.server in
-                        subst (λ z. HasFit x.served z r.who g.tag (cover_end h q.sent g.term ran)) same.0 (v.fit (cover_end h q.sent g.term ran) (omega arith));
+                        subst (λ z. HasFit x.served z r.who g.tag (cover_end h q.sent g.term ran)) same.0 (v.fit (cover_end h q.sent g.term ran)
+                        (omega arith));
                     waits = λ runs. subst (λ z. Outlasts z (cover_end h q.sent g.term ran)) (sym p) tt;
-                    above = λ t gave e f. v.above t.tag (subst (λ z. WasDrawn z t.tag) one (inv.gave h t (gave-served sent (packets_of x.sends) (are-served x.sends) h t gave)));
+                    above = λ t gave e f. v.above t.tag (subst (λ z. WasDrawn z t.tag) one (inv.gave h t (gave-served sent (packets_of x.sends)
+                        (are-served x.sends) h t gave)));
                   };
                   since = λ c. v.since (on-prefix c);
                 })

@@ -8,7 +8,8 @@ use Rattle.nq_base.specs.declared.Mode.{Mode}
 use Rattle.nq_base.specs.declared.Who.{Who}
 use Rattle.nq_directory.specs.Names.{name_before}
 use Rattle.nq_directory.specs.Messages.{read_dir_arguments, read_dir_bytes, entry_bytes, front_bytes, results, answer_bytes}
-use Rattle.nq_directory.specs.Reading.{call_as, call_in, results_of, results_in, end_at, prefix_at, entry_at, count_at, page_at, read_dir_at, page_alone, wait_alone, answer_at, told_at, read_dir_in, dir_tag_at, dir_evicted_in, dir_vacated_in, told_in}
+use Rattle.nq_directory.specs.Reading.{call_as, call_in, results_of, results_in, end_at, prefix_at, entry_at, count_at, page_at, read_dir_at}
+use Rattle.nq_directory.specs.Reading.{page_alone, wait_alone, answer_at, told_at, read_dir_in, dir_tag_at, dir_evicted_in, dir_vacated_in, told_in}
 use Rattle.nq_model.proofs.SkewTest.{skew-test-is-sound}
 use Rattle.nq_model.specs.Client.{Client, Lease}
 use Rattle.nq_model.specs.ClientStep.{attached_client, fresh_client}
@@ -102,7 +103,13 @@ schedule =
         few_blocks = omega arith;
         distinct = (tt, tt);
       };
-      bounds = record { hosts = omega arith; first_long = omega arith; first_short = omega arith; boots = subst (λ es. All (BootsWithin 60) es) (sym none) (All-nil (BootsWithin 60)) };
+      bounds = record {
+        hosts = omega arith;
+        first_long = omega arith;
+        first_short = omega arith;
+        boots = subst (λ es. All (BootsWithin 60) es)
+            (sym none) (All-nil (BootsWithin 60));
+      };
       given = subst (AreGiven one-host) (sym none) tt;
       skew = subst (IsWithinSkew 1 60) (sym none) (skew-test-is-sound 1 60 [] refl);
     }

@@ -1,5 +1,6 @@
 -- A lease table whose files are directories: what follows on what, in each step of the server's side.
-use Rattle.std.proofs.Common.{◌≡◌, ◌≢◌, ◌<◌, ◌⊎◌, ℕ, zero, suc, ◌+◌, ◌==◌, Bool, true, false, not, ◌&&◌, nat_lt, nat_le, List, [], ◌∷◌, Option, Some, None, if◌then◌else◌, is_some, refl, sym, subst, ap, ◌∙◌, arith, inl, inr}
+use Rattle.std.proofs.Common.{◌≡◌, ◌≢◌, ◌<◌, ◌⊎◌, ℕ, zero, suc, ◌+◌, ◌==◌, Bool, true, false, not, ◌&&◌, nat_lt, nat_le, List, [], ◌∷◌, Option, Some}
+use Rattle.std.proofs.Common.{None, if◌then◌else◌, is_some, refl, sym, subst, ap, ◌∙◌, arith, inl, inr}
 use Rattle.std.specs.List.{filter}
 use Rattle.std.proofs.lemmas.Bool.Decides.{nat_tests}
 use Rattle.nq_base.specs.declared.Access.{Access}
@@ -16,7 +17,8 @@ use Rattle.walk_steps.proofs.ClientMoves.{some-same, none-some}
 use Rattle.walk_steps.proofs.Covers.{AreOfBoot, GoesOnAt, same-goes-on, marked-goes-on, granted-goes-on, waiting-goes-on}
 use Rattle.walk_steps.proofs.TagFacts.{IsDrawn}
 use Rattle.walk_steps.proofs.AskCases.{asks, clash_in, with_marked, with_waiter, IsGranted, shares_again, begins_sharing, begins_caching, renews_row}
-use Rattle.walk_steps.proofs.RowChanges.{of-key, found-put, found-marked, mark-is, found-kept, find-kept, kept_if, found-vacated, unique-vacated, unique-filtered}
+use Rattle.walk_steps.proofs.RowChanges.{of-key, found-put, found-marked, mark-is, found-kept, find-kept, kept_if, found-vacated, unique-vacated}
+use Rattle.walk_steps.proofs.RowChanges.{unique-filtered}
 use Rattle.walk_steps.proofs.Rows.{decided, same-number, number-same, found-row}
 use Rattle.walk_steps.proofs.TableFits.{TableFits, fits-fewer, fits-granted, fits-marked, fits-waiter}
 
@@ -129,11 +131,13 @@ unfolding after_draw
 put-follows files t before row boot drawn fits own others = record {
   fits = subst (λ n. TableFits files n (before.drawn + 1) (put_row row before.rows)) (sym boot)
       (subst (λ n. TableFits files t.boot (n + 1) (put_row row before.rows)) (sym drawn) fits);
-  drawn = λ tag d. subst (λ n. IsDrawn n (before.drawn + 1) tag) (sym boot) (subst (λ n. IsDrawn t.boot (n + 1) tag) (sym drawn) (drawn-next t.boot t.drawn tag d));
+  drawn = λ tag d. subst (λ n. IsDrawn n (before.drawn + 1) tag) (sym boot) (subst (λ n. IsDrawn t.boot (n + 1) tag) (sym drawn)
+      (drawn-next t.boot t.drawn tag d));
   came = λ file host r found c. case file host r c (found-put file host row r before.rows found);
 } where
   case : (file host : ℕ) (r : Row) → caches r.mode ≡ true
-      → ((is_row_of file host row ≡ true) × (r ≡ row)) ⊎ ((is_row_of file host row ≡ false) × (find_row file host before.rows ≡ Some r)) → CameFrom t file host r
+      → ((is_row_of file host row ≡ true) × (r ≡ row)) ⊎ ((is_row_of file host row ≡ false) × (find_row file host before.rows ≡ Some r))
+      → CameFrom t file host r
   case file host r c (inl p) =
       let k = of-key file host row p.0 in
       subst (λ x. CameFrom t file host x) (sym p.1) (own (ap (λ x. caches x.mode) (sym p.1) ∙ c) file host k.0 k.1)
@@ -222,7 +226,8 @@ vacated-follows files t who file tag own fits = record {
 pub stays-on : (files : List File) (t : Table) (now file host : ℕ) (row : Row) → TableFits files t.boot t.drawn t.rows
     → find_row file host t.rows ≡ Some row → now < row.until → find_row file host (end_reading now t.rows) ≡ Some row
 stays-on files t now file host row fits found later =
-    find-kept (λ r. not (is_over now r)) file host t.rows fits.unique ∙ ap (kept_if (λ r. not (is_over now r))) found ∙ step (is_writing row.mode) (nat_le row.until now) refl refl
+    find-kept (λ r. not (is_over now r)) file host t.rows fits.unique ∙ ap (kept_if (λ r. not (is_over now r))) found ∙ step (is_writing row.mode)
+    (nat_le row.until now) refl refl
   where
     step : (b c : Bool) → is_writing row.mode ≡ b → nat_le row.until now ≡ c → (if not (not b && c) then Some row else None) ≡ Some row
     step true c e f = refl

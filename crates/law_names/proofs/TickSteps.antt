@@ -68,7 +68,8 @@ module _ (most : ℕ) (head : Head) (w : World) (ran : List Event) (known : IsKn
   tick-goes : TickGoes (tick w.server (w.server.now + 1)).server.kept (tick w.server (w.server.now + 1)).server.phase
   tick-goes = tick-moves w.server (w.server.now + 1) (λ kept phase table. TickGoes kept phase) (record {
     waits = λ until heard last p goes. waits_on until heard last p p refl;
-    opening = λ until heard last p over. opens_now until heard last p over refl refl refl (λ host. same-lines w.server.kept (record w.server.kept { opened = w.server.kept.boot; longest = w.server.longest }) host refl);
+    opening = λ until heard last p over. opens_now until heard last p over refl refl refl (λ host. same-lines w.server.kept
+        (record w.server.kept { opened = w.server.kept.boot; longest = w.server.longest }) host refl);
     ends_reading = λ p. serves_on p p refl refl refl (λ host. refl);
     ending_writing = λ row p due.
         serves_on p p
@@ -80,7 +81,8 @@ module _ (most : ℕ) (head : Head) (w : World) (ran : List Event) (known : IsKn
   })
 
   -- while a claim runs by the clock of its host, the server's clock is below the end of its cover
-  runs-on : IsKnown most head (step w Event.ServerTick) (Event.ServerTick ∷ ran) → (host : ℕ) (c : Client) → slice_get w.clients host ≡ Some c → (asked term : ℕ)
+  runs-on : IsKnown most head (step w Event.ServerTick) (Event.ServerTick ∷ ran) → (host : ℕ) (c : Client) → slice_get w.clients host ≡ Some c
+      → (asked term : ℕ)
       → asked ≤ c.now → c.now < asked + term → term ≤ w.server.kept.longest → w.server.now + 1 < cover_end host asked term ran
   runs-on latter host c is asked term past runs short =
       let time = clock host c is in
@@ -233,7 +235,8 @@ module _ (most : ℕ) (head : Head) (w : World) (ran : List Event) (known : IsKn
     }
 
   -- the recovery ends
-  module _ (latter : IsKnown most head ticked (Event.ServerTick ∷ ran)) (until heard : ℕ) (last : Option Table) (p : w.server.phase ≡ recovering until heard last)
+  module _ (latter : IsKnown most head ticked (Event.ServerTick ∷ ran)) (until heard : ℕ) (last : Option Table) (p : w.server.phase ≡ recovering until
+      heard last)
       (over : until ≤ w.server.now + 1) (q : (tick w.server (w.server.now + 1)).server.phase ≡ serving) (files : kept-after.files ≡ w.server.kept.files)
       (boots : kept-after.boot ≡ w.server.kept.boot) (lines : (host : ℕ) → host_row kept-after host ≡ host_row w.server.kept host) where
     new-before : IsNew served standing
@@ -251,7 +254,8 @@ module _ (most : ℕ) (head : Head) (w : World) (ran : List Event) (known : IsKn
     empty-fits : IsServed served-on
     empty-fits =
         subst (λ rows. TableFits (stand_ins (length served-on.directories)) served-on.table.boot served-on.table.drawn rows)
-        (sym (ticks-rows served ticked.server.now new-before.rows)) (no-rows-fit (stand_ins (length served-on.directories)) served-on.table.boot served-on.table.drawn)
+        (sym (ticks-rows served ticked.server.now new-before.rows)) (no-rows-fit (stand_ins (length served-on.directories)) served-on.table.boot
+        served-on.table.drawn)
 
     opening-leads : Leads standing served-on
     opening-leads = record {
@@ -292,4 +296,8 @@ module _ (most : ℕ) (head : Head) (w : World) (ran : List Event) (known : IsKn
           → (later : Served) × Inv ticked served-on sides (sent ++ more_of w Event.ServerTick) (Event.ServerTick ∷ ran) (bound + 1) later
       by (serves_on p q names longest boots lines) = (served-on, tick-inv served-on (tick-serving latter p q names longest boots lines) go)
       by (waits_on until heard last p q kept) = (standing, tick-inv standing (tick-waits until heard last p q kept) go)
-      by (opens_now until heard last p over q files boots lines) = (served-on, tick-inv served-on (tick-opens latter until heard last p over q files boots lines) go)
+      by (opens_now until heard last p over q files boots lines) = (
+        served-on,
+        tick-inv served-on (tick-opens latter until heard last p over q files
+            boots lines) go,
+      )

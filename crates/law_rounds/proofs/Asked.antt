@@ -1,5 +1,6 @@
 -- A request that wants a lease: whether the server asks the lease table, by all but the table; and what becomes of the rows.
-use Rattle.std.proofs.Common.{◌≡◌, ◌<◌, ℕ, ◌==◌, ◌&&◌, Bool, true, false, nat_lt, List, [], Option, Some, None, if◌then◌else◌, refl, sym, ap, subst, ◌∙◌, arith}
+use Rattle.std.proofs.Common.{◌≡◌, ◌<◌, ℕ, ◌==◌, ◌&&◌, Bool, true, false, nat_lt, List, [], Option, Some, None, if◌then◌else◌, refl, sym, ap, subst}
+use Rattle.std.proofs.Common.{◌∙◌, arith}
 use Rattle.std.specs.Prelude.{slice_get}
 use Rattle.std.proofs.lemmas.Bool.{and_parts}
 use Rattle.std.proofs.lemmas.Bool.Decides.{nat_tests}
@@ -16,7 +17,8 @@ use Rattle.nq_model.specs.Kept.{File, find_file, host_row}
 use Rattle.nq_model.specs.Message.{Message, Reason, old_incarnation, wrong_host, request, call, datagram_of}
 use Rattle.nq_model.specs.Profile.{most_hosts}
 use Rattle.nq_model.specs.Server.{Phase, serving, recovering, Server, ServerStep, quiet, drops, says, with_table, after_notices}
-use Rattle.nq_model.specs.ServerStep.{access_of, to_read, tells_later, serves, leases, read_of, read_asked, read_block, read, lease_asked, lease_of, get_lease, look, perform, not_attached, receive, vacates, vacated_rows}
+use Rattle.nq_model.specs.ServerStep.{access_of, to_read, tells_later, serves, leases, read_of, read_asked, read_block, read, lease_asked, lease_of}
+use Rattle.nq_model.specs.ServerStep.{get_lease, look, perform, not_attached, receive, vacates, vacated_rows}
 use Rattle.nq_model.specs.Table.{is_writing, find_row, drop_row, same_tag, with_rows}
 use Rattle.walk_steps.proofs.ClientMoves.{some-same}
 use Rattle.walk_steps.proofs.Rows.{same-number, number-same}
@@ -47,11 +49,13 @@ if_current mine older newer q = None
 
 abbrev when_current : Server → (sender : ℕ) → Who → Option Question → Option Question
 when_current s sender who q =
-    if_current (who.host == sender && nat_lt who.host most_hosts) (nat_lt who.inc (host_row s.kept who.host).inc) (nat_lt (host_row s.kept who.host).inc who.inc) q
+    if_current (who.host == sender && nat_lt who.host most_hosts) (nat_lt who.inc (host_row s.kept who.host).inc)
+    (nat_lt (host_row s.kept who.host).inc who.inc) q
 
 -- the question, where a request gets so far
 abbrev pub question_of : Server → (sender : ℕ) → Request → Option Question
-question_of s sender (Request.Read who q file block (Some want)) = when_current s sender who (while_serving s.phase (read_file s who block want (find_file file s.kept.files)))
+question_of s sender (Request.Read who q file block (Some want)) = when_current s sender who
+    (while_serving s.phase (read_file s who block want (find_file file s.kept.files)))
 question_of s sender (Request.GetLease who file want) = when_current s sender who (while_serving s.phase (lease_file s who want (find_file file s.kept.files)))
 question_of s sender other = None
 
@@ -99,7 +103,8 @@ serving-some : (phase : Phase) (o : Option Question) (q : Question) → while_se
 serving-some serving o q e = e
 serving-some (recovering until heard last) o q e = absurd (cc)
 
-asked-of : (s : Server) (who : Who) (f : File) (want : Want) (q : Question) (file host : ℕ) → to_read s who f (Some want) ≡ q → f.id ≡ file → who.host ≡ host → IsOf q host file (is_writing want.mode)
+asked-of : (s : Server) (who : Who) (f : File) (want : Want) (q : Question) (file host : ℕ) → to_read s who f (Some want) ≡ q → f.id ≡ file → who.host
+    ≡ host → IsOf q host file (is_writing want.mode)
 asked-of s who f want q file host is id from = record {
   host_is = ap (λ (x : Question). x.who.host) (sym is) ∙ from;
   file_is = ap (λ (x : Question). x.file) (sym is) ∙ id;
@@ -109,7 +114,8 @@ asked-of s who f want q file host is id from = record {
   access_is = ap (λ (x : Question). x.access) (sym is);
 }
 
-read-of : (s : Server) (who : Who) (block : ℕ) (want : Want) (file host : ℕ) (o : Option File) (q : Question) → find_file file s.kept.files ≡ o → who.host ≡ host → read_file s who block want o ≡ Some q → IsOf q host file (is_writing want.mode)
+read-of : (s : Server) (who : Who) (block : ℕ) (want : Want) (file host : ℕ) (o : Option File) (q : Question) → find_file file s.kept.files ≡ o
+    → who.host ≡ host → read_file s who block want o ≡ Some q → IsOf q host file (is_writing want.mode)
 read-of s who block want file host None q found from e = absurd (cc)
 read-of s who block want file host (Some f) q found from e = by (slice_get f.bodies block) e
   where
@@ -117,22 +123,26 @@ read-of s who block want file host (Some f) q found from e = by (slice_get f.bod
     by None g = absurd (cc)
     by (Some body) g = asked-of s who f want q file host (some-same _ _ g) (found-file file s.kept.files f found) from
 
-lease-of : (s : Server) (who : Who) (want : Want) (file host : ℕ) (o : Option File) (q : Question) → find_file file s.kept.files ≡ o → who.host ≡ host → lease_file s who want o ≡ Some q → IsOf q host file (is_writing want.mode)
+lease-of : (s : Server) (who : Who) (want : Want) (file host : ℕ) (o : Option File) (q : Question) → find_file file s.kept.files ≡ o → who.host ≡ host
+    → lease_file s who want o ≡ Some q → IsOf q host file (is_writing want.mode)
 lease-of s who want file host None q found from e = absurd (cc)
 lease-of s who want file host (Some f) q found from e = asked-of s who f want q file host (some-same _ _ e) (found-file file s.kept.files f found) from
 
 -- the question of a request that wants a lease on a file
-pub question-is : (s : Server) (host file : ℕ) (r : Request) (q : Question) → wants_of file r ≡ true → question_of s host r ≡ Some q → IsOf q host file (writes_for r)
+pub question-is : (s : Server) (host file : ℕ) (r : Request) (q : Question) → wants_of file r ≡ true → question_of s host r ≡ Some q
+    → IsOf q host file (writes_for r)
 question-is s host file (Request.Read who n f block (Some want)) q wants e =
     let a = current-some _ _ _ _ q e in
     let b = serving-some s.phase _ q a.1 in
     let same : f ≡ file = same-number f file (and_parts (f == file) true wants).0 in
-    subst (λ g. IsOf q host g (is_writing want.mode)) same (read-of s who block want f host (find_file f s.kept.files) q refl (same-number who.host host (and_parts _ _ a.0).0) b)
+    subst (λ g. IsOf q host g (is_writing want.mode)) same (read-of s who block want f host (find_file f s.kept.files) q refl
+    (same-number who.host host (and_parts _ _ a.0).0) b)
 question-is s host file (Request.Read who n f block None) q wants e = absurd (cc)
 question-is s host file (Request.GetLease who f want) q wants e =
     let a = current-some _ _ _ _ q e in
     let b = serving-some s.phase _ q a.1 in
-    subst (λ g. IsOf q host g (is_writing want.mode)) (same-number f file wants) (lease-of s who want f host (find_file f s.kept.files) q refl (same-number who.host host (and_parts _ _ a.0).0) b)
+    subst (λ g. IsOf q host g (is_writing want.mode)) (same-number f file wants) (lease-of s who want f host (find_file f s.kept.files) q refl
+    (same-number who.host host (and_parts _ _ a.0).0) b)
 question-is s host file other q wants e = absurd (cc)
 
 -- what a step makes of the table: nothing, where the table is not asked; else what the ask table tells
@@ -153,14 +163,17 @@ module _ (s : Server) (who : Who) (xid next : ℕ) where
   unfolding drops
   drops-mute reason = mute None (drops s reason) refl (same-self s) refl
 
-  read-hears : (q : ℕ) (f : File) (block : ℕ) (body : List ℕ) (want : Want) → Hears s (Some (to_read s who f (Some want))) (read_of s who xid next q f block body (Some want) (ask s.table (to_read s who f (Some want))))
+  read-hears : (q : ℕ) (f : File) (block : ℕ) (body : List ℕ) (want : Want) → Hears s (Some (to_read s who f (Some want))) (read_of s who xid next q f
+      block body (Some want) (ask s.table (to_read s who f (Some want))))
   unfolding tells_later serves with_table after_notices
   read-hears q f block body want = by (ask s.table (to_read s who f (Some want))) refl
     where
-      by : (a : Reply) → ask s.table (to_read s who f (Some want)) ≡ a → Hears s (Some (to_read s who f (Some want))) (read_of s who xid next q f block body (Some want) a)
+      by : (a : Reply) → ask s.table (to_read s who f (Some want)) ≡ a → Hears s (Some (to_read s who f (Some want))) (read_of s who xid next q f
+          block body (Some want) a)
       by a e = which a.asked refl
         where
-          which : (told : Asked) → a.asked ≡ told → Hears s (Some (to_read s who f (Some want))) (read_asked s who xid next q f block body (access_of (Some want)) a.table told)
+          which : (told : Asked) → a.asked ≡ told → Hears s (Some (to_read s who f (Some want))) (read_asked s who xid next q f block body
+              (access_of (Some want)) a.table told)
           which (Asked.TryLater clash) is = asked _ _ (to_read s who f (Some want)) refl (record { is = refl }) (ap (λ (x : Reply). x.table) (sym e))
           which (Asked.Granted g) is = asked _ _ (to_read s who f (Some want)) refl (record { is = refl }) (ap (λ (x : Reply). x.table) (sym e))
           which Asked.Free is = asked _ _ (to_read s who f (Some want)) refl (record { is = refl }) (ap (λ (x : Reply). x.table) (sym e))
@@ -173,13 +186,15 @@ module _ (s : Server) (who : Who) (xid next : ℕ) where
       by : (a : Reply) → ask s.table (to_read s who f (Some want)) ≡ a → Hears s (Some (to_read s who f (Some want))) (lease_of s who xid f want a)
       by a e = which a.asked refl
         where
-          which : (told : Asked) → a.asked ≡ told → Hears s (Some (to_read s who f (Some want))) (lease_asked s who xid f.id (access_of (Some want)) a.table told)
+          which : (told : Asked) → a.asked ≡ told → Hears s (Some (to_read s who f (Some want))) (lease_asked s who xid f.id (access_of (Some want))
+              a.table told)
           which (Asked.TryLater clash) is = asked _ _ (to_read s who f (Some want)) refl (record { is = refl }) (ap (λ (x : Reply). x.table) (sym e))
           which (Asked.Granted g) is = asked _ _ (to_read s who f (Some want)) refl (record { is = refl }) (ap (λ (x : Reply). x.table) (sym e))
           which Asked.Free is = asked _ _ (to_read s who f (Some want)) refl (record { is = refl }) (ap (λ (x : Reply). x.table) (sym e))
           which Asked.NoLease is = asked _ _ (to_read s who f (Some want)) refl (record { is = refl }) (ap (λ (x : Reply). x.table) (sym e))
 
-  block-hears : (q : ℕ) (f : File) (block : ℕ) (want : Want) (o : Option (List ℕ)) → Hears s (read_question s who block want f o) (read_block s who xid next q f block (Some want) o)
+  block-hears : (q : ℕ) (f : File) (block : ℕ) (want : Want) (o : Option (List ℕ)) → Hears s (read_question s who block want f o)
+      (read_block s who xid next q f block (Some want) o)
   block-hears q f block want None = says-mute _ _
   block-hears q f block want (Some body) = read-hears q f block body want
 
@@ -192,31 +207,45 @@ module _ (s : Server) (who : Who) (xid next : ℕ) where
   leased-hears want (Some f) = lease-hears f want
 
   -- by the phase
-  read-looks : (q file block : ℕ) (want : Want) (phase : Phase) → Hears s (while_serving phase (read_file s who block want (find_file file s.kept.files))) (look s phase who xid next (Request.Read who q file block (Some want)))
+  read-looks : (q file block : ℕ) (want : Want) (phase : Phase)
+      → Hears s (while_serving phase (read_file s who block want (find_file file s.kept.files))) (look s phase who xid next
+      (Request.Read who q file block (Some want)))
   read-looks q file block want serving = file-hears q block want (find_file file s.kept.files)
   read-looks q file block want (recovering until heard last) = says-mute _ _
 
-  lease-looks : (file : ℕ) (want : Want) (phase : Phase) → Hears s (while_serving phase (lease_file s who want (find_file file s.kept.files))) (look s phase who xid next (Request.GetLease who file want))
+  lease-looks : (file : ℕ) (want : Want) (phase : Phase) → Hears s (while_serving phase (lease_file s who want (find_file file s.kept.files)))
+      (look s phase who xid next (Request.GetLease who file want))
   lease-looks file want serving = leased-hears want (find_file file s.kept.files)
   lease-looks file want (recovering until heard last) = says-mute _ _
 
   -- by who asks
-  current-hears : (q : Option Question) (mine older newer : Bool) (away : ServerStep) (done : ServerStep) → Hears s None away → Hears s q done → Hears s (if_current mine older newer q) (if mine then (if older then drops s old_incarnation else (if newer then away else done)) else drops s wrong_host)
+  current-hears : (q : Option Question) (mine older newer : Bool) (away : ServerStep) (done : ServerStep) → Hears s None away → Hears s q done
+      → Hears s (if_current mine older newer q) (if mine then (if older then drops s old_incarnation else (if newer then away else done))
+      else drops s wrong_host)
   current-hears q true false false away done a d = d
   current-hears q true false true away done a d = a
   current-hears q true true newer away done a d = drops-mute _
   current-hears q false older newer away done a d = drops-mute _
 
-  pub read-request : (sender q file block : ℕ) (want : Want) → Hears s (question_of s sender (Request.Read who q file block (Some want))) (receive s sender next (request xid (Request.Read who q file block (Some want))))
+  pub read-request : (sender q file block : ℕ) (want : Want) → Hears s (question_of s sender (Request.Read who q file block (Some want)))
+      (receive s sender next (request xid (Request.Read who q file block (Some want))))
   read-request sender q file block want =
-      current-hears (while_serving s.phase (read_file s who block want (find_file file s.kept.files))) (who.host == sender && nat_lt who.host most_hosts) (nat_lt who.inc (host_row s.kept who.host).inc) (nat_lt (host_row s.kept who.host).inc who.inc) (not_attached s who xid (Request.Read who q file block (Some want))) (perform s who xid next (host_row s.kept who.host) (Request.Read who q file block (Some want))) (says-mute _ _) (read-looks q file block want s.phase)
+      current-hears (while_serving s.phase (read_file s who block want (find_file file s.kept.files))) (who.host == sender && nat_lt who.host
+      most_hosts) (nat_lt who.inc (host_row s.kept who.host).inc) (nat_lt (host_row s.kept who.host).inc who.inc)
+      (not_attached s who xid (Request.Read who q file block (Some want))) (perform s who xid next (host_row s.kept who.host)
+      (Request.Read who q file block (Some want))) (says-mute _ _) (read-looks q file block want s.phase)
 
-  pub lease-request : (sender file : ℕ) (want : Want) → Hears s (question_of s sender (Request.GetLease who file want)) (receive s sender next (request xid (Request.GetLease who file want)))
+  pub lease-request : (sender file : ℕ) (want : Want) → Hears s (question_of s sender (Request.GetLease who file want))
+      (receive s sender next (request xid (Request.GetLease who file want)))
   lease-request sender file want =
-      current-hears (while_serving s.phase (lease_file s who want (find_file file s.kept.files))) (who.host == sender && nat_lt who.host most_hosts) (nat_lt who.inc (host_row s.kept who.host).inc) (nat_lt (host_row s.kept who.host).inc who.inc) (not_attached s who xid (Request.GetLease who file want)) (perform s who xid next (host_row s.kept who.host) (Request.GetLease who file want)) (says-mute _ _) (lease-looks file want s.phase)
+      current-hears (while_serving s.phase (lease_file s who want (find_file file s.kept.files))) (who.host == sender && nat_lt who.host most_hosts)
+      (nat_lt who.inc (host_row s.kept who.host).inc) (nat_lt (host_row s.kept who.host).inc who.inc)
+      (not_attached s who xid (Request.GetLease who file want)) (perform s who xid next (host_row s.kept who.host) (Request.GetLease who file
+      want)) (says-mute _ _) (lease-looks file want s.phase)
 
 -- a request that wants a lease on a file, whatever it is
-pub request-hears : (s : Server) (xid next sender file : ℕ) (r : Request) → wants_of file r ≡ true → Hears s (question_of s sender r) (receive s sender next (datagram_of (call xid r)))
+pub request-hears : (s : Server) (xid next sender file : ℕ) (r : Request) → wants_of file r ≡ true → Hears s (question_of s sender r)
+    (receive s sender next (datagram_of (call xid r)))
 request-hears s xid next sender file (Request.Read who q f block (Some want)) wants = read-request s who xid next sender q f block want
 request-hears s xid next sender file (Request.Read who q f block None) wants = absurd (no (f == file) wants)
   where
@@ -237,7 +266,8 @@ abbrev pub rows_without : Who → (file : ℕ) → List Row → (taken : Bool) �
 rows_without who file rows true = drop_row file who.host rows
 rows_without who file rows false = rows
 
-vacated-is : (who : Who) (file : ℕ) (tag : Tag) (rows : List Row) (o : Option Row) → vacated_rows who file tag rows o ≡ rows_without who file rows (is_taken who tag o)
+vacated-is : (who : Who) (file : ℕ) (tag : Tag) (rows : List Row) (o : Option Row) → vacated_rows who file tag rows o ≡ rows_without who file rows
+    (is_taken who tag o)
 vacated-is who file tag rows None = refl
 vacated-is who file tag rows (Some row) = by (row.who.inc == who.inc && same_tag row.tag tag)
   where
@@ -266,7 +296,9 @@ module _ (s : Server) (who : Who) (xid next file : ℕ) (tag : Tag) where
   unfolding vacates quiet with_table with_rows
   performed = record { same = record { is = refl }; rows = vacated-is who file tag s.table.rows (find_row file who.host s.table.rows); none = refl }
 
-  by-current : (older newer : Bool) → nat_lt who.inc (host_row s.kept who.host).inc ≡ older → nat_lt (host_row s.kept who.host).inc who.inc ≡ newer → (taken ≡ true → who.inc ≡ (host_row s.kept who.host).inc) → Vacates s who file tag (if older then drops s old_incarnation else (if newer then quiet s else vacates s who file tag))
+  by-current : (older newer : Bool) → nat_lt who.inc (host_row s.kept who.host).inc ≡ older → nat_lt (host_row s.kept who.host).inc who.inc ≡ newer
+      → (taken ≡ true → who.inc ≡ (host_row s.kept who.host).inc) → Vacates s who file tag (if older then drops s old_incarnation
+      else (if newer then quiet s else vacates s who file tag))
   unfolding drops quiet
   by-current true newer a b current = not-taken _ refl refl (no taken refl)
     where
@@ -280,12 +312,15 @@ module _ (s : Server) (who : Who) (xid next file : ℕ) (tag : Tag) where
       no true e = let below = is-below _ _ b in let same = current e in absurd (omega arith)
   by-current false false a b current = performed
 
-  pub vacated-request : (taken ≡ true → who.inc ≡ (host_row s.kept who.host).inc) → who.host < most_hosts → Vacates s who file tag (receive s who.host next (request xid (Request.Vacated who file tag)))
+  pub vacated-request : (taken ≡ true → who.inc ≡ (host_row s.kept who.host).inc) → who.host < most_hosts → Vacates s who file tag
+      (receive s who.host next (request xid (Request.Vacated who file tag)))
   vacated-request current possible =
       let one : (who.host == who.host) ≡ true = number-same who.host who.host refl in
       let two : nat_lt who.host most_hosts ≡ true = below who.host most_hosts possible in
       let both : (who.host == who.host && nat_lt who.host most_hosts) ≡ true = ap (λ b. b && nat_lt who.host most_hosts) one ∙ two in
-      subst (λ b. Vacates s who file tag (if b then (if nat_lt who.inc (host_row s.kept who.host).inc then drops s old_incarnation else (if nat_lt (host_row s.kept who.host).inc who.inc then quiet s else vacates s who file tag)) else drops s wrong_host)) (sym both) (by-current (nat_lt who.inc (host_row s.kept who.host).inc) (nat_lt (host_row s.kept who.host).inc who.inc) refl refl current)
+      subst (λ b. Vacates s who file tag (if b then (if nat_lt who.inc (host_row s.kept who.host).inc then drops s old_incarnation
+      else (if nat_lt (host_row s.kept who.host).inc who.inc then quiet s else vacates s who file tag)) else drops s wrong_host)) (sym both)
+      (by-current (nat_lt who.inc (host_row s.kept who.host).inc) (nat_lt (host_row s.kept who.host).inc who.inc) refl refl current)
     where
       below : (a b : ℕ) → a < b → nat_lt a b ≡ true
       below a b less = grind (arith, nat_tests)

@@ -1,5 +1,6 @@
 -- In every run of few events: the server answers the request under way of a client by a reply that counts for it.
-use Rattle.std.proofs.Common.{◌≡◌, ◌≤◌, ◌<◌, ℕ, ◌+◌, ◌==◌, ◌&&◌, ◌++◌, nat_lt, Bool, true, false, List, [], ◌∷◌, Some, length, refl, sym, subst, ap, ◌∙◌, arith, inl}
+use Rattle.std.proofs.Common.{◌≡◌, ◌≤◌, ◌<◌, ℕ, ◌+◌, ◌==◌, ◌&&◌, ◌++◌, nat_lt, Bool, true, false, List, [], ◌∷◌, Some, length, refl, sym, subst, ap}
+use Rattle.std.proofs.Common.{◌∙◌, arith, inl}
 use Rattle.std.specs.Prelude.{slice_get}
 use Rattle.std.proofs.lemmas.Bool.{and_from}
 use Rattle.std.proofs.lemmas.Bool.Decides.{nat_tests}
@@ -79,7 +80,8 @@ replied-to renewing (Request.Vacated who file tag) fits = absurd (cc)
 replied-to pushing (Request.Vacated who file tag) fits = absurd (cc)
 replied-to job r fits = refl
 
-owed : (s : Server) (who : Who) (r : Request) (x : ℕ) → asker r ≡ Some who → who.host < most_hosts → has_reply r ≡ true → (host_row s.kept who.host).inc ≤ who.inc → is_out_of_bounds s who r (host_row s.kept who.host) ≡ false → owes s who.host (request x r) ≡ true
+owed : (s : Server) (who : Who) (r : Request) (x : ℕ) → asker r ≡ Some who → who.host < most_hosts → has_reply r ≡ true
+    → (host_row s.kept who.host).inc ≤ who.inc → is_out_of_bounds s who r (host_row s.kept who.host) ≡ false → owes s who.host (request x r) ≡ true
 owed s who r x asks few has past stays = rw (asks, own, older, has, stays) refl
   where
     own : (who.host == who.host && nat_lt who.host most_hosts) ≡ true
@@ -104,7 +106,9 @@ attach-counts inc who t is = rw is refl
 
 -- ---- in a run
 
-module _ (most : ℕ) (head : Head) (events : List Event) (bounds : KeepsBounds most head events) (within : IsWithinSkew head.hosts most events) (few : length events ≤ most_events) (room : length (run head events).packets ≤ most_sent) (host : ℕ) (c : Client) (at : slice_get (run head events).clients host ≡ Some c) (t : Ticket) (has : c.ticket ≡ Some t) where
+module _ (most : ℕ) (head : Head) (events : List Event) (bounds : KeepsBounds most head events) (within : IsWithinSkew head.hosts most events)
+    (few : length events ≤ most_events) (room : length (run head events).packets ≤ most_sent) (host : ℕ) (c : Client)
+    (at : slice_get (run head events).clients host ≡ Some c) (t : Ticket) (has : c.ticket ≡ Some t) where
   s : Server
   s = (run head events).server
 
@@ -128,7 +132,8 @@ module _ (most : ℕ) (head : Head) (events : List Event) (bounds : KeepsBounds 
   small = (drawn-up-to head events).inc host c at
 
   past : (host_row (run head events).server.kept c.who.host).inc ≤ c.who.inc
-  past = subst (λ h. (host_row (run head events).server.kept h).inc ≤ c.who.inc) (sym here) ((run-runs most head events bounds within).known.clients host c at).lined.past
+  past = subst (λ h. (host_row (run head events).server.kept h).inc ≤ c.who.inc) (sym here) ((run-runs most head events bounds within).known.clients
+      host c at).lined.past
 
   sent-seq : (n : ℕ) → sequence_of t.request ≡ Some n → n ≤ most_sent
   sent-seq n sq =
@@ -138,15 +143,18 @@ module _ (most : ℕ) (head : Head) (events : List Event) (bounds : KeepsBounds 
 
   module _ (fits : fits_job t.job t.request ≡ true) (asks : asker t.request ≡ Some c.who) where
     stays : is_out_of_bounds (run head events).server c.who t.request (host_row (run head events).server.kept c.who.host) ≡ false
-    stays = stays-within (length events) (run head events).server few (revisions-up-to head events) c.who small (host_row (run head events).server.kept c.who.host) t.request sent-seq
+    stays = stays-within (length events) (run head events).server few (revisions-up-to head events) c.who small
+        (host_row (run head events).server.kept c.who.host) t.request sent-seq
 
     some-sent : (next : ℕ) → (receive (run head events).server c.who.host next (request t.xid t.request)).sends ≡ [] → ⊥
     some-sent next none =
         let o = (replies-are-owed (run head events).server c.who.host next (request t.xid t.request) (can-be t.job t.request t.xid fits)).owed
         (owed (run head events).server c.who t.request t.xid asks low (replied-to t.job t.request fits) past stays) in
-        none-empty (notices (run head events).server.notice o.rows) o.answer (receive (run head events).server c.who.host next (request t.xid t.request)).sends o.is none
+        none-empty (notices (run head events).server.notice o.rows) o.answer (receive (run head events).server c.who.host next
+        (request t.xid t.request)).sends o.is none
 
-    called : (next : ℕ) → (t.job ≡ attaching → ⊥) → (host_row (run head events).server.kept c.who.host).inc ≡ c.who.inc → AnswersTicket c.who t (receive (run head events).server c.who.host next (datagram_of (call t.xid t.request))).sends
+    called : (next : ℕ) → (t.job ≡ attaching → ⊥) → (host_row (run head events).server.kept c.who.host).inc ≡ c.who.inc → AnswersTicket c.who t
+        (receive (run head events).server c.who.host next (datagram_of (call t.xid t.request))).sends
     called next other current =
         let a = answers-it (run head events).server c.who.host next t.xid t.request c.who t.job asks other fits current
         (λ n sq. let last = lined.drawn t n has sq in let below = lined.below current in omega arith)
@@ -155,12 +163,14 @@ module _ (most : ℕ) (head : Head) (events : List Event) (bounds : KeepsBounds 
         subst (λ d. AnswersTicket c.who t (receive (run head events).server c.who.host next d).sends) (sym (request-is t.job t.request t.xid fits))
         (record { answer = a.answer; sent = a.sent; inc = a.inc; counts = counts-same a.answer t ∙ a.counts })
 
-    attached : (next : ℕ) → t.request ≡ Request.Attach c.who → AnswersTicket c.who t (receive (run head events).server c.who.host next (datagram_of (call t.xid t.request))).sends
+    attached : (next : ℕ) → t.request ≡ Request.Attach c.who → AnswersTicket c.who t (receive (run head events).server c.who.host next
+        (datagram_of (call t.xid t.request))).sends
     attached next is =
         let says = attach-answered (run head events).server next t.xid c.who low past (let i = small in omega arith) in
         record {
           answer = Reply.Attach c.who.inc;
-          sent = subst (λ ps. In ps (to_host c.who.host (reply t.xid (Reply.Attach c.who.inc)))) (sym says ∙ ap (λ r. (receive (run head events).server c.who.host next (datagram_of (call t.xid r))).sends) (sym is)) (inl refl);
+          sent = subst (λ ps. In ps (to_host c.who.host (reply t.xid (Reply.Attach c.who.inc)))) (sym says
+              ∙ ap (λ r. (receive (run head events).server c.who.host next (datagram_of (call t.xid r))).sends) (sym is)) (inl refl);
           inc = refl;
           counts = attach-counts c.who.inc c.who t is;
         }
@@ -177,8 +187,10 @@ module _ (most : ℕ) (head : Head) (events : List Event) (bounds : KeepsBounds 
       asks : asker t.request ≡ Some c.who
       asks = (((run-holds head events).clients host c at).alone.asking.ticketed t has).asks
 
-      goes : (t.job ≡ attaching → ⊥) → (b : Bool) → c.attached ≡ b → AnswersTicket c.who t (receive (run head events).server c.who.host next (datagram_of (call t.xid t.request))).sends
-      goes other true on = called fits asks next other (subst (λ h. (host_row (run head events).server.kept h).inc ≡ c.who.inc) (sym here) (((run-runs most head events bounds within).known.clients host c at).lined.current on))
+      goes : (t.job ≡ attaching → ⊥) → (b : Bool) → c.attached ≡ b → AnswersTicket c.who t (receive (run head events).server c.who.host next
+          (datagram_of (call t.xid t.request))).sends
+      goes other true on = called fits asks next other (subst (λ h. (host_row (run head events).server.kept h).inc ≡ c.who.inc) (sym here)
+          (((run-runs most head events bounds within).known.clients host c at).lined.current on))
       goes other false off =
           let w = alone.asking.waiting off in
           absurd (other (ap (λ (x : Ticket). x.job) (some-same t w.request (sym has ∙ w.asks)) ∙ w.job))

@@ -1,6 +1,7 @@
 -- Who is not attached is so after three calm rounds: in one of the first two his ATTACH is sent again, and in the next delivery it is
 -- answered.
-use Rattle.std.proofs.Common.{◌≡◌, ◌≢◌, ◌≤◌, ◌<◌, ◌⊎◌, ℕ, ◌+◌, ◌-◌, ◌==◌, ◌++◌, not, nat_lt, Bool, true, false, zero, suc, List, [], ◌∷◌, Option, Some, None, length, refl, sym, ap, subst, ◌∙◌, arith, inl, inr}
+use Rattle.std.proofs.Common.{◌≡◌, ◌≢◌, ◌≤◌, ◌<◌, ◌⊎◌, ℕ, ◌+◌, ◌==◌, ◌++◌, not, nat_lt, Bool, true, false, zero, suc, List, [], ◌∷◌, Option, Some}
+use Rattle.std.proofs.Common.{None, length, refl, sym, ap, subst, ◌∙◌, arith, inl, inr}
 use Rattle.std.specs.Prelude.{map, slice_get}
 use Rattle.nq_base.specs.declared.Event.{Event}
 use Rattle.nq_base.specs.declared.Party.{Party}
@@ -17,7 +18,8 @@ use Rattle.nq_model.specs.Message.{Message, Packet, call, reply, datagram_of}
 use Rattle.nq_model.specs.Profile.{patience, inc_end}
 use Rattle.nq_model.specs.Server.{ServerStep, to_host}
 use Rattle.nq_model.specs.ServerStep.{receive}
-use Rattle.nq_model.specs.World.{Head, World, from_host, after_server, after_client, at_client, after_hearing, sending_host, deliver, deliver_to, deliver_to_client, step, run}
+use Rattle.nq_model.specs.World.{Head, World, from_host, after_server, after_client, at_client, after_hearing, sending_host, deliver, deliver_to}
+use Rattle.nq_model.specs.World.{deliver_to_client, step, run}
 use Rattle.walk_steps.proofs.LeaseIntervals.{run-runs}
 use Rattle.walk_steps.proofs.ClientFacts.{Alone}
 use Rattle.walk_steps.proofs.ClientMoves.{some-same}
@@ -62,7 +64,17 @@ module _ (most : ℕ) (head : Head) (host xid : ℕ) (who : Who) (small : who.in
   on-same w v same s = record { c = s.c; at = same ∙ s.at; on = s.on }
 
   off-same : (due : ℕ) (w v : World) → slice_get v.clients host ≡ slice_get w.clients host → Off due w → Off due v
-  off-same due w v same s = record { c = s.c; at = same ∙ s.at; off = s.off; ticket = s.ticket; asks = s.asks; number = s.number; request = s.request; same = s.same; soon = s.soon }
+  off-same due w v same s = record {
+    c = s.c;
+    at = same ∙ s.at;
+    off = s.off;
+    ticket = s.ticket;
+    asks = s.asks;
+    number = s.number;
+    request = s.request;
+    same = s.same;
+    soon = s.soon;
+  }
 
   state-same : (due : ℕ) (w v : World) → slice_get v.clients host ≡ slice_get w.clients host → State due w → State due v
   state-same due w v same (inl s) = inl (on-same w v same s)
@@ -93,25 +105,30 @@ module _ (most : ℕ) (head : Head) (host xid : ℕ) (who : Who) (small : who.in
     told k q h sent to = let i = in-get p.world.packets k q sent in to-told p.world.packets q h (holds.sent q i) to i
 
     -- no notice was sent to a client that is not attached
-    unheard : (c : Client) (m : Message) → slice_get p.world.clients host ≡ Some c → c.attached ≡ false → Told p.world.packets host m → (x file : ℕ) (tag : Tag) → m ≡ call x (Request.Evicted c.who file tag) → ⊥
+    unheard : (c : Client) (m : Message) → slice_get p.world.clients host ≡ Some c → c.attached ≡ false → Told p.world.packets host m
+        → (x file : ℕ) (tag : Tag) → m ≡ call x (Request.Evicted c.who file tag) → ⊥
     unheard c m at off sent x file tag is =
         let runs = run-runs most head p.events l.bounds l.within in
         let there : slice_get (run head p.events).clients host ≡ Some c = subst (λ (u : World). slice_get u.clients host ≡ Some c) l.is_run at in
         let knows = runs.known.clients host c there in
         let here = (holds.clients host c at).here in
-        let same : Told p.world.packets c.who.host (call x (Request.Evicted c.who file tag)) = subst (λ h. Told p.world.packets h (call x (Request.Evicted c.who file tag))) (sym here) (subst (λ n. Told p.world.packets host n) is sent) in
-        let again : Told (run head p.events).packets c.who.host (call x (Request.Evicted c.who file tag)) = subst (λ (u : World). Told u.packets c.who.host (call x (Request.Evicted c.who file tag))) l.is_run same in
+        let same : Told p.world.packets c.who.host (call x (Request.Evicted c.who file tag)) =
+        subst (λ h. Told p.world.packets h (call x (Request.Evicted c.who file tag))) (sym here) (subst (λ n. Told p.world.packets host n) is sent) in
+        let again : Told (run head p.events).packets c.who.host (call x (Request.Evicted c.who file tag)) =
+        subst (λ (u : World). Told u.packets c.who.host (call x (Request.Evicted c.who file tag))) l.is_run same in
         knows.lined.unheard off x c.who file tag again refl
 
     -- what it hears leaves it attached, or attaches it
-    heard-on : (c : Client) (k : ℕ) (m : Message) (t : ClientStep) → slice_get p.world.clients host ≡ Some c → Told p.world.packets host m → hear c k m ≡ Some t → t.client.attached ≡ true
+    heard-on : (c : Client) (k : ℕ) (m : Message) (t : ClientStep) → slice_get p.world.clients host ≡ Some c → Told p.world.packets host m
+        → hear c k m ≡ Some t → t.client.attached ≡ true
     heard-on c k m t at sent hears = by c.attached refl
       where
         by : (b : Bool) → c.attached ≡ b → t.client.attached ≡ true
         by true on = hear-stays host c p.world.packets k m t (holds.clients host c at) sent on hears
         by false off = hear-attaches c k m t (holds.clients host c at).alone off (unheard c m at off sent) hears
 
-    own-hearing : (due k : ℕ) (m : Message) (c : Client) → slice_get p.world.clients host ≡ Some c → Told p.world.packets host m → State due p.world → (o : Option ClientStep) → hear c k m ≡ o → State due (after_hearing p.world host o)
+    own-hearing : (due k : ℕ) (m : Message) (c : Client) → slice_get p.world.clients host ≡ Some c → Told p.world.packets host m → State due p.world
+        → (o : Option ClientStep) → hear c k m ≡ o → State due (after_hearing p.world host o)
     own-hearing due k m c at sent s None hears = s
     own-hearing due k m c at sent s (Some t) hears = inl (attached-now p.world c t at (heard-on c k m t at sent hears))
 
@@ -119,19 +136,24 @@ module _ (most : ℕ) (head : Head) (host xid : ℕ) (who : Who) (small : who.in
     other-hearing due h other s None = s
     other-hearing due h other s (Some t) = state-same due p.world (after_client p.world h t) (other-step p.world h t other) s
 
-    hearing : (due k h : ℕ) (m : Message) (c : Client) → slice_get p.world.clients h ≡ Some c → Told p.world.packets h m → State due p.world → (b : Bool) → (host == h) ≡ b → State due (after_hearing p.world h (hear c k m))
+    hearing : (due k h : ℕ) (m : Message) (c : Client) → slice_get p.world.clients h ≡ Some c → Told p.world.packets h m → State due p.world
+        → (b : Bool) → (host == h) ≡ b → State due (after_hearing p.world h (hear c k m))
     hearing due k h m c at sent s false differs = other-hearing due h (λ e. let yes : (host == h) ≡ true = number-same host h e in absurd (cc)) s (hear c k m)
     hearing due k h m c at sent s true same =
         let e : host ≡ h = same-number host h same in
         subst (λ n. State due (after_hearing p.world n (hear c k m))) e
-        (own-hearing due k m c (subst (λ n. slice_get p.world.clients n ≡ Some c) (sym e) at) (subst (λ n. Told p.world.packets n m) (sym e) sent) s (hear c k m) refl)
+        (own-hearing due k m c (subst (λ n. slice_get p.world.clients n ≡ Some c) (sym e) at) (subst (λ n. Told p.world.packets n m) (sym e) sent) s
+        (hear c k m) refl)
 
-    to-client : (due k h : ℕ) (m : Message) → Told p.world.packets h m → State due p.world → (o : Option Client) → slice_get p.world.clients h ≡ o → State due (deliver_to_client p.world k h m o)
+    to-client : (due k h : ℕ) (m : Message) → Told p.world.packets h m → State due p.world → (o : Option Client) → slice_get p.world.clients h ≡ o
+        → State due (deliver_to_client p.world k h m o)
     to-client due k h m sent s None at = s
     to-client due k h m sent s (Some c) at = hearing due k h m c at sent s (host == h) refl
 
-    to-party : (due k : ℕ) (q : Packet) → slice_get p.world.packets k ≡ Some q → State due p.world → (to : Party) → q.to ≡ to → State due (deliver_to p.world k q to)
-    to-party due k q sent s Party.Server to = state-same due p.world _ (server-step p.world (receive p.world.server (sending_host q.sender) (length p.world.packets) (datagram_of q.message))) s
+    to-party : (due k : ℕ) (q : Packet) → slice_get p.world.packets k ≡ Some q → State due p.world → (to : Party) → q.to ≡ to
+        → State due (deliver_to p.world k q to)
+    to-party due k q sent s Party.Server to = state-same due p.world _ (server-step p.world (receive p.world.server (sending_host q.sender)
+        (length p.world.packets) (datagram_of q.message))) s
     to-party due k q sent s (Party.Client h) to = to-client due k h q.message (told k q h sent to) s (slice_get p.world.clients h) refl
 
     delivered-state : (due k : ℕ) → State due p.world → (o : Option Packet) → slice_get p.world.packets k ≡ o → State due (deliver p.world k o)
@@ -145,7 +167,8 @@ module _ (most : ℕ) (head : Head) (host xid : ℕ) (who : Who) (small : who.in
     on-goes : (k : ℕ) → On p.world → On (step p.world (Event.Deliver k))
     on-goes k s = by s.c s.at s.on (slice_get p.world.packets k) refl
       where
-        own : (m : Message) (c : Client) → slice_get p.world.clients host ≡ Some c → c.attached ≡ true → Told p.world.packets host m → (o : Option ClientStep) → hear c k m ≡ o → On (after_hearing p.world host o)
+        own : (m : Message) (c : Client) → slice_get p.world.clients host ≡ Some c → c.attached ≡ true → Told p.world.packets host m
+            → (o : Option ClientStep) → hear c k m ≡ o → On (after_hearing p.world host o)
         own m c at on sent None hears = record { c = c; at = at; on = on }
         own m c at on sent (Some t) hears = attached-now p.world c t at (heard-on c k m t at sent hears)
 
@@ -153,7 +176,8 @@ module _ (most : ℕ) (head : Head) (host xid : ℕ) (who : Who) (small : who.in
         other h apart x None = x
         other h apart x (Some t) = on-same p.world (after_client p.world h t) (other-step p.world h t apart) x
 
-        hear-it : (h : ℕ) (m : Message) (c : Client) → slice_get p.world.clients h ≡ Some c → Told p.world.packets h m → On p.world → (b : Bool) → (host == h) ≡ b → On (after_hearing p.world h (hear c k m))
+        hear-it : (h : ℕ) (m : Message) (c : Client) → slice_get p.world.clients h ≡ Some c → Told p.world.packets h m → On p.world → (b : Bool)
+            → (host == h) ≡ b → On (after_hearing p.world h (hear c k m))
         hear-it h m c at sent x false differs = other h (λ e. let yes : (host == h) ≡ true = number-same host h e in absurd (cc)) x (hear c k m)
         hear-it h m c at sent x true same =
             let e : host ≡ h = same-number host h same in
@@ -162,20 +186,24 @@ module _ (most : ℕ) (head : Head) (host xid : ℕ) (who : Who) (small : who.in
             subst (λ n. On (after_hearing p.world n (hear c k m))) e
             (own m c here (subst (λ (d : Client). d.attached ≡ true) is x.on) (subst (λ n. Told p.world.packets n m) (sym e) sent) (hear c k m) refl)
 
-        client : (h : ℕ) (m : Message) → Told p.world.packets h m → (o : Option Client) → slice_get p.world.clients h ≡ o → On (deliver_to_client p.world k h m o)
+        client : (h : ℕ) (m : Message) → Told p.world.packets h m → (o : Option Client) → slice_get p.world.clients h ≡ o
+            → On (deliver_to_client p.world k h m o)
         client h m sent None at = s
         client h m sent (Some c) at = hear-it h m c at sent s (host == h) refl
 
         party : (q : Packet) → slice_get p.world.packets k ≡ Some q → (to : Party) → q.to ≡ to → On (deliver_to p.world k q to)
-        party q sent Party.Server to = on-same p.world _ (server-step p.world (receive p.world.server (sending_host q.sender) (length p.world.packets) (datagram_of q.message))) s
+        party q sent Party.Server to = on-same p.world _ (server-step p.world (receive p.world.server (sending_host q.sender) (length p.world.packets)
+            (datagram_of q.message))) s
         party q sent (Party.Client h) to = client h q.message (told k q h sent to) (slice_get p.world.clients h) refl
 
-        by : (c : Client) → slice_get p.world.clients host ≡ Some c → c.attached ≡ true → (o : Option Packet) → slice_get p.world.packets k ≡ o → On (deliver p.world k o)
+        by : (c : Client) → slice_get p.world.clients host ≡ Some c → c.attached ≡ true → (o : Option Packet) → slice_get p.world.packets k ≡ o
+            → On (deliver p.world k o)
         by c at on None sent = s
         by c at on (Some q) sent = party q sent q.to refl
 
     -- the reply to its ATTACH attaches it
-    reply-arrives : (k due : ℕ) → Off due p.world → slice_get p.world.packets k ≡ Some (to_host host (reply xid (Reply.Attach who.inc))) → On (step p.world (Event.Deliver k))
+    reply-arrives : (k due : ℕ) → Off due p.world → slice_get p.world.packets k ≡ Some (to_host host (reply xid (Reply.Attach who.inc)))
+        → On (step p.world (Event.Deliver k))
     reply-arrives k due s sent =
         let q = to_host host (reply xid (Reply.Attach who.inc)) in
         let asked : s.ticket.request ≡ Request.Attach s.c.who = s.request ∙ ap (λ v. Request.Attach v) (sym s.same) in
@@ -183,11 +211,13 @@ module _ (most : ℕ) (head : Head) (host xid : ℕ) (who : Who) (small : who.in
         let same : reply xid (Reply.Attach who.inc) ≡ reply xid (Reply.Attach s.c.who.inc) = ap (λ (v : Who). reply xid (Reply.Attach v.inc)) (sym s.same) in
         let is : hear s.c k (reply xid (Reply.Attach who.inc)) ≡ Some hears.0 = ap (hear s.c k) same ∙ hears.1 in
         let on = heard-on s.c k (reply xid (Reply.Attach who.inc)) hears.0 s.at (told k q host sent refl) is in
-        let to : step p.world (Event.Deliver k) ≡ after_client p.world host hears.0 = ap (deliver p.world k) sent ∙ ap (deliver_to_client p.world k host (reply xid (Reply.Attach who.inc))) s.at ∙ ap (after_hearing p.world host) is in
+        let to : step p.world (Event.Deliver k) ≡ after_client p.world host hears.0 = ap (deliver p.world k) sent
+        ∙ ap (deliver_to_client p.world k host (reply xid (Reply.Attach who.inc))) s.at ∙ ap (after_hearing p.world host) is in
         subst On (sym to) (attached-now p.world s.c hears.0 s.at on)
 
     -- its ATTACH is answered
-    attach-arrives : (k due : ℕ) → Off due p.world → slice_get p.world.packets k ≡ Some (from_host host (call xid (Request.Attach who))) → (step p.world (Event.Deliver k)).packets ≡ p.world.packets ++ to_host host (reply xid (Reply.Attach who.inc)) ∷ []
+    attach-arrives : (k due : ℕ) → Off due p.world → slice_get p.world.packets k ≡ Some (from_host host (call xid (Request.Attach who)))
+        → (step p.world (Event.Deliver k)).packets ≡ p.world.packets ++ to_host host (reply xid (Reply.Attach who.inc)) ∷ []
     unfolding after_server
     attach-arrives k due s sent =
         let runs = run-runs most head p.events l.bounds l.within in
@@ -197,10 +227,15 @@ module _ (most : ℕ) (head : Head) (host xid : ℕ) (who : Who) (small : who.in
         let below = runs.few host s.c there in
         let hosts = l.bounds.hosts in
         let past : (host_row (run head p.events).server.kept host).inc ≤ s.c.who.inc = knows.lined.past in
-        let past_here : (host_row p.world.server.kept who.host).inc ≤ who.inc = subst (λ (v : Who). (host_row p.world.server.kept who.host).inc ≤ v.inc) s.same (subst (λ (u : World). (host_row u.server.kept who.host).inc ≤ s.c.who.inc) (sym l.is_run) (subst (λ n. (host_row (run head p.events).server.kept n).inc ≤ s.c.who.inc) (sym here) past)) in
+        let past_here : (host_row p.world.server.kept who.host).inc ≤ who.inc = subst (λ (v : Who). (host_row p.world.server.kept who.host).inc
+        ≤ v.inc) s.same (subst (λ (u : World). (host_row u.server.kept who.host).inc ≤ s.c.who.inc) (sym l.is_run)
+        (subst (λ n. (host_row (run head p.events).server.kept n).inc ≤ s.c.who.inc) (sym here) past)) in
         let says = attach-answered p.world.server (length p.world.packets) xid who (omega arith) past_here small in
-        let same : (receive p.world.server host (length p.world.packets) (datagram_of (call xid (Request.Attach who)))).sends ≡ to_host host (reply xid (Reply.Attach who.inc)) ∷ [] = subst (λ n. (receive p.world.server n (length p.world.packets) (datagram_of (call xid (Request.Attach who)))).sends ≡ to_host n (reply xid (Reply.Attach who.inc)) ∷ []) here says in
-        let to : step p.world (Event.Deliver k) ≡ after_server p.world (receive p.world.server host (length p.world.packets) (datagram_of (call xid (Request.Attach who)))) = ap (deliver p.world k) sent in
+        let same : (receive p.world.server host (length p.world.packets) (datagram_of (call xid (Request.Attach who)))).sends ≡ to_host host
+        (reply xid (Reply.Attach who.inc)) ∷ [] = subst (λ n. (receive p.world.server n (length p.world.packets)
+        (datagram_of (call xid (Request.Attach who)))).sends ≡ to_host n (reply xid (Reply.Attach who.inc)) ∷ []) here says in
+        let to : step p.world (Event.Deliver k) ≡ after_server p.world (receive p.world.server host (length p.world.packets)
+        (datagram_of (call xid (Request.Attach who)))) = ap (deliver p.world k) sent in
         ap (λ (u : World). u.packets) to ∙ ap (λ ps. p.world.packets ++ ps) same
 
   -- ---- a delivery that ends
@@ -234,7 +269,8 @@ module _ (most : ℕ) (head : Head) (host xid : ℕ) (who : Who) (small : who.in
     where
       which : (k : ℕ) (fresh : List ℕ) → p.fresh ≡ k ∷ fresh → (b : Bool) → (c.number == k) ≡ b → First p q
       which k fresh is true same = at_once k fresh is (subst (λ n. slice_get p.world.packets n ≡ Some q) (same-number c.number k same) c.is)
-      which k fresh is false differs = afterwards k fresh is (keeps-coming p (Event.Deliver k) q c (filter-in (λ n. not (n == k)) p.fresh c.number (ap not differs) c.fresh))
+      which k fresh is false differs = afterwards k fresh is (keeps-coming p (Event.Deliver k) q c (filter-in (λ n. not (n == k)) p.fresh c.number
+          (ap not differs) c.fresh))
 
       by : (fresh : List ℕ) → p.fresh ≡ fresh → In fresh c.number → First p q
       by [] is i = absurd i
@@ -247,35 +283,43 @@ module _ (most : ℕ) (head : Head) (host xid : ℕ) (who : Who) (small : who.in
   goes-to : (n : ℕ) (p : Play) (k : ℕ) (fresh : List ℕ) → p.fresh ≡ k ∷ fresh → play_flow (suc n) p ≡ play_flow n (play p (Event.Deliver k))
   goes-to n p k fresh is = ap (λ ns. play_flow n (flow_first ns p)) is
 
-  replied-flows : (due n : ℕ) (p : Play) → IsLawful most head p → State due p.world → Comes p (to_host host (reply xid (Reply.Attach who.inc))) → (play_flow n p).fresh ≡ [] → On (play_flow n p).world
+  replied-flows : (due n : ℕ) (p : Play) → IsLawful most head p → State due p.world → Comes p (to_host host (reply xid (Reply.Attach who.inc)))
+      → (play_flow n p).fresh ≡ [] → On (play_flow n p).world
   replied-flows due zero p l s c none = absurd (none-comes p _ c none)
   replied-flows due (suc n) p l s c none = by (λ q lawful state more ends. replied-flows due n q lawful state more ends) (first-of p _ c)
     where
-      arrives : (k : ℕ) → slice_get p.world.packets k ≡ Some (to_host host (reply xid (Reply.Attach who.inc))) → State due p.world → On (step p.world (Event.Deliver k))
+      arrives : (k : ℕ) → slice_get p.world.packets k ≡ Some (to_host host (reply xid (Reply.Attach who.inc))) → State due p.world
+          → On (step p.world (Event.Deliver k))
       arrives k sent (inl x) = on-goes p l k x
       arrives k sent (inr x) = reply-arrives p l k due x sent
 
-      by : ((q : Play) → IsLawful most head q → State due q.world → Comes q (to_host host (reply xid (Reply.Attach who.inc))) → (play_flow n q).fresh ≡ [] → On (play_flow n q).world) → First p (to_host host (reply xid (Reply.Attach who.inc))) → On (play_flow (suc n) p).world
+      by : ((q : Play) → IsLawful most head q → State due q.world → Comes q (to_host host (reply xid (Reply.Attach who.inc))) → (play_flow n q).fresh
+          ≡ [] → On (play_flow n q).world) → First p (to_host host (reply xid (Reply.Attach who.inc))) → On (play_flow (suc n) p).world
       by again (at_once k fresh is sent) =
           let to = goes-to n p k fresh is in
           subst (λ (r : Play). On r.world) (sym to) (on-flows n (play p (Event.Deliver k)) (first-lawful p k fresh is l) (arrives k sent s))
       by again (afterwards k fresh is more) =
           let to = goes-to n p k fresh is in
-          subst (λ (r : Play). On r.world) (sym to) (again (play p (Event.Deliver k)) (first-lawful p k fresh is l) (state-goes p l due k s) more (ap (λ (r : Play). r.fresh) (sym to) ∙ none))
+          subst (λ (r : Play). On r.world) (sym to) (again (play p (Event.Deliver k)) (first-lawful p k fresh is l) (state-goes p l due k s) more
+          (ap (λ (r : Play). r.fresh) (sym to) ∙ none))
 
-  asked-flows : (due n : ℕ) (p : Play) → IsLawful most head p → State due p.world → Comes p (from_host host (call xid (Request.Attach who))) → (play_flow n p).fresh ≡ [] → On (play_flow n p).world
+  asked-flows : (due n : ℕ) (p : Play) → IsLawful most head p → State due p.world → Comes p (from_host host (call xid (Request.Attach who)))
+      → (play_flow n p).fresh ≡ [] → On (play_flow n p).world
   asked-flows due zero p l s c none = absurd (none-comes p _ c none)
   asked-flows due (suc n) p l s c none = by (λ q lawful state more ends. asked-flows due n q lawful state more ends) (first-of p _ c) s
     where
-      by : ((q : Play) → IsLawful most head q → State due q.world → Comes q (from_host host (call xid (Request.Attach who))) → (play_flow n q).fresh ≡ [] → On (play_flow n q).world) → First p (from_host host (call xid (Request.Attach who))) → State due p.world → On (play_flow (suc n) p).world
+      by : ((q : Play) → IsLawful most head q → State due q.world → Comes q (from_host host (call xid (Request.Attach who))) → (play_flow n q).fresh
+          ≡ [] → On (play_flow n q).world) → First p (from_host host (call xid (Request.Attach who))) → State due p.world → On (play_flow (suc n) p).world
       by again (at_once k fresh is sent) (inl x) = on-flows (suc n) p l x
       by again (at_once k fresh is sent) (inr x) =
           let to = goes-to n p k fresh is in
           let answer = sent-comes p (Event.Deliver k) _ (attach-arrives p l k due x sent) in
-          subst (λ (r : Play). On r.world) (sym to) (replied-flows due n (play p (Event.Deliver k)) (first-lawful p k fresh is l) (state-goes p l due k (inr x)) answer (ap (λ (r : Play). r.fresh) (sym to) ∙ none))
+          subst (λ (r : Play). On r.world) (sym to) (replied-flows due n (play p (Event.Deliver k)) (first-lawful p k fresh is l)
+          (state-goes p l due k (inr x)) answer (ap (λ (r : Play). r.fresh) (sym to) ∙ none))
       by again (afterwards k fresh is more) x =
           let to = goes-to n p k fresh is in
-          subst (λ (r : Play). On r.world) (sym to) (again (play p (Event.Deliver k)) (first-lawful p k fresh is l) (state-goes p l due k x) more (ap (λ (r : Play). r.fresh) (sym to) ∙ none))
+          subst (λ (r : Play). On r.world) (sym to) (again (play p (Event.Deliver k)) (first-lawful p k fresh is l) (state-goes p l due k x) more
+          (ap (λ (r : Play). r.fresh) (sym to) ∙ none))
 
   -- ---- ticks
 
@@ -286,24 +330,29 @@ module _ (most : ℕ) (head : Head) (host xid : ℕ) (who : Who) (small : who.in
     waits : Off due p.world → Stage due p
 
   -- an event that delivers nothing and changes other clients alone
-  passes : (due : ℕ) (p : Play) (e : Event) → delivered e p.fresh ≡ p.fresh → slice_get (step p.world e).clients host ≡ slice_get p.world.clients host → Stage due p → Stage due (play p e)
+  passes : (due : ℕ) (p : Play) (e : Event) → delivered e p.fresh ≡ p.fresh → slice_get (step p.world e).clients host ≡ slice_get p.world.clients host
+      → Stage due p → Stage due (play p e)
   passes due p e none same (there s) = there (on-same p.world (step p.world e) same s)
-  passes due p e none same (asked s c) = asked (off-same patience p.world (step p.world e) same s) (keeps-coming p e _ c (subst (λ ns. In ns c.number) (sym none) c.fresh))
+  passes due p e none same (asked s c) = asked (off-same patience p.world (step p.world e) same s)
+      (keeps-coming p e _ c (subst (λ ns. In ns c.number) (sym none) c.fresh))
   passes due p e none same (waits s) = waits (off-same due p.world (step p.world e) same s)
 
-  other-tick : (w : World) (h : ℕ) → host ≢ h → (o : Option Client) → slice_get (at_client w h (λ c. client_tick c (c.now + 1)) o).clients host ≡ slice_get w.clients host
+  other-tick : (w : World) (h : ℕ) → host ≢ h → (o : Option Client) → slice_get (at_client w h (λ c. client_tick c (c.now + 1)) o).clients host
+      ≡ slice_get w.clients host
   other-tick w h other None = refl
   other-tick w h other (Some c) = other-step w h _ other
 
   module _ (p : Play) (is_run : p.world ≡ run head p.events) where
-    at-host : (c : Client) → slice_get p.world.clients host ≡ Some c → step p.world (Event.ClientTick host) ≡ after_client p.world host (client_tick c (c.now + 1))
+    at-host : (c : Client) → slice_get p.world.clients host ≡ Some c → step p.world (Event.ClientTick host) ≡ after_client p.world host
+        (client_tick c (c.now + 1))
     at-host c at = ap (at_client p.world host (λ d. client_tick d (d.now + 1))) at
 
     own-alone : (c : Client) → slice_get p.world.clients host ≡ Some c → Alone c
     own-alone c at = ((run-holds head p.events).clients host c (subst (λ (u : World). slice_get u.clients host ≡ Some c) is_run at)).alone
 
     -- after its own tick it is due a tick sooner, or has asked
-    off-ticks : (before due : ℕ) → before ≤ due + 1 → Off before p.world → Stage due (play p (Event.ClientTick host)) ⊎ Off due (step p.world (Event.ClientTick host))
+    off-ticks : (before due : ℕ) → before ≤ due + 1 → Off before p.world → Stage due (play p (Event.ClientTick host))
+        ⊎ Off due (step p.world (Event.ClientTick host))
     unfolding after_client
     off-ticks before due less s = by (tick-off s.c s.ticket s.asks)
       where
@@ -313,7 +362,8 @@ module _ (most : ℕ) (head : Head) (host xid : ℕ) (who : Who) (small : who.in
         at : slice_get (step p.world (Event.ClientTick host)).clients host ≡ Some (client_tick s.c (s.c.now + 1)).client
         at = ap (λ (u : World). slice_get u.clients host) to ∙ set-there p.world.clients host (client_tick s.c (s.c.now + 1)).client s.c s.at
 
-        by : TickedOff s.c s.ticket (client_tick s.c (s.c.now + 1)) → Stage due (play p (Event.ClientTick host)) ⊎ Off due (step p.world (Event.ClientTick host))
+        by : TickedOff s.c s.ticket (client_tick s.c (s.c.now + 1)) → Stage due (play p (Event.ClientTick host))
+            ⊎ Off due (step p.world (Event.ClientTick host))
         by k = which k.sent
           where
             left : (n : ℕ) → k.ticket.last + patience ≤ (s.c.now + 1) + n → Off n (step p.world (Event.ClientTick host))
@@ -329,11 +379,14 @@ module _ (most : ℕ) (head : Head) (host xid : ℕ) (who : Who) (small : who.in
               soon = let now = k.now in omega arith;
             }
 
-            which : ((k.ticket.last ≡ s.c.now + 1) × ((client_tick s.c (s.c.now + 1)).sends ≡ call s.ticket.xid s.ticket.request ∷ [])) ⊎ (k.ticket.last ≡ s.ticket.last) → Stage due (play p (Event.ClientTick host)) ⊎ Off due (step p.world (Event.ClientTick host))
+            which : ((k.ticket.last ≡ s.c.now + 1) × ((client_tick s.c (s.c.now + 1)).sends ≡ call s.ticket.xid s.ticket.request ∷ []))
+                ⊎ (k.ticket.last ≡ s.ticket.last) → Stage due (play p (Event.ClientTick host)) ⊎ Off due (step p.world (Event.ClientTick host))
             which (inr same) = inr (left due (let soon = s.soon in omega arith))
             which (inl again) =
-                let mine : call s.ticket.xid s.ticket.request ≡ call xid (Request.Attach who) = ap (λ n. call n s.ticket.request) s.number ∙ ap (call xid) s.request in
-                let one : (step p.world (Event.ClientTick host)).packets ≡ p.world.packets ++ from_host host (call xid (Request.Attach who)) ∷ [] = ap (λ (u : World). u.packets) to ∙ ap (λ ms. p.world.packets ++ map (from_host host) ms) (again.1 ∙ ap (λ m. m ∷ []) mine) in
+                let mine : call s.ticket.xid s.ticket.request ≡ call xid (Request.Attach who) = ap (λ n. call n s.ticket.request) s.number
+                ∙ ap (call xid) s.request in
+                let one : (step p.world (Event.ClientTick host)).packets ≡ p.world.packets ++ from_host host (call xid (Request.Attach who)) ∷ [] =
+                ap (λ (u : World). u.packets) to ∙ ap (λ ms. p.world.packets ++ map (from_host host) ms) (again.1 ∙ ap (λ m. m ∷ []) mine) in
                 inl (asked (left patience (let last = again.0 in omega arith)) (sent-comes p (Event.ClientTick host) _ one))
 
     own-on : On p.world → On (step p.world (Event.ClientTick host))
@@ -359,7 +412,8 @@ module _ (most : ℕ) (head : Head) (host xid : ℕ) (who : Who) (small : who.in
 
   hosts-pass : (due count h : ℕ) (p : Play) → (h + count ≤ host) ⊎ (host < h) → Stage due p → Stage due (play_hosts count h p)
   hosts-pass due zero h p apart s = s
-  hosts-pass due (suc count) h p apart s = hosts-pass due count (h + 1) (play p (Event.ClientTick h)) (still apart) (passes due p (Event.ClientTick h) refl (other-tick p.world h (other apart) (slice_get p.world.clients h)) s)
+  hosts-pass due (suc count) h p apart s = hosts-pass due count (h + 1) (play p (Event.ClientTick h)) (still apart) (passes due p (Event.ClientTick h)
+      refl (other-tick p.world h (other apart) (slice_get p.world.clients h)) s)
     where
       still : (h + suc count ≤ host) ⊎ (host < h) → ((h + 1) + count ≤ host) ⊎ (host < h + 1)
       still (inl below) = inl (omega arith)
@@ -373,14 +427,16 @@ module _ (most : ℕ) (head : Head) (host xid : ℕ) (who : Who) (small : who.in
   hosts-tick due zero h p is_run from below s = absurd (omega arith)
   hosts-tick due (suc count) h p is_run from below s = by (λ q runs high low stage. hosts-tick due count (h + 1) q runs high low stage) (host == h) refl
     where
-      by : ((q : Play) → q.world ≡ run head q.events → h + 1 ≤ host → host < (h + 1) + count → Stage (due + 1) q → Stage due (play_hosts count (h + 1) q)) → (b : Bool) → (host == h) ≡ b → Stage due (play_hosts (suc count) h p)
+      by : ((q : Play) → q.world ≡ run head q.events → h + 1 ≤ host → host < (h + 1) + count → Stage (due + 1) q
+          → Stage due (play_hosts count (h + 1) q)) → (b : Bool) → (host == h) ≡ b → Stage due (play_hosts (suc count) h p)
       by again true same =
           let e : host ≡ h = same-number host h same in
           let first : Stage due (play p (Event.ClientTick h)) = subst (λ n. Stage due (play p (Event.ClientTick n))) e (own-tick p is_run due s) in
           hosts-pass due count (h + 1) (play p (Event.ClientTick h)) (inr (omega arith)) first
       by again false differs =
           let apart : host ≢ h = λ e. let yes : (host == h) ≡ true = number-same host h e in absurd (cc) in
-          let next : Stage (due + 1) (play p (Event.ClientTick h)) = passes (due + 1) p (Event.ClientTick h) refl (other-tick p.world h apart (slice_get p.world.clients h)) s in
+          let next : Stage (due + 1) (play p (Event.ClientTick h)) = passes (due + 1) p (Event.ClientTick h) refl (other-tick p.world h apart
+          (slice_get p.world.clients h)) s in
           again (play p (Event.ClientTick h)) (ap (λ w. step w (Event.ClientTick h)) is_run) (above h from apart) (omega arith) next
         where
           above : (n : ℕ) → n ≤ host → host ≢ n → n + 1 ≤ host
@@ -432,7 +488,8 @@ module _ (most : ℕ) (head : Head) (host xid : ℕ) (who : Who) (small : who.in
     where
       by : (b : Bool) → (host == h) ≡ b → On (play p (Event.ClientTick h)).world
       by true same = subst (λ n. On (play p (Event.ClientTick n)).world) (same-number host h same) (own-on p is_run s)
-      by false differs = on-same p.world (step p.world (Event.ClientTick h)) (other-tick p.world h (λ e. let yes : (host == h) ≡ true = number-same host h e in absurd (cc)) (slice_get p.world.clients h)) s
+      by false differs = on-same p.world (step p.world (Event.ClientTick h)) (other-tick p.world h (λ e. let yes : (host == h) ≡ true =
+          number-same host h e in absurd (cc)) (slice_get p.world.clients h)) s
 
   -- who is attached once all is delivered is so after the round
   ticked-on : (p : Play) → IsLawful most head p → On (play_flow (enough_deliveries p) p).world → On (calm_round p).world
@@ -460,11 +517,23 @@ module _ (most : ℕ) (head : Head) (host xid : ℕ) (who : Who) (small : who.in
   pub starts-on : (w : World) (c : Client) → slice_get w.clients host ≡ Some c → c.attached ≡ true → State patience w
   starts-on w c at on = inl (record { c = c; at = at; on = on })
 
-  pub starts-off : (w : World) (c : Client) (ticket : Ticket) → slice_get w.clients host ≡ Some c → c.attached ≡ false → c.ticket ≡ Some ticket → ticket.xid ≡ xid → ticket.request ≡ Request.Attach who → c.who ≡ who → ticket.last ≤ c.now → State patience w
-  starts-off w c ticket at off asks number request same past = inr (record { c = c; at = at; off = off; ticket = ticket; asks = asks; number = number; request = request; same = same; soon = omega arith })
+  pub starts-off : (w : World) (c : Client) (ticket : Ticket) → slice_get w.clients host ≡ Some c → c.attached ≡ false → c.ticket ≡ Some ticket
+      → ticket.xid ≡ xid → ticket.request ≡ Request.Attach who → c.who ≡ who → ticket.last ≤ c.now → State patience w
+  starts-off w c ticket at off asks number request same past = inr (record {
+    c = c;
+    at = at;
+    off = off;
+    ticket = ticket;
+    asks = asks;
+    number = number;
+    request = request;
+    same = same;
+    soon = omega arith;
+  })
 
   -- three rounds
-  pub three-rounds : (p : Play) → IsLawful most head p → IsDelivered (calm_round p) → IsDelivered (calm_round (calm_round p)) → State patience p.world → On (calm_rounds 3 p).world
+  pub three-rounds : (p : Play) → IsLawful most head p → IsDelivered (calm_round p) → IsDelivered (calm_round (calm_round p)) → State patience p.world
+      → On (calm_rounds 3 p).world
   three-rounds p l second third s =
       let one = calm-round most head p l in
       let two = calm-round most head (calm_round p) one in

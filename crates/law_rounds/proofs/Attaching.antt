@@ -1,5 +1,6 @@
 -- A client that is not attached asks to be, until it is; then it stays so. And each ATTACH of it is answered.
-use Rattle.std.proofs.Common.{◌≡◌, ◌≤◌, ◌<◌, ◌⊎◌, ℕ, ◌+◌, ◌==◌, ◌&&◌, nat_lt, true, false, List, [], ◌∷◌, Some, if◌then◌else◌, refl, sym, ap, subst, ◌∙◌, arith, inl, inr}
+use Rattle.std.proofs.Common.{◌≡◌, ◌≤◌, ◌<◌, ◌⊎◌, ℕ, ◌+◌, ◌==◌, ◌&&◌, nat_lt, true, false, List, [], ◌∷◌, Some, if◌then◌else◌, refl, sym, ap, subst}
+use Rattle.std.proofs.Common.{◌∙◌, arith, inl, inr}
 use Rattle.std.proofs.lemmas.Bool.{and_from}
 use Rattle.std.proofs.lemmas.Bool.Decides.{nat_tests}
 use Rattle.nq_base.specs.declared.Grant.{Grant}
@@ -53,7 +54,8 @@ SomeHeard file tag = Unit {0}
 abbrev NoneGiven : ℕ → Grant → ℕ → Type 0
 NoneGiven file g sent = ⊥
 
-pub hear-stays : (host : ℕ) (c : Client) (ps : List Packet) (k : ℕ) (m : Message) (t : ClientStep) → IsAt host c ps → Told ps host m → c.attached ≡ true → hear c k m ≡ Some t → t.client.attached ≡ true
+pub hear-stays : (host : ℕ) (c : Client) (ps : List Packet) (k : ℕ) (m : Message) (t : ClientStep) → IsAt host c ps → Told ps host m → c.attached
+    ≡ true → hear c k m ≡ Some t → t.client.attached ≡ true
 hear-stays host c ps k m t a sent on hears = heard-cases c k m t (λ u. u.client.attached ≡ true) hears (record {
   answered = λ xid r ticket is asks own inc counts.
       let there : Told ps c.who.host (reply xid r) = subst (λ h. Told ps h (reply xid r)) (sym a.here) (subst (λ n. Told ps host n) is sent) in
@@ -94,23 +96,25 @@ goes-attached t on =
       changes = λ file request. settled;
     })
 
-replied-attaches : (c : Client) (k : ℕ) (ticket : Ticket) (r : Reply) → Alone c → c.ticket ≡ Some ticket → ticket.job ≡ Job.attaching → reply_counts r ticket ≡ true → (replied (begun c) k ticket r).client.attached ≡ true
+replied-attaches : (c : Client) (k : ℕ) (ticket : Ticket) (r : Reply) → Alone c → c.ticket ≡ Some ticket → ticket.job ≡ Job.attaching
+    → reply_counts r ticket ≡ true → (replied (begun c) k ticket r).client.attached ≡ true
 unfolding attached spends
-replied-attaches c k ticket r alone asks job counts = replied-cases c k ticket r (λ u. u.client.attached ≡ true) (alone.asking.ticketed ticket asks).fits counts (record {
-  attaching = λ who inc own request is. refl;
-  named = λ answer own is. absurd (for_call own);
-  reading = λ who q file block want inc rev body grant of is. absurd (for_call of.job);
-  leasing = λ who file want inc grant of is. absurd (for_call of.job);
-  writing = λ who seq file block first last body inc rev of is. absurd (for_call of.job);
-  resizing = λ who seq q file blocks inc rev of is. absurd (for_call of.job);
-  removing = λ who seq q file inc of is. absurd (for_call of.job);
-  renewing = λ who file want inc grant own request is. absurd (renews own);
-  pushed = λ who seq file block first last base body inc rev own request is. absurd (pushes own);
-  putting_off = λ inc status own is off. absurd (either own);
-  refusing = λ inc status own is counted final. absurd (for_call own);
-  renewal_refused = λ inc status own is final. absurd (renews own);
-  push_refused = λ who seq file block first last base body inc status own request is final. absurd (pushes own);
-})
+replied-attaches c k ticket r alone asks job counts = replied-cases c k ticket r (λ u. u.client.attached ≡ true) (alone.asking.ticketed ticket
+    asks).fits counts (record {
+      attaching = λ who inc own request is. refl;
+      named = λ answer own is. absurd (for_call own);
+      reading = λ who q file block want inc rev body grant of is. absurd (for_call of.job);
+      leasing = λ who file want inc grant of is. absurd (for_call of.job);
+      writing = λ who seq file block first last body inc rev of is. absurd (for_call of.job);
+      resizing = λ who seq q file blocks inc rev of is. absurd (for_call of.job);
+      removing = λ who seq q file inc of is. absurd (for_call of.job);
+      renewing = λ who file want inc grant own request is. absurd (renews own);
+      pushed = λ who seq file block first last base body inc rev own request is. absurd (pushes own);
+      putting_off = λ inc status own is off. absurd (either own);
+      refusing = λ inc status own is counted final. absurd (for_call own);
+      renewal_refused = λ inc status own is final. absurd (renews own);
+      push_refused = λ who seq file block first last base body inc status own request is final. absurd (pushes own);
+    })
   where
     for_call : ticket.job ≡ Job.for_call → ⊥
     for_call e = let two : Job.attaching ≡ Job.for_call = sym job ∙ e in cc
@@ -125,7 +129,8 @@ replied-attaches c k ticket r alone asks job counts = replied-cases c k ticket r
     either (inl e) = for_call e
     either (inr e) = renews e
 
-pub hear-attaches : (c : Client) (k : ℕ) (m : Message) (t : ClientStep) → Alone c → c.attached ≡ false → ((xid file : ℕ) (tag : Tag) → m ≡ call xid (Request.Evicted c.who file tag) → ⊥) → hear c k m ≡ Some t → t.client.attached ≡ true
+pub hear-attaches : (c : Client) (k : ℕ) (m : Message) (t : ClientStep) → Alone c → c.attached ≡ false → ((xid file : ℕ) (tag : Tag)
+    → m ≡ call xid (Request.Evicted c.who file tag) → ⊥) → hear c k m ≡ Some t → t.client.attached ≡ true
 hear-attaches c k m t alone off unheard hears = heard-cases c k m t (λ u. u.client.attached ≡ true) hears (record {
   answered = λ xid r ticket is asks own inc counts.
       let w = alone.asking.waiting off in
@@ -135,7 +140,8 @@ hear-attaches c k m t alone off unheard hears = heard-cases c k m t (λ u. u.cli
 })
 
 -- the reply to its ATTACH is heard
-pub hears-attach : (c : Client) (k xid : ℕ) (ticket : Ticket) → c.ticket ≡ Some ticket → ticket.xid ≡ xid → ticket.request ≡ Request.Attach c.who → (t : ClientStep) × (hear c k (reply xid (Reply.Attach c.who.inc)) ≡ Some t)
+pub hears-attach : (c : Client) (k xid : ℕ) (ticket : Ticket) → c.ticket ≡ Some ticket → ticket.xid ≡ xid → ticket.request ≡ Request.Attach c.who
+    → (t : ClientStep) × (hear c k (reply xid (Reply.Attach c.who.inc)) ≡ Some t)
 hears-attach c k xid ticket asks number request = (goes_on (replied (begun c) k ticket (Reply.Attach c.who.inc)), heard)
   where
     same_number : (xid == ticket.xid) ≡ true
@@ -152,14 +158,19 @@ hears-attach c k xid ticket asks number request = (goes_on (replied (begun c) k 
 
 -- ---- the server answers ATTACH
 
-pub attach-answered : (s : Server) (next xid : ℕ) (who : Who) → who.host < most_hosts → (host_row s.kept who.host).inc ≤ who.inc → who.inc < inc_end → (receive s who.host next (datagram_of (call xid (Request.Attach who)))).sends ≡ to_host who.host (reply xid (Reply.Attach who.inc)) ∷ []
+pub attach-answered : (s : Server) (next xid : ℕ) (who : Who) → who.host < most_hosts → (host_row s.kept who.host).inc ≤ who.inc → who.inc < inc_end
+    → (receive s who.host next (datagram_of (call xid (Request.Attach who)))).sends ≡ to_host who.host (reply xid (Reply.Attach who.inc)) ∷ []
 unfolding drops says attaches
 attach-answered s next xid who few past small =
     let line = host_row s.kept who.host in
-    choice (λ (t : ServerStep). t.sends ≡ to_host who.host (reply xid (Reply.Attach who.inc)) ∷ []) (who.host == who.host && nat_lt who.host most_hosts) (admit s who xid next (Request.Attach who) line) (drops s wrong_host)
-    (λ e. choice (λ (t : ServerStep). t.sends ≡ to_host who.host (reply xid (Reply.Attach who.inc)) ∷ []) (nat_lt line.inc who.inc) (attach_later s who xid) (if nat_lt who.inc line.inc then drops s old_incarnation else replies s who.host xid (Reply.Attach who.inc))
-    (λ later. choice (λ (t : ServerStep). t.sends ≡ to_host who.host (reply xid (Reply.Attach who.inc)) ∷ []) (can_be_kept (row_of_attach who)) (attaches s who xid) (drops s out_of_bounds) (λ can. refl) (λ cannot. absurd (let can = kept in cc)))
-    (λ same. choice (λ (t : ServerStep). t.sends ≡ to_host who.host (reply xid (Reply.Attach who.inc)) ∷ []) (nat_lt who.inc line.inc) (drops s old_incarnation) (replies s who.host xid (Reply.Attach who.inc)) (λ old. absurd (let no = not_old in cc)) (λ current. refl)))
+    choice (λ (t : ServerStep). t.sends ≡ to_host who.host (reply xid (Reply.Attach who.inc)) ∷ []) (who.host == who.host && nat_lt who.host
+    most_hosts) (admit s who xid next (Request.Attach who) line) (drops s wrong_host)
+    (λ e. choice (λ (t : ServerStep). t.sends ≡ to_host who.host (reply xid (Reply.Attach who.inc)) ∷ []) (nat_lt line.inc who.inc)
+    (attach_later s who xid) (if nat_lt who.inc line.inc then drops s old_incarnation else replies s who.host xid (Reply.Attach who.inc))
+    (λ later. choice (λ (t : ServerStep). t.sends ≡ to_host who.host (reply xid (Reply.Attach who.inc)) ∷ []) (can_be_kept (row_of_attach who))
+    (attaches s who xid) (drops s out_of_bounds) (λ can. refl) (λ cannot. absurd (let can = kept in cc)))
+    (λ same. choice (λ (t : ServerStep). t.sends ≡ to_host who.host (reply xid (Reply.Attach who.inc)) ∷ []) (nat_lt who.inc line.inc)
+    (drops s old_incarnation) (replies s who.host xid (Reply.Attach who.inc)) (λ old. absurd (let no = not_old in cc)) (λ current. refl)))
     (λ e. absurd (let yes = own in cc))
   where
     own : (who.host == who.host && nat_lt who.host most_hosts) ≡ true

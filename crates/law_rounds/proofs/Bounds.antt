@@ -149,7 +149,8 @@ module _ (price note : ℕ) (least : 3 ≤ price) (noted : note ≤ price + pric
       let delays = delays-most c.call in
       omega arith
 
-  efforts-most : (base : ℕ) → (price + price) + 3 ≤ base → (clients : List Client) → total (effort price) clients ≤ base * length clients + 4 * sum_by pending clients
+  efforts-most : (base : ℕ) → (price + price) + 3 ≤ base → (clients : List Client) → total (effort price) clients ≤ base * length clients + 4 * sum_by
+      pending clients
   efforts-most base more [] = omega arith
   efforts-most base more (c ∷ clients) =
       let here = effort-most base more c in
@@ -161,17 +162,22 @@ module _ (price note : ℕ) (least : 3 ≤ price) (noted : note ≤ price + pric
       one-more : (b n : ℕ) → b * suc n ≡ b + b * n
       one-more b n = grind arith
 
-  all-efforts : (base : ℕ) (clients : List Client) → (0 < length clients → (price + price) + 3 ≤ base) → total (effort price) clients ≤ base * length clients + 4 * sum_by pending clients
+  all-efforts : (base : ℕ) (clients : List Client) → (0 < length clients → (price + price) + 3 ≤ base) → total (effort price) clients ≤ base * length
+      clients + 4 * sum_by pending clients
   all-efforts base [] more = omega arith
   all-efforts base (c ∷ clients) more = efforts-most base (more (omega arith)) (c ∷ clients)
 
   -- where a request costs little enough, the bound is kept
-  pub within-bound : (p : Play) → price + price ≤ 8 * (length p.world.clients + 1) → (0 < length p.world.clients → (price + price) + 3 ≤ 8 * (length p.world.clients + 1)) → left_to_pay price note p ≤ most_deliveries p
+  pub within-bound : (p : Play) → price + price ≤ 8 * (length p.world.clients + 1) → (0 < length p.world.clients → (price + price) + 3
+      ≤ 8 * (length p.world.clients + 1)) → left_to_pay price note p ≤ most_deliveries p
   within-bound p few fewer =
       let base = 8 * (length p.world.clients + 1) in
-      let packets = total-most (number_weight price note p.world.packets) (8 * (length p.world.clients + 1)) (λ k. let most = number-most p.world.packets k in omega arith) p.fresh in
+      let packets = total-most (number_weight price note p.world.packets) (8 * (length p.world.clients + 1)) (λ k. let most =
+      number-most p.world.packets k in omega arith) p.fresh in
       let clients = all-efforts (8 * (length p.world.clients + 1)) p.world.clients fewer in
-      let both : (8 * (length p.world.clients + 1)) * (length p.fresh + length p.world.clients) ≡ (8 * (length p.world.clients + 1)) * length p.fresh + (8 * (length p.world.clients + 1)) * length p.world.clients = spread (8 * (length p.world.clients + 1)) (length p.fresh) (length p.world.clients) in
+      let both : (8 * (length p.world.clients + 1)) * (length p.fresh + length p.world.clients) ≡ (8 * (length p.world.clients + 1)) * length p.fresh
+      + (8 * (length p.world.clients + 1)) * length p.world.clients = spread (8 * (length p.world.clients + 1)) (length p.fresh)
+      (length p.world.clients) in
       omega arith
     where
       spread : (b u h : ℕ) → b * (u + h) ≡ b * u + b * h

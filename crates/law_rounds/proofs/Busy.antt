@@ -1,12 +1,15 @@
 -- After each step a client that has an open call and does not pause has a request under way.
-use Rattle.std.proofs.Common.{◌≡◌, ◌≤◌, ◌<◌, ◌⊎◌, ℕ, ◌||◌, ◌&&◌, not, Bool, true, false, List, [], ◌∷◌, Option, Some, None, is_some, nat_le, if◌then◌else◌, refl, sym, ap, subst, ◌∙◌, arith, inl, inr}
+use Rattle.std.proofs.Common.{◌≡◌, ◌≤◌, ◌<◌, ◌⊎◌, ℕ, ◌||◌, ◌&&◌, not, Bool, true, false, List, [], ◌∷◌, Option, Some, None, is_some, nat_le}
+use Rattle.std.proofs.Common.{if◌then◌else◌, refl, sym, ap, subst, ◌∙◌, arith, inl, inr}
 use Rattle.std.specs.List.{find, list_any}
 use Rattle.nq_base.specs.declared.Call.{Call}
 use Rattle.nq_base.specs.declared.Mode.{Mode}
 use Rattle.nq_base.specs.declared.Push.{Push}
 use Rattle.nq_base.specs.declared.Request.{Request}
 use Rattle.nq_model.specs.Client.{ClientStep, Job, UnderWay, lease_on, first_dirty, is_push_of, is_clean_in, is_clean}
-use Rattle.nq_model.specs.Send.{sends_request, after_seq, gives_up, want_of, pushes_these, pushes, noticed_file, sends_write, next_write, next_put, next_change, asks, next_of_call, next_of_under_way, is_asking, then_renews, then_calls, pushes_due, then_pushes, then_ending, send_next, ending_file, shares_live}
+use Rattle.nq_model.specs.Send.{sends_request, after_seq, gives_up, want_of, pushes_these, pushes, noticed_file, sends_write, next_write, next_put}
+use Rattle.nq_model.specs.Send.{next_change, asks, next_of_call, next_of_under_way, is_asking, then_renews, then_calls, pushes_due, then_pushes}
+use Rattle.nq_model.specs.Send.{then_ending, send_next, ending_file, shares_live}
 use Rattle.nq_model.specs.Settle.{ticket_is_for_call}
 use Rattle.walk_steps.proofs.ClientFacts.{DelayingOf}
 use Rattle.walk_steps.proofs.ClientMoves.{some-same, none-some}
@@ -27,7 +30,8 @@ any-found p (x ∷ xs) any none = by (p x) (λ a n. any-found p xs a n) any none
     by false rest any none = rest any none
 
 -- a file that is not clean has delayed writes in the list, where none is under way
-pub dirty-listed : (file : ℕ) (dirty : List Push) (push : Option Push) → push ≡ None → is_clean_in file dirty push ≡ false → list_any (is_push_of file) dirty ≡ true
+pub dirty-listed : (file : ℕ) (dirty : List Push) (push : Option Push) → push ≡ None → is_clean_in file dirty push ≡ false
+    → list_any (is_push_of file) dirty ≡ true
 dirty-listed file dirty push none unclean = by (list_any (is_push_of file) dirty) refl (subst (λ o. is_clean_in file dirty o ≡ false) none unclean)
   where
     by : (b : Bool) → list_any (is_push_of file) dirty ≡ b → (not b && true) ≡ false → b ≡ true
@@ -46,7 +50,8 @@ pushed t file any = by (first_dirty file t.client.dirty) refl
     by (Some p) e = sent _ _ _
 
 -- where nothing is under way, and all is settled, the call sends its next request
-module _ (t : ClientStep) (u : UnderWay) (called : t.client.call ≡ Some u) (free : t.client.ticket ≡ None) (settled : Settled t) (delaying : DelayingOf t.client) where
+module _ (t : ClientStep) (u : UnderWay) (called : t.client.call ≡ Some u) (free : t.client.ticket ≡ None) (settled : Settled t)
+    (delaying : DelayingOf t.client) where
   settling : IsSettling t u
   settling = record { called = called; idle = ap ticket_is_for_call free }
 
@@ -69,11 +74,13 @@ module _ (t : ClientStep) (u : UnderWay) (called : t.client.call ≡ Some u) (fr
   written : (file block : ℕ) (body : List ℕ) → is_asking (next_write t u file block body) ≡ true
   unfolding sends_request
   written file block body =
-      choice (λ s. is_asking s ≡ true) (u.through || shares_live t.client.now (lease_on file t.client.leases)) (sends_write t file block body) (sends_request t Job.for_call (Request.GetLease t.client.who file (want_of t.client Mode.Writing)))
+      choice (λ s. is_asking s ≡ true) (u.through || shares_live t.client.now (lease_on file t.client.leases)) (sends_write t file block body)
+      (sends_request t Job.for_call (Request.GetLease t.client.who file (want_of t.client Mode.Writing)))
       (λ e. refl)
       (λ e. refl)
 
-  put : (file block : ℕ) (body : List ℕ) → u.call ≡ Call.WriteSync file block body → (b : Bool) → u.written ≡ b → is_asking (next_put t b true file block body) ≡ true
+  put : (file block : ℕ) (body : List ℕ) → u.call ≡ Call.WriteSync file block body → (b : Bool) → u.written ≡ b
+      → is_asking (next_put t b true file block body) ≡ true
   unfolding sends_request
   put file block body is true e = synced file (of_put block body is e)
   put file block body is false e = refl
@@ -123,7 +130,8 @@ pushes-or-stays t o = choice (λ s. (is_asking s ≡ true) ⊎ (s ≡ t)) (is_as
     due None = inr refl
     due (Some file) = these (first_dirty file t.client.dirty)
 
-module _ (in_tick : Bool) (t : ClientStep) (u : UnderWay) (called : t.client.call ≡ Some u) (unpaused : t.client.pause ≤ t.client.now) (settled : Settled t) (delaying : DelayingOf t.client) where
+module _ (in_tick : Bool) (t : ClientStep) (u : UnderWay) (called : t.client.call ≡ Some u) (unpaused : t.client.pause ≤ t.client.now)
+    (settled : Settled t) (delaying : DelayingOf t.client) where
   then-called : is_asking (then_calls t) ≡ true
   then-called =
       choice (λ s. is_asking s ≡ true) (is_asking t) t (next_of_under_way t (nat_le t.client.pause t.client.now) t.client.call)

@@ -1,5 +1,6 @@
 -- A calm round is one tick of each clock: deliveries are none, and the clocks of the hosts tick in order, each once.
-use Rattle.std.proofs.Common.{◌≡◌, ◌<◌, ◌≤◌, ℕ, ◌+◌, ◌==◌, Bool, true, false, zero, suc, List, [], ◌∷◌, if◌then◌else◌, length, refl, sym, subst, ap, ◌∙◌, arith}
+use Rattle.std.proofs.Common.{◌≡◌, ◌<◌, ◌≤◌, ℕ, ◌+◌, ◌==◌, Bool, true, false, zero, suc, List, [], ◌∷◌, if◌then◌else◌, length, refl, sym, subst, ap}
+use Rattle.std.proofs.Common.{◌∙◌, arith}
 use Rattle.std.proofs.lemmas.Bool.Decides.{nat_tests}
 use Rattle.std.proofs.lemmas.Option.{slice_get_within}
 use Rattle.nq_base.specs.declared.Event.{Event}
@@ -61,17 +62,23 @@ same-as host h same = grind (arith, nat_tests)
 hosts-past : (count host : ℕ) (p : Play) (h : ℕ) → h < host → ticks_of h (play_hosts count host p).events ≡ ticks_of h p.events
 hosts-past zero host p h below = refl
 hosts-past (suc count) host p h below =
-    let rest : ticks_of h (play_hosts count (host + 1) (play p (Event.ClientTick host))).events ≡ is_tick_of h (Event.ClientTick host) + ticks_of h p.events = hosts-past count (host + 1) (play p (Event.ClientTick host)) h (omega arith) in
+    let rest : ticks_of h (play_hosts count (host + 1) (play p (Event.ClientTick host))).events ≡ is_tick_of h (Event.ClientTick host) + ticks_of h
+    p.events = hosts-past count (host + 1) (play p (Event.ClientTick host)) h (omega arith) in
     let none : is_tick_of h (Event.ClientTick host) ≡ 0 = tick-skips (host == h) (past-differs host h below) (is_tick_of h (Event.ClientTick host)) refl in
     omega arith
 
-hosts-step : (count host : ℕ) (p : Play) (h : ℕ) → host ≤ h → h < host + suc count → (b : Bool) → (host == h) ≡ b → (host + 1 ≤ h → h < host + 1 + count → ticks_of h (play_hosts count (host + 1) (play p (Event.ClientTick host))).events ≡ (is_tick_of h (Event.ClientTick host) + ticks_of h p.events) + 1) → ticks_of h (play_hosts count (host + 1) (play p (Event.ClientTick host))).events ≡ ticks_of h p.events + 1
+hosts-step : (count host : ℕ) (p : Play) (h : ℕ) → host ≤ h → h < host + suc count → (b : Bool) → (host == h) ≡ b
+    → (host + 1 ≤ h → h < host + 1 + count → ticks_of h (play_hosts count (host + 1) (play p (Event.ClientTick host))).events
+    ≡ (is_tick_of h (Event.ClientTick host) + ticks_of h p.events) + 1)
+    → ticks_of h (play_hosts count (host + 1) (play p (Event.ClientTick host))).events ≡ ticks_of h p.events + 1
 hosts-step count host p h from below true same rest =
-    let past : ticks_of h (play_hosts count (host + 1) (play p (Event.ClientTick host))).events ≡ is_tick_of h (Event.ClientTick host) + ticks_of h p.events = hosts-past count (host + 1) (play p (Event.ClientTick host)) h (same-as host h same) in
+    let past : ticks_of h (play_hosts count (host + 1) (play p (Event.ClientTick host))).events ≡ is_tick_of h (Event.ClientTick host) + ticks_of h
+    p.events = hosts-past count (host + 1) (play p (Event.ClientTick host)) h (same-as host h same) in
     let one : is_tick_of h (Event.ClientTick host) ≡ 1 = tick-counts (host == h) same (is_tick_of h (Event.ClientTick host)) refl in
     omega arith
 hosts-step count host p h from below false differs rest =
-    let more : ticks_of h (play_hosts count (host + 1) (play p (Event.ClientTick host))).events ≡ (is_tick_of h (Event.ClientTick host) + ticks_of h p.events) + 1 = rest (later-than host h differs from) (omega arith) in
+    let more : ticks_of h (play_hosts count (host + 1) (play p (Event.ClientTick host))).events ≡ (is_tick_of h (Event.ClientTick host) + ticks_of h
+    p.events) + 1 = rest (later-than host h differs from) (omega arith) in
     let none : is_tick_of h (Event.ClientTick host) ≡ 0 = tick-skips (host == h) differs (is_tick_of h (Event.ClientTick host)) refl in
     omega arith
 
@@ -95,7 +102,8 @@ module _ (most : ℕ) (head : Head) where
   unfolding calm_round
   round-host p l h there =
       let q = play_flow (enough_deliveries p) p in
-      let all : length q.world.clients ≡ head.hosts = ap (λ w. length w.clients) (flows most head (enough_deliveries p) p l).is_run ∙ client-count head q.events in
+      let all : length q.world.clients ≡ head.hosts = ap (λ w. length w.clients) (flows most head (enough_deliveries p) p l).is_run
+      ∙ client-count head q.events in
       let hosts = hosts-tick (length q.world.clients) 0 q h (omega arith) (omega arith) in
       let flow = flow-host h (enough_deliveries p) p in
       omega arith
@@ -107,7 +115,8 @@ module _ (most : ℕ) (head : Head) where
       let one = round-server p in
       omega arith
 
-  rounds-host : (count : ℕ) (p : Play) → IsLawful most head p → (h : ℕ) → h < head.hosts → ticks_of h (calm_rounds count p).events ≡ ticks_of h p.events + count
+  rounds-host : (count : ℕ) (p : Play) → IsLawful most head p → (h : ℕ) → h < head.hosts → ticks_of h (calm_rounds count p).events
+      ≡ ticks_of h p.events + count
   rounds-host zero p l h there = omega arith
   rounds-host (suc count) p l h there =
       let rest = rounds-host count (calm_round p) (calm-round most head p l) h there in

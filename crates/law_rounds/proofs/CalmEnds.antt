@@ -30,11 +30,16 @@ filtered-rise low high f [] r = r
 filtered-rise low high f (k ∷ numbers) r =
     let rest = filtered-rise (k + 1) high f numbers r.1 in
     let first : low ≤ k = r.0 in
-    choice (Rise low high) (f k) (k ∷ filter f numbers) (filter f numbers) (λ e. (first, rest)) (λ e. lower-rise low (k + 1) high (filter f numbers) (omega arith) rest)
+    choice (Rise low high) (f k) (k ∷ filter f numbers) (filter f numbers) (λ e. (first, rest)) (λ e. lower-rise low (k + 1) high (filter f numbers)
+    (omega arith) rest)
 
 from-rise : (first count : ℕ) → Rise first (first + count) (numbers_from first count)
 from-rise first zero = omega arith
-from-rise first (suc count) = (omega arith, let same : (first + 1) + count ≡ first + suc count = omega arith in subst (λ n. Rise (first + 1) n (numbers_from (first + 1) count)) same (from-rise (first + 1) count))
+from-rise first (suc count) = (
+  omega arith,
+  let same : (first + 1) + count ≡ first + suc count = omega arith in
+      subst (λ n. Rise (first + 1) n (numbers_from (first + 1) count)) same (from-rise (first + 1) count),
+)
 
 append-rise : (low high count : ℕ) (numbers : List ℕ) → Rise low high numbers → Rise low (high + count) (numbers ++ numbers_from high count)
 append-rise low high count [] r = lower-rise low high (high + count) (numbers_from high count) r (from-rise high count)
@@ -86,7 +91,8 @@ pub rounds-rising : (count : ℕ) (p : Play) → IsRising p → IsRising (calm_r
 rounds-rising zero p r = r
 rounds-rising (suc count) p r = rounds-rising count (calm_round p) (round-rising p r)
 
-pub calmed-rising : (head : Head) (events : List Event) (under_way : List ℕ) → AreUnderWay (length (run head events).packets) under_way → IsRising (calmed head events under_way)
+pub calmed-rising : (head : Head) (events : List Event) (under_way : List ℕ) → AreUnderWay (length (run head events).packets) under_way
+    → IsRising (calmed head events under_way)
 unfolding calmed
 calmed-rising head events under_way all = from-under-way (length (run head events).packets) under_way all
 

@@ -16,7 +16,13 @@ use Rattle.law_rounds.proofs.Skewed.{MayTick, quiet-within, own-may, later-may, 
 
 module _ (most : ℕ) (head : Head) where
   bounds-after : (e : Event) (events : List Event) → BootsWithin most e → KeepsBounds most head events → KeepsBounds most head (e ∷ events)
-  bounds-after e events boots b = record { hosts = b.hosts; first_long = b.first_long; first_short = b.first_short; boots = one-first most e events boots b.boots }
+  bounds-after e events boots b = record {
+    hosts = b.hosts;
+    first_long = b.first_long;
+    first_short = b.first_short;
+    boots = one-first most e events
+        boots b.boots;
+  }
 
   played : (p : Play) (e : Event) → BootsWithin most e → IsLawful most head p → IsWithinSkew head.hosts most (e ∷ p.events) → IsLawful most head (play p e)
   played p e boots l within = record {
@@ -50,17 +56,20 @@ module _ (most : ℕ) (head : Head) where
     where
       by : (h : ℕ) → h < host + 1 → (b : Bool) → (h == host) ≡ b → MayTick most h (Event.ClientTick host ∷ p.events)
       by h below false differs = later-may most h (Event.ClientTick host) p.events refl (t.may h (lower host h differs below))
-      by h below true same = subst (λ n. MayTick most n (Event.ClientTick host ∷ p.events)) (sym (same-number h host same)) (own-may head.hosts most host p.events t.lawful.within there)
+      by h below true same = subst (λ n. MayTick most n (Event.ClientTick host ∷ p.events)) (sym (same-number h host same))
+          (own-may head.hosts most host p.events t.lawful.within there)
 
   ticked-hosts : (count host upto : ℕ) (p : Play) → host + count ≡ upto → upto ≤ head.hosts → Ticked host p → Ticked upto (play_hosts count host p)
   ticked-hosts zero host upto p sum few t = let same : host ≡ upto = omega arith in subst (λ n. Ticked n p) same t
-  ticked-hosts (suc count) host upto p sum few t = ticked-hosts count (host + 1) upto (play p (Event.ClientTick host)) (omega arith) few (ticked-one host p (omega arith) t)
+  ticked-hosts (suc count) host upto p sum few t = ticked-hosts count (host + 1) upto (play p (Event.ClientTick host)) (omega arith) few
+      (ticked-one host p (omega arith) t)
 
   pub round : (p : Play) → IsLawful most head p → IsLawful most head (play_rounds 1 p)
   round p l =
       let all : length p.world.clients ≡ head.hosts = ap (λ w. length w.clients) l.is_run ∙ client-count head p.events in
       let before : Ticked 0 p = record { lawful = l; may = λ h none. absurd (omega arith) } in
-      let ticked : Ticked head.hosts (play_hosts (length p.world.clients) 0 p) = ticked-hosts (length p.world.clients) 0 head.hosts p (omega arith) (omega arith) before in
+      let ticked : Ticked head.hosts (play_hosts (length p.world.clients) 0 p) = ticked-hosts (length p.world.clients) 0 head.hosts p (omega arith)
+      (omega arith) before in
       played (play_hosts (length p.world.clients) 0 p) Event.ServerTick tt ticked.lawful (ticked-within head.hosts most _ ticked.lawful.within ticked.may)
 
   pub calm-round : (p : Play) → IsLawful most head p → IsLawful most head (calm_round p)

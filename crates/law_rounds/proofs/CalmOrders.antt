@@ -73,7 +73,11 @@ calm-count (suc count) p = let rest = calm-count count (calm_round p) in omega a
 pub calms-keep-links : (count : ℕ) (p : Play) → LinksKeepOrder (calm_orders count p) p
 unfolding calm_orders
 calms-keep-links zero p = tt
-calms-keep-links (suc count) p = (calm-in-order p, subst (λ (q : Play). LinksKeepOrder (calm_orders count (calm_round p)) q) (calm-is p) (calms-keep-links count (calm_round p)))
+calms-keep-links (suc count) p = (
+  calm-in-order p,
+  subst (λ (q : Play). LinksKeepOrder (calm_orders count (calm_round p)) q) (calm-is p)
+      (calms-keep-links count (calm_round p)),
+)
 
 module _ (most : ℕ) (head : Head) where
   pub calm-arrives : (p : Play) → IsLawful most head p → IsRising p → (play_order (calm_order p) p).fresh ≡ []
@@ -84,5 +88,6 @@ module _ (most : ℕ) (head : Head) where
   calms-are-whole zero p l rising = tt
   calms-are-whole (suc count) p l rising = (
     calm-arrives p l rising,
-    subst (λ (q : Play). AreWhole (calm_orders count (calm_round p)) q) (calm-is p) (calms-are-whole count (calm_round p) (calm-round most head p l) (round-rising p rising)),
+    subst (λ (q : Play). AreWhole (calm_orders count (calm_round p)) q) (calm-is p) (calms-are-whole count (calm_round p) (calm-round most head p l)
+        (round-rising p rising)),
   )

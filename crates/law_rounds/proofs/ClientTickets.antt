@@ -30,9 +30,11 @@ is-longer sends more (kept same) = kept same
 is-longer {t = t} sends more (resent u was xid request i) = resent u was xid request (in-left sends more (call t.xid t.request) i)
 is-longer {t = t} sends more (fresh i above) = fresh (in-left sends more (call t.xid t.request) i) above
 
-is-again : {old : Option Ticket} {seq : ℕ} {t : Ticket} (now : ℕ) (sends : List Message) → TicketIs old seq sends t → TicketIs old seq (sends ++ call t.xid t.request ∷ []) (record t { last = now })
+is-again : {old : Option Ticket} {seq : ℕ} {t : Ticket} (now : ℕ) (sends : List Message) → TicketIs old seq sends t
+    → TicketIs old seq (sends ++ call t.xid t.request ∷ []) (record t { last = now })
 is-again {t = t} now sends (kept same) = resent t same refl refl (in-right sends (call t.xid t.request ∷ []) (call t.xid t.request) (inl refl))
-is-again {t = t} now sends (resent u was xid request i) = resent u was xid request (in-right sends (call t.xid t.request ∷ []) (call t.xid t.request) (inl refl))
+is-again {t = t} now sends (resent u was xid request i) = resent u was xid request (in-right sends (call t.xid t.request ∷ []) (call t.xid t.request)
+    (inl refl))
 is-again {t = t} now sends (fresh i above) = fresh (in-right sends (call t.xid t.request ∷ []) (call t.xid t.request) (inl refl)) above
 
 -- in the middle of a step, before which this request was under way and this sequence was to be drawn next
@@ -44,7 +46,8 @@ pub record Renews (who : Who) (now : ℕ) (old : Option Ticket) (seq : ℕ) (k :
   -- the sequence of a request under way was drawn last
   pub last : (t : Ticket) (n : ℕ) → k.ticket ≡ Some t → sequence_of t.request ≡ Some n → n + 1 ≡ k.seq
 
-renews-closed : (who : Who) (now : ℕ) (old : Option Ticket) (seq : ℕ) (Heard : ℕ → Tag → Type 0) (Given : ℕ → Grant → ℕ → Type 0) → Closed Heard Given (Renews who now old seq)
+renews-closed : (who : Who) (now : ℕ) (old : Option Ticket) (seq : ℕ) (Heard : ℕ → Tag → Type 0) (Given : ℕ → Grant → ℕ → Type 0)
+    → Closed Heard Given (Renews who now old seq)
 renews-closed who now old seq Heard Given = record {
   uses = λ k file g. record { same = g.same; time = g.time; grows = g.grows; ticket = g.ticket; last = g.last };
   drops = λ k file g. record { same = g.same; time = g.time; grows = g.grows; ticket = g.ticket; last = g.last };
@@ -66,7 +69,8 @@ renews-closed who now old seq Heard Given = record {
     same = g.same;
     time = g.time;
     grows = let up = g.grows in omega arith;
-    ticket = λ t e. asked k (record { xid = k.xid; first = k.now; last = k.now; request = request; job = job }) (λ n sq. let own : k.seq ≡ n = some-same k.seq n (sym draws ∙ sq) in let up = g.grows in omega arith) t e;
+    ticket = λ t e. asked k (record { xid = k.xid; first = k.now; last = k.now; request = request; job = job }) (λ n sq. let own : k.seq ≡ n =
+        some-same k.seq n (sym draws ∙ sq) in let up = g.grows in omega arith) t e;
     last = λ t n e sq. let own : k.seq ≡ n = some-same k.seq n (sym draws ∙ ap (λ (u : Ticket). sequence_of u.request) (some-same _ t e) ∙ sq) in omega arith;
   };
   again = λ k t is g. record {
@@ -87,8 +91,10 @@ renews-closed who now old seq Heard Given = record {
   notes = λ k file tag heard g. record { same = g.same; time = g.time; grows = g.grows; ticket = g.ticket; last = g.last };
 }
   where
-    asked : (k : Core) (new : Ticket) → ((n : ℕ) → sequence_of new.request ≡ Some n → seq ≤ n) → (t : Ticket) → Some new ≡ Some t → TicketIs old seq (k.sends ++ call new.xid new.request ∷ []) t
-    asked k new above t e = subst (λ v. TicketIs old seq (k.sends ++ call new.xid new.request ∷ []) v) (some-same new t e) (fresh (in-right k.sends (call new.xid new.request ∷ []) (call new.xid new.request) (inl refl)) above)
+    asked : (k : Core) (new : Ticket) → ((n : ℕ) → sequence_of new.request ≡ Some n → seq ≤ n) → (t : Ticket) → Some new ≡ Some t
+        → TicketIs old seq (k.sends ++ call new.xid new.request ∷ []) t
+    asked k new above t e = subst (λ v. TicketIs old seq (k.sends ++ call new.xid new.request ∷ []) v) (some-same new t e)
+        (fresh (in-right k.sends (call new.xid new.request ∷ []) (call new.xid new.request) (inl refl)) above)
 
 -- ---- steps
 
@@ -110,10 +116,13 @@ pub call-renews : (c : Client) (op : Call) → Alone c → LastDrawn c → Renew
 call-renews c op alone drawn = (call-keeps (renews-closed c.who c.now c.ticket c.seq NoneHeard NoneGiven) c op alone (begun-renews c drawn)).core
 
 pub tick-renews : (c : Client) → Alone c → LastDrawn c → Renewed c (c.now + 1) c.ticket (client_tick c (c.now + 1))
-tick-renews c alone drawn = (tick-keeps (renews-closed c.who (c.now + 1) c.ticket c.seq NoneHeard NoneGiven) c (c.now + 1) (omega arith) alone (timed-renews c (c.now + 1) drawn)).core
+tick-renews c alone drawn = (tick-keeps (renews-closed c.who (c.now + 1) c.ticket c.seq NoneHeard NoneGiven) c (c.now + 1) (omega arith) alone
+    (timed-renews c (c.now + 1) drawn)).core
 
 -- after a reply that counts no request is the one before
-pub reply-renews : (host : ℕ) (c : Client) (ps : List Packet) (k : ℕ) (r : Reply) (ticket : Ticket) → IsAt host c ps → Told ps host (reply ticket.xid r) → c.ticket ≡ Some ticket → inc_of r ≡ c.who.inc → reply_counts r ticket ≡ true → Renewed c c.now None (goes_on (replied (begun c) k ticket r))
+pub reply-renews : (host : ℕ) (c : Client) (ps : List Packet) (k : ℕ) (r : Reply) (ticket : Ticket) → IsAt host c ps
+    → Told ps host (reply ticket.xid r) → c.ticket ≡ Some ticket → inc_of r ≡ c.who.inc → reply_counts r ticket ≡ true → Renewed c c.now None
+    (goes_on (replied (begun c) k ticket r))
 reply-renews host c ps k r ticket a sent asks inc counts =
     let there : Told ps c.who.host (reply ticket.xid r) = subst (λ h. Told ps h (reply ticket.xid r)) (sym a.here) sent in
     (reply-keeps (renews-closed c.who c.now None c.seq NoneHeard (given-by ticket)) c k ticket r (record {
@@ -126,13 +135,17 @@ reply-renews host c ps k r ticket a sent asks inc counts =
       only = λ file g at given. given;
     })).core
 
-pub notice-renews : (c : Client) (file : ℕ) (tag : Tag) → Alone c → LastDrawn c → Renewed c c.now c.ticket (goes_on (evicted (cancels (begun c) file) file tag))
-notice-renews c file tag alone drawn = (notice-keeps (renews-closed c.who c.now c.ticket c.seq (λ f v. Unit {0}) NoneGiven) c file tag tt (λ g at bad. bad) alone (begun-renews c drawn)).core
+pub notice-renews : (c : Client) (file : ℕ) (tag : Tag) → Alone c → LastDrawn c → Renewed c c.now c.ticket
+    (goes_on (evicted (cancels (begun c) file) file tag))
+notice-renews c file tag alone drawn = (notice-keeps (renews-closed c.who c.now c.ticket c.seq (λ f v. Unit {0}) NoneGiven) c file tag tt
+    (λ g at bad. bad) alone (begun-renews c drawn)).core
 
 -- whatever is heard
-pub hear-renews : (host : ℕ) (c : Client) (ps : List Packet) (k : ℕ) (m : Message) (t : ClientStep) → IsAt host c ps → Told ps host m → LastDrawn c → hear c k m ≡ Some t → Renewed c c.now c.ticket t
+pub hear-renews : (host : ℕ) (c : Client) (ps : List Packet) (k : ℕ) (m : Message) (t : ClientStep) → IsAt host c ps → Told ps host m → LastDrawn c
+    → hear c k m ≡ Some t → Renewed c c.now c.ticket t
 hear-renews host c ps k m t a sent drawn hears = heard-cases c k m t (λ u. Renewed c c.now c.ticket u) hears (record {
-  answered = λ xid r ticket is asks own inc counts. wider (goes_on (replied (begun c) k ticket r)) (reply-renews host c ps k r ticket a (subst (λ n. Told ps host n) (is ∙ ap (λ n. reply n r) own) sent) asks inc counts);
+  answered = λ xid r ticket is asks own inc counts. wider (goes_on (replied (begun c) k ticket r)) (reply-renews host c ps k r ticket a
+      (subst (λ n. Told ps host n) (is ∙ ap (λ n. reply n r) own) sent) asks inc counts);
   noticed = λ xid file tag is older. notice-renews c file tag a.alone drawn;
 })
   where

@@ -1,5 +1,6 @@
 -- Packets under way in a play: which stay so, and which are added.
-use Rattle.std.proofs.Common.{◌≡◌, ◌<◌, ◌⊎◌, ℕ, ◌+◌, ◌-◌, ◌==◌, ◌++◌, not, Bool, true, false, zero, suc, List, [], ◌∷◌, Option, Some, None, length, refl, sym, subst, ap, ◌∙◌, arith, inl, inr}
+use Rattle.std.proofs.Common.{◌≡◌, ◌<◌, ◌⊎◌, ℕ, ◌+◌, ◌-◌, ◌==◌, ◌++◌, not, Bool, true, false, zero, suc, List, [], ◌∷◌, Option, Some, None, length}
+use Rattle.std.proofs.Common.{refl, sym, subst, ap, ◌∙◌, arith, inl, inr}
 use Rattle.std.specs.Prelude.{map, slice_get}
 use Rattle.std.proofs.lemmas.List.{length-append}
 use Rattle.nq_base.specs.declared.Event.{Event}
@@ -37,7 +38,8 @@ place (y ∷ xs) x (inr i) = let p = place xs x i in record { at = suc p.at; bel
 in-numbers : (first count j : ℕ) → j < count → In (numbers_from first count) (first + j)
 in-numbers first zero j below = absurd (omega arith)
 in-numbers first (suc count) zero below = inl (omega arith)
-in-numbers first (suc count) (suc j) below = let e : (first + 1) + j ≡ first + suc j = omega arith in inr (subst (λ n. In (numbers_from (first + 1) count) n) e (in-numbers (first + 1) count j (omega arith)))
+in-numbers first (suc count) (suc j) below = let e : (first + 1) + j ≡ first + suc j = omega arith in
+    inr (subst (λ n. In (numbers_from (first + 1) count) n) e (in-numbers (first + 1) count j (omega arith)))
 
 pub in-map : {A B : Type 0} (f : A → B) (xs : List A) (x : A) → In xs x → In (map f xs) (f x)
 in-map f [] x i = absurd i
@@ -57,12 +59,14 @@ keeps-coming p e q c stays =
     }
 
 -- what an event sends is under way
-pub adds-coming : (p : Play) (e : Event) (q : Packet) (more : List Packet) → (step p.world e).packets ≡ p.world.packets ++ more → In more q → Comes (play p e) q
+pub adds-coming : (p : Play) (e : Event) (q : Packet) (more : List Packet) → (step p.world e).packets ≡ p.world.packets ++ more → In more q
+    → Comes (play p e) q
 adds-coming p e q more is i =
     let at = place more q i in
     record {
       number = length p.world.packets + at.at;
-      fresh = in-right (delivered e p.fresh) (added p.world (step p.world e)) (length p.world.packets + at.at) (subst (λ ns. In ns (length p.world.packets + at.at)) (sym new) (in-numbers (length p.world.packets) (length more) at.at at.below));
+      fresh = in-right (delivered e p.fresh) (added p.world (step p.world e)) (length p.world.packets + at.at)
+          (subst (λ ns. In ns (length p.world.packets + at.at)) (sym new) (in-numbers (length p.world.packets) (length more) at.at at.below));
       is = ap (λ ps. slice_get ps (length p.world.packets + at.at)) is ∙ get-behind p.world.packets more at.at ∙ at.is;
     }
   where
@@ -87,16 +91,21 @@ which-comes p k q c = by (c.number == k) refl
 
 pub data Delivery (w : World) (k : ℕ) (v : World) : Type 0 where
   no_packet : slice_get w.packets k ≡ None → v ≡ w → Delivery w k v
-  at_server : (q : Packet) → slice_get w.packets k ≡ Some q → q.to ≡ Party.Server → v ≡ after_server w (receive w.server (sending_host q.sender) (length w.packets) (datagram_of q.message)) → Delivery w k v
-  at_host : (h : ℕ) (q : Packet) (c : Client) (t : ClientStep) → slice_get w.packets k ≡ Some q → q.to ≡ Party.Client h → slice_get w.clients h ≡ Some c → hear c k q.message ≡ Some t → v ≡ after_client w h t → Delivery w k v
-  ignored : (h : ℕ) (q : Packet) (c : Client) → slice_get w.packets k ≡ Some q → q.to ≡ Party.Client h → slice_get w.clients h ≡ Some c → hear c k q.message ≡ None → v ≡ w → Delivery w k v
+  at_server : (q : Packet) → slice_get w.packets k ≡ Some q → q.to ≡ Party.Server → v ≡ after_server w (receive w.server (sending_host q.sender)
+      (length w.packets) (datagram_of q.message)) → Delivery w k v
+  at_host : (h : ℕ) (q : Packet) (c : Client) (t : ClientStep) → slice_get w.packets k ≡ Some q → q.to ≡ Party.Client h → slice_get w.clients h
+      ≡ Some c → hear c k q.message ≡ Some t → v ≡ after_client w h t → Delivery w k v
+  ignored : (h : ℕ) (q : Packet) (c : Client) → slice_get w.packets k ≡ Some q → q.to ≡ Party.Client h → slice_get w.clients h ≡ Some c
+      → hear c k q.message ≡ None → v ≡ w → Delivery w k v
   no_client : (h : ℕ) (q : Packet) → slice_get w.packets k ≡ Some q → q.to ≡ Party.Client h → slice_get w.clients h ≡ None → v ≡ w → Delivery w k v
 
-delivery-heard : (w : World) (k h : ℕ) (q : Packet) (c : Client) → slice_get w.packets k ≡ Some q → q.to ≡ Party.Client h → slice_get w.clients h ≡ Some c → (o : Option ClientStep) → hear c k q.message ≡ o → Delivery w k (after_hearing w h o)
+delivery-heard : (w : World) (k h : ℕ) (q : Packet) (c : Client) → slice_get w.packets k ≡ Some q → q.to ≡ Party.Client h → slice_get w.clients h
+    ≡ Some c → (o : Option ClientStep) → hear c k q.message ≡ o → Delivery w k (after_hearing w h o)
 delivery-heard w k h q c sent to at None hears = ignored h q c sent to at hears refl
 delivery-heard w k h q c sent to at (Some t) hears = at_host h q c t sent to at hears refl
 
-delivery-client : (w : World) (k h : ℕ) (q : Packet) → slice_get w.packets k ≡ Some q → q.to ≡ Party.Client h → (o : Option Client) → slice_get w.clients h ≡ o → Delivery w k (deliver_to_client w k h q.message o)
+delivery-client : (w : World) (k h : ℕ) (q : Packet) → slice_get w.packets k ≡ Some q → q.to ≡ Party.Client h → (o : Option Client)
+    → slice_get w.clients h ≡ o → Delivery w k (deliver_to_client w k h q.message o)
 delivery-client w k h q sent to None at = no_client h q sent to at refl
 delivery-client w k h q sent to (Some c) at = delivery-heard w k h q c sent to at (hear c k q.message) refl
 

@@ -1,5 +1,6 @@
 -- A client that has no request under way has nothing to push: no notice waits, and no lease over delayed writes is about to end.
-use Rattle.std.proofs.Common.{◌≡◌, ◌≢◌, ◌<◌, ◌⊎◌, ℕ, ◌+◌, ◌==◌, ◌&&◌, ◌||◌, not, nat_le, nat_lt, Bool, true, false, List, [], ◌∷◌, Option, Some, None, is_some, if◌then◌else◌, refl, sym, ap, subst, ◌∙◌, arith, inl, inr}
+use Rattle.std.proofs.Common.{◌≡◌, ◌≢◌, ◌<◌, ◌⊎◌, ℕ, ◌+◌, ◌==◌, ◌&&◌, ◌||◌, not, nat_le, nat_lt, Bool, true, false, List, [], ◌∷◌, Option, Some, None}
+use Rattle.std.proofs.Common.{is_some, if◌then◌else◌, refl, sym, ap, subst, ◌∙◌, arith, inl, inr}
 use Rattle.std.specs.List.{find, list_any}
 use Rattle.std.specs.Prelude.{map, filter, slice_get, slice_set}
 use Rattle.std.proofs.lemmas.Bool.{and_from, and_parts}
@@ -7,12 +8,16 @@ use Rattle.nq_base.specs.declared.Call.{Call}
 use Rattle.nq_base.specs.declared.Event.{Event}
 use Rattle.nq_base.specs.declared.Push.{Push}
 use Rattle.nq_base.specs.declared.Request.{Request}
-use Rattle.nq_model.specs.Client.{UnderWay, Client, ClientStep, Job, Lease, Notice, begun, lease_on, notice_on, file_of_lease, file_of_notice, first_dirty, is_push_of, is_clean_in, used_lease}
-use Rattle.nq_model.specs.ClientStep.{begins_call, is_called, says_busy, client_call, at_time, sends_again, client_tick, attached_client, starts, fresh_client, restart}
+use Rattle.nq_model.specs.Client.{UnderWay, Client, ClientStep, Job, Lease, Notice, begun, lease_on, notice_on, file_of_lease, file_of_notice}
+use Rattle.nq_model.specs.Client.{first_dirty, is_push_of, is_clean_in, used_lease}
+use Rattle.nq_model.specs.ClientStep.{begins_call, is_called, says_busy, client_call, at_time, sends_again, client_tick, attached_client, starts}
+use Rattle.nq_model.specs.ClientStep.{fresh_client, restart}
 use Rattle.nq_model.specs.Hear.{hear, replied, cancels, evicted}
 use Rattle.nq_model.specs.Message.{Message}
 use Rattle.nq_model.specs.Profile.{renewal}
-use Rattle.nq_model.specs.Send.{next_put, next_of_call, next_of_under_way, send_next, is_asking, sends_request, pushes, pushes_these, least_with, least, noticed_file, noticed_in, is_to_push_in, ending_in, ending_file, then_calls, then_pushes, then_ending, pushes_due}
+use Rattle.nq_model.specs.Send.{next_put, next_of_call, next_of_under_way, send_next, is_asking, sends_request, pushes, pushes_these, least_with}
+use Rattle.nq_model.specs.Send.{least, noticed_file, noticed_in, is_to_push_in, ending_in, ending_file, then_calls, then_pushes, then_ending}
+use Rattle.nq_model.specs.Send.{pushes_due}
 use Rattle.nq_model.specs.Settle.{ticket_is_for_call, answers, after_read, reads_cached, after_write, marks_written, settle}
 use Rattle.nq_model.specs.Table.{is_writing}
 use Rattle.nq_model.specs.World.{Head, World, after_server, after_client, start, run}
@@ -32,7 +37,8 @@ use Rattle.law_rounds.proofs.Busy.{keeps-renewing}
 -- nothing is due
 pub record NoneDue (c : Client) : Type 0 where
   pub noticed : (file : ℕ) (n : Notice) → notice_on file c.notices ≡ Some n → ⊥
-  pub ending : (file : ℕ) (l : Lease) → lease_on file c.leases ≡ Some l → is_writing l.mode ≡ true → is_clean_in file c.dirty c.push ≡ false → c.now + renewal < l.expiry
+  pub ending : (file : ℕ) (l : Lease) → lease_on file c.leases ≡ Some l → is_writing l.mode ≡ true → is_clean_in file c.dirty c.push ≡ false
+      → c.now + renewal < l.expiry
 
 -- no sync waits, nor a put whose write was delayed
 abbrev pub NoneSyncs : Client → Type 0
@@ -77,7 +83,8 @@ filtered-in p (y ∷ xs) x i = by (λ j. filtered-in p xs x j) (p y) refl i
     later : In xs x × (p x ≡ true) → In (y ∷ xs) x × (p x ≡ true)
     later (j, e) = (inr j, e)
 
-    by : (In (filter p xs) x → In xs x × (p x ≡ true)) → (b : Bool) → p y ≡ b → In (if b then y ∷ filter p xs else filter p xs) x → In (y ∷ xs) x × (p x ≡ true)
+    by : (In (filter p xs) x → In xs x × (p x ≡ true)) → (b : Bool) → p y ≡ b → In (if b then y ∷ filter p xs else filter p xs) x → In (y ∷ xs) x
+        × (p x ≡ true)
     by rest true is (inl same) = (inl same, ap p (sym same) ∙ is)
     by rest true is (inr j) = later (rest j)
     by rest false is j = later (rest j)
@@ -168,7 +175,8 @@ module _ (t : ClientStep) (free : t.client.ticket ≡ None) (delaying : Delaying
       let n = in-found (λ (n : Notice). n.file == file) t.client.notices r.0 r.1 (number-same r.0.file file r.2) in
       delaying.noticed file n.0 n.1
 
-  ending-unclean : (file : ℕ) → ending_in t.client.now t.client.leases t.client.dirty t.client.push ≡ Some file → is_clean_in file t.client.dirty t.client.push ≡ false
+  ending-unclean : (file : ℕ) → ending_in t.client.now t.client.leases t.client.dirty t.client.push ≡ Some file → is_clean_in file t.client.dirty
+      t.client.push ≡ false
   ending-unclean file is =
       let p = is_to_push_in t.client.now t.client.dirty t.client.push in
       let r = mapped-in file_of_lease (filter p t.client.leases) file (least-in (map file_of_lease (filter p t.client.leases)) file is) in
@@ -184,8 +192,10 @@ module _ (t : ClientStep) (free : t.client.ticket ≡ None) (delaying : Delaying
   asks-noticed : (in_tick : Bool) (file : ℕ) → noticed_file t.client ≡ Some file → is_asking (send_next in_tick t) ≡ true
   asks-noticed in_tick file is =
       let noticed = then_pushes t (noticed_file t.client) in
-      let first : is_asking (then_pushes t (noticed_file t.client)) ≡ true = ap (λ o. is_asking (then_pushes t o)) is ∙ pushes-it file (noticed-unclean file is) in
-      keeps-renewing in_tick (then_calls (then_ending noticed)) (keeps-calling (then_ending noticed) (keeps-pushing noticed (ending_file noticed.client) first))
+      let first : is_asking (then_pushes t (noticed_file t.client)) ≡ true = ap (λ o. is_asking (then_pushes t o)) is
+      ∙ pushes-it file (noticed-unclean file is) in
+      keeps-renewing in_tick (then_calls (then_ending noticed)) (keeps-calling (then_ending noticed)
+      (keeps-pushing noticed (ending_file noticed.client) first))
 
   asks-ending : (in_tick : Bool) (file : ℕ) → noticed_file t.client ≡ None → ending_file t.client ≡ Some file → is_asking (send_next in_tick t) ≡ true
   asks-ending in_tick file none is =
@@ -198,7 +208,8 @@ module _ (t : ClientStep) (free : t.client.ticket ≡ None) (delaying : Delaying
       stays : then_pushes t None ≡ t
       stays = choice (λ s. s ≡ t) (is_asking t) t t (λ e. refl) (λ e. refl)
 
-  asks-sync : (in_tick : Bool) (u : UnderWay) (file : ℕ) → t.client.call ≡ Some u → IsSync u file → is_clean_in file t.client.dirty t.client.push ≡ false → noticed_file t.client ≡ None → ending_file t.client ≡ None → is_asking (send_next in_tick t) ≡ true
+  asks-sync : (in_tick : Bool) (u : UnderWay) (file : ℕ) → t.client.call ≡ Some u → IsSync u file → is_clean_in file t.client.dirty t.client.push
+      ≡ false → noticed_file t.client ≡ None → ending_file t.client ≡ None → is_asking (send_next in_tick t) ≡ true
   asks-sync in_tick u file has_call is unclean no_notice no_end =
       let noticed = then_pushes t (noticed_file t.client) in
       let same : then_pushes t (noticed_file t.client) ≡ t = ap (then_pushes t) no_notice ∙ stays in
@@ -226,7 +237,8 @@ module _ (t : ClientStep) (free : t.client.ticket ≡ None) (delaying : Delaying
           (λ e. ap (λ o. is_asking (next_of_under_way t (nat_le t.client.pause t.client.now) o)) has_call ∙ of-call (nat_le t.client.pause t.client.now) is)
 
   none-syncs : (in_tick : Bool) → Settled t → is_asking (send_next in_tick t) ≡ false → NoneSyncs t.client
-  none-syncs in_tick settled quiet u file has_call is = by (noticed_in t.client.notices) refl (ending_in t.client.now t.client.leases t.client.dirty t.client.push) refl
+  none-syncs in_tick settled quiet u file has_call is = by (noticed_in t.client.notices) refl (ending_in t.client.now t.client.leases t.client.dirty
+      t.client.push) refl
     where
       unclean : is_clean_in file t.client.dirty t.client.push ≡ false
       unclean = settled.syncs u file (record { called = has_call; idle = ap ticket_is_for_call free }) is
@@ -238,13 +250,20 @@ module _ (t : ClientStep) (free : t.client.ticket ≡ None) (delaying : Delaying
 
   -- where nothing is sent, nothing was due
   none-due : (in_tick : Bool) → is_asking (send_next in_tick t) ≡ false → NoneDue t.client
-  none-due in_tick quiet = record { noticed = no-notice (noticed_in t.client.notices) refl; ending = soon (ending_in t.client.now t.client.leases t.client.dirty t.client.push) refl }
+  none-due in_tick quiet = record {
+    noticed = no-notice (noticed_in t.client.notices) refl;
+    ending = soon (ending_in t.client.now t.client.leases
+        t.client.dirty t.client.push) refl;
+  }
     where
       no-notice : (o : Option ℕ) → noticed_in t.client.notices ≡ o → (file : ℕ) (n : Notice) → notice_on file t.client.notices ≡ Some n → ⊥
-      no-notice None is file n on = let l = least-is (map file_of_notice t.client.notices) (file_of_notice n) (in-mapped file_of_notice t.client.notices n (found-in (λ (x : Notice). x.file == file) t.client.notices n on)) in none-some l.0 (sym is ∙ l.1)
+      no-notice None is file n on = let l = least-is (map file_of_notice t.client.notices) (file_of_notice n)
+          (in-mapped file_of_notice t.client.notices n (found-in (λ (x : Notice). x.file == file) t.client.notices n on)) in none-some l.0 (sym is ∙ l.1)
       no-notice (Some g) is file n on = let asks = asks-noticed in_tick g is in absurd (cc)
 
-      soon : (o : Option ℕ) → ending_in t.client.now t.client.leases t.client.dirty t.client.push ≡ o → (file : ℕ) (l : Lease) → lease_on file t.client.leases ≡ Some l → is_writing l.mode ≡ true → is_clean_in file t.client.dirty t.client.push ≡ false → t.client.now + renewal < l.expiry
+      soon : (o : Option ℕ) → ending_in t.client.now t.client.leases t.client.dirty t.client.push ≡ o → (file : ℕ) (l : Lease)
+          → lease_on file t.client.leases ≡ Some l → is_writing l.mode ≡ true → is_clean_in file t.client.dirty t.client.push ≡ false → t.client.now
+          + renewal < l.expiry
       soon None is file l on writes unclean = late (nat_le l.expiry (t.client.now + renewal)) refl
         where
           of : l.file ≡ file
@@ -256,7 +275,8 @@ module _ (t : ClientStep) (free : t.client.ticket ≡ None) (delaying : Delaying
               let p = is_to_push_in t.client.now t.client.dirty t.client.push in
               let here : is_clean_in l.file t.client.dirty t.client.push ≡ false = ap (λ g. is_clean_in g t.client.dirty t.client.push) of ∙ unclean in
               let due : is_to_push_in t.client.now t.client.dirty t.client.push l ≡ true = and_from _ _ (and_from _ _ writes (ap not here)) e in
-              let r = least-is (map file_of_lease (filter p t.client.leases)) (file_of_lease l) (in-mapped file_of_lease (filter p t.client.leases) l (in-filtered p t.client.leases l (found-in (λ (x : Lease). x.file == file) t.client.leases l on) due)) in
+              let r = least-is (map file_of_lease (filter p t.client.leases)) (file_of_lease l) (in-mapped file_of_lease (filter p t.client.leases) l
+              (in-filtered p t.client.leases l (found-in (λ (x : Lease). x.file == file) t.client.leases l on) due)) in
               none-some r.0 (sym is ∙ r.1)
       soon (Some g) is file l on writes unclean = by (noticed_in t.client.notices) refl
         where
@@ -288,16 +308,22 @@ ends-quiet in_tick s settled alone free = by (sent-or-same in_tick s)
     by (inr same) =
         let was : s.client.ticket ≡ None = ap (λ (x : ClientStep). x.client.ticket) (sym same) ∙ free in
         let own : Alone s.client = subst (λ (x : ClientStep). Alone x.client) same alone in
-        subst (λ (x : ClientStep). NoneDue x.client × NoneSyncs x.client) (sym same)
-        (none-due s was own.delaying in_tick (free-asks-not (send_next in_tick s) free), none-syncs s was own.delaying in_tick settled (free-asks-not (send_next in_tick s) free))
+        subst (λ (x : ClientStep). NoneDue x.client × NoneSyncs x.client) (sym same) (
+          none-due s was own.delaying in_tick (free-asks-not (send_next in_tick s) free),
+          none-syncs s was own.delaying in_tick settled
+              (free-asks-not (send_next in_tick s) free),
+        )
 
-used-due : (c d : Client) (f : ℕ) → d.leases ≡ used_lease f c.leases → d.notices ≡ c.notices → d.dirty ≡ c.dirty → d.push ≡ c.push → d.now ≡ c.now → NoneDue c → NoneDue d
+used-due : (c d : Client) (f : ℕ) → d.leases ≡ used_lease f c.leases → d.notices ≡ c.notices → d.dirty ≡ c.dirty → d.push ≡ c.push → d.now ≡ c.now
+    → NoneDue c → NoneDue d
 used-due c d f leases notices dirty push now n = record {
   noticed = λ file m on. n.noticed file m (ap (notice_on file) (sym notices) ∙ on);
   ending = λ file l on writes unclean.
       let m = marked-before file f c.leases l (ap (lease_on file) (sym leases) ∙ on) in
-      let mode : is_writing m.before.mode ≡ true = ap is_writing (sym (marked-mode f m.before)) ∙ ap (λ (x : Lease). is_writing x.mode) (sym m.same) ∙ writes in
-      let clean : is_clean_in file c.dirty c.push ≡ false = ap (λ ds. is_clean_in file ds c.push) (sym dirty) ∙ ap (is_clean_in file d.dirty) (sym push) ∙ unclean in
+      let mode : is_writing m.before.mode ≡ true = ap is_writing (sym (marked-mode f m.before)) ∙ ap (λ (x : Lease). is_writing x.mode) (sym m.same)
+      ∙ writes in
+      let clean : is_clean_in file c.dirty c.push ≡ false = ap (λ ds. is_clean_in file ds c.push) (sym dirty) ∙ ap (is_clean_in file d.dirty)
+      (sym push) ∙ unclean in
       let late = n.ending file m.before m.found mode clean in
       let same : l.expiry ≡ m.before.expiry = ap (λ (x : Lease). x.expiry) m.same ∙ marked-expiry f m.before in
       omega arith;
@@ -307,7 +333,8 @@ same-due : (c d : Client) → d.leases ≡ c.leases → d.notices ≡ c.notices 
 same-due c d leases notices dirty push now n = record {
   noticed = λ file m on. n.noticed file m (ap (notice_on file) (sym notices) ∙ on);
   ending = λ file l on writes unclean.
-      let clean : is_clean_in file c.dirty c.push ≡ false = ap (λ ds. is_clean_in file ds c.push) (sym dirty) ∙ ap (is_clean_in file d.dirty) (sym push) ∙ unclean in
+      let clean : is_clean_in file c.dirty c.push ≡ false = ap (λ ds. is_clean_in file ds c.push) (sym dirty) ∙ ap (is_clean_in file d.dirty)
+      (sym push) ∙ unclean in
       let late = n.ending file l (ap (lease_on file) (sym leases) ∙ on) writes clean in
       omega arith;
 }
@@ -319,7 +346,11 @@ cached-due t none = settle-cases t (λ u. u.cached ≡ true → (t.client.ticket
   idle = λ idle e g. absurd (cc);
   asking = λ u is own e g. absurd (cc);
   read_out = λ u file block lease is read can out e g. absurd (cc);
-  reading = λ u file block lease body is read can below has e g free. (used-due t.client _ file refl refl refl refl refl (g free), λ v f has_call is. none-some v has_call);
+  reading = λ u file block lease body is read can below has e g free. (
+    used-due t.client _ file refl refl refl refl refl (g free),
+    λ v f has_call is.
+        none-some v has_call,
+  );
   read_waits = λ u file block is read waits e g. absurd (cc);
   write_out = λ u sync file block body lease is write can out e g. absurd (cc);
   write_full = λ u sync file block body lease is write can below full e g. absurd (cc);
@@ -351,8 +382,10 @@ tick-due c alone = tick-cases c (c.now + 1) (λ t. Alone t.client → DueOnce t.
 
 hear-due : (c : Client) (k : ℕ) (m : Message) (t : ClientStep) → hear c k m ≡ Some t → Alone t.client → DueOnce t.client
 hear-due c k m t hears alone = heard-cases c k m t (λ u. Alone u.client → DueOnce u.client) hears (record {
-  answered = λ xid r ticket is asks own inc counts after. ends-quiet false (settle (replied (begun c) k ticket r)) (settle-settles (replied (begun c) k ticket r)) after;
-  noticed = λ xid file tag is older after. ends-quiet false (settle (evicted (cancels (begun c) file) file tag)) (settle-settles (evicted (cancels (begun c) file) file tag)) after;
+  answered = λ xid r ticket is asks own inc counts after. ends-quiet false (settle (replied (begun c) k ticket r))
+      (settle-settles (replied (begun c) k ticket r)) after;
+  noticed = λ xid file tag is older after. ends-quiet false (settle (evicted (cancels (begun c) file) file tag))
+      (settle-settles (evicted (cancels (begun c) file) file tag)) after;
 }) alone
 
 restart-due : (c : Client) → DueOnce (restart c).client
@@ -362,7 +395,8 @@ restart-due c free = none-some _ (sym free)
 -- ---- worlds
 
 acted : (w : World) (host : ℕ) (c : Client) (t : ClientStep) → ClientActs w host c t → Alone t.client → DueOnce c → DueOnce t.client
-acted w host c t (called op is) after g = subst (λ (u : ClientStep). DueOnce u.client) (sym is) (call-due c op (subst (λ (u : ClientStep). Alone u.client) is after) g)
+acted w host c t (called op is) after g = subst (λ (u : ClientStep). DueOnce u.client) (sym is)
+    (call-due c op (subst (λ (u : ClientStep). Alone u.client) is after) g)
 acted w host c t (ticked is) after g = subst (λ (u : ClientStep). DueOnce u.client) (sym is) (tick-due c (subst (λ (u : ClientStep). Alone u.client) is after))
 acted w host c t (restarted is) after g = subst (λ (u : ClientStep). DueOnce u.client) (sym is) (restart-due c)
 acted w host c t (heard k p sent to hears) after g = hear-due c k p.message t hears after
@@ -370,7 +404,8 @@ acted w host c t (heard k p sent to hears) after g = hear-due c k p.message t he
 abbrev EachDue : World → Type 0
 EachDue w = (host : ℕ) (c : Client) → slice_get w.clients host ≡ Some c → DueOnce c
 
-client-due : (w : World) (host : ℕ) (c : Client) (t : ClientStep) → slice_get w.clients host ≡ Some c → ClientActs w host c t → Holds (after_client w host t) → EachDue w → EachDue (after_client w host t)
+client-due : (w : World) (host : ℕ) (c : Client) (t : ClientStep) → slice_get w.clients host ≡ Some c → ClientActs w host c t
+    → Holds (after_client w host t) → EachDue w → EachDue (after_client w host t)
 unfolding after_client
 client-due w host c t at acts after all = λ other d is. case other d (other == host) refl is
   where
@@ -396,8 +431,12 @@ first-due : (head : Head) → EachDue (start head)
 unfolding start attached_client fresh_client
 first-due head host c is =
     let same = first-client head.term 0 head.hosts host c is in
-    subst (λ x. DueOnce x) (sym same) (λ free. (record { noticed = λ file n on. none-some n on; ending = λ file l on. none-some l on }, λ u file has_call is. none-some u has_call))
+    subst (λ x. DueOnce x) (sym same) (λ free. (
+      record { noticed = λ file n on. none-some n on; ending = λ file l on. none-some l on },
+      λ u file has_call is. none-some u has_call,
+    ))
 
 pub run-due : (head : Head) (events : List Event) (host : ℕ) (c : Client) → slice_get (run head events).clients host ≡ Some c → DueOnce c
 run-due head [] = first-due head
-run-due head (e ∷ events) = changed-due (run head events) (run head (e ∷ events)) (step-changes (run head events) e) (run-holds head (e ∷ events)) (run-due head events)
+run-due head (e ∷ events) = changed-due (run head events) (run head (e ∷ events)) (step-changes (run head events) e) (run-holds head (e ∷ events))
+    (run-due head events)

@@ -1,5 +1,6 @@
 -- No part of a client's step costs more than it saves, but for what a notice cancels.
-use Rattle.std.proofs.Common.{◌≡◌, ◌≤◌, ℕ, ◌+◌, ◌==◌, ◌&&◌, Bool, true, false, not, nat_lt, List, [], ◌∷◌, Option, Some, None, if◌then◌else◌, length, refl, sym, ap, subst, ◌∙◌, arith, inl, inr}
+use Rattle.std.proofs.Common.{◌≡◌, ◌≤◌, ℕ, ◌+◌, ◌==◌, ◌&&◌, Bool, true, false, not, nat_lt, List, [], ◌∷◌, Option, Some, None, if◌then◌else◌, length}
+use Rattle.std.proofs.Common.{refl, sym, ap, subst, ◌∙◌, arith, inl, inr}
 use Rattle.std.specs.List.{filter, find}
 use Rattle.std.proofs.lemmas.Bool.Decides.{nat_tests}
 use Rattle.std.proofs.lemmas.List.{length-append, length-map}
@@ -10,22 +11,26 @@ use Rattle.nq_base.specs.declared.Request.{Request}
 use Rattle.nq_base.specs.declared.Value.{Value}
 use Rattle.nq_base.specs.declared.Want.{Want}
 use Rattle.nq_base.specs.declared.Who.{Who}
-use Rattle.nq_model.specs.Client.{ClientStep, Job, attaching, for_call, renewing, pushing, Lease, Ticket, UnderWay, is_push_of, is_push_at, first_dirty, dirty_at, drop_dirty}
+use Rattle.nq_model.specs.Client.{ClientStep, Job, attaching, for_call, renewing, pushing, Lease, Ticket, UnderWay, is_push_of, is_push_at}
+use Rattle.nq_model.specs.Client.{first_dirty, dirty_at, drop_dirty}
 use Rattle.nq_model.specs.Message.{Message}
 use Rattle.nq_model.specs.Send.{sends_request, after_seq, after_number, takes_push, gives_up, base_of, send_next}
-use Rattle.nq_model.specs.Settle.{answers, after_read, reads_cached, overwritten_at, with_write, write_in, after_write, delays, marks_written, ticket_is_for_call, is_for_call, settle}
+use Rattle.nq_model.specs.Settle.{answers, after_read, reads_cached, overwritten_at, with_write, write_in, after_write, delays, marks_written}
+use Rattle.nq_model.specs.Settle.{ticket_is_for_call, is_for_call, settle}
 use Rattle.walk_steps.proofs.ClientMoves.{some-same, none-some}
 use Rattle.walk_steps.proofs.SendCases.{pushed, send-cases}
 use Rattle.walk_steps.proofs.SettleCases.{IsSettling, IsRead, IsWrite, IsSync, of_sync, of_put, needs_packet, CanWrite, WriteWaits, settle-cases}
 use Rattle.walk_steps.proofs.Rows.{choice, number-same}
-use Rattle.law_rounds.specs.Efforts.{write_price, put_price, fresh_for, fresh_left, writes_to, read_left, lease_left, sent_left, asked_left, requests_left, put_delays, may_delay, delays_left, calls_left}
+use Rattle.law_rounds.specs.Efforts.{write_price, put_price, fresh_for, fresh_left, writes_to, read_left, lease_left, sent_left, asked_left}
+use Rattle.law_rounds.specs.Efforts.{requests_left, put_delays, may_delay, delays_left, calls_left}
 use Rattle.law_rounds.proofs.Efforts.{total-more, request_weight, weight, cost}
 
 -- ---- lists of delayed writes
 
 pub filter-shorter : {A : Type 0} (p : A → Bool) (xs : List A) → length (filter p xs) ≤ length xs
 filter-shorter p [] = omega arith
-filter-shorter p (x ∷ xs) = let rest = filter-shorter p xs in choice (λ ys. length ys ≤ length (x ∷ xs)) (p x) (x ∷ filter p xs) (filter p xs) (λ e. omega arith) (λ e. omega arith)
+filter-shorter p (x ∷ xs) = let rest = filter-shorter p xs in choice (λ ys. length ys ≤ length (x ∷ xs)) (p x) (x ∷ filter p xs) (filter p xs)
+    (λ e. omega arith) (λ e. omega arith)
 
 -- a list from which one is dropped that is there is shorter
 drop-shorter : (p : Push) (file : ℕ) (xs : List Push) → find (is_push_of file) xs ≡ Some p → length (drop_dirty p.file p.block xs) + 1 ≤ length xs
@@ -41,14 +46,17 @@ drop-shorter p file (x ∷ xs) e = here (is_push_of file x) refl e (drop-shorter
         let block_same : (q.block == p.block) ≡ true = number-same q.block p.block (ap (λ (r : Push). r.block) same) in
         rw (file_same, block_same) refl
 
-    here : (b : Bool) → is_push_of file x ≡ b → (if b then Some x else find (is_push_of file) xs) ≡ Some p → (find (is_push_of file) xs ≡ Some p → length (drop_dirty p.file p.block xs) + 1 ≤ length xs) → length (drop_dirty p.file p.block (x ∷ xs)) + 1 ≤ length (x ∷ xs)
+    here : (b : Bool) → is_push_of file x ≡ b → (if b then Some x else find (is_push_of file) xs) ≡ Some p → (find (is_push_of file) xs ≡ Some p
+        → length (drop_dirty p.file p.block xs) + 1 ≤ length xs) → length (drop_dirty p.file p.block (x ∷ xs)) + 1 ≤ length (x ∷ xs)
     here true f g rest =
         let gone = own x (some-same x p g) in
         let less = filter-shorter (λ q. not (is_push_at p.file p.block q)) xs in
-        choice (λ (ys : List Push). length ys + 1 ≤ length (x ∷ xs)) (not (is_push_at p.file p.block x)) (x ∷ drop_dirty p.file p.block xs) (drop_dirty p.file p.block xs) (λ h. absurd (cc)) (λ h. omega arith)
+        choice (λ (ys : List Push). length ys + 1 ≤ length (x ∷ xs)) (not (is_push_at p.file p.block x)) (x ∷ drop_dirty p.file p.block xs)
+        (drop_dirty p.file p.block xs) (λ h. absurd (cc)) (λ h. omega arith)
     here false f g rest =
         let less = rest g in
-        choice (λ (ys : List Push). length ys + 1 ≤ length (x ∷ xs)) (not (is_push_at p.file p.block x)) (x ∷ drop_dirty p.file p.block xs) (drop_dirty p.file p.block xs) (λ h. omega arith) (λ h. omega arith)
+        choice (λ (ys : List Push). length ys + 1 ≤ length (x ∷ xs)) (not (is_push_at p.file p.block x)) (x ∷ drop_dirty p.file p.block xs)
+        (drop_dirty p.file p.block xs) (λ h. omega arith) (λ h. omega arith)
 
 -- one write more is one entry more at the most
 written-length : (file block number : ℕ) (body : List ℕ) (dirty : List Push) → length (write_in file block number body dirty) ≤ length dirty + 1
@@ -78,7 +86,8 @@ module _ (price note : ℕ) where
   reads-cheap t u file block body = let none = none-left t.client.now (nat_lt t.client.now t.client.pause) t.client.ticket in omega arith
 
   -- a write that is delayed is answered, or is a put that waits
-  writes-cheap : (t : ClientStep) (u : UnderWay) (file block : ℕ) (body : List ℕ) → delays_left t.client.call ≡ 1 → Cheaper t (answers (delays t file block body) u.q (Answer.Ok Value.Nothing) None)
+  writes-cheap : (t : ClientStep) (u : UnderWay) (file block : ℕ) (body : List ℕ) → delays_left t.client.call ≡ 1
+      → Cheaper t (answers (delays t file block body) u.q (Answer.Ok Value.Nothing) None)
   unfolding answers after_write
   writes-cheap t u file block body may =
       let none = none-left t.client.now (nat_lt t.client.now t.client.pause) t.client.ticket in
@@ -86,7 +95,8 @@ module _ (price note : ℕ) where
       omega arith
 
   -- where a call's own request is not under way, its requests are as if none was
-  pub settling-left : (now : ℕ) (u : UnderWay) (ticket : Option Ticket) → ticket_is_for_call ticket ≡ false → asked_left price now u ticket ≡ fresh_left price u
+  pub settling-left : (now : ℕ) (u : UnderWay) (ticket : Option Ticket) → ticket_is_for_call ticket ≡ false → asked_left price now u ticket
+      ≡ fresh_left price u
   settling-left now u None e = refl
   settling-left now u (Some t) e = by t.job refl e
     where
@@ -96,11 +106,14 @@ module _ (price note : ℕ) where
       by renewing is e = rw is refl
       by pushing is e = rw is refl
 
-  puts-left : (now : ℕ) (pauses : Bool) (u : UnderWay) (ticket : Option Ticket) (file block : ℕ) (body : List ℕ) → u.call ≡ Call.WriteSync file block body → ticket_is_for_call ticket ≡ false → requests_left price now pauses (Some (record u { written = true })) ticket ≡ 0
+  puts-left : (now : ℕ) (pauses : Bool) (u : UnderWay) (ticket : Option Ticket) (file block : ℕ) (body : List ℕ) → u.call ≡ Call.WriteSync file block
+      body → ticket_is_for_call ticket ≡ false → requests_left price now pauses (Some (record u { written = true })) ticket ≡ 0
   puts-left now true u ticket file block body is own = refl
-  puts-left now false u ticket file block body is own = settling-left now (record u { written = true }) ticket own ∙ ap (fresh_for price (record u { written = true })) is
+  puts-left now false u ticket file block body is own = settling-left now (record u { written = true }) ticket own
+      ∙ ap (fresh_for price (record u { written = true })) is
 
-  puts-cheap : (t : ClientStep) (u : UnderWay) (file block : ℕ) (body : List ℕ) → IsSettling t u → u.call ≡ Call.WriteSync file block body → u.written ≡ false → Cheaper t (marks_written (delays t file block body) u)
+  puts-cheap : (t : ClientStep) (u : UnderWay) (file block : ℕ) (body : List ℕ) → IsSettling t u → u.call ≡ Call.WriteSync file block body → u.written
+      ≡ false → Cheaper t (marks_written (delays t file block body) u)
   unfolding marks_written after_write
   puts-cheap t u file block body is put first =
       let may : delays_left t.client.call ≡ 1 = ap delays_left is.called ∙ ap (may_delay u.written) put ∙ ap put_delays first in
@@ -131,20 +144,31 @@ module _ (price note : ℕ) where
   runs : (now pause : ℕ) → pause ≤ now → nat_lt now pause ≡ false
   runs now pause most = grind (arith, nat_tests)
 
-  pub called-left : (now pause : ℕ) (called : Option UnderWay) (u : UnderWay) (ticket : Option Ticket) → pause ≤ now → called ≡ Some u → requests_left price now (nat_lt now pause) called ticket ≡ asked_left price now u ticket
+  pub called-left : (now pause : ℕ) (called : Option UnderWay) (u : UnderWay) (ticket : Option Ticket) → pause ≤ now → called ≡ Some u
+      → requests_left price now (nat_lt now pause) called ticket ≡ asked_left price now u ticket
   called-left now pause called u ticket most is = let off = runs now pause most in rw (off, is) refl
 
   -- a request of the call
-  asks-cheap : (t : ClientStep) (u : UnderWay) (request : Request) → t.client.ticket ≡ None → t.client.call ≡ Some u → t.client.pause ≤ t.client.now → request_weight price note request + sent_left price t.client.now u t.client.now request ≤ fresh_left price u → Cheaper t (sends_request t for_call request)
+  asks-cheap : (t : ClientStep) (u : UnderWay) (request : Request) → t.client.ticket ≡ None → t.client.call ≡ Some u → t.client.pause ≤ t.client.now
+      → request_weight price note request + sent_left price t.client.now u t.client.now request ≤ fresh_left price u
+      → Cheaper t (sends_request t for_call request)
   unfolding sends_request
   asks-cheap t u request free called unpaused pays =
       let before = called-left t.client.now t.client.pause t.client.call u t.client.ticket unpaused called in
       let none : asked_left price t.client.now u t.client.ticket ≡ fresh_left price u = ap (asked_left price t.client.now u) free in
-      let after = called-left t.client.now t.client.pause t.client.call u (Some (record { xid = t.client.xid; first = t.client.now; last = t.client.now; request = request; job = for_call })) unpaused called in
+      let after = called-left t.client.now t.client.pause t.client.call u (Some (record {
+        xid = t.client.xid;
+        first = t.client.now;
+        last =
+            t.client.now;
+        request = request;
+        job = for_call;
+      })) unpaused called in
       let more = total-more (weight price note) t.sends (Message.call t.client.xid request) in
       omega arith
 
-  pushing-left : (now : ℕ) (pauses : Bool) (called : Option UnderWay) (t : Ticket) → t.job ≡ pushing → requests_left price now pauses called (Some t) ≡ requests_left price now pauses called None
+  pushing-left : (now : ℕ) (pauses : Bool) (called : Option UnderWay) (t : Ticket) → t.job ≡ pushing → requests_left price now pauses called (Some t)
+      ≡ requests_left price now pauses called None
   pushing-left now true called t is = refl
   pushing-left now false None t is = refl
   pushing-left now false (Some u) t is = rw is refl
@@ -154,12 +178,16 @@ module _ (price note : ℕ) where
   push-cheap t file p free first =
       let u = pushed t p in
       let less = drop-shorter p file t.client.dirty first in
-      let none : calls_left price t.client ≡ requests_left price t.client.now (nat_lt t.client.now t.client.pause) t.client.call None = ap (requests_left price t.client.now (nat_lt t.client.now t.client.pause) t.client.call) free in
-      let after : calls_left price u.client ≡ requests_left price t.client.now (nat_lt t.client.now t.client.pause) t.client.call None = pushing-left t.client.now (nat_lt t.client.now t.client.pause) t.client.call _ refl in
-      let more = total-more (weight price note) t.sends (Message.call t.client.xid (Request.Write t.client.who t.client.seq p.file p.block p.first p.last (Some (base_of t.client p.file)) p.body)) in
+      let none : calls_left price t.client ≡ requests_left price t.client.now (nat_lt t.client.now t.client.pause) t.client.call None =
+      ap (requests_left price t.client.now (nat_lt t.client.now t.client.pause) t.client.call) free in
+      let after : calls_left price u.client ≡ requests_left price t.client.now (nat_lt t.client.now t.client.pause) t.client.call None =
+      pushing-left t.client.now (nat_lt t.client.now t.client.pause) t.client.call _ refl in
+      let more = total-more (weight price note) t.sends (Message.call t.client.xid (Request.Write t.client.who t.client.seq p.file p.block p.first
+      p.last (Some (base_of t.client p.file)) p.body)) in
       omega arith
 
-  read-pays : (now first : ℕ) (u : UnderWay) (who : Who) (q f b file block : ℕ) (want : Option Want) → u.call ≡ Call.Read file block → price + sent_left price now u first (Request.Read who q f b want) ≤ fresh_left price u
+  read-pays : (now first : ℕ) (u : UnderWay) (who : Who) (q f b file block : ℕ) (want : Option Want) → u.call ≡ Call.Read file block
+      → price + sent_left price now u first (Request.Read who q f b want) ≤ fresh_left price u
   read-pays now first u who q f b file block None is = let left : fresh_left price u ≡ price = ap (fresh_for price u) is in omega arith
   read-pays now first u who q f b file block (Some want) is =
       let left : fresh_left price u ≡ price = ap (fresh_for price u) is in
@@ -173,7 +201,8 @@ module _ (price note : ℕ) where
       by true e = omega arith
       by false e = omega arith
 
-  lease-pays : (now file block : ℕ) (body : List ℕ) (u : UnderWay) → u.call ≡ Call.Write file block body → u.through ≡ false → price + lease_left price (now == now && writes_to file u.call) ≤ fresh_left price u
+  lease-pays : (now file block : ℕ) (body : List ℕ) (u : UnderWay) → u.call ≡ Call.Write file block body → u.through ≡ false
+      → price + lease_left price (now == now && writes_to file u.call) ≤ fresh_left price u
   lease-pays now file block body u is off =
       let left : fresh_left price u ≡ price + price = ap (fresh_for price u) is ∙ ap (write_price price) off in
       let same : (now == now) ≡ true = number-same now now refl in
@@ -188,22 +217,31 @@ module _ (price note : ℕ) where
     stays_asking = λ ticket asks. omega arith;
     stays = λ free nothing. omega arith;
     pushing = λ file p free first of. push-cheap t file p free first;
-    creating = λ u name blocks f is. asks-cheap (after_seq t) u _ f.free f.called f.unpaused (let left : fresh_left price u ≡ price = ap (fresh_for price u) is in omega arith);
+    creating = λ u name blocks f is. asks-cheap (after_seq t) u _ f.free f.called f.unpaused (let left : fresh_left price u ≡ price =
+        ap (fresh_for price u) is in omega arith);
     looking_up = λ u name f is. asks-cheap t u _ f.free f.called f.unpaused (let left : fresh_left price u ≡ price = ap (fresh_for price u) is in omega arith);
-    getting_attributes = λ u file f is. asks-cheap t u _ f.free f.called f.unpaused (let left : fresh_left price u ≡ price = ap (fresh_for price u) is in omega arith);
-    reading = λ u file block f is. asks-cheap t u _ f.free f.called f.unpaused (read-pays t.client.now t.client.now u t.client.who u.q file block file block _ is);
-    fetching = λ u file block f is. asks-cheap t u _ f.free f.called f.unpaused (let left : fresh_left price u ≡ price = ap (fresh_for price u) is in omega arith);
-    writing = λ u file block body f is through. asks-cheap (after_number t) u _ f.free f.called f.unpaused (let left = write-pays u file block body is in omega arith);
+    getting_attributes = λ u file f is. asks-cheap t u _ f.free f.called f.unpaused (let left : fresh_left price u ≡ price = ap (fresh_for price u)
+        is in omega arith);
+    reading = λ u file block f is. asks-cheap t u _ f.free f.called f.unpaused (read-pays t.client.now t.client.now u t.client.who u.q file block file
+        block _ is);
+    fetching = λ u file block f is. asks-cheap t u _ f.free f.called f.unpaused (let left : fresh_left price u ≡ price = ap (fresh_for price u) is in
+        omega arith);
+    writing = λ u file block body f is through. asks-cheap (after_number t) u _ f.free f.called f.unpaused (let left = write-pays u file block body
+        is in omega arith);
     leasing = λ u file block body f is no alone. asks-cheap t u _ f.free f.called f.unpaused (lease-pays t.client.now file block body u is no);
-    putting = λ u file block body f is first. asks-cheap (after_number t) u _ f.free f.called f.unpaused (let left : fresh_left price u ≡ price = ap (fresh_for price u) is ∙ ap (put_price price) first in omega arith);
-    resizing = λ u file blocks f is clean. asks-cheap (after_seq (gives_up t file)) u _ f.free f.called f.unpaused (let left : fresh_left price u ≡ price = ap (fresh_for price u) is in omega arith);
-    removing = λ u file f is clean. asks-cheap (after_seq (gives_up t file)) u _ f.free f.called f.unpaused (let left : fresh_left price u ≡ price = ap (fresh_for price u) is in omega arith);
+    putting = λ u file block body f is first. asks-cheap (after_number t) u _ f.free f.called f.unpaused (let left : fresh_left price u ≡ price =
+        ap (fresh_for price u) is ∙ ap (put_price price) first in omega arith);
+    resizing = λ u file blocks f is clean. asks-cheap (after_seq (gives_up t file)) u _ f.free f.called f.unpaused (let left : fresh_left price u
+        ≡ price = ap (fresh_for price u) is in omega arith);
+    removing = λ u file f is clean. asks-cheap (after_seq (gives_up t file)) u _ f.free f.called f.unpaused (let left : fresh_left price u ≡ price =
+        ap (fresh_for price u) is in omega arith);
     renewing = λ file lease tick free nothing unpaused renewed held of clean quiet. absurd (cc);
   })
 
   -- ---- a write that its lease lets be delayed
 
-  module _ (t : ClientStep) (u : UnderWay) (file block : ℕ) (body : List ℕ) (lease : Lease) (settles : IsSettling t u) (writes : u.call ≡ Call.Write file block body) (can : CanWrite t.client u file lease) (unpaused : t.client.pause ≤ t.client.now) where
+  module _ (t : ClientStep) (u : UnderWay) (file block : ℕ) (body : List ℕ) (lease : Lease) (settles : IsSettling t u) (writes : u.call
+      ≡ Call.Write file block body) (can : CanWrite t.client u file lease) (unpaused : t.client.pause ≤ t.client.now) where
     -- two requests less
     abbrev Saves : ClientStep → Type 0
     Saves v = cost price note v + (price + price) ≤ cost price note t
@@ -216,7 +254,8 @@ module _ (price note : ℕ) where
     no-read v f b called (inr is) = let same : v.call ≡ u.call = ap (λ w. w.call) (one v called) in cc
 
     left : calls_left price t.client ≡ price + price
-    left = called-left t.client.now t.client.pause t.client.call u t.client.ticket unpaused settles.called ∙ settling-left t.client.now u t.client.ticket settles.idle ∙ ap (fresh_for price u) writes ∙ ap (write_price price) can.delayed
+    left = called-left t.client.now t.client.pause t.client.call u t.client.ticket unpaused settles.called ∙ settling-left t.client.now u
+        t.client.ticket settles.idle ∙ ap (fresh_for price u) writes ∙ ap (write_price price) can.delayed
 
     may : delays_left t.client.call ≡ 1
     may = ap delays_left settles.called ∙ ap (may_delay u.written) writes

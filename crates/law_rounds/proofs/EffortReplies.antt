@@ -1,5 +1,6 @@
 -- What a reply brings costs a client no more than the reply's weight, and what a notice brings no more than one request.
-use Rattle.std.proofs.Common.{◌≡◌, ◌≤◌, ◌⊎◌, ℕ, ◌+◌, ◌==◌, ◌&&◌, Bool, true, false, not, nat_lt, List, Option, Some, None, is_some, refl, sym, ap, ◌∙◌, arith, inl, inr}
+use Rattle.std.proofs.Common.{◌≡◌, ◌≤◌, ◌⊎◌, ℕ, ◌+◌, ◌==◌, ◌&&◌, Bool, true, false, not, nat_lt, List, Option, Some, None, is_some, refl, sym, ap}
+use Rattle.std.proofs.Common.{◌∙◌, arith, inl, inr}
 use Rattle.std.proofs.lemmas.Bool.{and_parts}
 use Rattle.std.proofs.lemmas.Bool.Decides.{nat_tests}
 use Rattle.nq_base.specs.declared.Answer.{Answer}
@@ -12,8 +13,13 @@ use Rattle.nq_base.specs.declared.Value.{Value}
 use Rattle.nq_base.specs.declared.Want.{Want}
 use Rattle.nq_base.specs.declared.Who.{Who}
 use Rattle.nq_model.proofs.ClientLists.{put-lease-found}
-use Rattle.nq_model.specs.Client.{Client, ClientStep, begun, Job, attaching, for_call, renewing, pushing, Notice, Ticket, UnderWay, lease_on, notice_on, is_push_of, dirty_at, is_clean, revision_of, is_revision_before, lets_write}
-use Rattle.nq_model.specs.Hear.{hear, answers_call, answer_of, vacates_lease, vacates_noticed, loses, waits_for, reports_to, reports, push_refused, without_lease, granted_lease, breaks, breaks_chain, if_broken, holds, takes_grant, takes_optional, grant_caches, caches_block, purges, knows_revision, then_caches, with_through, marks_through, lease_done, holds_caching, caches_write, ends_push, caches_push, vacates_if_clean, push_done, spends, attached, pauses, replied, wants_of, cancelled, cancels, notes_notice, evicted, goes_on, reply_counts}
+use Rattle.nq_model.specs.Client.{Client, ClientStep, begun, Job, attaching, for_call, renewing, pushing, Notice, Ticket, UnderWay, lease_on}
+use Rattle.nq_model.specs.Client.{notice_on, is_push_of, dirty_at, is_clean, revision_of, is_revision_before, lets_write}
+use Rattle.nq_model.specs.Hear.{hear, answers_call, answer_of, vacates_lease, vacates_noticed, loses, waits_for, reports_to, reports, push_refused}
+use Rattle.nq_model.specs.Hear.{without_lease, granted_lease, breaks, breaks_chain, if_broken, holds, takes_grant, takes_optional, grant_caches}
+use Rattle.nq_model.specs.Hear.{caches_block, purges, knows_revision, then_caches, with_through, marks_through, lease_done, holds_caching}
+use Rattle.nq_model.specs.Hear.{caches_write, ends_push, caches_push, vacates_if_clean, push_done, spends, attached, pauses, replied, wants_of}
+use Rattle.nq_model.specs.Hear.{cancelled, cancels, notes_notice, evicted, goes_on, reply_counts}
 use Rattle.nq_model.specs.Message.{Message}
 use Rattle.nq_model.specs.Profile.{patience}
 use Rattle.nq_model.specs.Settle.{answers, names_losses, is_for_call, ticket_is_for_call, settle}
@@ -28,7 +34,8 @@ use Rattle.walk_steps.proofs.Rows.{choice, same-number, number-same}
 use Rattle.walk_steps.proofs.Tests.{is-not-below}
 use Rattle.law_rounds.specs.SendsAgain.{is_cancelled}
 use Rattle.law_rounds.specs.Spared.{wants_lease, IsSpared, pausing, wants_none}
-use Rattle.law_rounds.specs.Efforts.{write_price, put_price, fresh_for, fresh_left, writes_to, read_left, lease_left, sent_left, job_left, asked_left, requests_left, delays_left, is_idle, writes_left, calls_left, effort}
+use Rattle.law_rounds.specs.Efforts.{write_price, put_price, fresh_for, fresh_left, writes_to, read_left, lease_left, sent_left, job_left, asked_left}
+use Rattle.law_rounds.specs.Efforts.{requests_left, delays_left, is_idle, writes_left, calls_left, effort}
 use Rattle.law_rounds.proofs.Efforts.{total-more, lease_weight, reply_weight, weight, sent_weight, cost}
 use Rattle.law_rounds.proofs.EffortParts.{filter-shorter, none-left, called-left, settle-cheap, send-cheap, settle-saves}
 
@@ -49,9 +56,17 @@ module _ (price note : ℕ) where
   same-goes t = record { rest = omega arith; call = inl refl; ticket = refl; now = refl; pause = refl }
 
   goes-then : (m n k : ℕ) (t u v : ClientStep) → m + n ≤ k → Goes price note m t u → Goes price note n u v → Goes price note k t v
-  goes-then m n k t u v all a b = record { rest = let x = a.rest in let y = b.rest in omega arith; call = which a.call b.call; ticket = b.ticket ∙ a.ticket; now = b.now ∙ a.now; pause = b.pause ∙ a.pause }
+  goes-then m n k t u v all a b = record {
+    rest = let x = a.rest in let y = b.rest in omega arith;
+    call = which a.call b.call;
+    ticket = b.ticket
+        ∙ a.ticket;
+    now = b.now ∙ a.now;
+    pause = b.pause ∙ a.pause;
+  }
     where
-      which : (u.client.call ≡ t.client.call) ⊎ (u.client.call ≡ None) → (v.client.call ≡ u.client.call) ⊎ (v.client.call ≡ None) → (v.client.call ≡ t.client.call) ⊎ (v.client.call ≡ None)
+      which : (u.client.call ≡ t.client.call) ⊎ (u.client.call ≡ None) → (v.client.call ≡ u.client.call) ⊎ (v.client.call ≡ None)
+          → (v.client.call ≡ t.client.call) ⊎ (v.client.call ≡ None)
       which x (inr none) = inr none
       which (inl same) (inl e) = inl (e ∙ same)
       which (inr none) (inl e) = inr (e ∙ none)
@@ -61,7 +76,14 @@ module _ (price note : ℕ) where
 
   vacates-goes : (t : ClientStep) (file : ℕ) (tag : Tag) → Goes price note 1 t (vacates_lease t file tag)
   unfolding vacates_lease
-  vacates-goes t file tag = record { rest = let more = total-more (weight price note) t.sends (Message.call t.client.xid (Request.Vacated t.client.who file tag)) in omega arith; call = inl refl; ticket = refl; now = refl; pause = refl }
+  vacates-goes t file tag = record {
+    rest = let more = total-more (weight price note) t.sends (Message.call t.client.xid (Request.Vacated t.client.who
+        file tag)) in omega arith;
+    call = inl refl;
+    ticket = refl;
+    now = refl;
+    pause = refl;
+  }
 
   noticed-goes : (t : ClientStep) (file : ℕ) (o : Option Notice) → Goes price note 1 t (vacates_noticed t file o)
   noticed-goes t file None = wider 0 1 t t (omega arith) (same-goes t)
@@ -69,17 +91,25 @@ module _ (price note : ℕ) where
 
   loses-goes : (t : ClientStep) (file : ℕ) → Goes price note 0 t (loses t file)
   unfolding loses
-  loses-goes t file = record { rest = let less = filter-shorter (λ p. not (is_push_of file p)) t.client.dirty in omega arith; call = inl refl; ticket = refl; now = refl; pause = refl }
+  loses-goes t file = record {
+    rest = let less = filter-shorter (λ p. not (is_push_of file p)) t.client.dirty in omega arith;
+    call = inl refl;
+    ticket = refl;
+    now = refl;
+    pause = refl;
+  }
 
   reported-goes : (t : ClientStep) (file : ℕ) (o : Option UnderWay) → Goes price note 0 t (reports_to t file o)
   unfolding answers
   reported-goes t file None = same-goes t
-  reported-goes t file (Some u) = choice (Goes price note 0 t) (waits_for file u.written u.call) (names_losses t u.q file) t (λ e. record { rest = omega arith; call = inr refl; ticket = refl; now = refl; pause = refl }) (λ e. same-goes t)
+  reported-goes t file (Some u) = choice (Goes price note 0 t) (waits_for file u.written u.call) (names_losses t u.q file) t
+      (λ e. record { rest = omega arith; call = inr refl; ticket = refl; now = refl; pause = refl }) (λ e. same-goes t)
 
   broken-goes : (t : ClientStep) (file : ℕ) → Goes price note 1 t (breaks_chain t file)
   broken-goes t file =
       let gone = vacates_noticed (loses t file) file (notice_on file t.client.notices) in
-      goes-then 1 0 1 t gone _ (omega arith) (goes-then 0 1 1 t (loses t file) gone (omega arith) (loses-goes t file) (noticed-goes (loses t file) file _)) (reported-goes gone file gone.client.call)
+      goes-then 1 0 1 t gone _ (omega arith) (goes-then 0 1 1 t (loses t file) gone (omega arith) (loses-goes t file) (noticed-goes (loses t file)
+      file _)) (reported-goes gone file gone.client.call)
 
   freed-goes : (t : ClientStep) (file : ℕ) → Goes price note 0 t (without_lease t file)
   unfolding without_lease
@@ -90,17 +120,20 @@ module _ (price note : ℕ) where
       let lost = loses t file in
       let free = without_lease lost file in
       let gone = vacates_noticed free file (notice_on file t.client.notices) in
-      goes-then 1 0 1 t gone _ (omega arith) (goes-then 0 1 1 t free gone (omega arith) (goes-then 0 0 0 t lost free (omega arith) (loses-goes t file) (freed-goes lost file)) (noticed-goes free file _)) (reported-goes gone file gone.client.call)
+      goes-then 1 0 1 t gone _ (omega arith) (goes-then 0 1 1 t free gone (omega arith) (goes-then 0 0 0 t lost free (omega arith) (loses-goes t file)
+      (freed-goes lost file)) (noticed-goes free file _)) (reported-goes gone file gone.client.call)
 
   holds-goes : (t : ClientStep) (file : ℕ) (g : Grant) (sent : ℕ) → Goes price note 0 t (holds t file g sent)
   unfolding holds
   holds-goes t file g sent = record { rest = omega arith; call = inl refl; ticket = refl; now = refl; pause = refl }
 
   if-broken-goes : (t : ClientStep) (file : ℕ) (g : Grant) → Goes price note 1 t (if_broken t file g)
-  if-broken-goes t file g = choice (Goes price note 1 t) (breaks g (lease_on file t.client.leases) && not (is_clean t.client file)) (breaks_chain t file) t (λ e. broken-goes t file) (λ e. wider 0 1 t t (omega arith) (same-goes t))
+  if-broken-goes t file g = choice (Goes price note 1 t) (breaks g (lease_on file t.client.leases) && not (is_clean t.client file))
+      (breaks_chain t file) t (λ e. broken-goes t file) (λ e. wider 0 1 t t (omega arith) (same-goes t))
 
   taken-goes : (t : ClientStep) (file : ℕ) (g : Grant) (sent : ℕ) → Goes price note 1 t (takes_grant t file g sent)
-  taken-goes t file g sent = goes-then 1 0 1 t (if_broken t file g) (takes_grant t file g sent) (omega arith) (if-broken-goes t file g) (holds-goes (if_broken t file g) file g sent)
+  taken-goes t file g sent = goes-then 1 0 1 t (if_broken t file g) (takes_grant t file g sent) (omega arith) (if-broken-goes t file g)
+      (holds-goes (if_broken t file g) file g sent)
 
   pub optional-goes : (t : ClientStep) (file : ℕ) (o : Option Grant) (sent : ℕ) → Goes price note 1 t (takes_optional t file o sent)
   optional-goes t file None sent = wider 0 1 t t (omega arith) (same-goes t)
@@ -123,23 +156,28 @@ module _ (price note : ℕ) where
   ended-goes t = record { rest = omega arith; call = inl refl; ticket = refl; now = refl; pause = refl }
 
   then-caches-goes : (t : ClientStep) (file block : ℕ) (body : List ℕ) (g : Option Grant) → Goes price note 0 t (then_caches t file block body g)
-  then-caches-goes t file block body g = choice (Goes price note 0 t) (grant_caches g) (caches_block t file block body) t (λ e. cached-goes t file block body) (λ e. same-goes t)
+  then-caches-goes t file block body g = choice (Goes price note 0 t) (grant_caches g) (caches_block t file block body) t
+      (λ e. cached-goes t file block body) (λ e. same-goes t)
 
   caches-write-goes : (t : ClientStep) (file block : ℕ) (body : List ℕ) (rev : ℕ) → Goes price note 0 t (caches_write t file block body rev)
-  caches-write-goes t file block body rev = choice (Goes price note 0 t) (holds_caching (lease_on file t.client.leases) && is_revision_before rev (revision_of file t.client.revisions)) (caches_block t file block body) (purges t file) (λ e. cached-goes t file block body) (λ e. purged-goes t file)
+  caches-write-goes t file block body rev = choice (Goes price note 0 t) (holds_caching (lease_on file t.client.leases) && is_revision_before rev
+      (revision_of file t.client.revisions)) (caches_block t file block body) (purges t file) (λ e. cached-goes t file block body) (λ e. purged-goes t file)
 
   caches-push-goes : (t : ClientStep) (file block : ℕ) (body : List ℕ) → Goes price note 0 t (caches_push t file block body)
-  caches-push-goes t file block body = choice (Goes price note 0 t) (is_some (dirty_at file block t.client.dirty)) t (caches_block t file block body) (λ e. same-goes t) (λ e. cached-goes t file block body)
+  caches-push-goes t file block body = choice (Goes price note 0 t) (is_some (dirty_at file block t.client.dirty)) t (caches_block t file block body)
+      (λ e. same-goes t) (λ e. cached-goes t file block body)
 
   vacates-if-clean-goes : (t : ClientStep) (file : ℕ) → Goes price note 1 t (vacates_if_clean t file)
-  vacates-if-clean-goes t file = vacates-if-clean-cases t file (Goes price note 1 t) (wider 0 1 t t (omega arith) (same-goes t)) (λ n clean is. vacates-goes t file n.tag)
+  vacates-if-clean-goes t file = vacates-if-clean-cases t file (Goes price note 1 t) (wider 0 1 t t (omega arith) (same-goes t)) (λ n clean is.
+      vacates-goes t file n.tag)
 
   pub pushed-goes : (t : ClientStep) (file block : ℕ) (body : List ℕ) (rev : ℕ) → Goes price note 1 t (push_done t file block body rev)
   pushed-goes t file block body rev =
       let ended = ends_push t in
       let known = knows_revision ended file rev in
       let kept = caches_push known file block body in
-      goes-then 0 1 1 t kept (vacates_if_clean kept file) (omega arith) (goes-then 0 0 0 t known kept (omega arith) (goes-then 0 0 0 t ended known (omega arith) (ended-goes t) (known-goes ended file rev)) (caches-push-goes known file block body)) (vacates-if-clean-goes kept file)
+      goes-then 0 1 1 t kept (vacates_if_clean kept file) (omega arith) (goes-then 0 0 0 t known kept (omega arith) (goes-then 0 0 0 t ended known
+      (omega arith) (ended-goes t) (known-goes ended file rev)) (caches-push-goes known file block body)) (vacates-if-clean-goes kept file)
 
   -- ---- what a reply leaves
 
@@ -148,17 +186,20 @@ module _ (price note : ℕ) where
   start-rest c = omega arith
 
   -- the call was answered: none of its requests is left
-  answered-cost : (c : Client) (t : ClientStep) (answer : Answer) (by : Option ℕ) → Goes price note 1 (start c) t → cost price note (answers_call t answer by) ≤ writes_left c + 1
+  answered-cost : (c : Client) (t : ClientStep) (answer : Answer) (by : Option ℕ) → Goes price note 1 (start c) t
+      → cost price note (answers_call t answer by) ≤ writes_left c + 1
   unfolding answers
   answered-cost c t answer by g =
       let rest = g.rest in
       let from = start-rest c in
       answers-call-cases t answer by (λ v. cost price note v ≤ writes_left c + 1)
-      (λ none. let left : calls_left price t.client ≡ 0 = ap (λ o. requests_left price t.client.now (nat_lt t.client.now t.client.pause) o t.client.ticket) none ∙ none-left price note t.client.now (nat_lt t.client.now t.client.pause) t.client.ticket in omega arith)
+      (λ none. let left : calls_left price t.client ≡ 0 = ap (λ o. requests_left price t.client.now (nat_lt t.client.now t.client.pause) o
+      t.client.ticket) none ∙ none-left price note t.client.now (nat_lt t.client.now t.client.pause) t.client.ticket in omega arith)
       (λ u is. let left = none-left price note t.client.now (nat_lt t.client.now t.client.pause) t.client.ticket in omega arith)
 
   -- the request was not the call's: the call's are left
-  other-job : (now : ℕ) (pauses : Bool) (called : Option UnderWay) (t : Ticket) → (t.job ≡ for_call → ⊥) → requests_left price now pauses called (Some t) ≡ requests_left price now pauses called None
+  other-job : (now : ℕ) (pauses : Bool) (called : Option UnderWay) (t : Ticket) → (t.job ≡ for_call → ⊥) → requests_left price now pauses called
+      (Some t) ≡ requests_left price now pauses called None
   other-job now true called t other = refl
   other-job now false None t other = refl
   other-job now false (Some u) t other = by t.job refl
@@ -169,7 +210,8 @@ module _ (price note : ℕ) where
       by renewing is = refl
       by pushing is = refl
 
-  pub start-same : (c : Client) → ((start c).client.call ≡ c.call) × ((start c).client.ticket ≡ None) × ((start c).client.now ≡ c.now) × ((start c).client.pause ≡ c.pause) × ((start c).client.notices ≡ c.notices)
+  pub start-same : (c : Client) → ((start c).client.call ≡ c.call) × ((start c).client.ticket ≡ None) × ((start c).client.now ≡ c.now)
+      × ((start c).client.pause ≡ c.pause) × ((start c).client.notices ≡ c.notices)
   unfolding spends
   start-same c = (refl, refl, refl, refl, refl)
 
@@ -186,16 +228,21 @@ module _ (price note : ℕ) where
       let same : calls_left price t.client ≡ requests_left price c.now (nat_lt c.now c.pause) t.client.call None = rw (free, now, pause) refl in
       by s.0 same g.call
     where
-      by : (start c).client.call ≡ c.call → calls_left price t.client ≡ requests_left price c.now (nat_lt c.now c.pause) t.client.call None → (t.client.call ≡ (start c).client.call) ⊎ (t.client.call ≡ None) → calls_left price t.client ≤ fresh_calls c
-      by from same (inl is) = let at : requests_left price c.now (nat_lt c.now c.pause) t.client.call None ≡ fresh_calls c = ap (λ o. requests_left price c.now (nat_lt c.now c.pause) o None) (is ∙ from) in omega arith
-      by from same (inr none) = let at : requests_left price c.now (nat_lt c.now c.pause) t.client.call None ≡ 0 = ap (λ o. requests_left price c.now (nat_lt c.now c.pause) o None) none ∙ none-left price note c.now (nat_lt c.now c.pause) None in omega arith
+      by : (start c).client.call ≡ c.call → calls_left price t.client ≡ requests_left price c.now (nat_lt c.now c.pause) t.client.call None
+          → (t.client.call ≡ (start c).client.call) ⊎ (t.client.call ≡ None) → calls_left price t.client ≤ fresh_calls c
+      by from same (inl is) = let at : requests_left price c.now (nat_lt c.now c.pause) t.client.call None ≡ fresh_calls c =
+          ap (λ o. requests_left price c.now (nat_lt c.now c.pause) o None) (is ∙ from) in omega arith
+      by from same (inr none) = let at : requests_left price c.now (nat_lt c.now c.pause) t.client.call None ≡ 0 =
+          ap (λ o. requests_left price c.now (nat_lt c.now c.pause) o None) none ∙ none-left price note c.now (nat_lt c.now c.pause) None in omega arith
 
-  kept-cost : (c : Client) (ticket : Ticket) (t : ClientStep) → c.ticket ≡ Some ticket → (ticket.job ≡ for_call → ⊥) → Goes price note 1 (start c) t → cost price note t ≤ effort price c + 1
+  kept-cost : (c : Client) (ticket : Ticket) (t : ClientStep) → c.ticket ≡ Some ticket → (ticket.job ≡ for_call → ⊥) → Goes price note 1 (start c) t
+      → cost price note t ≤ effort price c + 1
   kept-cost c ticket t asks other g =
       let rest = g.rest in
       let from = start-rest c in
       let left = goes-calls 1 c t g in
-      let same : calls_left price c ≡ fresh_calls c = ap (requests_left price c.now (nat_lt c.now c.pause) c.call) asks ∙ other-job c.now (nat_lt c.now c.pause) c.call ticket other in
+      let same : calls_left price c ≡ fresh_calls c = ap (requests_left price c.now (nat_lt c.now c.pause) c.call) asks
+      ∙ other-job c.now (nat_lt c.now c.pause) c.call ticket other in
       omega arith
 
   -- a client that pauses
@@ -209,7 +256,8 @@ module _ (price note : ℕ) where
   paused-cost : (c : Client) → cost price note (pauses (start c)) ≤ writes_left c
   unfolding spends pauses marks_through
   paused-cost c =
-      let off : requests_left price c.now (nat_lt c.now (c.now + patience)) (with_through false c.call) None ≡ 0 = ap (λ b. requests_left price c.now b (with_through false c.call) None) (waits c.now) in
+      let off : requests_left price c.now (nat_lt c.now (c.now + patience)) (with_through false c.call) None ≡ 0 =
+      ap (λ b. requests_left price c.now b (with_through false c.call) None) (waits c.now) in
       let same = through-delays false c.call in
       omega arith
 
@@ -273,12 +321,15 @@ module _ (price note : ℕ) where
   lease-least true = omega arith
   lease-least false = omega arith
 
-  through-below : (now first file : ℕ) (paused : Bool) (o : Option UnderWay) → requests_left price now paused (with_through true o) None ≤ lease_calls now first file paused o
+  through-below : (now first file : ℕ) (paused : Bool) (o : Option UnderWay) → requests_left price now paused (with_through true o) None ≤ lease_calls
+      now first file paused o
   through-below now first file true o = omega arith
   through-below now first file false None = omega arith
-  through-below now first file false (Some u) = let least = lease-least (first == now && writes_to file u.call) in let most = through-left now false (Some u) in omega arith
+  through-below now first file false (Some u) = let least = lease-least (first == now && writes_to file u.call) in let most = through-left now false
+      (Some u) in omega arith
 
-  fresh-below : (now first file : ℕ) (paused : Bool) (o : Option UnderWay) → requests_left price now paused o None ≤ lease_calls now first file paused o + price
+  fresh-below : (now first file : ℕ) (paused : Bool) (o : Option UnderWay) → requests_left price now paused o None ≤ lease_calls now first file paused
+      o + price
   fresh-below now first file true o = omega arith
   fresh-below now first file false None = omega arith
   fresh-below now first file false (Some u) = let least = lease-least (first == now && writes_to file u.call) in let most = two-left u in omega arith
@@ -300,32 +351,39 @@ module _ (price note : ℕ) where
   reported-notices : (t : ClientStep) (file : ℕ) (o : Option UnderWay) → (reports_to t file o).client.notices ≡ t.client.notices
   unfolding answers
   reported-notices t file None = refl
-  reported-notices t file (Some u) = choice (λ (v : ClientStep). v.client.notices ≡ t.client.notices) (waits_for file u.written u.call) (names_losses t u.q file) t (λ e. refl) (λ e. refl)
+  reported-notices t file (Some u) = choice (λ (v : ClientStep). v.client.notices ≡ t.client.notices) (waits_for file u.written u.call)
+      (names_losses t u.q file) t (λ e. refl) (λ e. refl)
 
   lost-notices : (t : ClientStep) (file : ℕ) → (loses t file).client.notices ≡ t.client.notices
   unfolding loses
   lost-notices t file = refl
 
-  broken-notices : (t : ClientStep) (file : ℕ) (o : Option Notice) → o ≡ None → (reports (vacates_noticed (loses t file) file o) file).client.notices ≡ t.client.notices
+  broken-notices : (t : ClientStep) (file : ℕ) (o : Option Notice) → o ≡ None → (reports (vacates_noticed (loses t file) file o) file).client.notices
+      ≡ t.client.notices
   broken-notices t file None none = reported-notices (loses t file) file (loses t file).client.call ∙ lost-notices t file
   broken-notices t file (Some n) none = none-some n (sym none)
 
-  granted-notices : (t : ClientStep) (file : ℕ) (g : Grant) (sent : ℕ) → notice_on file t.client.notices ≡ None → (takes_grant t file g sent).client.notices ≡ t.client.notices
+  granted-notices : (t : ClientStep) (file : ℕ) (g : Grant) (sent : ℕ) → notice_on file t.client.notices ≡ None
+      → (takes_grant t file g sent).client.notices ≡ t.client.notices
   unfolding holds
-  granted-notices t file g sent none = choice (λ (v : ClientStep). v.client.notices ≡ t.client.notices) (breaks g (lease_on file t.client.leases) && not (is_clean t.client file)) (breaks_chain t file) t (λ e. broken-notices t file (notice_on file t.client.notices) none) (λ e. refl)
+  granted-notices t file g sent none = choice (λ (v : ClientStep). v.client.notices ≡ t.client.notices) (breaks g (lease_on file t.client.leases)
+      && not (is_clean t.client file)) (breaks_chain t file) t (λ e. broken-notices t file (notice_on file t.client.notices) none) (λ e. refl)
 
-  granted-held : (t : ClientStep) (file : ℕ) (g : Grant) (sent : ℕ) → lease_on file (takes_grant t file g sent).client.leases ≡ Some (granted_lease file g sent)
+  granted-held : (t : ClientStep) (file : ℕ) (g : Grant) (sent : ℕ) → lease_on file (takes_grant t file g sent).client.leases
+      ≡ Some (granted_lease file g sent)
   unfolding holds granted_lease
   granted-held t file g sent = put-lease-found (granted_lease file g sent) file (if_broken t file g).client.leases refl
 
-  granted-lets : (now file : ℕ) (g : Grant) (sent : ℕ) → sent ≡ now → is_writing g.mode ≡ true → nat_lt 0 g.term ≡ true → lets_write now (granted_lease file g sent) ≡ true
+  granted-lets : (now file : ℕ) (g : Grant) (sent : ℕ) → sent ≡ now → is_writing g.mode ≡ true → nat_lt 0 g.term ≡ true
+      → lets_write now (granted_lease file g sent) ≡ true
   unfolding granted_lease
   granted-lets now file g sent same writing some = let live : nat_lt now (sent + g.term) ≡ true = later now sent g.term same some in rw (writing, live) refl
     where
       later : (a b n : ℕ) → b ≡ a → nat_lt 0 n ≡ true → nat_lt a (b + n) ≡ true
       later a b n same some = grind (arith, nat_tests)
 
-  module _ (c : Client) (ticket : Ticket) (who : Who) (file : ℕ) (want : Want) (asks : c.ticket ≡ Some ticket) (of : OfCall ticket (Request.GetLease who file want)) (alone : Alone c) where
+  module _ (c : Client) (ticket : Ticket) (who : Who) (file : ℕ) (want : Want) (asks : c.ticket ≡ Some ticket)
+      (of : OfCall ticket (Request.GetLease who file want)) (alone : Alone c) where
     unnoticed : notice_on file c.notices ≡ None
     unnoticed = by (notice_on file c.notices) refl
       where
@@ -353,17 +411,23 @@ module _ (price note : ℕ) where
         let from = start-rest c in
         let same = through-delays true w.client.call in
         let before = left-before in
-        let after : requests_left price w.client.now (nat_lt w.client.now w.client.pause) (with_through true w.client.call) w.client.ticket ≡ requests_left price c.now (nat_lt c.now c.pause) (with_through true w.client.call) None = rw (g.ticket ∙ s.1, g.now ∙ s.2, g.pause ∙ s.3) refl in
+        let after : requests_left price w.client.now (nat_lt w.client.now w.client.pause) (with_through true w.client.call) w.client.ticket
+        ≡ requests_left price c.now (nat_lt c.now c.pause) (with_through true w.client.call) None = rw (g.ticket ∙ s.1, g.now ∙ s.2, g.pause ∙ s.3) refl in
         let below = by s.0 g.call in
         omega arith
       where
-        by : (start c).client.call ≡ c.call → (w.client.call ≡ (start c).client.call) ⊎ (w.client.call ≡ None) → requests_left price c.now (nat_lt c.now c.pause) (with_through true w.client.call) None ≤ lease_calls c.now ticket.first file (nat_lt c.now c.pause) c.call
+        by : (start c).client.call ≡ c.call → (w.client.call ≡ (start c).client.call) ⊎ (w.client.call ≡ None) → requests_left price c.now
+            (nat_lt c.now c.pause) (with_through true w.client.call) None ≤ lease_calls c.now ticket.first file (nat_lt c.now c.pause) c.call
         by s (inl is) =
-            let at : requests_left price c.now (nat_lt c.now c.pause) (with_through true w.client.call) None ≡ requests_left price c.now (nat_lt c.now c.pause) (with_through true c.call) None = ap (λ o. requests_left price c.now (nat_lt c.now c.pause) (with_through true o) None) (is ∙ s) in
+            let at : requests_left price c.now (nat_lt c.now c.pause) (with_through true w.client.call) None ≡ requests_left price c.now
+            (nat_lt c.now c.pause) (with_through true c.call) None = ap (λ o. requests_left price c.now (nat_lt c.now c.pause)
+            (with_through true o) None) (is ∙ s) in
             let below = through-below c.now ticket.first file (nat_lt c.now c.pause) c.call in
             omega arith
         by s (inr none) =
-            let at : requests_left price c.now (nat_lt c.now c.pause) (with_through true w.client.call) None ≡ 0 = ap (λ o. requests_left price c.now (nat_lt c.now c.pause) (with_through true o) None) none ∙ none-left price note c.now (nat_lt c.now c.pause) None in
+            let at : requests_left price c.now (nat_lt c.now c.pause) (with_through true w.client.call) None ≡ 0 =
+            ap (λ o. requests_left price c.now (nat_lt c.now c.pause) (with_through true o) None) none ∙ none-left price note c.now
+            (nat_lt c.now c.pause) None in
             omega arith
 
     -- a lease that caches and is of no use
@@ -408,7 +472,8 @@ module _ (price note : ℕ) where
           }
 
       -- the write is delayed at once
-      saved : (u : UnderWay) (block : ℕ) (body : List ℕ) → c.call ≡ Some u → w.client.call ≡ Some u → u.call ≡ Call.Write file block body → u.through ≡ false → ticket.first ≡ c.now → c.pause ≤ c.now → Used
+      saved : (u : UnderWay) (block : ℕ) (body : List ℕ) → c.call ≡ Some u → w.client.call ≡ Some u → u.call ≡ Call.Write file block body → u.through
+          ≡ false → ticket.first ≡ c.now → c.pause ≤ c.now → Used
       saved u block body called still writes off first unpaused =
           let s = start-same c in
           let now : w.client.now ≡ c.now = gone.now ∙ s.2 in
@@ -423,21 +488,27 @@ module _ (price note : ℕ) where
           let two = two-left u in
           omega arith
 
-      by-through : (u : UnderWay) (block : ℕ) (body : List ℕ) → c.call ≡ Some u → u.call ≡ Call.Write file block body → ticket.first ≡ c.now → c.pause ≤ c.now → price ≤ calls_left price c → (b : Bool) → u.through ≡ b → (w.client.call ≡ (start c).client.call) ⊎ (w.client.call ≡ None) → Used
+      by-through : (u : UnderWay) (block : ℕ) (body : List ℕ) → c.call ≡ Some u → u.call ≡ Call.Write file block body → ticket.first ≡ c.now
+          → c.pause ≤ c.now → price ≤ calls_left price c → (b : Bool) → u.through ≡ b → (w.client.call ≡ (start c).client.call) ⊎ (w.client.call ≡ None) → Used
       by-through u block body called writes first unpaused least true on which =
-          let most : fresh_calls c ≡ price = called-left price note c.now c.pause c.call u None unpaused called ∙ ap (fresh_for price u) writes ∙ ap (write_price price) on in
+          let most : fresh_calls c ≡ price = called-left price note c.now c.pause c.call u None unpaused called ∙ ap (fresh_for price u) writes
+          ∙ ap (write_price price) on in
           enough (omega arith)
-      by-through u block body called writes first unpaused least false off (inl is) = saved u block body called (is ∙ (start-same c).0 ∙ called) writes off first unpaused
+      by-through u block body called writes first unpaused least false off (inl is) = saved u block body called (is ∙ (start-same c).0 ∙ called)
+          writes off first unpaused
       by-through u block body called writes first unpaused least false off (inr none) =
           let rest = gone.rest in
           let from = start-rest c in
           let cheap = settle-cheap price note w in
-          let left : calls_left price w.client ≡ 0 = ap (λ o. requests_left price w.client.now (nat_lt w.client.now w.client.pause) o w.client.ticket) none ∙ none-left price note w.client.now (nat_lt w.client.now w.client.pause) w.client.ticket in
+          let left : calls_left price w.client ≡ 0 = ap (λ o. requests_left price w.client.now (nat_lt w.client.now w.client.pause) o w.client.ticket)
+          none ∙ none-left price note w.client.now (nat_lt w.client.now w.client.pause) w.client.ticket in
           omega arith
 
       by-call : (paused : Bool) → nat_lt c.now c.pause ≡ paused → (o : Option UnderWay) → c.call ≡ o → Used
-      by-call true is o called = enough (let none : requests_left price c.now (nat_lt c.now c.pause) c.call None ≡ 0 = ap (λ b. requests_left price c.now b c.call None) is in omega arith)
-      by-call false is None called = enough (let none : requests_left price c.now (nat_lt c.now c.pause) c.call None ≡ 0 = ap (λ o. requests_left price c.now (nat_lt c.now c.pause) o None) called ∙ none-left price note c.now (nat_lt c.now c.pause) None in omega arith)
+      by-call true is o called = enough (let none : requests_left price c.now (nat_lt c.now c.pause) c.call None ≡ 0 =
+          ap (λ b. requests_left price c.now b c.call None) is in omega arith)
+      by-call false is None called = enough (let none : requests_left price c.now (nat_lt c.now c.pause) c.call None ≡ 0 =
+          ap (λ o. requests_left price c.now (nat_lt c.now c.pause) o None) called ∙ none-left price note c.now (nat_lt c.now c.pause) None in omega arith)
       by-call false is (Some u) called = fresh (ticket.first == c.now && writes_to file u.call) refl
         where
           unpaused : c.pause ≤ c.now
@@ -479,21 +550,29 @@ module _ (price note : ℕ) where
   by-cost : (c : Client) (r : Reply) (v : ClientStep) → cost price note v ≤ effort price c + 1 → reply_weight price r ≡ 2 → Pays c r v
   by-cost c r v few two = let cheap = settle-cheap price note v in omega arith
 
-  by-answer : (c : Client) (r : Reply) (t : ClientStep) (answer : Answer) (by : Option ℕ) → Goes price note 1 (start c) t → reply_weight price r ≡ 2 → Pays c r (answers_call t answer by)
+  by-answer : (c : Client) (r : Reply) (t : ClientStep) (answer : Answer) (by : Option ℕ) → Goes price note 1 (start c) t → reply_weight price r ≡ 2
+      → Pays c r (answers_call t answer by)
   by-answer c r t answer by g two = by-cost c r (answers_call t answer by) (let few = answered-cost c t answer by g in omega arith) two
 
-  pub read-goes : (t : ClientStep) (file block : ℕ) (body : List ℕ) (g : Option Grant) (sent : ℕ) → Goes price note 1 t (then_caches (takes_optional t file g sent) file block body g)
-  read-goes t file block body g sent = goes-then 1 0 1 t (takes_optional t file g sent) _ (omega arith) (optional-goes t file g sent) (then-caches-goes (takes_optional t file g sent) file block body g)
+  pub read-goes : (t : ClientStep) (file block : ℕ) (body : List ℕ) (g : Option Grant) (sent : ℕ)
+      → Goes price note 1 t (then_caches (takes_optional t file g sent) file block body g)
+  read-goes t file block body g sent = goes-then 1 0 1 t (takes_optional t file g sent) _ (omega arith) (optional-goes t file g sent)
+      (then-caches-goes (takes_optional t file g sent) file block body g)
 
-  pub write-goes : (t : ClientStep) (file block : ℕ) (body : List ℕ) (rev : ℕ) → Goes price note 1 t (knows_revision (caches_write t file block body rev) file rev)
-  write-goes t file block body rev = goes-then 0 0 1 t (caches_write t file block body rev) _ (omega arith) (caches-write-goes t file block body rev) (known-goes (caches_write t file block body rev) file rev)
+  pub write-goes : (t : ClientStep) (file block : ℕ) (body : List ℕ) (rev : ℕ)
+      → Goes price note 1 t (knows_revision (caches_write t file block body rev) file rev)
+  write-goes t file block body rev = goes-then 0 0 1 t (caches_write t file block body rev) _ (omega arith) (caches-write-goes t file block body rev)
+      (known-goes (caches_write t file block body rev) file rev)
 
-  lease-pays : (c : Client) (ticket : Ticket) (who : Who) (file : ℕ) (want : Want) (inc : ℕ) (grant : Option Grant) (r : Reply) → c.ticket ≡ Some ticket → OfCall ticket (Request.GetLease who file want) → Alone c → r ≡ Reply.GetLease inc grant → Pays c r (lease_done (start c) file grant ticket.first)
+  lease-pays : (c : Client) (ticket : Ticket) (who : Who) (file : ℕ) (want : Want) (inc : ℕ) (grant : Option Grant) (r : Reply) → c.ticket
+      ≡ Some ticket → OfCall ticket (Request.GetLease who file want) → Alone c → r ≡ Reply.GetLease inc grant
+      → Pays c r (lease_done (start c) file grant ticket.first)
   lease-pays c ticket who file want inc grant r asks of alone is =
       lease-done-cases (start c) file grant ticket.first (Pays c r)
       (λ caching. caches-it grant caching is)
       (λ other.
-      let few = through-cost c ticket who file want asks of alone (takes_optional (start c) file grant ticket.first) (optional-goes (start c) file grant ticket.first) in
+      let few = through-cost c ticket who file want asks of alone (takes_optional (start c) file grant ticket.first) (optional-goes (start c) file
+      grant ticket.first) in
       let two : reply_weight price r ≡ 2 = ap (reply_weight price) is ∙ ap (lease_weight price) (unused grant other) in
       by-cost c r (marks_through true (takes_optional (start c) file grant ticket.first)) few two)
     where
@@ -513,31 +592,45 @@ module _ (price note : ℕ) where
               let two : reply_weight price r ≡ 2 = ap (reply_weight price) is ∙ ap (lease_weight price) idle in
               omega arith
           useful false f =
-              let few = idle-cost c ticket who file want asks of alone (takes_grant (start c) file g ticket.first) (taken-goes (start c) file g ticket.first) in
+              let few = idle-cost c ticket who file want asks of alone (takes_grant (start c) file g ticket.first) (taken-goes (start c) file g
+              ticket.first) in
               let idle : is_idle (Some g) ≡ true = rw (e, f) refl in
               let more : reply_weight price r ≡ price + 2 = ap (reply_weight price) is ∙ ap (lease_weight price) idle in
               omega arith
 
-  replied-pays : (c : Client) (number : ℕ) (ticket : Ticket) (r : Reply) → c.ticket ≡ Some ticket → reply_counts r ticket ≡ true → Alone c → Pays c r (replied (begun c) number ticket r)
+  replied-pays : (c : Client) (number : ℕ) (ticket : Ticket) (r : Reply) → c.ticket ≡ Some ticket → reply_counts r ticket ≡ true → Alone c
+      → Pays c r (replied (begun c) number ticket r)
   replied-pays c number ticket r asks counts alone = replied-cases c number ticket r (Pays c r) (alone.asking.ticketed ticket asks).fits counts (record {
-    attaching = λ who inc job request is. by-cost c r (attached (start c)) (kept-cost c ticket (attached (start c)) asks (λ e. let two = sym job ∙ e in cc) (attached-goes c)) (ap (reply_weight price) is);
-    named = λ answer job is. by-answer c r (start c) answer None (wider 0 1 (start c) (start c) (omega arith) (same-goes (start c))) (named-weight ticket.request r answer is);
-    reading = λ who q file block want inc rev body grant of is. by-answer c r (then_caches (takes_optional (start c) file grant ticket.first) file block body grant) (Answer.Ok (Value.Body body)) (Some number) (read-goes (start c) file block body grant ticket.first) (ap (reply_weight price) is);
+    attaching = λ who inc job request is. by-cost c r (attached (start c)) (kept-cost c ticket (attached (start c)) asks (λ e. let two = sym job
+        ∙ e in cc) (attached-goes c)) (ap (reply_weight price) is);
+    named = λ answer job is. by-answer c r (start c) answer None (wider 0 1 (start c) (start c) (omega arith) (same-goes (start c)))
+        (named-weight ticket.request r answer is);
+    reading = λ who q file block want inc rev body grant of is. by-answer c r (then_caches (takes_optional (start c) file grant ticket.first) file
+        block body grant) (Answer.Ok (Value.Body body)) (Some number) (read-goes (start c) file block body grant ticket.first) (ap (reply_weight price) is);
     leasing = λ who file want inc grant of is. lease-pays c ticket who file want inc grant r asks of alone is;
-    writing = λ who seq file block first last body inc rev of is. by-answer c r (knows_revision (caches_write (start c) file block body rev) file rev) (Answer.Ok Value.Nothing) None (write-goes (start c) file block body rev) (ap (reply_weight price) is);
-    resizing = λ who seq q file blocks inc rev of is. by-answer c r (knows_revision (start c) file rev) (Answer.Ok Value.Nothing) None (wider 0 1 (start c) (knows_revision (start c) file rev) (omega arith) (known-goes (start c) file rev)) (ap (reply_weight price) is);
-    removing = λ who seq q file inc of is. by-answer c r (start c) (Answer.Ok Value.Nothing) None (wider 0 1 (start c) (start c) (omega arith) (same-goes (start c))) (ap (reply_weight price) is);
+    writing = λ who seq file block first last body inc rev of is. by-answer c r (knows_revision (caches_write (start c) file block body rev) file rev)
+        (Answer.Ok Value.Nothing) None (write-goes (start c) file block body rev) (ap (reply_weight price) is);
+    resizing = λ who seq q file blocks inc rev of is. by-answer c r (knows_revision (start c) file rev) (Answer.Ok Value.Nothing) None
+        (wider 0 1 (start c) (knows_revision (start c) file rev) (omega arith) (known-goes (start c) file rev)) (ap (reply_weight price) is);
+    removing = λ who seq q file inc of is. by-answer c r (start c) (Answer.Ok Value.Nothing) None (wider 0 1 (start c) (start c) (omega arith)
+        (same-goes (start c))) (ap (reply_weight price) is);
     renewing = λ who file want inc grant job request is.
-        let few = kept-cost c ticket (takes_optional (start c) file grant ticket.first) asks (λ e. let two = sym job ∙ e in cc) (optional-goes (start c) file grant ticket.first) in
+        let few = kept-cost c ticket (takes_optional (start c) file grant ticket.first) asks (λ e. let two = sym job ∙ e in cc)
+        (optional-goes (start c) file grant ticket.first) in
         let cheap = settle-cheap price note (takes_optional (start c) file grant ticket.first) in
         let some = lease-some (is_idle grant) in
         let same : reply_weight price r ≡ lease_weight price (is_idle grant) = ap (reply_weight price) is in
         omega arith;
-    pushed = λ who seq file block first last base body inc rev job request is. by-cost c r (push_done (start c) file block body rev) (kept-cost c ticket (push_done (start c) file block body rev) asks (λ e. let two = sym job ∙ e in cc) (pushed-goes (start c) file block body rev)) (ap (reply_weight price) is);
+    pushed = λ who seq file block first last base body inc rev job request is. by-cost c r (push_done (start c) file block body rev)
+        (kept-cost c ticket (push_done (start c) file block body rev) asks (λ e. let two = sym job ∙ e in cc) (pushed-goes (start c) file block body
+        rev)) (ap (reply_weight price) is);
     putting_off = λ inc status of is off. by-cost c r (pauses (start c)) (let few = paused-cost c in omega arith) (ap (reply_weight price) is);
-    refusing = λ inc status job is counted final. by-answer c r (start c) (answer_of status) None (wider 0 1 (start c) (start c) (omega arith) (same-goes (start c))) (ap (reply_weight price) is);
-    renewal_refused = λ inc status job is final. by-cost c r (start c) (kept-cost c ticket (start c) asks (λ e. let two = sym job ∙ e in cc) (wider 0 1 (start c) (start c) (omega arith) (same-goes (start c)))) (ap (reply_weight price) is);
-    push_refused = λ who seq file block first last base body inc status job request is final. by-cost c r (push_refused (start c) file) (kept-cost c ticket (push_refused (start c) file) asks (λ e. let two = sym job ∙ e in cc) (refused-goes (start c) file)) (ap (reply_weight price) is);
+    refusing = λ inc status job is counted final. by-answer c r (start c) (answer_of status) None (wider 0 1 (start c) (start c) (omega arith)
+        (same-goes (start c))) (ap (reply_weight price) is);
+    renewal_refused = λ inc status job is final. by-cost c r (start c) (kept-cost c ticket (start c) asks (λ e. let two = sym job ∙ e in cc)
+        (wider 0 1 (start c) (start c) (omega arith) (same-goes (start c)))) (ap (reply_weight price) is);
+    push_refused = λ who seq file block first last base body inc status job request is final. by-cost c r (push_refused (start c) file)
+        (kept-cost c ticket (push_refused (start c) file) asks (λ e. let two = sym job ∙ e in cc) (refused-goes (start c) file)) (ap (reply_weight price) is);
   })
     where
       lease-some : (b : Bool) → 2 ≤ lease_weight price b
@@ -551,25 +644,54 @@ module _ (price note : ℕ) where
   lean-by : (c : Client) (ticket : Ticket) (r : Reply) (v : ClientStep) → Pays c r v → reply_weight price r ≡ 2 → Lean c ticket r v
   lean-by c ticket r v pays two = λ mine. omega arith
 
-  pub replied-lean : (c : Client) (number : ℕ) (ticket : Ticket) (r : Reply) → c.ticket ≡ Some ticket → reply_counts r ticket ≡ true → Alone c → Lean c ticket r (replied (begun c) number ticket r)
-  replied-lean c number ticket r asks counts alone = replied-cases c number ticket r (Lean c ticket r) (alone.asking.ticketed ticket asks).fits counts (record {
-    attaching = λ who inc job request is. lean-by c ticket r (attached (start c)) (by-cost c r (attached (start c)) (kept-cost c ticket (attached (start c)) asks (λ e. let two = sym job ∙ e in cc) (attached-goes c)) (ap (reply_weight price) is)) (ap (reply_weight price) is);
-    named = λ answer job is. lean-by c ticket r (answers_call (start c) answer None) (by-answer c r (start c) answer None (wider 0 1 (start c) (start c) (omega arith) (same-goes (start c))) (named-weight ticket.request r answer is)) (named-weight ticket.request r answer is);
-    reading = λ who q file block want inc rev body grant of is. lean-by c ticket r (answers_call (then_caches (takes_optional (start c) file grant ticket.first) file block body grant) (Answer.Ok (Value.Body body)) (Some number)) (by-answer c r (then_caches (takes_optional (start c) file grant ticket.first) file block body grant) (Answer.Ok (Value.Body body)) (Some number) (read-goes (start c) file block body grant ticket.first) (ap (reply_weight price) is)) (ap (reply_weight price) is);
-    leasing = λ who file want inc grant of is. λ mine. lean-by c ticket r (lease_done (start c) file grant ticket.first) (lease-pays c ticket who file want inc grant r asks of alone is) (mine of.job) mine;
-    writing = λ who seq file block first last body inc rev of is. lean-by c ticket r (answers_call (knows_revision (caches_write (start c) file block body rev) file rev) (Answer.Ok Value.Nothing) None) (by-answer c r (knows_revision (caches_write (start c) file block body rev) file rev) (Answer.Ok Value.Nothing) None (write-goes (start c) file block body rev) (ap (reply_weight price) is)) (ap (reply_weight price) is);
-    resizing = λ who seq q file blocks inc rev of is. lean-by c ticket r (answers_call (knows_revision (start c) file rev) (Answer.Ok Value.Nothing) None) (by-answer c r (knows_revision (start c) file rev) (Answer.Ok Value.Nothing) None (wider 0 1 (start c) (knows_revision (start c) file rev) (omega arith) (known-goes (start c) file rev)) (ap (reply_weight price) is)) (ap (reply_weight price) is);
-    removing = λ who seq q file inc of is. lean-by c ticket r (answers_call (start c) (Answer.Ok Value.Nothing) None) (by-answer c r (start c) (Answer.Ok Value.Nothing) None (wider 0 1 (start c) (start c) (omega arith) (same-goes (start c))) (ap (reply_weight price) is)) (ap (reply_weight price) is);
-    renewing = λ who file want inc grant job request is. λ mine.
-        let few = kept-cost c ticket (takes_optional (start c) file grant ticket.first) asks (λ e. let two = sym job ∙ e in cc) (optional-goes (start c) file grant ticket.first) in
-        let cheap = settle-cheap price note (takes_optional (start c) file grant ticket.first) in
-        omega arith;
-    pushed = λ who seq file block first last base body inc rev job request is. lean-by c ticket r (push_done (start c) file block body rev) (by-cost c r (push_done (start c) file block body rev) (kept-cost c ticket (push_done (start c) file block body rev) asks (λ e. let two = sym job ∙ e in cc) (pushed-goes (start c) file block body rev)) (ap (reply_weight price) is)) (ap (reply_weight price) is);
-    putting_off = λ inc status of is off. lean-by c ticket r (pauses (start c)) (by-cost c r (pauses (start c)) (let few = paused-cost c in omega arith) (ap (reply_weight price) is)) (ap (reply_weight price) is);
-    refusing = λ inc status job is counted final. lean-by c ticket r (answers_call (start c) (answer_of status) None) (by-answer c r (start c) (answer_of status) None (wider 0 1 (start c) (start c) (omega arith) (same-goes (start c))) (ap (reply_weight price) is)) (ap (reply_weight price) is);
-    renewal_refused = λ inc status job is final. lean-by c ticket r (start c) (by-cost c r (start c) (kept-cost c ticket (start c) asks (λ e. let two = sym job ∙ e in cc) (wider 0 1 (start c) (start c) (omega arith) (same-goes (start c)))) (ap (reply_weight price) is)) (ap (reply_weight price) is);
-    push_refused = λ who seq file block first last base body inc status job request is final. lean-by c ticket r (push_refused (start c) file) (by-cost c r (push_refused (start c) file) (kept-cost c ticket (push_refused (start c) file) asks (λ e. let two = sym job ∙ e in cc) (refused-goes (start c) file)) (ap (reply_weight price) is)) (ap (reply_weight price) is);
-  })
+  pub replied-lean : (c : Client) (number : ℕ) (ticket : Ticket) (r : Reply) → c.ticket ≡ Some ticket → reply_counts r ticket ≡ true → Alone c
+      → Lean c ticket r (replied (begun c) number ticket r)
+  replied-lean c number ticket r asks counts alone = replied-cases c number ticket r (Lean c ticket r) (alone.asking.ticketed ticket asks).fits counts
+      (record {
+        attaching = λ who inc job request is. lean-by c ticket r (attached (start c)) (by-cost c r (attached (start c))
+            (kept-cost c ticket (attached (start c)) asks (λ e. let two = sym job ∙ e in cc) (attached-goes c)) (ap (reply_weight price) is))
+            (ap (reply_weight price) is);
+        named = λ answer job is. lean-by c ticket r (answers_call (start c) answer None) (by-answer c r (start c) answer None
+            (wider 0 1 (start c) (start c) (omega arith) (same-goes (start c))) (named-weight ticket.request r answer is)) (named-weight ticket.request r
+            answer is);
+        reading = λ who q file block want inc rev body grant of is. lean-by c ticket r
+            (answers_call (then_caches (takes_optional (start c) file grant ticket.first) file block body grant) (Answer.Ok (Value.Body body))
+            (Some number)) (by-answer c r (then_caches (takes_optional (start c) file grant ticket.first) file block body grant)
+            (Answer.Ok (Value.Body body)) (Some number) (read-goes (start c) file block body grant ticket.first) (ap (reply_weight price) is))
+            (ap (reply_weight price) is);
+        leasing = λ who file want inc grant of is. λ mine. lean-by c ticket r (lease_done (start c) file grant ticket.first) (lease-pays c ticket who file
+            want inc grant r asks of alone is) (mine of.job) mine;
+        writing = λ who seq file block first last body inc rev of is. lean-by c ticket r
+            (answers_call (knows_revision (caches_write (start c) file block body rev) file rev) (Answer.Ok Value.Nothing) None)
+            (by-answer c r (knows_revision (caches_write (start c) file block body rev) file rev) (Answer.Ok Value.Nothing) None
+            (write-goes (start c) file block body rev) (ap (reply_weight price) is)) (ap (reply_weight price) is);
+        resizing = λ who seq q file blocks inc rev of is. lean-by c ticket r (answers_call (knows_revision (start c) file rev) (Answer.Ok Value.Nothing)
+            None) (by-answer c r (knows_revision (start c) file rev) (Answer.Ok Value.Nothing) None
+            (wider 0 1 (start c) (knows_revision (start c) file rev) (omega arith) (known-goes (start c) file rev)) (ap (reply_weight price) is))
+            (ap (reply_weight price) is);
+        removing = λ who seq q file inc of is. lean-by c ticket r (answers_call (start c) (Answer.Ok Value.Nothing) None)
+            (by-answer c r (start c) (Answer.Ok Value.Nothing) None (wider 0 1 (start c) (start c) (omega arith) (same-goes (start c)))
+            (ap (reply_weight price) is)) (ap (reply_weight price) is);
+        renewing = λ who file want inc grant job request is. λ mine.
+            let few = kept-cost c ticket (takes_optional (start c) file grant ticket.first) asks (λ e. let two = sym job ∙ e in cc)
+            (optional-goes (start c) file grant ticket.first) in
+            let cheap = settle-cheap price note (takes_optional (start c) file grant ticket.first) in
+            omega arith;
+        pushed = λ who seq file block first last base body inc rev job request is. lean-by c ticket r (push_done (start c) file block body rev)
+            (by-cost c r (push_done (start c) file block body rev) (kept-cost c ticket (push_done (start c) file block body rev) asks (λ e. let two =
+            sym job ∙ e in cc) (pushed-goes (start c) file block body rev)) (ap (reply_weight price) is)) (ap (reply_weight price) is);
+        putting_off = λ inc status of is off. lean-by c ticket r (pauses (start c)) (by-cost c r (pauses (start c)) (let few = paused-cost c in
+            omega arith) (ap (reply_weight price) is)) (ap (reply_weight price) is);
+        refusing = λ inc status job is counted final. lean-by c ticket r (answers_call (start c) (answer_of status) None)
+            (by-answer c r (start c) (answer_of status) None (wider 0 1 (start c) (start c) (omega arith) (same-goes (start c)))
+            (ap (reply_weight price) is)) (ap (reply_weight price) is);
+        renewal_refused = λ inc status job is final. lean-by c ticket r (start c) (by-cost c r (start c) (kept-cost c ticket (start c) asks
+            (λ e. let two = sym job ∙ e in cc) (wider 0 1 (start c) (start c) (omega arith) (same-goes (start c)))) (ap (reply_weight price) is))
+            (ap (reply_weight price) is);
+        push_refused = λ who seq file block first last base body inc status job request is final. lean-by c ticket r (push_refused (start c) file)
+            (by-cost c r (push_refused (start c) file) (kept-cost c ticket (push_refused (start c) file) asks (λ e. let two = sym job ∙ e in cc)
+            (refused-goes (start c) file)) (ap (reply_weight price) is)) (ap (reply_weight price) is);
+      })
 
   -- ---- a notice
 
@@ -580,25 +702,36 @@ module _ (price note : ℕ) where
   pub goes-cost : (n : ℕ) (t u : ClientStep) → Goes price note n t u → cost price note u ≤ cost price note t + n
   goes-cost n t u g =
       let rest = g.rest in
-      let same : calls_left price u.client ≡ requests_left price t.client.now (nat_lt t.client.now t.client.pause) u.client.call t.client.ticket = rw (g.ticket, g.now, g.pause) refl in
+      let same : calls_left price u.client ≡ requests_left price t.client.now (nat_lt t.client.now t.client.pause) u.client.call t.client.ticket =
+      rw (g.ticket, g.now, g.pause) refl in
       by same g.call
     where
-      by : calls_left price u.client ≡ requests_left price t.client.now (nat_lt t.client.now t.client.pause) u.client.call t.client.ticket → (u.client.call ≡ t.client.call) ⊎ (u.client.call ≡ None) → cost price note u ≤ cost price note t + n
-      by same (inl is) = let at : requests_left price t.client.now (nat_lt t.client.now t.client.pause) u.client.call t.client.ticket ≡ calls_left price t.client = ap (λ o. requests_left price t.client.now (nat_lt t.client.now t.client.pause) o t.client.ticket) is in let rest = g.rest in omega arith
-      by same (inr none) = let at : requests_left price t.client.now (nat_lt t.client.now t.client.pause) u.client.call t.client.ticket ≡ 0 = ap (λ o. requests_left price t.client.now (nat_lt t.client.now t.client.pause) o t.client.ticket) none ∙ none-left price note t.client.now (nat_lt t.client.now t.client.pause) t.client.ticket in let rest = g.rest in omega arith
+      by : calls_left price u.client ≡ requests_left price t.client.now (nat_lt t.client.now t.client.pause) u.client.call t.client.ticket
+          → (u.client.call ≡ t.client.call) ⊎ (u.client.call ≡ None) → cost price note u ≤ cost price note t + n
+      by same (inl is) = let at : requests_left price t.client.now (nat_lt t.client.now t.client.pause) u.client.call t.client.ticket
+          ≡ calls_left price t.client = ap (λ o. requests_left price t.client.now (nat_lt t.client.now t.client.pause) o t.client.ticket) is in
+          let rest = g.rest in omega arith
+      by same (inr none) = let at : requests_left price t.client.now (nat_lt t.client.now t.client.pause) u.client.call t.client.ticket ≡ 0 =
+          ap (λ o. requests_left price t.client.now (nat_lt t.client.now t.client.pause) o t.client.ticket) none ∙ none-left price note t.client.now
+          (nat_lt t.client.now t.client.pause) t.client.ticket in let rest = g.rest in omega arith
 
   noted-goes : (t : ClientStep) (file : ℕ) (tag : Tag) → Goes price note 1 t (notes_notice t file tag)
   unfolding notes_notice
   noted-goes t file tag = record { rest = omega arith; call = inl refl; ticket = refl; now = refl; pause = refl }
 
   pub evicted-goes : (t : ClientStep) (file : ℕ) (tag : Tag) → Goes price note 1 t (evicted t file tag)
-  evicted-goes t file tag = evicted-cases t file tag (Goes price note 1 t) (record { clean = λ e. vacates-goes t file tag; waiting = λ e. noted-goes t file tag })
+  evicted-goes t file tag = evicted-cases t file tag (Goes price note 1 t) (record {
+    clean = λ e. vacates-goes t file tag;
+    waiting = λ e. noted-goes t
+        file tag;
+  })
 
   pub cancels-cost : (rise : ℕ) (c : Client) (file : ℕ) → CancelCosts rise c file → cost price note (cancels (begun c) file) ≤ effort price c + rise
   unfolding cancels
   cancels-cost rise c file few = omega arith
 
-  notice-pays : (rise : ℕ) (c : Client) (file : ℕ) (tag : Tag) → CancelCosts rise c file → cost price note (goes_on (evicted (cancels (begun c) file) file tag)) ≤ effort price c + (rise + 1)
+  notice-pays : (rise : ℕ) (c : Client) (file : ℕ) (tag : Tag) → CancelCosts rise c file
+      → cost price note (goes_on (evicted (cancels (begun c) file) file tag)) ≤ effort price c + (rise + 1)
   notice-pays rise c file tag few =
       let cut = cancels (begun c) file in
       let gone = evicted cut file tag in
@@ -609,7 +742,8 @@ module _ (price note : ℕ) where
       omega arith
 
   -- a datagram that counts costs no more than its weight, less one
-  pub hear-pays : (rise : ℕ) (c : Client) (k : ℕ) (m : Message) (t : ClientStep) → rise + 2 ≤ note → ((file : ℕ) → CancelCosts rise c file) → Alone c → hear c k m ≡ Some t → cost price note t + 1 ≤ effort price c + weight price note m
+  pub hear-pays : (rise : ℕ) (c : Client) (k : ℕ) (m : Message) (t : ClientStep) → rise + 2 ≤ note → ((file : ℕ) → CancelCosts rise c file) → Alone c
+      → hear c k m ≡ Some t → cost price note t + 1 ≤ effort price c + weight price note m
   hear-pays rise c k m t dear cancel alone hears = heard-cases c k m t (λ v. cost price note v + 1 ≤ effort price c + weight price note m) hears (record {
     answered = λ xid r ticket is asks own inc counts.
         let pays = replied-pays c k ticket r asks counts alone in
@@ -623,18 +757,21 @@ module _ (price note : ℕ) where
   })
 
   -- the same, where what a notice cancels is paid for beside
-  pub hear-costs : (c : Client) (k : ℕ) (m : Message) (t : ClientStep) (rise : ℕ) → 2 ≤ note → ((xid file : ℕ) (tag : Tag) → m ≡ Message.call xid (Request.Evicted c.who file tag) → CancelCosts rise c file) → Alone c → hear c k m ≡ Some t → cost price note t + 1 ≤ effort price c + (weight price note m + rise)
-  hear-costs c k m t rise dear cancel alone hears = heard-cases c k m t (λ v. cost price note v + 1 ≤ effort price c + (weight price note m + rise)) hears (record {
-    answered = λ xid r ticket is asks own inc counts.
-        let pays = replied-pays c k ticket r asks counts alone in
-        let next = send-cheap price note (settle (replied (begun c) k ticket r)) in
-        let same : weight price note m ≡ reply_weight price r = ap (weight price note) is in
-        omega arith;
-    noticed = λ xid file tag is older.
-        let pays = notice-pays rise c file tag (cancel xid file tag is) in
-        let same : weight price note m ≡ note = ap (weight price note) is in
-        omega arith;
-  })
+  pub hear-costs : (c : Client) (k : ℕ) (m : Message) (t : ClientStep) (rise : ℕ) → 2 ≤ note → ((xid file : ℕ) (tag : Tag) → m ≡ Message.call xid
+      (Request.Evicted c.who file tag) → CancelCosts rise c file) → Alone c → hear c k m ≡ Some t → cost price note t + 1 ≤ effort price c
+      + (weight price note m + rise)
+  hear-costs c k m t rise dear cancel alone hears = heard-cases c k m t (λ v. cost price note v + 1 ≤ effort price c + (weight price note m + rise))
+      hears (record {
+        answered = λ xid r ticket is asks own inc counts.
+            let pays = replied-pays c k ticket r asks counts alone in
+            let next = send-cheap price note (settle (replied (begun c) k ticket r)) in
+            let same : weight price note m ≡ reply_weight price r = ap (weight price note) is in
+            omega arith;
+        noticed = λ xid file tag is older.
+            let pays = notice-pays rise c file tag (cancel xid file tag is) in
+            let same : weight price note m ≡ note = ap (weight price note) is in
+            omega arith;
+      })
 
   -- ---- what a cancelled request costs once more
 
@@ -656,9 +793,11 @@ module _ (price note : ℕ) where
   lease-enough : (u : UnderWay) (b : Bool) → fresh_left price u ≤ lease_left price b + price
   lease-enough u b = let two = two-left u in let one = lease-least b in omega arith
 
-  cancelled-call : (now : ℕ) (u : UnderWay) (file first : ℕ) (request : Request) → wants_of file request ≡ true → fresh_left price u ≤ sent_left price now u first request + price
+  cancelled-call : (now : ℕ) (u : UnderWay) (file first : ℕ) (request : Request) → wants_of file request ≡ true → fresh_left price u ≤ sent_left price
+      now u first request + price
   cancelled-call now u file first (Request.Read who q f block (Some want)) e = read-least u
-  cancelled-call now u file first (Request.Read who q f block None) e = let no : wants_of file (Request.Read who q f block None) ≡ false = and-false (f == file) in absurd (cc)
+  cancelled-call now u file first (Request.Read who q f block None) e = let no : wants_of file (Request.Read who q f block None) ≡ false =
+      and-false (f == file) in absurd (cc)
     where
       and-false : (b : Bool) → (b && false) ≡ false
       and-false true = refl
@@ -669,33 +808,39 @@ module _ (price note : ℕ) where
   pub cancel-costs : (c : Client) (file : ℕ) → CancelCosts price c file
   cancel-costs c file = by (nat_lt c.now c.pause) c.call c.ticket
     where
-      job : (u : UnderWay) (first : ℕ) (request : Request) → wants_of file request ≡ true → (j : Job) → fresh_left price u ≤ job_left price c.now u first request j + price
+      job : (u : UnderWay) (first : ℕ) (request : Request) → wants_of file request ≡ true → (j : Job) → fresh_left price u ≤ job_left price c.now u
+          first request j + price
       job u first request e attaching = omega arith
       job u first request e for_call = cancelled-call c.now u file first request e
       job u first request e renewing = omega arith
       job u first request e pushing = omega arith
 
-      by : (b : Bool) (o : Option UnderWay) (ticket : Option Ticket) → requests_left price c.now b o (cancelled file ticket) ≤ requests_left price c.now b o ticket + price
+      by : (b : Bool) (o : Option UnderWay) (ticket : Option Ticket) → requests_left price c.now b o (cancelled file ticket) ≤ requests_left price
+          c.now b o ticket + price
       by true o ticket = omega arith
       by false None ticket = omega arith
       by false (Some u) None = omega arith
-      by false (Some u) (Some t) = choice (λ (o : Option Ticket). asked_left price c.now u o ≤ asked_left price c.now u (Some t) + price) (wants_of file t.request) None (Some t) (λ e. job u t.first t.request e t.job) (λ e. omega arith)
+      by false (Some u) (Some t) = choice (λ (o : Option Ticket). asked_left price c.now u o ≤ asked_left price c.now u (Some t) + price)
+          (wants_of file t.request) None (Some t) (λ e. job u t.first t.request e t.job) (λ e. omega arith)
 
   -- a notice that does not cancel the call's request costs nothing more
   pub uncancelled-costs : (c : Client) (file : ℕ) → is_cancelled file c.ticket ≡ false → CancelCosts 0 c file
   uncancelled-costs c file not_so = by (nat_lt c.now c.pause) c.call c.ticket not_so
     where
-      job : (u : UnderWay) (first : ℕ) (request : Request) → wants_of file request ≡ true → (j : Job) → (is_for_call j && wants_of file request) ≡ false → fresh_left price u ≤ job_left price c.now u first request j
+      job : (u : UnderWay) (first : ℕ) (request : Request) → wants_of file request ≡ true → (j : Job) → (is_for_call j && wants_of file request)
+          ≡ false → fresh_left price u ≤ job_left price c.now u first request j
       job u first request e attaching off = omega arith
       job u first request e for_call off = absurd (cc)
       job u first request e renewing off = omega arith
       job u first request e pushing off = omega arith
 
-      by : (b : Bool) (o : Option UnderWay) (ticket : Option Ticket) → is_cancelled file ticket ≡ false → requests_left price c.now b o (cancelled file ticket) ≤ requests_left price c.now b o ticket + 0
+      by : (b : Bool) (o : Option UnderWay) (ticket : Option Ticket) → is_cancelled file ticket ≡ false → requests_left price c.now b o
+          (cancelled file ticket) ≤ requests_left price c.now b o ticket + 0
       by true o ticket off = omega arith
       by false None ticket off = omega arith
       by false (Some u) None off = omega arith
-      by false (Some u) (Some t) off = choice (λ (o : Option Ticket). asked_left price c.now u o ≤ asked_left price c.now u (Some t) + 0) (wants_of file t.request) None (Some t) (λ e. let less = job u t.first t.request e t.job off in omega arith) (λ e. omega arith)
+      by false (Some u) (Some t) off = choice (λ (o : Option Ticket). asked_left price c.now u o ≤ asked_left price c.now u (Some t) + 0)
+          (wants_of file t.request) None (Some t) (λ e. let less = job u t.first t.request e t.job off in omega arith) (λ e. omega arith)
 
   -- ---- a client whose call wants no lease, or that pauses, loses nothing by a notice
 
@@ -734,30 +879,37 @@ module _ (price note : ℕ) where
       by (Call.Resize file blocks) e = omega arith
       by (Call.Remove file) e = omega arith
 
-  spared-call : (now : ℕ) (u : UnderWay) (file first : ℕ) (request : Request) → wants_lease u.call ≡ false → wants_of file request ≡ true → fresh_left price u ≤ sent_left price now u first request
+  spared-call : (now : ℕ) (u : UnderWay) (file first : ℕ) (request : Request) → wants_lease u.call ≡ false → wants_of file request ≡ true
+      → fresh_left price u ≤ sent_left price now u first request
   spared-call now u file first (Request.Read who q f block (Some want)) spared e = read-same u spared
-  spared-call now u file first (Request.Read who q f block None) spared e = let no : wants_of file (Request.Read who q f block None) ≡ false = and-false (f == file) in absurd (cc)
+  spared-call now u file first (Request.Read who q f block None) spared e = let no : wants_of file (Request.Read who q f block None) ≡ false =
+      and-false (f == file) in absurd (cc)
     where
       and-false : (b : Bool) → (b && false) ≡ false
       and-false true = refl
       and-false false = refl
-  spared-call now u file first (Request.GetLease who f want) spared e = let one = one-left u spared in let least = lease-least (first == now && writes_to f u.call) in omega arith
+  spared-call now u file first (Request.GetLease who f want) spared e = let one = one-left u spared in let least =
+      lease-least (first == now && writes_to f u.call) in omega arith
   spared-call now u file first other spared e = absurd (cc)
 
   pub spared-costs : (c : Client) (file : ℕ) → IsSpared c → CancelCosts 0 c file
   spared-costs c file spared = by (nat_lt c.now c.pause) refl c.call refl c.ticket
     where
-      job : (u : UnderWay) (first : ℕ) (request : Request) → wants_lease u.call ≡ false → wants_of file request ≡ true → (j : Job) → fresh_left price u ≤ job_left price c.now u first request j
+      job : (u : UnderWay) (first : ℕ) (request : Request) → wants_lease u.call ≡ false → wants_of file request ≡ true → (j : Job)
+          → fresh_left price u ≤ job_left price c.now u first request j
       job u first request no_lease e attaching = omega arith
       job u first request no_lease e for_call = spared-call c.now u file first request no_lease e
       job u first request no_lease e renewing = omega arith
       job u first request no_lease e pushing = omega arith
 
-      by : (b : Bool) → nat_lt c.now c.pause ≡ b → (o : Option UnderWay) → c.call ≡ o → (ticket : Option Ticket) → requests_left price c.now b o (cancelled file ticket) ≤ requests_left price c.now b o ticket + 0
+      by : (b : Bool) → nat_lt c.now c.pause ≡ b → (o : Option UnderWay) → c.call ≡ o → (ticket : Option Ticket) → requests_left price c.now b o
+          (cancelled file ticket) ≤ requests_left price c.now b o ticket + 0
       by true is o called ticket = omega arith
       by false is None called ticket = omega arith
       by false is (Some u) called None = omega arith
-      by false is (Some u) called (Some t) = choice (λ (o : Option Ticket). asked_left price c.now u o ≤ asked_left price c.now u (Some t) + 0) (wants_of file t.request) None (Some t) (λ e. let less = job u t.first t.request (none-wanted u called spared) e t.job in omega arith) (λ e. omega arith)
+      by false is (Some u) called (Some t) = choice (λ (o : Option Ticket). asked_left price c.now u o ≤ asked_left price c.now u (Some t) + 0)
+          (wants_of file t.request) None (Some t) (λ e. let less = job u t.first t.request (none-wanted u called spared) e t.job in omega arith)
+          (λ e. omega arith)
         where
           none-wanted : (v : UnderWay) → c.call ≡ Some v → IsSpared c → wants_lease v.call ≡ false
           none-wanted v called (pausing late) = let runs = is-not-below c.now c.pause is in absurd (omega arith)

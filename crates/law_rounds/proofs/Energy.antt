@@ -1,5 +1,6 @@
 -- What may still happen to the rows that hosts wait for: each host may come to share its file, and each row that is to go may go.
-use Rattle.std.proofs.Common.{◌≡◌, ◌≤◌, ◌<◌, ℕ, ◌+◌, ◌*◌, ◌==◌, ◌&&◌, ◌||◌, Bool, true, false, not, zero, suc, List, Option, Some, None, refl, sym, ap, subst, arith}
+use Rattle.std.proofs.Common.{◌≡◌, ◌≤◌, ◌<◌, ℕ, ◌+◌, ◌*◌, ◌==◌, ◌&&◌, ◌||◌, Bool, true, false, not, zero, suc, List, Option, Some, None, refl, sym}
+use Rattle.std.proofs.Common.{ap, subst, arith}
 use Rattle.std.proofs.lemmas.Bool.Decides.{nat_tests}
 use Rattle.nq_base.specs.declared.Request.{Request}
 use Rattle.nq_base.specs.declared.Row.{Row}
@@ -37,7 +38,8 @@ sum-less (suc n) f g each one below less = by (λ other. sum-less n f g (λ h sm
         omega arith
 
 -- one falls by much, and each other rises by one at most
-pub sum-spread : (n much : ℕ) (f g : ℕ → ℕ) → ((h : ℕ) → h < n → f h ≤ g h + 1) → (one : ℕ) → one < n → f one + much ≤ g one + 1 → sum_below n f + much ≤ sum_below n g + n
+pub sum-spread : (n much : ℕ) (f g : ℕ → ℕ) → ((h : ℕ) → h < n → f h ≤ g h + 1) → (one : ℕ) → one < n → f one + much ≤ g one + 1 → sum_below n f
+    + much ≤ sum_below n g + n
 sum-spread zero much f g each one below less = absurd (omega arith)
 sum-spread (suc n) much f g each one below less = by (λ other. sum-spread n much f g (λ h small. each h (omega arith)) one other less) (one == n) refl
   where
@@ -181,12 +183,15 @@ module _ (hosts : ℕ) (asks : ℕ → Option Request) (before after : List Row)
       omega arith
 
   pub tame-energy : IsTame hosts before after → energy hosts asks after ≤ energy hosts asks before
-  tame-energy t = sum-no-more hosts (λ h. host_energy hosts after h (wish (asks h))) (λ h. host_energy hosts before h (wish (asks h))) (λ h below. tame-host t h (wish (asks h)))
+  tame-energy t = sum-no-more hosts (λ h. host_energy hosts after h (wish (asks h))) (λ h. host_energy hosts before h (wish (asks h)))
+      (λ h below. tame-host t h (wish (asks h)))
 
   -- a row goes that was to go
-  pub doomed-goes : IsTame hosts before after → (file host : ℕ) → host < hosts → wish (asks host) ≡ Some file → doomed_at hosts before file host ≡ true → doomed_at hosts after file host ≡ false → energy hosts asks after < energy hosts asks before
+  pub doomed-goes : IsTame hosts before after → (file host : ℕ) → host < hosts → wish (asks host) ≡ Some file → doomed_at hosts before file host
+      ≡ true → doomed_at hosts after file host ≡ false → energy hosts asks after < energy hosts asks before
   doomed-goes t file host below wants was is =
-      sum-less hosts (λ h. host_energy hosts after h (wish (asks h))) (λ h. host_energy hosts before h (wish (asks h))) (λ h small. tame-host t h (wish (asks h))) host below
+      sum-less hosts (λ h. host_energy hosts after h (wish (asks h))) (λ h. host_energy hosts before h (wish (asks h)))
+      (λ h small. tame-host t h (wish (asks h))) host below
       (subst (λ o. host_energy hosts after host o < host_energy hosts before host o) (sym wants) here)
     where
       here : host_energy hosts after host (Some file) < host_energy hosts before host (Some file)
@@ -197,9 +202,12 @@ module _ (hosts : ℕ) (asks : ℕ → Option Request) (before after : List Row)
           omega arith
 
   -- a host comes to share the file that it wants
-  pub share-begins : KeepSharing before after → (file host : ℕ) → host < hosts → wish (asks host) ≡ Some file → shares_file before file host ≡ false → shares_file after file host ≡ true → energy hosts asks after < energy hosts asks before
+  pub share-begins : KeepSharing before after → (file host : ℕ) → host < hosts → wish (asks host) ≡ Some file → shares_file before file host ≡ false
+      → shares_file after file host ≡ true → energy hosts asks after < energy hosts asks before
   share-begins keeps file host below wants was is =
-      let all = sum-spread hosts (hosts + 1) (λ h. host_energy hosts after h (wish (asks h))) (λ h. host_energy hosts before h (wish (asks h))) (λ h small. each h (wish (asks h))) host below (subst (λ o. host_energy hosts after host o + (hosts + 1) ≤ host_energy hosts before host o + 1) (sym wants) here) in
+      let all = sum-spread hosts (hosts + 1) (λ h. host_energy hosts after h (wish (asks h))) (λ h. host_energy hosts before h (wish (asks h)))
+      (λ h small. each h (wish (asks h))) host below (subst (λ o. host_energy hosts after host o + (hosts + 1) ≤ host_energy hosts before host o
+      + 1) (sym wants) here) in
       omega arith
     where
       each : (h : ℕ) (o : Option ℕ) → host_energy hosts after h o ≤ host_energy hosts before h o + 1

@@ -72,17 +72,24 @@ pub record Facts (hosts few : ℕ) (turns : Client → ℕ) (w : World) : Type 0
   pub holds : Holds w
   pub count : length w.clients ≡ hosts
   pub hosts_most : hosts ≤ most_hosts
-  pub noticed : (k host x file : ℕ) (who : Who) (tag : Tag) (row : Row) → slice_get w.packets k ≡ Some (to_host host (call x (Request.Evicted who file tag))) → find_row file host w.server.table.rows ≡ Some row → row.tag ≡ tag → row.evicting ≡ true
-  pub vacated : (k host x file : ℕ) (who : Who) (tag : Tag) (row : Row) → slice_get w.packets k ≡ Some (from_host host (call x (Request.Vacated who file tag))) → find_row file host w.server.table.rows ≡ Some row → row.tag ≡ tag → row.evicting ≡ true
+  pub noticed : (k host x file : ℕ) (who : Who) (tag : Tag) (row : Row) → slice_get w.packets k
+      ≡ Some (to_host host (call x (Request.Evicted who file tag))) → find_row file host w.server.table.rows ≡ Some row → row.tag ≡ tag → row.evicting ≡ true
+  pub vacated : (k host x file : ℕ) (who : Who) (tag : Tag) (row : Row) → slice_get w.packets k
+      ≡ Some (from_host host (call x (Request.Vacated who file tag))) → find_row file host w.server.table.rows ≡ Some row → row.tag ≡ tag → row.evicting ≡ true
   pub going : (file host : ℕ) (row : Row) → find_row file host w.server.table.rows ≡ Some row → row.evicting ≡ true → caches row.mode ≡ true
   pub current : AreOfKeptIncarnations w.server.kept w.server.table.rows
   pub alone : WritesAlone w.server.table.rows
   pub members : (test : Row → Bool) (row : Row) → find test w.server.table.rows ≡ Some row → find_row row.file row.who.host w.server.table.rows ≡ Some row
   pub few_rows : length w.server.table.rows ≤ most_rows
   pub few_sent : (k : ℕ) → length (step w (Event.Deliver k)).packets ≤ length w.packets + few
-  pub takes : (host k : ℕ) (c : Client) (m : Message) (t : ClientStep) → slice_get w.clients host ≡ Some c → slice_get w.packets k ≡ Some (to_host host m) → hear c k m ≡ Some t → Takes turns c m t
-  pub marks : (k : ℕ) (p q : Packet) → slice_get w.packets k ≡ Some p → p.to ≡ Party.Server → In (receive w.server (sending_host p.sender) (length w.packets) (datagram_of p.message)).sends q → (host x file : ℕ) (who : Who) (tag : Tag) → q ≡ to_host host (call x (Request.Evicted who file tag)) → IsNamed (receive w.server (sending_host p.sender) (length w.packets) (datagram_of p.message)).server.table.rows host file who tag
+  pub takes : (host k : ℕ) (c : Client) (m : Message) (t : ClientStep) → slice_get w.clients host ≡ Some c → slice_get w.packets k
+      ≡ Some (to_host host m) → hear c k m ≡ Some t → Takes turns c m t
+  pub marks : (k : ℕ) (p q : Packet) → slice_get w.packets k ≡ Some p → p.to ≡ Party.Server
+      → In (receive w.server (sending_host p.sender) (length w.packets) (datagram_of p.message)).sends q → (host x file : ℕ) (who : Who) (tag : Tag)
+      → q ≡ to_host host (call x (Request.Evicted who file tag)) → IsNamed (receive w.server (sending_host p.sender) (length w.packets)
+      (datagram_of p.message)).server.table.rows host file who tag
 
 -- whoever asks has a row, where there is room
 abbrev pub AskersHaveRows : Type 0
-AskersHaveRows = (table : Table) (q : Question) (want : Want) → q.want ≡ Some want → length table.rows < most_rows → (row : Row) × (find_row q.file q.who.host (ask table q).table.rows ≡ Some row)
+AskersHaveRows = (table : Table) (q : Question) (want : Want) → q.want ≡ Some want → length table.rows < most_rows → (row : Row)
+    × (find_row q.file q.who.host (ask table q).table.rows ≡ Some row)

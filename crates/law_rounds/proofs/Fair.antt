@@ -16,7 +16,8 @@ use Rattle.nq_model.specs.LeaseInterval.{requested_file}
 use Rattle.nq_model.specs.Message.{sequence_of}
 use Rattle.nq_model.specs.Server.{Server}
 use Rattle.walk_steps.proofs.ClientFacts.{fits_job}
-use Rattle.walk_steps.proofs.ServerOutcomes.{IsDeclined, bad_length, name_taken, no_room, not_kept, outside, no_row, not_under, not_over, not_while_recovering, bad_size, no_room_to_grow, base_in, only_asks}
+use Rattle.walk_steps.proofs.ServerOutcomes.{IsDeclined, bad_length, name_taken, no_room, not_kept, outside, no_row, not_under, not_over}
+use Rattle.walk_steps.proofs.ServerOutcomes.{not_while_recovering, bad_size, no_room_to_grow, base_in, only_asks}
 
 -- a reply counts for a request of this job
 abbrev pub counts_for : Reply → Request → Job → Bool
@@ -83,7 +84,9 @@ fair (Request.Write who seq file block first last push body) v = fair_for push v
 fair (Request.Create who seq name blocks) v = fair_create v
 fair other v = fair_change v
 
-fair-write-counts : (inc value seq file block first last : ℕ) (who : Who) (body : List ℕ) (v : Verdict) → fair_write v ≡ true → counts_for (verdict_reply inc v value (Request.Write who seq file block first last None body)) (Request.Write who seq file block first last None body) for_call ≡ true
+fair-write-counts : (inc value seq file block first last : ℕ) (who : Who) (body : List ℕ) (v : Verdict) → fair_write v ≡ true
+    → counts_for (verdict_reply inc v value (Request.Write who seq file block first last None body)) (Request.Write who seq file block first last None
+    body) for_call ≡ true
 fair-write-counts inc value seq file block first last who body Done f = refl
 fair-write-counts inc value seq file block first last who body Fenced f = absurd (cc)
 fair-write-counts inc value seq file block first last who body Invalid f = refl
@@ -92,7 +95,9 @@ fair-write-counts inc value seq file block first last who body Exist f = absurd 
 fair-write-counts inc value seq file block first last who body NoSpace f = absurd (cc)
 fair-write-counts inc value seq file block first last who body TryLater f = refl
 
-fair-push-counts : (inc value seq file block first last : ℕ) (who : Who) (base : PushBase) (body : List ℕ) (v : Verdict) → fair_push v ≡ true → counts_for (verdict_reply inc v value (Request.Write who seq file block first last (Some base) body)) (Request.Write who seq file block first last (Some base) body) pushing ≡ true
+fair-push-counts : (inc value seq file block first last : ℕ) (who : Who) (base : PushBase) (body : List ℕ) (v : Verdict) → fair_push v ≡ true
+    → counts_for (verdict_reply inc v value (Request.Write who seq file block first last (Some base) body)) (Request.Write who seq file block first
+    last (Some base) body) pushing ≡ true
 fair-push-counts inc value seq file block first last who base body Done f = refl
 fair-push-counts inc value seq file block first last who base body Fenced f = refl
 fair-push-counts inc value seq file block first last who base body Invalid f = refl
@@ -101,7 +106,8 @@ fair-push-counts inc value seq file block first last who base body Exist f = abs
 fair-push-counts inc value seq file block first last who base body NoSpace f = absurd (cc)
 fair-push-counts inc value seq file block first last who base body TryLater f = absurd (cc)
 
-fair-create-counts : (inc value seq blocks : ℕ) (who : Who) (name : List ℕ) (v : Verdict) → fair_create v ≡ true → counts_for (verdict_reply inc v value (Request.Create who seq name blocks)) (Request.Create who seq name blocks) for_call ≡ true
+fair-create-counts : (inc value seq blocks : ℕ) (who : Who) (name : List ℕ) (v : Verdict) → fair_create v ≡ true
+    → counts_for (verdict_reply inc v value (Request.Create who seq name blocks)) (Request.Create who seq name blocks) for_call ≡ true
 fair-create-counts inc value seq blocks who name Done f = refl
 fair-create-counts inc value seq blocks who name Fenced f = absurd (cc)
 fair-create-counts inc value seq blocks who name Invalid f = refl
@@ -110,7 +116,8 @@ fair-create-counts inc value seq blocks who name Exist f = refl
 fair-create-counts inc value seq blocks who name NoSpace f = refl
 fair-create-counts inc value seq blocks who name TryLater f = refl
 
-fair-resize-counts : (inc value seq q file blocks : ℕ) (who : Who) (v : Verdict) → fair_change v ≡ true → counts_for (verdict_reply inc v value (Request.Resize who seq q file blocks)) (Request.Resize who seq q file blocks) for_call ≡ true
+fair-resize-counts : (inc value seq q file blocks : ℕ) (who : Who) (v : Verdict) → fair_change v ≡ true
+    → counts_for (verdict_reply inc v value (Request.Resize who seq q file blocks)) (Request.Resize who seq q file blocks) for_call ≡ true
 fair-resize-counts inc value seq q file blocks who Done f = refl
 fair-resize-counts inc value seq q file blocks who Fenced f = absurd (cc)
 fair-resize-counts inc value seq q file blocks who Invalid f = refl
@@ -119,7 +126,8 @@ fair-resize-counts inc value seq q file blocks who Exist f = absurd (cc)
 fair-resize-counts inc value seq q file blocks who NoSpace f = refl
 fair-resize-counts inc value seq q file blocks who TryLater f = refl
 
-fair-remove-counts : (inc value seq q file : ℕ) (who : Who) (v : Verdict) → fair_change v ≡ true → counts_for (verdict_reply inc v value (Request.Remove who seq q file)) (Request.Remove who seq q file) for_call ≡ true
+fair-remove-counts : (inc value seq q file : ℕ) (who : Who) (v : Verdict) → fair_change v ≡ true
+    → counts_for (verdict_reply inc v value (Request.Remove who seq q file)) (Request.Remove who seq q file) for_call ≡ true
 fair-remove-counts inc value seq q file who Done f = refl
 fair-remove-counts inc value seq q file who Fenced f = absurd (cc)
 fair-remove-counts inc value seq q file who Invalid f = refl
@@ -129,12 +137,15 @@ fair-remove-counts inc value seq q file who NoSpace f = refl
 fair-remove-counts inc value seq q file who TryLater f = refl
 
 -- a reply by a verdict that a request can have counts for it
-pub fair-counts : (job : Job) (r : Request) (n inc value : ℕ) (v : Verdict) → fits_job job r ≡ true → sequence_of r ≡ Some n → fair r v ≡ true → counts_for (verdict_reply inc v value r) r job ≡ true
-fair-counts for_call (Request.Write who seq file block first last None body) n inc value v fits sq f = fair-write-counts inc value seq file block first last who body v f
+pub fair-counts : (job : Job) (r : Request) (n inc value : ℕ) (v : Verdict) → fits_job job r ≡ true → sequence_of r ≡ Some n → fair r v ≡ true
+    → counts_for (verdict_reply inc v value r) r job ≡ true
+fair-counts for_call (Request.Write who seq file block first last None body) n inc value v fits sq f = fair-write-counts inc value seq file block
+    first last who body v f
 fair-counts for_call (Request.Create who seq name blocks) n inc value v fits sq f = fair-create-counts inc value seq blocks who name v f
 fair-counts for_call (Request.Resize who seq q file blocks) n inc value v fits sq f = fair-resize-counts inc value seq q file blocks who v f
 fair-counts for_call (Request.Remove who seq q file) n inc value v fits sq f = fair-remove-counts inc value seq q file who v f
-fair-counts pushing (Request.Write who seq file block first last (Some base) body) n inc value v fits sq f = fair-push-counts inc value seq file block first last who base body v f
+fair-counts pushing (Request.Write who seq file block first last (Some base) body) n inc value v fits sq f = fair-push-counts inc value seq file block
+    first last who base body v f
 fair-counts attaching (Request.Attach who) n inc value v fits sq f = absurd (cc)
 fair-counts renewing (Request.GetLease who file want) n inc value v fits sq f = absurd (cc)
 fair-counts job r n inc value v fits sq f = absurd (cc)
@@ -182,7 +193,8 @@ declined-fair s who r v (bad_length seq blocks name p on bad is) = ap (λ q. fai
 declined-fair s who r v (name_taken seq blocks name p on taken is) = ap (λ q. fair q v) on ∙ ap (λ u. fair_create u) is
 declined-fair s who r v (no_room seq blocks name p on full is) = ap (λ q. fair q v) on ∙ ap (λ u. fair_create u) is
 declined-fair s who r v (not_kept file on none is) = ap (fair r) is ∙ fair-stale r
-declined-fair s who r v (outside seq file block first last push body f on found out is) = ap (λ q. fair q v) on ∙ ap (λ u. fair_for push u) is ∙ fair-outside push
+declined-fair s who r v (outside seq file block first last push body f on found out is) = ap (λ q. fair q v) on ∙ ap (λ u. fair_for push u) is
+    ∙ fair-outside push
 declined-fair s who r v (no_row seq file block first last base body f p on found none is) = ap (λ q. fair q v) on ∙ ap (λ u. fair_push u) is
 declined-fair s who r v (not_under seq file block first last base body f row p on found some bars is) = ap (λ q. fair q v) on ∙ ap (λ u. fair_push u) is
 declined-fair s who r v (not_over seq file block first last base body f rec on found bars is) = ap (λ q. fair q v) on ∙ ap (λ u. fair_push u) is
@@ -192,7 +204,8 @@ declined-fair s who r v (no_room_to_grow seq q file blocks f p on found full is)
 
 -- ---- who only asks may be put off
 
-pub later-counts : (job : Job) (r : Request) (inc : ℕ) → fits_job job r ≡ true → only_asks r ≡ true → counts_for (Reply.Refused inc Refusal.TryLater) r job ≡ true
+pub later-counts : (job : Job) (r : Request) (inc : ℕ) → fits_job job r ≡ true → only_asks r ≡ true → counts_for (Reply.Refused inc Refusal.TryLater)
+    r job ≡ true
 later-counts for_call (Request.Lookup who name) inc fits asks = refl
 later-counts for_call (Request.GetAttr who file) inc fits asks = refl
 later-counts for_call (Request.Read who q file block want) inc fits asks = refl
@@ -207,7 +220,8 @@ requested-asks (Request.Read who q f block want) file is = refl
 requested-asks (Request.GetLease who f want) file is = refl
 requested-asks r file is = absurd (cc)
 
-pub stale-counts : (job : Job) (r : Request) (inc file : ℕ) → fits_job job r ≡ true → requested_file r ≡ Some file → counts_for (Reply.Refused inc Refusal.Stale) r job ≡ true
+pub stale-counts : (job : Job) (r : Request) (inc file : ℕ) → fits_job job r ≡ true → requested_file r ≡ Some file
+    → counts_for (Reply.Refused inc Refusal.Stale) r job ≡ true
 stale-counts for_call (Request.Read who q f block want) inc file fits asks = refl
 stale-counts for_call (Request.GetLease who f want) inc file fits asks = refl
 stale-counts renewing (Request.GetLease who f want) inc file fits asks = refl
@@ -216,15 +230,18 @@ stale-counts pushing (Request.Write who seq f block first last (Some base) body)
 stale-counts job r inc file fits asks = absurd (cc)
 
 -- requests that one job alone sends
-pub lookup-counts : (job : Job) (who : Who) (name : List ℕ) (inc : ℕ) → fits_job job (Request.Lookup who name) ≡ true → counts_for (Reply.Refused inc Refusal.NoEnt) (Request.Lookup who name) job ≡ true
+pub lookup-counts : (job : Job) (who : Who) (name : List ℕ) (inc : ℕ) → fits_job job (Request.Lookup who name) ≡ true
+    → counts_for (Reply.Refused inc Refusal.NoEnt) (Request.Lookup who name) job ≡ true
 lookup-counts for_call who name inc fits = refl
 lookup-counts job who name inc fits = absurd (cc)
 
-pub attributes-count : (job : Job) (who : Who) (file inc : ℕ) → fits_job job (Request.GetAttr who file) ≡ true → counts_for (Reply.Refused inc Refusal.Stale) (Request.GetAttr who file) job ≡ true
+pub attributes-count : (job : Job) (who : Who) (file inc : ℕ) → fits_job job (Request.GetAttr who file) ≡ true
+    → counts_for (Reply.Refused inc Refusal.Stale) (Request.GetAttr who file) job ≡ true
 attributes-count for_call who file inc fits = refl
 attributes-count job who file inc fits = absurd (cc)
 
-pub block-counts : (job : Job) (who : Who) (q file block inc : ℕ) (want : Option Want) → fits_job job (Request.Read who q file block want) ≡ true → counts_for (Reply.Refused inc Refusal.Inval) (Request.Read who q file block want) job ≡ true
+pub block-counts : (job : Job) (who : Who) (q file block inc : ℕ) (want : Option Want) → fits_job job (Request.Read who q file block want) ≡ true
+    → counts_for (Reply.Refused inc Refusal.Inval) (Request.Read who q file block want) job ≡ true
 block-counts for_call who q file block inc want fits = refl
 block-counts job who q file block inc want fits = absurd (cc)
 

@@ -1,5 +1,6 @@
 -- Delivery ends, in every run.
-use Rattle.std.proofs.Common.{◌≡◌, ◌≤◌, ℕ, ◌+◌, ◌*◌, ◌==◌, ◌&&◌, Bool, true, false, nat_lt, List, [], ◌∷◌, Option, Some, None, length, refl, sym, ap, subst, ◌∙◌, arith}
+use Rattle.std.proofs.Common.{◌≡◌, ◌≤◌, ℕ, ◌+◌, ◌*◌, ◌==◌, ◌&&◌, Bool, true, false, nat_lt, List, [], ◌∷◌, Option, Some, None, length, refl, sym, ap}
+use Rattle.std.proofs.Common.{subst, ◌∙◌, arith}
 use Rattle.std.specs.Prelude.{sum_by}
 use Rattle.std.proofs.lemmas.List.Sums.{sum_by-cons}
 use Rattle.nq_base.specs.declared.Call.{Call}
@@ -114,8 +115,15 @@ rest-same x y xs ys e = cc
 goes-on : (most : ℕ) (head : Head) (p : Play) (k : ℕ) → IsLawful most head p → IsLawful most head (play p (Event.Deliver k))
 goes-on most head p k l = record {
   is_run = ap (λ w. step w (Event.Deliver k)) l.is_run;
-  bounds = record { hosts = l.bounds.hosts; first_long = l.bounds.first_long; first_short = l.bounds.first_short; boots = one-first most (Event.Deliver k) p.events tt l.bounds.boots };
-  within = λ before part after split host there few. quiet-parts head.hosts most (Event.Deliver k) p.events refl l.within before part after split host there few;
+  bounds = record {
+    hosts = l.bounds.hosts;
+    first_long = l.bounds.first_long;
+    first_short = l.bounds.first_short;
+    boots =
+        one-first most (Event.Deliver k) p.events tt l.bounds.boots;
+  };
+  within = λ before part after split host there few. quiet-parts head.hosts most (Event.Deliver k) p.events refl l.within before part after split host
+      there few;
 }
 
 facts-of : (most : ℕ) (head : Head) (p : Play) → IsLawful most head p → Facts head.hosts most_sends turns_left p.world
@@ -132,10 +140,12 @@ exponent-within turns most growths rest less fewer =
     apart : (a b : ℕ) → (a + 1) * b ≡ a * b + b
     apart a b = grind arith
 
-within-bound : (few hosts delayed turns items fresh : ℕ) → turns ≤ most_turns hosts delayed → items ≤ fresh → left (growth few) (turns * most_growths hosts + (hosts * (hosts + 2) + 3)) ((few + 2) * items + 0) ≤ enough_for few hosts fresh delayed
+within-bound : (few hosts delayed turns items fresh : ℕ) → turns ≤ most_turns hosts delayed → items ≤ fresh
+    → left (growth few) (turns * most_growths hosts + (hosts * (hosts + 2) + 3)) ((few + 2) * items + 0) ≤ enough_for few hosts fresh delayed
 within-bound few hosts delayed turns items fresh less fewer =
     let c = times-more (few + 2) items fresh fewer in
-    no-more (growth few) (turns * most_growths hosts + (hosts * (hosts + 2) + 3)) ((most_turns hosts delayed + 1) * most_growths hosts) ((few + 2) * items + 0) ((few + 2) * fresh) (growth-some few)
+    no-more (growth few) (turns * most_growths hosts + (hosts * (hosts + 2) + 3)) ((most_turns hosts delayed + 1) * most_growths hosts)
+    ((few + 2) * items + 0) ((few + 2) * fresh) (growth-some few)
     (exponent-within turns (most_turns hosts delayed) (most_growths hosts) (hosts * (hosts + 2) + 3) less (omega arith)) (omega arith)
 
 module _ (most : ℕ) (head : Head) (p : Play) (l : IsLawful most head p) (rises : Rise 0 (length p.world.packets) p.fresh) where
@@ -146,12 +156,22 @@ module _ (most : ℕ) (head : Head) (p : Play) (l : IsLawful most head p) (rises
       let count : length p.world.clients ≡ head.hosts = ap (λ w. length w.clients) l.is_run ∙ client-count head p.events in
       let items = items-most split.0 in
       let same : length p.fresh ≡ length (all_numbers split.0) = ap (λ (ns : List ℕ). length ns) split.1.0.is in
-      let enough : left (growth most_sends) (most_turns head.hosts (delayed_in_all p.world.clients) * most_growths head.hosts + (head.hosts * (head.hosts + 2) + 3)) ((most_sends + 2) * length split.0 + 0) ≤ enough_for most_sends head.hosts (length p.fresh) (delayed_in_all p.world.clients) = within-bound most_sends head.hosts (delayed_in_all p.world.clients) (most_turns head.hosts (delayed_in_all p.world.clients)) (length split.0) (length p.fresh) (omega arith) (omega arith) in
-      let ready = begins head.hosts most_sends turns_left askers-have-rows (IsLawful most head) (facts-of most head) (goes-on most head) (most_turns head.hosts (delayed_in_all p.world.clients)) p split.0 (left (growth most_sends) (most_turns head.hosts (delayed_in_all p.world.clients) * most_growths head.hosts + (head.hosts * (head.hosts + 2) + 3)) ((most_sends + 2) * length split.0 + 0)) l split.1.0 split.1.1 (omega arith) (omega arith) in
+      let enough : left (growth most_sends) (most_turns head.hosts (delayed_in_all p.world.clients) * most_growths head.hosts
+      + (head.hosts * (head.hosts + 2) + 3)) ((most_sends + 2) * length split.0 + 0) ≤ enough_for most_sends head.hosts (length p.fresh)
+      (delayed_in_all p.world.clients) = within-bound most_sends head.hosts (delayed_in_all p.world.clients)
+      (most_turns head.hosts (delayed_in_all p.world.clients)) (length split.0) (length p.fresh) (omega arith) (omega arith) in
+      let ready = begins head.hosts most_sends turns_left askers-have-rows (IsLawful most head) (facts-of most head) (goes-on most head)
+      (most_turns head.hosts (delayed_in_all p.world.clients)) p split.0
+      (left (growth most_sends) (most_turns head.hosts (delayed_in_all p.world.clients) * most_growths head.hosts + (head.hosts * (head.hosts + 2)
+      + 3)) ((most_sends + 2) * length split.0 + 0)) l split.1.0 split.1.1 (omega arith) (omega arith) in
       subst (λ n. (play_flow (enough_for most_sends n (length p.fresh) (delayed_in_all p.world.clients)) p).fresh ≡ []) (sym count)
-      (ends head.hosts most_sends turns_left askers-have-rows (IsLawful most head) (facts-of most head) (goes-on most head) (enough_for most_sends head.hosts (length p.fresh) (delayed_in_all p.world.clients)) (enough_for most_sends head.hosts (length p.fresh) (delayed_in_all p.world.clients)) (left (growth most_sends) (most_turns head.hosts (delayed_in_all p.world.clients) * most_growths head.hosts + (head.hosts * (head.hosts + 2) + 3)) ((most_sends + 2) * length split.0 + 0)) p (omega arith) enough ready)
+      (ends head.hosts most_sends turns_left askers-have-rows (IsLawful most head) (facts-of most head) (goes-on most head)
+      (enough_for most_sends head.hosts (length p.fresh) (delayed_in_all p.world.clients)) (enough_for most_sends head.hosts (length p.fresh)
+      (delayed_in_all p.world.clients)) (left (growth most_sends) (most_turns head.hosts (delayed_in_all p.world.clients) * most_growths
+      head.hosts + (head.hosts * (head.hosts + 2) + 3)) ((most_sends + 2) * length split.0 + 0)) p (omega arith) enough ready)
 
 pub deliveries-end : DeliveryEnds
 unfolding calmed
 deliveries-end most head events bounds within under_way all =
-    delivered most head (calmed head events under_way) (record { is_run = refl; bounds = bounds; within = within }) (from-under-way (length (run head events).packets) under_way all)
+    delivered most head (calmed head events under_way) (record { is_run = refl; bounds = bounds; within = within })
+    (from-under-way (length (run head events).packets) under_way all)

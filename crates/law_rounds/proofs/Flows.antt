@@ -1,5 +1,6 @@
 -- In whole rounds each request under way is answered in the delivery in which it comes, so after the third delivery there is none.
-use Rattle.std.proofs.Common.{◌≡◌, ◌≢◌, ◌≤◌, ◌<◌, ◌⊎◌, ℕ, ◌+◌, ◌==◌, Bool, true, false, zero, suc, List, [], ◌∷◌, Option, Some, None, length, refl, sym, subst, ap, ◌∙◌, arith, inl, inr}
+use Rattle.std.proofs.Common.{◌≡◌, ◌≢◌, ◌≤◌, ◌<◌, ◌⊎◌, ℕ, ◌+◌, ◌==◌, Bool, true, false, zero, suc, List, [], ◌∷◌, Option, Some, None, length, refl}
+use Rattle.std.proofs.Common.{sym, subst, ap, ◌∙◌, arith, inl, inr}
 use Rattle.std.specs.Prelude.{map, slice_get}
 use Rattle.std.proofs.lemmas.List.{length-append}
 use Rattle.nq_base.specs.declared.Event.{Event}
@@ -46,7 +47,8 @@ use Rattle.law_rounds.proofs.Orders.{order-lawful, whole-lawful}
 pub small-before : (p : Play) (e : Event) → IsSmall (play p e) → IsSmall p
 small-before p e s =
     let g = grown p.world (step p.world e) (step-changes p.world e) in
-    let longer : length (step p.world e).packets ≡ length p.world.packets + length g.more = ap (λ (ps : List Packet). length ps) g.is ∙ length-append p.world.packets g.more in
+    let longer : length (step p.world e).packets ≡ length p.world.packets + length g.more = ap (λ (ps : List Packet). length ps) g.is
+    ∙ length-append p.world.packets g.more in
     record { events = let few = s.events in omega arith; packets = let few = s.packets in omega arith }
 
 pub flow-small : (n : ℕ) (p : Play) → IsSmall (play_flow n p) → IsSmall p
@@ -87,7 +89,8 @@ wholes-small (order ∷ orders) p s = order-small order p (whole-small order p (
 
 -- ---- a reply that counts is heard
 
-hears-reply : (c : Client) (k : ℕ) (r : Reply) (t : Ticket) → c.ticket ≡ Some t → inc_of r ≡ c.who.inc → reply_counts r t ≡ true → hear c k (reply t.xid r) ≡ Some (goes_on (replied (begun c) k t r))
+hears-reply : (c : Client) (k : ℕ) (r : Reply) (t : Ticket) → c.ticket ≡ Some t → inc_of r ≡ c.who.inc → reply_counts r t ≡ true
+    → hear c k (reply t.xid r) ≡ Some (goes_on (replied (begun c) k t r))
 hears-reply c k r t asks inc counts = rw (asks, same_number, same_inc, counts) refl
   where
     same_number : (t.xid == t.xid) ≡ true
@@ -107,7 +110,8 @@ record IsUnsent (c : Client) (m : Message) (u : ClientStep) (t : Ticket) : Type 
 abbrev HeardAs : Client → Message → ClientStep → Type 0
 HeardAs c m u = (t : Ticket) → u.client.ticket ≡ Some t → In u.sends (call t.xid t.request) ⊎ IsUnsent c m u t
 
-hear-tickets : (host : ℕ) (c : Client) (ps : List Packet) (k : ℕ) (m : Message) (u : ClientStep) → IsAt host c ps → Told ps host m → LastDrawn c → hear c k m ≡ Some u → HeardAs c m u
+hear-tickets : (host : ℕ) (c : Client) (ps : List Packet) (k : ℕ) (m : Message) (u : ClientStep) → IsAt host c ps → Told ps host m → LastDrawn c
+    → hear c k m ≡ Some u → HeardAs c m u
 hear-tickets host c ps k m u a mail drawn hears = heard-cases c k m u (HeardAs c m) hears (record {
   answered = λ xid r ticket is asks own inc counts t has.
       answered-sends (goes_on (replied (begun c) k ticket r)) t
@@ -122,8 +126,15 @@ hear-tickets host c ps k m u a mail drawn hears = heard-cases c k m u (HeardAs c
     answered-sends v t (resent w was xid of i) = none-some w was
     answered-sends v t (fresh i above) = inl i
 
-    noticed-sends : (xid file : ℕ) (tag : Tag) → m ≡ call xid (Request.Evicted c.who file tag) → (v : ClientStep) → Renewed c c.now c.ticket v → (t : Ticket) → TicketIs c.ticket c.seq v.sends t → In v.sends (call t.xid t.request) ⊎ IsUnsent c m v t
-    noticed-sends xid file tag is v g t (kept was) = inr (record { was = was; time = g.time; other = λ x r e. let two : call xid (Request.Evicted c.who file tag) ≡ reply x r = sym is ∙ e in cc; who = g.same })
+    noticed-sends : (xid file : ℕ) (tag : Tag) → m ≡ call xid (Request.Evicted c.who file tag) → (v : ClientStep) → Renewed c c.now c.ticket v
+        → (t : Ticket) → TicketIs c.ticket c.seq v.sends t → In v.sends (call t.xid t.request) ⊎ IsUnsent c m v t
+    noticed-sends xid file tag is v g t (kept was) = inr (record {
+      was = was;
+      time = g.time;
+      other = λ x r e. let two : call xid
+          (Request.Evicted c.who file tag) ≡ reply x r = sym is ∙ e in cc;
+      who = g.same;
+    })
     noticed-sends xid file tag is v g t (resent w was x of i) = inl i
     noticed-sends xid file tag is v g t (fresh i above) = inl i
 
@@ -146,12 +157,14 @@ module _ (most : ℕ) (head : Head) (host : ℕ) where
   moves-on : (p : Play) (k : ℕ) (c : Client) (t : Ticket) → Under p c t → Moved p k c t
   moves-on p k c t (asking comes) = by (which-comes p k _ comes)
     where
-      by : (slice_get p.world.packets k ≡ Some (from_host host (call t.xid t.request))) ⊎ Comes (play p (Event.Deliver k)) (from_host host (call t.xid t.request)) → Moved p k c t
+      by : (slice_get p.world.packets k ≡ Some (from_host host (call t.xid t.request))) ⊎ Comes (play p (Event.Deliver k))
+          (from_host host (call t.xid t.request)) → Moved p k c t
       by (inl now) = asks_now now
       by (inr comes) = still (asking comes)
   moves-on p k c t (told r comes inc counts) = by (which-comes p k _ comes)
     where
-      by : (slice_get p.world.packets k ≡ Some (to_host host (reply t.xid r))) ⊎ Comes (play p (Event.Deliver k)) (to_host host (reply t.xid r)) → Moved p k c t
+      by : (slice_get p.world.packets k ≡ Some (to_host host (reply t.xid r))) ⊎ Comes (play p (Event.Deliver k)) (to_host host (reply t.xid r))
+          → Moved p k c t
       by (inl now) = told_now r now inc counts
       by (inr comes) = still (told r comes inc counts)
 
@@ -169,19 +182,23 @@ module _ (most : ℕ) (head : Head) (host : ℕ) where
     here c at = (holds.clients host c at).here
 
     -- the server answers the request
-    answered : IsSmall p → (c : Client) (t : Ticket) → slice_get p.world.clients host ≡ Some c → c.ticket ≡ Some t → AnswersTicket c.who t (receive p.world.server host (length p.world.packets) (datagram_of (call t.xid t.request))).sends
+    answered : IsSmall p → (c : Client) (t : Ticket) → slice_get p.world.clients host ≡ Some c → c.ticket ≡ Some t → AnswersTicket c.who t
+        (receive p.world.server host (length p.world.packets) (datagram_of (call t.xid t.request))).sends
     answered small c t at has =
         let room : length (run head p.events).packets ≤ most_sent = subst (λ (u : World). length u.packets ≤ most_sent) l.is_run small.packets in
         let a = asks-answered most head p.events l.bounds l.within small.events room host c (at-run c at) t has (length p.world.packets) in
         subst (λ h. AnswersTicket c.who t (receive p.world.server h (length p.world.packets) (datagram_of (call t.xid t.request))).sends) (here c at)
-        (subst (λ (u : World). AnswersTicket c.who t (receive u.server c.who.host (length p.world.packets) (datagram_of (call t.xid t.request))).sends) (sym l.is_run) a)
+        (subst (λ (u : World). AnswersTicket c.who t (receive u.server c.who.host (length p.world.packets)
+        (datagram_of (call t.xid t.request))).sends) (sym l.is_run) a)
 
     module _ (k : ℕ) where
       after : Play
       after = play p (Event.Deliver k)
 
       -- who is not the receiver
-      same-client : (v : World) (due : ℕ) → step p.world (Event.Deliver k) ≡ v → slice_get v.clients host ≡ slice_get p.world.clients host → ((c : Client) (t : Ticket) → slice_get p.world.clients host ≡ Some c → c.ticket ≡ Some t → Moved p k c t → Under (play p (Event.Deliver k)) c t) → Covered due p → Covered due (play p (Event.Deliver k))
+      same-client : (v : World) (due : ℕ) → step p.world (Event.Deliver k) ≡ v → slice_get v.clients host ≡ slice_get p.world.clients host
+          → ((c : Client) (t : Ticket) → slice_get p.world.clients host ≡ Some c → c.ticket ≡ Some t → Moved p k c t
+          → Under (play p (Event.Deliver k)) c t) → Covered due p → Covered due (play p (Event.Deliver k))
       same-client v due is same goes all c t at has = by (all c t before has)
         where
           before : slice_get p.world.clients host ≡ Some c
@@ -192,16 +209,22 @@ module _ (most : ℕ) (head : Head) (host : ℕ) where
           by (inr late) = inr late
 
       -- a client heard something: what it sent is under way
-      sent-now : (c : Client) (u : ClientStep) (t : Ticket) → step p.world (Event.Deliver k) ≡ after_client p.world host u → In u.sends (call t.xid t.request) → Under (play p (Event.Deliver k)) u.client t
+      sent-now : (c : Client) (u : ClientStep) (t : Ticket) → step p.world (Event.Deliver k) ≡ after_client p.world host u
+          → In u.sends (call t.xid t.request) → Under (play p (Event.Deliver k)) u.client t
       unfolding after_client
-      sent-now c u t is i = asking (adds-coming p (Event.Deliver k) (from_host host (call t.xid t.request)) (map (from_host host) u.sends) (ap (λ (w : World). w.packets) is) (in-map (from_host host) u.sends (call t.xid t.request) i))
+      sent-now c u t is i = asking (adds-coming p (Event.Deliver k) (from_host host (call t.xid t.request)) (map (from_host host) u.sends)
+          (ap (λ (w : World). w.packets) is) (in-map (from_host host) u.sends (call t.xid t.request) i))
 
-      now-there : (u : ClientStep) (c d : Client) → step p.world (Event.Deliver k) ≡ after_client p.world host u → slice_get p.world.clients host ≡ Some c → slice_get (step p.world (Event.Deliver k)).clients host ≡ Some d → d ≡ u.client
+      now-there : (u : ClientStep) (c d : Client) → step p.world (Event.Deliver k) ≡ after_client p.world host u → slice_get p.world.clients host
+          ≡ Some c → slice_get (step p.world (Event.Deliver k)).clients host ≡ Some d → d ≡ u.client
       unfolding after_client
-      now-there u c d is at there = some-same d u.client (sym there ∙ ap (λ (w : World). slice_get w.clients host) is ∙ set-there p.world.clients host u.client c at)
+      now-there u c d is at there = some-same d u.client (sym there ∙ ap (λ (w : World). slice_get w.clients host) is ∙ set-there p.world.clients host
+          u.client c at)
 
       -- the receiver heard it
-      heard-own : (due : ℕ) (q : Packet) (c : Client) (u : ClientStep) → slice_get p.world.packets k ≡ Some q → q.to ≡ Party.Client host → slice_get p.world.clients host ≡ Some c → hear c k q.message ≡ Some u → step p.world (Event.Deliver k) ≡ after_client p.world host u → Covered due p → Covered due (play p (Event.Deliver k))
+      heard-own : (due : ℕ) (q : Packet) (c : Client) (u : ClientStep) → slice_get p.world.packets k ≡ Some q → q.to ≡ Party.Client host
+          → slice_get p.world.clients host ≡ Some c → hear c k q.message ≡ Some u → step p.world (Event.Deliver k) ≡ after_client p.world host u
+          → Covered due p → Covered due (play p (Event.Deliver k))
       heard-own due q c u sent to at hears is all d t there has =
           subst (λ (e : Client). Under (play p (Event.Deliver k)) e t ⊎ (t.last + patience ≤ e.now + due)) (sym (now-there u c d is at there))
           (outcome t (ap (λ (e : Client). e.ticket) (sym (now-there u c d is at there)) ∙ has))
@@ -218,20 +241,24 @@ module _ (most : ℕ) (head : Head) (host : ℕ) where
           outcome : (t : Ticket) → u.client.ticket ≡ Some t → Under (play p (Event.Deliver k)) u.client t ⊎ (t.last + patience ≤ u.client.now + due)
           outcome t has = by (cases t has)
             where
-              unmoved : (u.client.who ≡ c.who) → (c.ticket ≡ Some t) → ((xid : ℕ) (r : Reply) → q.message ≡ reply xid r → ⊥) → Moved p k c t → Under (play p (Event.Deliver k)) u.client t
+              unmoved : (u.client.who ≡ c.who) → (c.ticket ≡ Some t) → ((xid : ℕ) (r : Reply) → q.message ≡ reply xid r → ⊥) → Moved p k c t
+                  → Under (play p (Event.Deliver k)) u.client t
               unmoved who was other (still under) = same under
                 where
                   same : Under (play p (Event.Deliver k)) c t → Under (play p (Event.Deliver k)) u.client t
                   same (asking comes) = asking comes
                   same (told r comes inc counts) = told r comes (inc ∙ ap (λ w. w.inc) (sym who)) counts
-              unmoved who was other (asks_now now) = let two : Party.Server ≡ Party.Client host = ap (λ (x : Packet). x.to) (sym (some-same q _ (sym sent ∙ now))) ∙ to in absurd (cc)
+              unmoved who was other (asks_now now) = let two : Party.Server ≡ Party.Client host = ap (λ (x : Packet). x.to)
+                  (sym (some-same q _ (sym sent ∙ now))) ∙ to in absurd (cc)
               unmoved who was other (told_now r now inc counts) = absurd (other t.xid r (ap (λ (x : Packet). x.message) (some-same q _ (sym sent ∙ now))))
 
-              under-or : IsUnsent c q.message u t → Under p c t ⊎ (t.last + patience ≤ c.now + due) → Under (play p (Event.Deliver k)) u.client t ⊎ (t.last + patience ≤ u.client.now + due)
+              under-or : IsUnsent c q.message u t → Under p c t ⊎ (t.last + patience ≤ c.now + due) → Under (play p (Event.Deliver k)) u.client t
+                  ⊎ (t.last + patience ≤ u.client.now + due)
               under-or s (inl under) = inl (unmoved s.who s.was s.other (moves-on p k c t under))
               under-or s (inr late) = inr (let same = s.time in omega arith)
 
-              by : In u.sends (call t.xid t.request) ⊎ IsUnsent c q.message u t → Under (play p (Event.Deliver k)) u.client t ⊎ (t.last + patience ≤ u.client.now + due)
+              by : In u.sends (call t.xid t.request) ⊎ IsUnsent c q.message u t → Under (play p (Event.Deliver k)) u.client t
+                  ⊎ (t.last + patience ≤ u.client.now + due)
               by (inl i) = inl (sent-now c u t is i)
               by (inr s) = under-or s (all c t at s.was)
 
@@ -240,9 +267,13 @@ module _ (most : ℕ) (head : Head) (host : ℕ) where
       unfolding after_server after_client
       delivered-covers due small all = by (delivery p.world k)
         where
-          to-other : (h : ℕ) (q : Packet) → slice_get p.world.packets k ≡ Some q → q.to ≡ Party.Client h → ((r : Reply) (c : Client) (t : Ticket) → slice_get p.world.clients host ≡ Some c → c.ticket ≡ Some t → h ≡ host → q.message ≡ reply t.xid r → inc_of r ≡ c.who.inc → reply_counts r t ≡ true → ⊥) → (c : Client) (t : Ticket) → slice_get p.world.clients host ≡ Some c → c.ticket ≡ Some t → Moved p k c t → Under (play p (Event.Deliver k)) c t
+          to-other : (h : ℕ) (q : Packet) → slice_get p.world.packets k ≡ Some q → q.to ≡ Party.Client h → ((r : Reply) (c : Client) (t : Ticket)
+              → slice_get p.world.clients host ≡ Some c → c.ticket ≡ Some t → h ≡ host → q.message ≡ reply t.xid r → inc_of r ≡ c.who.inc
+              → reply_counts r t ≡ true → ⊥) → (c : Client) (t : Ticket) → slice_get p.world.clients host ≡ Some c → c.ticket ≡ Some t → Moved p k c t
+              → Under (play p (Event.Deliver k)) c t
           to-other h q sent to never c t at has (still under) = under
-          to-other h q sent to never c t at has (asks_now now) = let two : Party.Server ≡ Party.Client h = ap (λ (x : Packet). x.to) (sym (some-same q _ (sym sent ∙ now))) ∙ to in absurd (cc)
+          to-other h q sent to never c t at has (asks_now now) = let two : Party.Server ≡ Party.Client h = ap (λ (x : Packet). x.to)
+              (sym (some-same q _ (sym sent ∙ now))) ∙ to in absurd (cc)
           to-other h q sent to never c t at has (told_now r now inc counts) =
               let q_is : q ≡ to_host host (reply t.xid r) = some-same q _ (sym sent ∙ now) in
               absurd (never r c t at has (party-same h host (sym to ∙ ap (λ (x : Packet). x.to) q_is)) (ap (λ (x : Packet). x.message) q_is) inc counts)
@@ -250,17 +281,25 @@ module _ (most : ℕ) (head : Head) (host : ℕ) where
               party-same : (a b : ℕ) → Party.Client a ≡ Party.Client b → a ≡ b
               party-same a b e = cc
 
-          to-server : (q : Packet) → slice_get p.world.packets k ≡ Some q → q.to ≡ Party.Server → step p.world (Event.Deliver k) ≡ after_server p.world (receive p.world.server (sending_host q.sender) (length p.world.packets) (datagram_of q.message)) → (c : Client) (t : Ticket) → slice_get p.world.clients host ≡ Some c → c.ticket ≡ Some t → Moved p k c t → Under (play p (Event.Deliver k)) c t
+          to-server : (q : Packet) → slice_get p.world.packets k ≡ Some q → q.to ≡ Party.Server → step p.world (Event.Deliver k) ≡ after_server
+              p.world (receive p.world.server (sending_host q.sender) (length p.world.packets) (datagram_of q.message)) → (c : Client) (t : Ticket)
+              → slice_get p.world.clients host ≡ Some c → c.ticket ≡ Some t → Moved p k c t → Under (play p (Event.Deliver k)) c t
           to-server q sent to is c t at has (still under) = under
-          to-server q sent to is c t at has (told_now r now inc counts) = let two : Party.Client host ≡ Party.Server = ap (λ (x : Packet). x.to) (sym (some-same q _ (sym sent ∙ now))) ∙ to in absurd (cc)
+          to-server q sent to is c t at has (told_now r now inc counts) = let two : Party.Client host ≡ Party.Server = ap (λ (x : Packet). x.to)
+              (sym (some-same q _ (sym sent ∙ now))) ∙ to in absurd (cc)
           to-server q sent to is c t at has (asks_now now) =
               let q_is : from_host host (call t.xid t.request) ≡ q = some-same _ q (sym now ∙ sent) in
               let a = answered small c t at has in
-              let sends : (receive p.world.server host (length p.world.packets) (datagram_of (call t.xid t.request))).sends ≡ (receive p.world.server (sending_host q.sender) (length p.world.packets) (datagram_of q.message)).sends = ap (λ (x : Packet). (receive p.world.server (sending_host x.sender) (length p.world.packets) (datagram_of x.message)).sends) q_is in
-              let mine : to_host c.who.host (reply t.xid a.answer) ≡ to_host host (reply t.xid a.answer) = ap (λ h. to_host h (reply t.xid a.answer)) (here c at) in
+              let sends : (receive p.world.server host (length p.world.packets) (datagram_of (call t.xid t.request))).sends
+              ≡ (receive p.world.server (sending_host q.sender) (length p.world.packets) (datagram_of q.message)).sends =
+              ap (λ (x : Packet). (receive p.world.server (sending_host x.sender) (length p.world.packets) (datagram_of x.message)).sends) q_is in
+              let mine : to_host c.who.host (reply t.xid a.answer) ≡ to_host host (reply t.xid a.answer) = ap (λ h. to_host h (reply t.xid a.answer))
+              (here c at) in
               told a.answer
-              (adds-coming p (Event.Deliver k) (to_host host (reply t.xid a.answer)) (receive p.world.server (sending_host q.sender) (length p.world.packets) (datagram_of q.message)).sends (ap (λ (w : World). w.packets) is)
-              (subst (λ ps. In ps (to_host host (reply t.xid a.answer))) sends (subst (λ x. In (receive p.world.server host (length p.world.packets) (datagram_of (call t.xid t.request))).sends x) mine a.sent)))
+              (adds-coming p (Event.Deliver k) (to_host host (reply t.xid a.answer)) (receive p.world.server (sending_host q.sender)
+              (length p.world.packets) (datagram_of q.message)).sends (ap (λ (w : World). w.packets) is)
+              (subst (λ ps. In ps (to_host host (reply t.xid a.answer))) sends
+              (subst (λ x. In (receive p.world.server host (length p.world.packets) (datagram_of (call t.xid t.request))).sends x) mine a.sent)))
               a.inc a.counts
 
           by : Delivery p.world k (step p.world (Event.Deliver k)) → Covered due (play p (Event.Deliver k))
@@ -270,8 +309,10 @@ module _ (most : ℕ) (head : Head) (host : ℕ) where
               nothing c t (still under) = under
               nothing c t (asks_now now) = none-some _ (sym none ∙ now)
               nothing c t (told_now r now inc counts) = none-some _ (sym none ∙ now)
-          by (at_server q sent to is) = same-client (after_server p.world (receive p.world.server (sending_host q.sender) (length p.world.packets) (datagram_of q.message))) due is refl (to-server q sent to is) all
-          by (no_client h q sent to none is) = same-client p.world due is refl (to-other h q sent to (λ r c t at has same m inc counts. none-some c (sym (subst (λ n. slice_get p.world.clients n ≡ None) same none) ∙ at))) all
+          by (at_server q sent to is) = same-client (after_server p.world (receive p.world.server (sending_host q.sender) (length p.world.packets)
+              (datagram_of q.message))) due is refl (to-server q sent to is) all
+          by (no_client h q sent to none is) = same-client p.world due is refl (to-other h q sent to (λ r c t at has same m inc counts.
+              none-some c (sym (subst (λ n. slice_get p.world.clients n ≡ None) same none) ∙ at))) all
           by (ignored h q c sent to at hears is) = same-client p.world due is refl (to-other h q sent to (λ r d t there has same m inc counts.
               let one : c ≡ d = some-same c d (sym (subst (λ n. slice_get p.world.clients n ≡ Some c) same at) ∙ there) in
               let heard : hear d k (reply t.xid r) ≡ Some (goes_on (replied (begun d) k t r)) = hears-reply d k r t has inc counts in
@@ -281,7 +322,8 @@ module _ (most : ℕ) (head : Head) (host : ℕ) where
               whose : (b : Bool) → (host == h) ≡ b → Covered due (play p (Event.Deliver k))
               whose true same =
                   let e : h ≡ host = sym (same-number host h same) in
-                  heard-own due q c u sent (to ∙ ap Party.Client e) (subst (λ n. slice_get p.world.clients n ≡ Some c) e at) hears (is ∙ ap (λ n. after_client p.world n u) e) all
+                  heard-own due q c u sent (to ∙ ap Party.Client e) (subst (λ n. slice_get p.world.clients n ≡ Some c) e at) hears
+                  (is ∙ ap (λ n. after_client p.world n u) e) all
               whose false differs =
                   let apart : host ≢ h = λ e. let yes : (host == h) ≡ true = number-same host h e in absurd (cc) in
                   same-client (after_client p.world h u) due is (get-set-other p.world.clients h host u.client apart)
@@ -290,7 +332,8 @@ module _ (most : ℕ) (head : Head) (host : ℕ) where
   -- ---- ticks
 
   module _ (p : Play) (l : IsLawful most head p) where
-    passes : (due : ℕ) (e : Event) → delivered e p.fresh ≡ p.fresh → slice_get (step p.world e).clients host ≡ slice_get p.world.clients host → Covered due p → Covered due (play p e)
+    passes : (due : ℕ) (e : Event) → delivered e p.fresh ≡ p.fresh → slice_get (step p.world e).clients host ≡ slice_get p.world.clients host
+        → Covered due p → Covered due (play p e)
     passes due e none same all c t at has = by (all c t (sym same ∙ at) has)
       where
         comes : (q : Packet) → Comes p q → Comes (play p e) q
@@ -320,28 +363,35 @@ module _ (most : ℕ) (head : Head) (host : ℕ) where
             to = ap (at_client p.world host (λ c. client_tick c (c.now + 1))) at
 
             is : d ≡ (client_tick c (c.now + 1)).client
-            is = some-same d (client_tick c (c.now + 1)).client (sym there ∙ ap (λ (w : World). slice_get w.clients host) to ∙ set-there p.world.clients host (client_tick c (c.now + 1)).client c at)
+            is = some-same d (client_tick c (c.now + 1)).client (sym there ∙ ap (λ (w : World). slice_get w.clients host) to
+                ∙ set-there p.world.clients host (client_tick c (c.now + 1)).client c at)
 
             there-run : slice_get (run head p.events).clients host ≡ Some c
             there-run = subst (λ (u : World). slice_get u.clients host ≡ Some c) l.is_run at
 
             g : Renewed c (c.now + 1) c.ticket (client_tick c (c.now + 1))
-            g = tick-renews c ((run-holds head p.events).clients host c there-run).alone (run-lined most head p.events l.bounds l.within host c there-run).drawn
+            g = tick-renews c ((run-holds head p.events).clients host c there-run).alone (run-lined most head p.events l.bounds l.within host c
+                there-run).drawn
 
             sent : In (client_tick c (c.now + 1)).sends (call t.xid t.request) → Under (play p (Event.ClientTick host)) (client_tick c (c.now + 1)).client t
-            sent i = asking (adds-coming p (Event.ClientTick host) (from_host host (call t.xid t.request)) (map (from_host host) (client_tick c (c.now + 1)).sends) (ap (λ (w : World). w.packets) to) (in-map (from_host host) (client_tick c (c.now + 1)).sends (call t.xid t.request) i))
+            sent i = asking (adds-coming p (Event.ClientTick host) (from_host host (call t.xid t.request))
+                (map (from_host host) (client_tick c (c.now + 1)).sends) (ap (λ (w : World). w.packets) to)
+                (in-map (from_host host) (client_tick c (c.now + 1)).sends (call t.xid t.request) i))
 
-            old : Under p c t ⊎ (t.last + patience ≤ c.now + (due + 1)) → Under (play p (Event.ClientTick host)) (client_tick c (c.now + 1)).client t ⊎ (t.last + patience ≤ (client_tick c (c.now + 1)).client.now + due)
+            old : Under p c t ⊎ (t.last + patience ≤ c.now + (due + 1)) → Under (play p (Event.ClientTick host)) (client_tick c (c.now + 1)).client t
+                ⊎ (t.last + patience ≤ (client_tick c (c.now + 1)).client.now + due)
             old (inl (asking x)) = inl (asking (keeps-coming p (Event.ClientTick host) _ x x.fresh))
             old (inl (told r x inc counts)) = inl (told r (keeps-coming p (Event.ClientTick host) _ x x.fresh) (inc ∙ ap (λ w. w.inc) (sym g.same)) counts)
             old (inr late) = inr (let now = g.time in omega arith)
 
-            which : TicketIs c.ticket c.seq (client_tick c (c.now + 1)).sends t → Under (play p (Event.ClientTick host)) (client_tick c (c.now + 1)).client t ⊎ (t.last + patience ≤ (client_tick c (c.now + 1)).client.now + due)
+            which : TicketIs c.ticket c.seq (client_tick c (c.now + 1)).sends t → Under (play p (Event.ClientTick host))
+                (client_tick c (c.now + 1)).client t ⊎ (t.last + patience ≤ (client_tick c (c.now + 1)).client.now + due)
             which (kept was) = old (all c t at was)
             which (resent w was xid of i) = inl (sent i)
             which (fresh i above) = inl (sent i)
 
-  other-tick : (w : World) (h : ℕ) → host ≢ h → (o : Option Client) → slice_get (at_client w h (λ c. client_tick c (c.now + 1)) o).clients host ≡ slice_get w.clients host
+  other-tick : (w : World) (h : ℕ) → host ≢ h → (o : Option Client) → slice_get (at_client w h (λ c. client_tick c (c.now + 1)) o).clients host
+      ≡ slice_get w.clients host
   unfolding after_client
   other-tick w h other None = refl
   other-tick w h other (Some c) = get-set-other w.clients h host (client_tick c (c.now + 1)).client other
@@ -357,9 +407,11 @@ module _ (most : ℕ) (head : Head) (host : ℕ) where
 
   hosts-tick : (due count h : ℕ) (p : Play) → IsLawful most head p → h ≤ host → host < h + count → Covered (due + 1) p → Covered due (play_hosts count h p)
   hosts-tick due zero h p l from below all = absurd (omega arith)
-  hosts-tick due (suc count) h p l from below all = by (λ low high more. hosts-tick due count (h + 1) (play p (Event.ClientTick h)) (ticks-on p h l) low high more) (host == h) refl
+  hosts-tick due (suc count) h p l from below all = by (λ low high more. hosts-tick due count (h + 1) (play p (Event.ClientTick h)) (ticks-on p h l)
+      low high more) (host == h) refl
     where
-      by : (h + 1 ≤ host → host < (h + 1) + count → Covered (due + 1) (play p (Event.ClientTick h)) → Covered due (play_hosts count (h + 1) (play p (Event.ClientTick h)))) → (b : Bool) → (host == h) ≡ b → Covered due (play_hosts (suc count) h p)
+      by : (h + 1 ≤ host → host < (h + 1) + count → Covered (due + 1) (play p (Event.ClientTick h))
+          → Covered due (play_hosts count (h + 1) (play p (Event.ClientTick h)))) → (b : Bool) → (host == h) ≡ b → Covered due (play_hosts (suc count) h p)
       by again true same =
           let e : host ≡ h = same-number host h same in
           let first : Covered due (play p (Event.ClientTick h)) = subst (λ n. Covered due (play p (Event.ClientTick n))) e (own-tick p l due all) in
@@ -383,7 +435,8 @@ module _ (most : ℕ) (head : Head) (host : ℕ) where
   none-comes p q c none = subst (λ ns. In ns c.number) none c.fresh
 
   -- where nothing is under way, each request is due
-  pub over-due : (due : ℕ) (p : Play) → p.fresh ≡ [] → Covered due p → (c : Client) (t : Ticket) → slice_get p.world.clients host ≡ Some c → c.ticket ≡ Some t → t.last + patience ≤ c.now + due
+  pub over-due : (due : ℕ) (p : Play) → p.fresh ≡ [] → Covered due p → (c : Client) (t : Ticket) → slice_get p.world.clients host ≡ Some c → c.ticket
+      ≡ Some t → t.last + patience ≤ c.now + due
   over-due due p none all c t at has = by (all c t at has)
     where
       by : Under p c t ⊎ (t.last + patience ≤ c.now + due) → t.last + patience ≤ c.now + due
@@ -398,7 +451,8 @@ module _ (most : ℕ) (head : Head) (host : ℕ) where
       by (inl under) = inl under
       by (inr late) = inr (omega arith)
 
-  pub whole-covers : (due : ℕ) (order : List ℕ) (p : Play) → IsLawful most head p → host < head.hosts → IsSmall (play_order order p) → Covered (due + 1) p → Covered due (whole_round order p)
+  pub whole-covers : (due : ℕ) (order : List ℕ) (p : Play) → IsLawful most head p → host < head.hosts → IsSmall (play_order order p)
+      → Covered (due + 1) p → Covered due (whole_round order p)
   unfolding whole_round after_server
   whole-covers due order p l below small all =
       let q = play_order order p in
@@ -428,13 +482,15 @@ module _ (most : ℕ) (head : Head) (host : ℕ) where
       inr (let earlier = past.past in omega arith)
 
   -- from the third whole round on each is under way at its start
-  pub wholes-cover : (orders : List (List ℕ)) (p : Play) → IsLawful most head p → host < head.hosts → IsSmall (whole_rounds orders p) → Covered 0 p → Covered 0 (whole_rounds orders p)
+  pub wholes-cover : (orders : List (List ℕ)) (p : Play) → IsLawful most head p → host < head.hosts → IsSmall (whole_rounds orders p) → Covered 0 p
+      → Covered 0 (whole_rounds orders p)
   wholes-cover [] p l below small all = all
   wholes-cover (order ∷ orders) p l below small all =
       wholes-cover orders (whole_round order p) (whole-lawful most head order p l) below small
       (whole-covers 0 order p l below (whole-small order p (wholes-small orders (whole_round order p) small)) (wider 0 p all))
 
-  pub later-covers : (orders : List (List ℕ)) (p : Play) → 2 ≤ length orders → IsLawful most head p → host < head.hosts → IsSmall (whole_rounds orders p) → Covered 0 (whole_rounds orders p)
+  pub later-covers : (orders : List (List ℕ)) (p : Play) → 2 ≤ length orders → IsLawful most head p → host < head.hosts
+      → IsSmall (whole_rounds orders p) → Covered 0 (whole_rounds orders p)
   later-covers [] p many l below small = absurd (omega arith)
   later-covers (first ∷ []) p many l below small = absurd (omega arith)
   later-covers (first ∷ second ∷ orders) p many l below small =
@@ -445,7 +501,8 @@ module _ (most : ℕ) (head : Head) (host : ℕ) where
       wholes-cover orders (whole_round second p1) (whole-lawful most head second p1 l1) below small
       (whole-covers 0 second p1 l1 below two (whole-covers 1 first p l below one (first-covers p l)))
 
-  pub third-covers : (more : ℕ) (p : Play) → IsLawful most head p → host < head.hosts → IsSmall (calm_rounds more (calm_rounds 2 p)) → Covered 0 (calm_rounds more (calm_rounds 2 p))
+  pub third-covers : (more : ℕ) (p : Play) → IsLawful most head p → host < head.hosts → IsSmall (calm_rounds more (calm_rounds 2 p))
+      → Covered 0 (calm_rounds more (calm_rounds 2 p))
   third-covers more p l below small =
       let orders = calm_orders (2 + more) p in
       let is : whole_rounds orders p ≡ calm_rounds more (calm_rounds 2 p) = sym (calms-are (2 + more) p) ∙ rounds-more 2 more p in
@@ -453,7 +510,8 @@ module _ (most : ℕ) (head : Head) (host : ℕ) where
       subst (λ (q : Play). Covered 0 q) is (later-covers orders p (omega arith) l below (subst (λ (q : Play). IsSmall q) (sym is) small))
 
   -- so after its delivery no request is under way
-  pub none-asks : (order : List ℕ) (p : Play) → IsLawful most head p → (play_order order p).fresh ≡ [] → IsSmall (play_order order p) → Covered 0 p → (c : Client) → slice_get (play_order order p).world.clients host ≡ Some c → c.ticket ≡ None
+  pub none-asks : (order : List ℕ) (p : Play) → IsLawful most head p → (play_order order p).fresh ≡ [] → IsSmall (play_order order p) → Covered 0 p
+      → (c : Client) → slice_get (play_order order p).world.clients host ≡ Some c → c.ticket ≡ None
   none-asks order p l none small all c at = by c.ticket refl
     where
       there : slice_get (run head (play_order order p).events).clients host ≡ Some c

@@ -25,15 +25,18 @@ module _ (hosts : ℕ) (asks : ℕ → Option Request) where
   -- an item of a delivery without turns
   pub data IsFormed (i : Item) : Type 0 where
     to_client : (k host : ℕ) (m : Message) → i ≡ one k (to_host host m) → IsFormed i
-    alone : (k host x file : ℕ) (who : Who) (tag : Tag) → i ≡ one k (from_host host (call x (Request.Vacated who file tag))) → who.host ≡ host → host < hosts → wants_in file (asks host) ≡ false → IsFormed i
-    paired : (k host x y file : ℕ) (who : Who) (tag : Tag) (r : Request) → i ≡ pair k host x y file who tag r → who.host ≡ host → host < hosts → asks host ≡ Some r → wants_of file r ≡ true → IsFormed i
+    alone : (k host x file : ℕ) (who : Who) (tag : Tag) → i ≡ one k (from_host host (call x (Request.Vacated who file tag))) → who.host ≡ host
+        → host < hosts → wants_in file (asks host) ≡ false → IsFormed i
+    paired : (k host x y file : ℕ) (who : Who) (tag : Tag) (r : Request) → i ≡ pair k host x y file who tag r → who.host ≡ host → host < hosts
+        → asks host ≡ Some r → wants_of file r ≡ true → IsFormed i
 
   -- the row of a request that a notice or a VACATED makes send again: a good one, unless the server does not ask its lease table
   abbrev pub HasGoodRow : Server → (file host : ℕ) → Who → Tag → Request → Type 0
   HasGoodRow s file host who tag r = IsGood s.table.rows file host who tag (writes_for r) ⊎ (question_of s host r ≡ None)
 
   abbrev pub NoticeIsGood : Server → Item → Type 0
-  NoticeIsGood s i = (k host x file : ℕ) (who : Who) (tag : Tag) (r : Request) → i ≡ one k (to_host host (call x (Request.Evicted who file tag))) → asks host ≡ Some r → wants_of file r ≡ true → HasGoodRow s file host who tag r
+  NoticeIsGood s i = (k host x file : ℕ) (who : Who) (tag : Tag) (r : Request) → i ≡ one k (to_host host (call x (Request.Evicted who file tag)))
+      → asks host ≡ Some r → wants_of file r ≡ true → HasGoodRow s file host who tag r
 
   abbrev pub PairIsGood : Server → Item → Type 0
   PairIsGood s i = (k host x y file : ℕ) (who : Who) (tag : Tag) (r : Request) → i ≡ pair k host x y file who tag r → HasGoodRow s file host who tag r

@@ -1,12 +1,14 @@
 -- In every run each client goes on.
-use Rattle.std.proofs.Common.{◌≡◌, ◌≢◌, ◌<◌, ◌⊎◌, ℕ, ◌+◌, ◌==◌, nat_le, Bool, true, false, List, [], ◌∷◌, Some, None, is_some, refl, sym, ap, subst, ◌∙◌, arith, inl, inr}
+use Rattle.std.proofs.Common.{◌≡◌, ◌≢◌, ◌<◌, ◌⊎◌, ℕ, ◌+◌, ◌==◌, nat_le, Bool, true, false, List, [], ◌∷◌, Some, None, is_some, refl, sym, ap, subst}
+use Rattle.std.proofs.Common.{◌∙◌, arith, inl, inr}
 use Rattle.std.specs.Prelude.{slice_get, slice_set}
 use Rattle.nq_base.specs.declared.Call.{Call}
 use Rattle.nq_base.specs.declared.Event.{Event}
 use Rattle.nq_base.specs.declared.Request.{Request}
 use Rattle.nq_base.specs.declared.Who.{Who}
 use Rattle.nq_model.specs.Client.{Client, ClientStep, UnderWay, begun}
-use Rattle.nq_model.specs.ClientStep.{begins_call, is_called, says_busy, client_call, at_time, sends_again, client_tick, attached_client, starts, fresh_client, restart}
+use Rattle.nq_model.specs.ClientStep.{begins_call, is_called, says_busy, client_call, at_time, sends_again, client_tick, attached_client, starts}
+use Rattle.nq_model.specs.ClientStep.{fresh_client, restart}
 use Rattle.nq_model.specs.Hear.{hear, replied, cancels, evicted}
 use Rattle.nq_model.specs.Message.{Message, asker}
 use Rattle.nq_model.specs.Send.{send_next, is_asking}
@@ -33,11 +35,13 @@ ends-busy in_tick t alone = by (sent-or-same in_tick (settle t))
     s : ClientStep
     s = settle t
 
-    paused : (u : UnderWay) → s.client.call ≡ Some u → Alone s.client → (b : Bool) → nat_le s.client.pause s.client.now ≡ b → (is_asking (send_next in_tick s) ≡ true) ⊎ (s.client.now < s.client.pause)
+    paused : (u : UnderWay) → s.client.call ≡ Some u → Alone s.client → (b : Bool) → nat_le s.client.pause s.client.now ≡ b
+        → (is_asking (send_next in_tick s) ≡ true) ⊎ (s.client.now < s.client.pause)
     paused u has own true e = inl (asks-next in_tick s u has (is-at-most s.client.pause s.client.now e) (settle-settles t) own.delaying)
     paused u has own false e = inr (is-not-at-most s.client.pause s.client.now e)
 
-    stays : (v : ClientStep) → v ≡ s → Alone s.client → ((u : UnderWay) → s.client.call ≡ Some u → (is_asking v ≡ true) ⊎ (s.client.now < s.client.pause)) → Busy v
+    stays : (v : ClientStep) → v ≡ s → Alone s.client → ((u : UnderWay) → s.client.call ≡ Some u → (is_asking v ≡ true)
+        ⊎ (s.client.now < s.client.pause)) → Busy v
     stays v same own given u is = move (given u (ap (λ (x : ClientStep). x.client.call) (sym same) ∙ is))
       where
         move : (is_asking v ≡ true) ⊎ (s.client.now < s.client.pause) → (is_some v.client.ticket ≡ true) ⊎ (v.client.now < v.client.pause)
@@ -74,7 +78,8 @@ cached-answered t none = settle-cases t (λ u. u.cached ≡ true → u.client.ca
 idle-busy : (t : ClientStep) → t.client.call ≡ None → Busy t
 idle-busy t none u is = none-some u (sym none ∙ is)
 
-call-busy : (c : Client) (op : Call) → Alone (client_call c op).client → ((u : UnderWay) → c.call ≡ Some u → (is_some c.ticket ≡ true) ⊎ (c.now < c.pause)) → Busy (client_call c op)
+call-busy : (c : Client) (op : Call) → Alone (client_call c op).client → ((u : UnderWay) → c.call ≡ Some u → (is_some c.ticket ≡ true)
+    ⊎ (c.now < c.pause)) → Busy (client_call c op)
 unfolding says_busy begins_call is_called answers
 call-busy c op alone before = call-cases c op (λ t. Alone t.client → Busy t) (record {
   busy = λ why own. before;
@@ -109,15 +114,22 @@ record Going (c : Client) : Type 0 where
   prompt : Prompt c
 
 acted : (w : World) (host : ℕ) (c : Client) (t : ClientStep) → ClientActs w host c t → Alone c → Alone t.client → Going c → Going t.client
-acted w host c t (called op is) own after g = subst (λ (u : ClientStep). Going u.client) (sym is) (record { busy = call-busy c op (subst (λ (u : ClientStep). Alone u.client) is after) g.busy; prompt = call-prompt c g.prompt op })
-acted w host c t (ticked is) own after g = subst (λ (u : ClientStep). Going u.client) (sym is) (record { busy = tick-busy c (subst (λ (u : ClientStep). Alone u.client) is after); prompt = tick-prompt c g.prompt })
+acted w host c t (called op is) own after g = subst (λ (u : ClientStep). Going u.client) (sym is)
+    (record { busy = call-busy c op (subst (λ (u : ClientStep). Alone u.client) is after) g.busy; prompt = call-prompt c g.prompt op })
+acted w host c t (ticked is) own after g = subst (λ (u : ClientStep). Going u.client) (sym is)
+    (record { busy = tick-busy c (subst (λ (u : ClientStep). Alone u.client) is after); prompt = tick-prompt c g.prompt })
 acted w host c t (restarted is) own after g = subst (λ (u : ClientStep). Going u.client) (sym is) (record { busy = restart-busy c; prompt = restart-prompt c })
-acted w host c t (heard k p sent to hears) own after g = record { busy = hear-busy c k p.message t hears after; prompt = hear-prompt c g.prompt k p.message t own hears }
+acted w host c t (heard k p sent to hears) own after g = record {
+  busy = hear-busy c k p.message t hears after;
+  prompt = hear-prompt c g.prompt k
+      p.message t own hears;
+}
 
 EachGoing : World → Type 0
 EachGoing w = (host : ℕ) (c : Client) → slice_get w.clients host ≡ Some c → Going c
 
-client-going : (w : World) (host : ℕ) (c : Client) (t : ClientStep) → slice_get w.clients host ≡ Some c → ClientActs w host c t → Holds w → Holds (after_client w host t) → EachGoing w → EachGoing (after_client w host t)
+client-going : (w : World) (host : ℕ) (c : Client) (t : ClientStep) → slice_get w.clients host ≡ Some c → ClientActs w host c t → Holds w
+    → Holds (after_client w host t) → EachGoing w → EachGoing (after_client w host t)
 unfolding after_client EachGoing
 client-going w host c t at acts before after all = λ other d is. case other d (other == host) refl is
   where
@@ -139,7 +151,8 @@ client-going w host c t at acts before after all = λ other d is. case other d (
 changed-going : (w v : World) → Changes w v → Holds w → Holds v → EachGoing w → EachGoing v
 unfolding after_server EachGoing
 changed-going w v (nothing is) before after all = subst EachGoing (sym is) all
-changed-going w v (by_client host c t at acts to) before after all = subst EachGoing (sym to) (client-going w host c t at acts before (subst Holds to after) all)
+changed-going w v (by_client host c t at acts to) before after all = subst EachGoing (sym to) (client-going w host c t at acts before
+    (subst Holds to after) all)
 changed-going w v (by_server t acts to) before after all = subst EachGoing (sym to) all
 
 first-going : (head : Head) → EachGoing (start head)
@@ -150,7 +163,8 @@ first-going head host c is =
 
 run-going : (head : Head) (events : List Event) → EachGoing (run head events)
 run-going head [] = first-going head
-run-going head (e ∷ events) = changed-going (run head events) (run head (e ∷ events)) (step-changes (run head events) e) (run-holds head events) (run-holds head (e ∷ events)) (run-going head events)
+run-going head (e ∷ events) = changed-going (run head events) (run head (e ∷ events)) (step-changes (run head events) e) (run-holds head events)
+    (run-holds head (e ∷ events)) (run-going head events)
 
 -- who is not attached asks to be
 asks-attach : (who : Who) (request : Request) → fits_attach request ≡ true → asker request ≡ Some who → request ≡ Request.Attach who

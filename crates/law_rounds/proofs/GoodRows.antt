@@ -1,5 +1,5 @@
 -- The row of a host that a VACATED and a request of it may find: it shares the file, or goes by that VACATED, or serves the request.
-use Rattle.std.proofs.Common.{◌≡◌, ℕ, ◌-◌, Bool, true, false, List, Some, None, refl, sym, ap, subst, ◌∙◌}
+use Rattle.std.proofs.Common.{◌≡◌, ℕ, Bool, true, false, List, Some, None, refl, sym, ap, subst, ◌∙◌}
 use Rattle.std.specs.Option.{option_map}
 use Rattle.nq_base.specs.declared.Access.{Access}
 use Rattle.nq_base.specs.declared.Mode.{Mode}
@@ -21,23 +21,30 @@ pub data IsGood (rows : List Row) (file host : ℕ) (who : Who) (tag : Tag) (wri
   goes : (row : Row) → find_row file host rows ≡ Some row → is_taken who tag (Some row) ≡ true → IsGood rows file host who tag writes
   serves_it : (row : Row) → find_row file host rows ≡ Some row → (writes ≡ true → is_writing row.mode ≡ true) → IsGood rows file host who tag writes
 
-pub good-same : (before after : List Row) (file host : ℕ) (who : Who) (tag : Tag) (writes : Bool) → find_row file host after ≡ find_row file host before → IsGood before file host who tag writes → IsGood after file host who tag writes
+pub good-same : (before after : List Row) (file host : ℕ) (who : Who) (tag : Tag) (writes : Bool) → find_row file host after ≡ find_row file host
+    before → IsGood before file host who tag writes → IsGood after file host who tag writes
 good-same before after file host who tag writes same (shares row there kind) = shares row (same ∙ there) kind
 good-same before after file host who tag writes same (goes row there taken) = goes row (same ∙ there) taken
 good-same before after file host who tag writes same (serves_it row there kind) = serves_it row (same ∙ there) kind
 
-pub taken-marked : (who : Who) (tag : Tag) (f by : ℕ) (access : Access) (row : Row) → is_taken who tag (Some (mark f by access row)) ≡ is_taken who tag (Some row)
+pub taken-marked : (who : Who) (tag : Tag) (f by : ℕ) (access : Access) (row : Row) → is_taken who tag (Some (mark f by access row)) ≡ is_taken who
+    tag (Some row)
 taken-marked who tag f by access row =
     let m = mark-is f by access row in
-    ap (λ (w : Who). is_taken who tag (Some (record row { who = w; tag = (mark f by access row).tag }))) m.who ∙ ap (λ (g : Tag). is_taken who tag (Some (record row { tag = g }))) m.tag
+    ap (λ (w : Who). is_taken who tag (Some (record row { who = w; tag = (mark f by access row).tag }))) m.who
+    ∙ ap (λ (g : Tag). is_taken who tag (Some (record row { tag = g }))) m.tag
 
-pub good-marked : (rows : List Row) (file host : ℕ) (who : Who) (tag : Tag) (writes : Bool) (f by : ℕ) (access : Access) → IsGood rows file host who tag writes → IsGood (marked f by access rows) file host who tag writes
+pub good-marked : (rows : List Row) (file host : ℕ) (who : Who) (tag : Tag) (writes : Bool) (f by : ℕ) (access : Access) → IsGood rows file host who
+    tag writes → IsGood (marked f by access rows) file host who tag writes
 good-marked rows file host who tag writes f by access (shares row there kind) =
-    shares (mark f by access row) (find-marked file host f by access rows ∙ ap (option_map (mark f by access)) there) (ap caches (mark-is f by access row).mode ∙ kind)
+    shares (mark f by access row) (find-marked file host f by access rows ∙ ap (option_map (mark f by access)) there)
+    (ap caches (mark-is f by access row).mode ∙ kind)
 good-marked rows file host who tag writes f by access (goes row there taken) =
-    goes (mark f by access row) (find-marked file host f by access rows ∙ ap (option_map (mark f by access)) there) (taken-marked who tag f by access row ∙ taken)
+    goes (mark f by access row) (find-marked file host f by access rows ∙ ap (option_map (mark f by access)) there) (taken-marked who tag f by access
+    row ∙ taken)
 good-marked rows file host who tag writes f by access (serves_it row there kind) =
-    serves_it (mark f by access row) (find-marked file host f by access rows ∙ ap (option_map (mark f by access)) there) (λ w. ap is_writing (mark-is f by access row).mode ∙ kind w)
+    serves_it (mark f by access row) (find-marked file host f by access rows ∙ ap (option_map (mark f by access)) there)
+    (λ w. ap is_writing (mark-is f by access row).mode ∙ kind w)
 
 greater-writes : (own wanted : Mode) → is_writing wanted ≡ true → is_writing (greater_mode own wanted) ≡ true
 greater-writes Mode.NonCaching wanted w = w
@@ -54,22 +61,30 @@ module _ (table : Table) (q : Question) (want : Want) (wants : q.want ≡ Some w
   want-same w is = some-same w want (sym is ∙ wants)
 
   -- a row of the asker is put
-  puts-sharing : (rows : List Row) (row : Row) → row.file ≡ q.file → row.who.host ≡ q.who.host → caches row.mode ≡ false → IsGood (put_row row rows) q.file q.who.host who tag (is_writing want.mode)
-  puts-sharing rows row file host kind = shares row (subst (λ h. find_row q.file h (put_row row rows) ≡ Some row) host (subst (λ f. find_row f row.who.host (put_row row rows) ≡ Some row) file (find-put-same row rows))) kind
+  puts-sharing : (rows : List Row) (row : Row) → row.file ≡ q.file → row.who.host ≡ q.who.host → caches row.mode ≡ false → IsGood (put_row row rows)
+      q.file q.who.host who tag (is_writing want.mode)
+  puts-sharing rows row file host kind = shares row (subst (λ h. find_row q.file h (put_row row rows) ≡ Some row) host
+      (subst (λ f. find_row f row.who.host (put_row row rows) ≡ Some row) file (find-put-same row rows))) kind
 
-  puts-serving : (rows : List Row) (row : Row) → row.file ≡ q.file → row.who.host ≡ q.who.host → (is_writing want.mode ≡ true → is_writing row.mode ≡ true) → IsGood (put_row row rows) q.file q.who.host who tag (is_writing want.mode)
-  puts-serving rows row file host kind = serves_it row (subst (λ h. find_row q.file h (put_row row rows) ≡ Some row) host (subst (λ f. find_row f row.who.host (put_row row rows) ≡ Some row) file (find-put-same row rows))) kind
+  puts-serving : (rows : List Row) (row : Row) → row.file ≡ q.file → row.who.host ≡ q.who.host → (is_writing want.mode ≡ true → is_writing row.mode
+      ≡ true) → IsGood (put_row row rows) q.file q.who.host who tag (is_writing want.mode)
+  puts-serving rows row file host kind = serves_it row (subst (λ h. find_row q.file h (put_row row rows) ≡ Some row) host
+      (subst (λ f. find_row f row.who.host (put_row row rows) ≡ Some row) file (find-put-same row rows))) kind
 
-  grants-good : (v : Want) (row : Row) (term : ℕ) → v ≡ want → IsGranted table q v row term → IsGood (put_row row table.rows) q.file q.who.host who tag (is_writing want.mode)
+  grants-good : (v : Want) (row : Row) (term : ℕ) → v ≡ want → IsGranted table q v row term → IsGood (put_row row table.rows) q.file q.who.host who
+      tag (is_writing want.mode)
   unfolding shared_again sharing_row caching_row renewed_row
   grants-good v row term same (shares_again own has quiet alone is t) =
       let k = found-row q.file q.who.host table.rows own has in
       puts-sharing table.rows row (ap (λ (x : Row). x.file) is ∙ k.0) (ap (λ (x : Row). x.who.host) is ∙ k.1) (ap (λ (x : Row). caches x.mode) is ∙ alone)
-  grants-good v row term same (begins_sharing none room some is t) = puts-sharing table.rows row (ap (λ (x : Row). x.file) is) (ap (λ (x : Row). x.who.host) is) (ap (λ (x : Row). caches x.mode) is)
-  grants-good v row term same (begins_caching none room unshared is t) = puts-serving table.rows row (ap (λ (x : Row). x.file) is) (ap (λ (x : Row). x.who.host) is) (λ w. ap (λ (x : Row). is_writing x.mode) is ∙ ap (λ (x : Want). is_writing x.mode) same ∙ w)
+  grants-good v row term same (begins_sharing none room some is t) = puts-sharing table.rows row (ap (λ (x : Row). x.file) is)
+      (ap (λ (x : Row). x.who.host) is) (ap (λ (x : Row). caches x.mode) is)
+  grants-good v row term same (begins_caching none room unshared is t) = puts-serving table.rows row (ap (λ (x : Row). x.file) is)
+      (ap (λ (x : Row). x.who.host) is) (λ w. ap (λ (x : Row). is_writing x.mode) is ∙ ap (λ (x : Want). is_writing x.mode) same ∙ w)
   grants-good v row term same (renews_row own has quiet caching is t) =
       let k = found-row q.file q.who.host table.rows own has in
-      puts-serving table.rows row (ap (λ (x : Row). x.file) is ∙ k.0) (ap (λ (x : Row). x.who.host) is ∙ k.1) (λ w. ap (λ (x : Row). is_writing x.mode) is ∙ greater-writes own.mode v.mode (ap (λ (x : Want). is_writing x.mode) same ∙ w))
+      puts-serving table.rows row (ap (λ (x : Row). x.file) is ∙ k.0) (ap (λ (x : Row). x.who.host) is ∙ k.1)
+      (λ w. ap (λ (x : Row). is_writing x.mode) is ∙ greater-writes own.mode v.mode (ap (λ (x : Want). is_writing x.mode) same ∙ w))
 
   -- a good row stays one
   pub asker-keeps : (own : Row) → own_in table q ≡ Some own → Good table → Good (ask table q).table
@@ -84,10 +99,12 @@ module _ (table : Table) (q : Question) (want : Want) (wants : q.want ≡ Some w
   })
 
   -- who has no row gets one, where there is room
-  pub asker-gets : own_in table q ≡ None → has_room table ≡ true → (row : Row) → find_row q.file q.who.host (ask table q).table.rows ≡ Some row → Good (ask table q).table
+  pub asker-gets : own_in table q ≡ None → has_room table ≡ true → (row : Row) → find_row q.file q.who.host (ask table q).table.rows ≡ Some row
+      → Good (ask table q).table
   unfolding granted put_off_by_own no_lease free with_rows after_draw sharing_row
   asker-gets none room row there = asks table q (λ a. find_row q.file q.who.host a.table.rows ≡ Some row → Good a.table) (record {
-    later = λ clash c e. absurd (none-some row (sym (ap (option_map (mark q.file q.who.host q.access)) none) ∙ sym (find-marked q.file q.who.host q.file q.who.host q.access table.rows) ∙ e));
+    later = λ clash c e. absurd (none-some row (sym (ap (option_map (mark q.file q.who.host q.access)) none)
+        ∙ sym (find-marked q.file q.who.host q.file q.who.host q.access table.rows) ∙ e));
     later_waiting = λ clash v c w n r e. puts-sharing (marked q.file q.who.host q.access table.rows) _ refl refl refl;
     freely = λ c w e. absurd (none-some want (sym w ∙ wants));
     later_by_own = λ v o c w h ev e. absurd (none-some o (sym none ∙ h));

@@ -1,5 +1,6 @@
 -- In every run each packet of a client, and each row, is of a host that is there; so fewer notices than hosts are sent at a time.
-use Rattle.std.proofs.Common.{◌≡◌, ◌<◌, ◌⊎◌, ℕ, ◌+◌, ◌==◌, ◌&&◌, Bool, true, false, List, [], ◌∷◌, Option, Some, None, if◌then◌else◌, length, refl, sym, ap, subst, ◌∙◌, arith, inl, inr}
+use Rattle.std.proofs.Common.{◌≡◌, ◌<◌, ◌⊎◌, ℕ, ◌+◌, ◌==◌, ◌&&◌, Bool, true, false, List, [], ◌∷◌, Option, Some, None, if◌then◌else◌, length, refl}
+use Rattle.std.proofs.Common.{sym, ap, subst, ◌∙◌, arith, inl, inr}
 use Rattle.std.specs.List.{filter}
 use Rattle.std.specs.Option.{option_map}
 use Rattle.std.specs.Prelude.{map}
@@ -17,7 +18,8 @@ use Rattle.nq_model.specs.Decide.{decides, creates, writes_through, stores, stor
 use Rattle.nq_model.specs.Message.{Packet, Datagram, datagram_of}
 use Rattle.nq_model.specs.Profile.{most_hosts}
 use Rattle.nq_model.specs.Server.{Server, ServerStep, after_notices, keeping, keeping_with, with_table, quiet, drops, says}
-use Rattle.nq_model.specs.ServerStep.{access_of, to_read, end_reading, attaches, vacates, vacated_rows, tells_later, serves, leases, receive, tick, boot, crash}
+use Rattle.nq_model.specs.ServerStep.{access_of, to_read, end_reading, attaches, vacates, vacated_rows, tells_later, serves, leases, receive, tick}
+use Rattle.nq_model.specs.ServerStep.{boot, crash}
 use Rattle.nq_model.specs.Table.{Table, empty_table, after_draw, find_row, is_row_of, put_row, drop_row, same_tag, with_rows}
 use Rattle.nq_model.specs.World.{Head, World, from_host, after_server, after_client, sending_host, first_kept, start, run}
 use Rattle.nq_model.specs.RowsStandApart.{HasOneRowEach, StandApart}
@@ -57,7 +59,8 @@ module _ (n : ℕ) where
       by true e = let own = (of-key file host row e).1 in absurd (omega arith)
       by false e = h file host far
 
-  hosted-vacated : (who : Who) (file : ℕ) (tag : Tag) (rows : List Row) (o : Option Row) → HostedBelow n rows → HostedBelow n (vacated_rows who file tag rows o)
+  hosted-vacated : (who : Who) (file : ℕ) (tag : Tag) (rows : List Row) (o : Option Row) → HostedBelow n rows
+      → HostedBelow n (vacated_rows who file tag rows o)
   hosted-vacated who file tag rows None h = h
   hosted-vacated who file tag rows (Some row) h =
       choice (HostedBelow n) (row.who.inc == who.inc && same_tag row.tag tag) (drop_row file who.host rows) rows (λ e. hosted-filter _ rows h) (λ e. h)
@@ -78,8 +81,10 @@ module _ (n : ℕ) where
       omega arith
 
   -- a datagram of a host below the number
-  hosted-receive : (s : Server) (sender next : ℕ) (d : Datagram) → ((who : Who) → IsFrom sender who → who.host < n) → HostedBelow n s.table.rows → HostedBelow n (receive s sender next d).server.table.rows
-  unfolding quiet drops says attaches vacates serves leases tells_later decides creates writes_through stores stores_recovering wrote resizes removes puts_off commits after_notices keeping keeping_with with_table with_rows after_draw sharing_row
+  hosted-receive : (s : Server) (sender next : ℕ) (d : Datagram) → ((who : Who) → IsFrom sender who → who.host < n) → HostedBelow n s.table.rows
+      → HostedBelow n (receive s sender next d).server.table.rows
+  unfolding quiet drops says attaches vacates serves leases tells_later decides creates writes_through stores stores_recovering wrote resizes removes
+      puts_off commits after_notices keeping keeping_with with_table with_rows after_draw sharing_row
   hosted-receive s sender next d inside h = server-hears s sender next d (λ t. HostedBelow n t.server.table.rows) (record {
     stays = h;
     dropping = λ reason. h;
@@ -89,13 +94,16 @@ module _ (n : ℕ) where
     attaching = λ xid who e from later. hosted-filter _ s.table.rows h;
     vacating = λ xid who file tag e current. hosted-vacated who file tag s.table.rows (find_row file who.host s.table.rows) h;
     putting_off = λ xid who r f clash e by file asking c. hosted-marked f.id who.host _ s.table.rows h;
-    putting_off_waiting = λ xid who r f clash want e by file wants asking c own room. hosted-put _ (marked f.id who.host (access_of (Some want)) s.table.rows) (inside who asking.current.from) (hosted-marked f.id who.host (access_of (Some want)) s.table.rows h);
+    putting_off_waiting = λ xid who r f clash want e by file wants asking c own room. hosted-put _ (marked f.id who.host (access_of (Some want))
+        s.table.rows) (inside who asking.current.from) (hosted-marked f.id who.host (access_of (Some want)) s.table.rows h);
     putting_off_by_own = λ xid who r f want own e by file wants asking c o evicting. h;
     reading = λ xid who q block f body e asking there c. h;
     reading_full = λ xid who q block want f body e asking there c own room. h;
-    reading_granted = λ xid who q block want f body row term e asking there c g. hosted-put row s.table.rows (granted-host s.table (to_read s who f (Some want)) want row term g (inside who asking.current.from)) h;
+    reading_granted = λ xid who q block want f body row term e asking there c g. hosted-put row s.table.rows
+        (granted-host s.table (to_read s who f (Some want)) want row term g (inside who asking.current.from)) h;
     leasing_full = λ xid who want f e asking c own room. h;
-    leasing = λ xid who want f row term e asking c g. hosted-put row s.table.rows (granted-host s.table (to_read s who f (Some want)) want row term g (inside who asking.current.from)) h;
+    leasing = λ xid who want f row term e asking c g. hosted-put row s.table.rows (granted-host s.table (to_read s who f (Some want)) want row term g
+        (inside who asking.current.from)) h;
     declining = λ xid who seq r verdict e by sq fresh declined. h;
     putting_off_change = λ xid who seq r f clash e by sq file base changing c. hosted-marked f.id who.host Access.Write s.table.rows h;
     creating = λ xid who seq blocks name e fresh serves can. h;
@@ -169,18 +177,22 @@ crash-said : (ps : List Packet) (s : Server) (longest : ℕ) → AllSaid ps (cra
 unfolding crash
 crash-said ps s longest p i = absurd i
 
-acted-local : (head : Head) (events : List Event) (t : ServerStep) → ServerActs (run head events) t → IsLocal head.hosts (run head events) → IsLocal head.hosts (after_server (run head events) t)
+acted-local : (head : Head) (events : List Event) (t : ServerStep) → ServerActs (run head events) t → IsLocal head.hosts (run head events)
+    → IsLocal head.hosts (after_server (run head events) t)
 acted-local head events t (received k p sent to is) l =
     let w = run head events in
     let i = in-get w.packets k p sent in
     subst (λ u. IsLocal head.hosts (after_server w u)) (sym is)
-    (server-local head.hosts w _ (received-said w p i to (run-holds head events)) (hosted-receive head.hosts w.server (sending_host p.sender) (length w.packets) (datagram_of p.message) (inside-of head.hosts w p i l) l.rows) l)
+    (server-local head.hosts w _ (received-said w p i to (run-holds head events)) (hosted-receive head.hosts w.server (sending_host p.sender)
+    (length w.packets) (datagram_of p.message) (inside-of head.hosts w p i l) l.rows) l)
 acted-local head events t (ticks is) l =
     let w = run head events in
-    subst (λ u. IsLocal head.hosts (after_server w u)) (sym is) (server-local head.hosts w _ (tick-said w.packets w.server (w.server.now + 1)) (hosted-tick head.hosts w.server (w.server.now + 1) l.rows) l)
+    subst (λ u. IsLocal head.hosts (after_server w u)) (sym is) (server-local head.hosts w _ (tick-said w.packets w.server (w.server.now + 1))
+    (hosted-tick head.hosts w.server (w.server.now + 1) l.rows) l)
 acted-local head events t (crashes longest is) l =
     let w = run head events in
-    subst (λ u. IsLocal head.hosts (after_server w u)) (sym is) (server-local head.hosts w _ (crash-said w.packets w.server longest) (hosted-crash head.hosts w.server longest) l)
+    subst (λ u. IsLocal head.hosts (after_server w u)) (sym is) (server-local head.hosts w _ (crash-said w.packets w.server longest)
+    (hosted-crash head.hosts w.server longest) l)
 
 changed-local : (head : Head) (events : List Event) (v : World) → Changes (run head events) v → IsLocal head.hosts (run head events) → IsLocal head.hosts v
 changed-local head events v (nothing is) l = subst (λ u. IsLocal head.hosts u) (sym is) l
@@ -202,9 +214,22 @@ record IsAlone (head : Head) (s : Server) : Type 0 where
   is : s ≡ server_after (first_boot (first_kept head) head.longest 0) came
 
 alone-acted : (head : Head) (w : World) (t : ServerStep) → ServerActs w t → IsAlone head w.server → IsAlone head t.server
-alone-acted head w t (received k p sent to is) a = record { came = datagram (sending_host p.sender) (length w.packets) (datagram_of p.message) ∷ a.came; is = ap (λ (u : ServerStep). u.server) is ∙ ap (λ (u : Server). (step_for u (datagram (sending_host p.sender) (length w.packets) (datagram_of p.message))).server) a.is }
-alone-acted head w t (ticks is) a = record { came = Coming.ticks 1 ∷ a.came; is = ap (λ (u : ServerStep). u.server) is ∙ ap (λ (u : Server). (step_for u (Coming.ticks 1)).server) a.is }
-alone-acted head w t (crashes longest is) a = record { came = Coming.crashes longest ∷ a.came; is = ap (λ (u : ServerStep). u.server) is ∙ ap (λ (u : Server). (step_for u (Coming.crashes longest)).server) a.is }
+alone-acted head w t (received k p sent to is) a = record {
+  came = datagram (sending_host p.sender) (length w.packets) (datagram_of p.message)
+      ∷ a.came;
+  is = ap (λ (u : ServerStep). u.server) is
+      ∙ ap (λ (u : Server). (step_for u (datagram (sending_host p.sender) (length w.packets) (datagram_of p.message))).server) a.is;
+}
+alone-acted head w t (ticks is) a = record {
+  came = Coming.ticks 1 ∷ a.came;
+  is = ap (λ (u : ServerStep). u.server) is
+      ∙ ap (λ (u : Server). (step_for u (Coming.ticks 1)).server) a.is;
+}
+alone-acted head w t (crashes longest is) a = record {
+  came = Coming.crashes longest ∷ a.came;
+  is = ap (λ (u : ServerStep). u.server) is
+      ∙ ap (λ (u : Server). (step_for u (Coming.crashes longest)).server) a.is;
+}
 
 alone-changed : (head : Head) (w v : World) → Changes w v → IsAlone head w.server → IsAlone head v.server
 unfolding after_client after_server

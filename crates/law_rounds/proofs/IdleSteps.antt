@@ -9,9 +9,15 @@ use Rattle.nq_base.specs.declared.Refusal.{Refusal}
 use Rattle.nq_base.specs.declared.Reply.{Reply}
 use Rattle.nq_base.specs.declared.Request.{Request}
 use Rattle.nq_base.specs.declared.Tag.{Tag}
-use Rattle.nq_model.specs.Client.{Client, ClientStep, lease_on, notice_on, first_dirty, dirty_at, drop_dirty, other_dirty, is_clean, revision_of, is_revision_before, Job, attaching, for_call, renewing, pushing, Notice, Ticket, UnderWay, begun}
+use Rattle.nq_model.specs.Client.{Client, ClientStep, lease_on, notice_on, first_dirty, dirty_at, drop_dirty, other_dirty, is_clean, revision_of}
+use Rattle.nq_model.specs.Client.{is_revision_before, Job, attaching, for_call, renewing, pushing, Notice, Ticket, UnderWay, begun}
 use Rattle.nq_model.specs.ClientStep.{client_tick, sends_again, at_time}
-use Rattle.nq_model.specs.Hear.{hear, waits_for, breaks, grant_caches, holds_caching, is_put_off, answer_of, answers_call, vacates_lease, vacates_noticed, other_push, loses, reports_to, without_lease, push_refused, breaks_chain, if_broken, holds, takes_grant, takes_optional, answers_call_of, caches_block, purges, knows_revision, then_caches, read_done, with_through, marks_through, lease_done, caches_write, write_done, ends_push, caches_push, push_done, spends, attached, pauses, done_for_call, done_renewal, done_push, done, refused_push, refused, replied, cancels, notes_notice, evicted}
+use Rattle.nq_model.specs.Hear.{hear, waits_for, breaks, grant_caches, holds_caching, is_put_off, answer_of, answers_call, vacates_lease}
+use Rattle.nq_model.specs.Hear.{vacates_noticed, other_push, loses, reports_to, without_lease, push_refused, breaks_chain, if_broken, holds}
+use Rattle.nq_model.specs.Hear.{takes_grant, takes_optional, answers_call_of, caches_block, purges, knows_revision, then_caches, read_done}
+use Rattle.nq_model.specs.Hear.{with_through, marks_through, lease_done, caches_write, write_done, ends_push, caches_push, push_done, spends}
+use Rattle.nq_model.specs.Hear.{attached, pauses, done_for_call, done_renewal, done_push, done, refused_push, refused, replied, cancels, notes_notice}
+use Rattle.nq_model.specs.Hear.{evicted}
 use Rattle.nq_model.specs.Message.{Message}
 use Rattle.nq_model.specs.Send.{sends_request, after_seq, after_number, takes_push, gives_up, send_next}
 use Rattle.nq_model.specs.Settle.{answers, names_losses, settle}
@@ -33,8 +39,15 @@ module _ (Premise : Type 0) where
   abbrev Idle : ClientStep → Type 0
   Idle t = Rests Premise t.client
 
-  same : (t u : ClientStep) → u.client.call ≡ t.client.call → u.client.attached ≡ t.client.attached → u.client.dirty ≡ t.client.dirty → u.client.push ≡ t.client.push → Idle t → Idle u
-  same t u called on kept going h = record { attached = on ∙ h.attached; answered = called ∙ h.answered; dirty = λ k. kept ∙ h.dirty k; push = λ k. going ∙ h.push k }
+  same : (t u : ClientStep) → u.client.call ≡ t.client.call → u.client.attached ≡ t.client.attached → u.client.dirty ≡ t.client.dirty → u.client.push
+      ≡ t.client.push → Idle t → Idle u
+  same t u called on kept going h = record {
+    attached = on ∙ h.attached;
+    answered = called ∙ h.answered;
+    dirty = λ k. kept ∙ h.dirty k;
+    push = λ k.
+        going ∙ h.push k;
+  }
 
   -- ---- what needs no packet, and the next request
 
@@ -55,12 +68,20 @@ module _ (Premise : Type 0) where
     others = λ u is needs. h;
   })
 
-  requests : (t u : ClientStep) (job : Job) (request : Request) → u.client.call ≡ t.client.call → u.client.attached ≡ t.client.attached → u.client.dirty ≡ t.client.dirty → u.client.push ≡ t.client.push → Idle t → Idle (sends_request u job request)
+  requests : (t u : ClientStep) (job : Job) (request : Request) → u.client.call ≡ t.client.call → u.client.attached ≡ t.client.attached
+      → u.client.dirty ≡ t.client.dirty → u.client.push ≡ t.client.push → Idle t → Idle (sends_request u job request)
   unfolding sends_request
-  requests t u job request called on kept going h = record { attached = on ∙ h.attached; answered = called ∙ h.answered; dirty = λ k. kept ∙ h.dirty k; push = λ k. going ∙ h.push k }
+  requests t u job request called on kept going h = record {
+    attached = on ∙ h.attached;
+    answered = called ∙ h.answered;
+    dirty = λ k. kept
+        ∙ h.dirty k;
+    push = λ k. going ∙ h.push k;
+  }
 
   -- a push takes delayed writes from the list; where there are none it is not sent
-  begins-push : (t : ClientStep) (file : ℕ) (p : Push) (request : Request) → first_dirty file t.client.dirty ≡ Some p → Idle t → Idle (sends_request (after_seq (takes_push t p)) pushing request)
+  begins-push : (t : ClientStep) (file : ℕ) (p : Push) (request : Request) → first_dirty file t.client.dirty ≡ Some p → Idle t
+      → Idle (sends_request (after_seq (takes_push t p)) pushing request)
   unfolding sends_request after_seq takes_push
   begins-push t file p request first h = record {
     attached = h.attached;
@@ -101,12 +122,23 @@ module _ (Premise : Type 0) where
   reported : (t : ClientStep) (file : ℕ) (o : Option UnderWay) → Idle t → Idle (reports_to t file o)
   unfolding answers
   reported t file None h = h
-  reported t file (Some u) h = choice Idle (waits_for file u.written u.call) (names_losses t u.q file) t (λ e. record { attached = h.attached; answered = refl; dirty = h.dirty; push = h.push }) (λ e. h)
+  reported t file (Some u) h = choice Idle (waits_for file u.written u.call) (names_losses t u.q file) t (λ e. record {
+    attached = h.attached;
+    answered = refl;
+    dirty = h.dirty;
+    push = h.push;
+  }) (λ e. h)
 
   broken : (t : ClientStep) (file : ℕ) → Idle t → Idle (breaks_chain t file)
   unfolding loses
   broken t file h =
-      let lost : Idle (loses t file) = record { attached = h.attached; answered = h.answered; dirty = λ k. ap (other_dirty file) (h.dirty k); push = λ k. ap (other_push file) (h.push k) } in
+      let lost : Idle (loses t file) = record {
+        attached = h.attached;
+        answered = h.answered;
+        dirty = λ k. ap (other_dirty file) (h.dirty k);
+        push =
+            λ k. ap (other_push file) (h.push k);
+      } in
       let gone = vacates_noticed (loses t file) file (notice_on file t.client.notices) in
       reported gone file gone.client.call (noticed (loses t file) file _ lost)
 
@@ -114,14 +146,21 @@ module _ (Premise : Type 0) where
   unfolding loses without_lease
   refused-push t file h =
       let free = without_lease (loses t file) file in
-      let lost : Idle free = record { attached = h.attached; answered = h.answered; dirty = λ k. ap (other_dirty file) (h.dirty k); push = λ k. ap (other_push file) (h.push k) } in
+      let lost : Idle free = record {
+        attached = h.attached;
+        answered = h.answered;
+        dirty = λ k. ap (other_dirty file) (h.dirty k);
+        push = λ k.
+            ap (other_push file) (h.push k);
+      } in
       let gone = vacates_noticed free file (notice_on file t.client.notices) in
       reported gone file gone.client.call (noticed free file _ lost)
 
   taken : (t : ClientStep) (file : ℕ) (g : Grant) (sent : ℕ) → Idle t → Idle (takes_grant t file g sent)
   unfolding holds
   taken t file g sent h =
-      let still : Idle (if_broken t file g) = choice Idle (breaks g (lease_on file t.client.leases) && not (is_clean t.client file)) (breaks_chain t file) t (λ e. broken t file h) (λ e. h) in
+      let still : Idle (if_broken t file g) = choice Idle (breaks g (lease_on file t.client.leases) && not (is_clean t.client file))
+      (breaks_chain t file) t (λ e. broken t file h) (λ e. h) in
       same (if_broken t file g) (holds (if_broken t file g) file g sent) refl refl refl refl still
 
   optional : (t : ClientStep) (file : ℕ) (o : Option Grant) (sent : ℕ) → Idle t → Idle (takes_optional t file o sent)
@@ -139,7 +178,8 @@ module _ (Premise : Type 0) where
       let u = takes_optional t file g sent in
       let v = then_caches u file block body g in
       let took : Idle u = optional t file g sent h in
-      let kept : Idle v = choice Idle (grant_caches g) (caches_block u file block body) u (λ e. same u (caches_block u file block body) refl refl refl refl took) (λ e. took) in
+      let kept : Idle v = choice Idle (grant_caches g) (caches_block u file block body) u (λ e. same u (caches_block u file block body) refl refl refl
+      refl took) (λ e. took) in
       answered v _ _ v.client.call kept
 
   through : (on : Bool) (t : ClientStep) → Idle t → Idle (marks_through on t)
@@ -156,7 +196,9 @@ module _ (Premise : Type 0) where
   written t file block body rev h =
       let u = caches_write t file block body rev in
       let v = knows_revision u file rev in
-      let kept : Idle u = choice Idle (holds_caching (lease_on file t.client.leases) && is_revision_before rev (revision_of file t.client.revisions)) (caches_block t file block body) (purges t file) (λ e. same t (caches_block t file block body) refl refl refl refl h) (λ e. same t (purges t file) refl refl refl refl h) in
+      let kept : Idle u = choice Idle (holds_caching (lease_on file t.client.leases) && is_revision_before rev (revision_of file t.client.revisions))
+      (caches_block t file block body) (purges t file) (λ e. same t (caches_block t file block body) refl refl refl refl h)
+      (λ e. same t (purges t file) refl refl refl refl h) in
       answered v _ _ v.client.call (same u v refl refl refl refl kept)
 
   pushed : (t : ClientStep) (file block : ℕ) (body : List ℕ) (rev : ℕ) → Idle t → Idle (push_done t file block body rev)
@@ -165,8 +207,10 @@ module _ (Premise : Type 0) where
       let known = knows_revision (ends_push t) file rev in
       let u = caches_push known file block body in
       let knew : Idle known = record { attached = h.attached; answered = h.answered; dirty = h.dirty; push = λ k. refl } in
-      let kept : Idle u = choice Idle (is_some (dirty_at file block t.client.dirty)) known (caches_block known file block body) (λ e. knew) (λ e. same known (caches_block known file block body) refl refl refl refl knew) in
-      choice Idle (is_clean u.client file) (vacates_noticed u file (notice_on file u.client.notices)) u (λ e. noticed u file (notice_on file u.client.notices) kept) (λ e. kept)
+      let kept : Idle u = choice Idle (is_some (dirty_at file block t.client.dirty)) known (caches_block known file block body) (λ e. knew)
+      (λ e. same known (caches_block known file block body) refl refl refl refl knew) in
+      choice Idle (is_clean u.client file) (vacates_noticed u file (notice_on file u.client.notices)) u
+      (λ e. noticed u file (notice_on file u.client.notices) kept) (λ e. kept)
 
   known : (t : ClientStep) (file rev : ℕ) → Idle t → Idle (knows_revision t file rev)
   unfolding knows_revision
@@ -209,7 +253,8 @@ module _ (Premise : Type 0) where
 
   refusal : (t : ClientStep) (status : Refusal) (ticket : Ticket) (job : Job) → Idle t → Idle (refused t status ticket job)
   refusal t status ticket attaching h = h
-  refusal t status ticket for_call h = choice Idle (is_put_off status) (pauses t) (answers_call t (answer_of status) None) (λ e. paused t h) (λ e. answered t (answer_of status) None t.client.call h)
+  refusal t status ticket for_call h = choice Idle (is_put_off status) (pauses t) (answers_call t (answer_of status) None) (λ e. paused t h)
+      (λ e. answered t (answer_of status) None t.client.call h)
   refusal t status ticket renewing h = choice Idle (is_put_off status) (pauses t) t (λ e. paused t h) (λ e. h)
   refusal t status ticket pushing h = refuses-push t ticket.request h
 
@@ -223,7 +268,11 @@ module _ (Premise : Type 0) where
 
   evicts : (t : ClientStep) (file : ℕ) (tag : Tag) → Idle t → Idle (evicted t file tag)
   unfolding notes_notice
-  evicts t file tag h = evicted-cases t file tag Idle (record { clean = λ e. vacates t file tag h; waiting = λ e. same t (notes_notice t file tag) refl refl refl refl h })
+  evicts t file tag h = evicted-cases t file tag Idle (record {
+    clean = λ e. vacates t file tag h;
+    waiting = λ e. same t (notes_notice t file tag)
+        refl refl refl refl h;
+  })
 
   -- ---- the steps
 
@@ -242,7 +291,8 @@ module _ (Premise : Type 0) where
   hear-idles c k m t hears h =
       let from : Idle (begun c) = record { attached = h.attached; answered = h.answered; dirty = h.dirty; push = h.push } in
       heard-cases c k m t Idle hears (record {
-        answered = λ xid r ticket is asks own inc counts. sends false (settle (replied (begun c) k ticket r)) (settles (replied (begun c) k ticket r) (replies (begun c) k ticket r from));
+        answered = λ xid r ticket is asks own inc counts. sends false (settle (replied (begun c) k ticket r)) (settles (replied (begun c) k ticket r)
+            (replies (begun c) k ticket r from));
         noticed = λ xid file tag is older.
             let cut : Idle (cancels (begun c) file) = record { attached = h.attached; answered = h.answered; dirty = h.dirty; push = h.push } in
             let gone = evicted (cancels (begun c) file) file tag in

@@ -32,11 +32,13 @@ module _ (Premise : Type 0) where
   unfolding after_client
   after-one w host t all here = All-set (Rests Premise) w.clients host t.client here all
 
-  hearing : (w : World) (k host : ℕ) (m : Message) (c : Client) → AllIdle w → Rests Premise c → (o : Option ClientStep) → hear c k m ≡ o → AllIdle (after_hearing w host o)
+  hearing : (w : World) (k host : ℕ) (m : Message) (c : Client) → AllIdle w → Rests Premise c → (o : Option ClientStep) → hear c k m ≡ o
+      → AllIdle (after_hearing w host o)
   hearing w k host m c all h None hears = all
   hearing w k host m c all h (Some t) hears = after-one w host t all (hear-idles Premise c k m t hears h)
 
-  to-client : (w : World) (k host : ℕ) (m : Message) → AllIdle w → (o : Option Client) → slice_get w.clients host ≡ o → AllIdle (deliver_to_client w k host m o)
+  to-client : (w : World) (k host : ℕ) (m : Message) → AllIdle w → (o : Option Client) → slice_get w.clients host ≡ o
+      → AllIdle (deliver_to_client w k host m o)
   to-client w k host m all None is = all
   to-client w k host m all (Some c) is = hearing w k host m c all (all-get (Rests Premise) w.clients host c is all) (hear c k m) refl
 
@@ -49,7 +51,8 @@ module _ (Premise : Type 0) where
   delivered w k all None = all
   delivered w k all (Some p) = to-party w k p all p.to
 
-  ticking : (w : World) (host : ℕ) → AllIdle w → (o : Option Client) → slice_get w.clients host ≡ o → AllIdle (at_client w host (λ c. client_tick c (c.now + 1)) o)
+  ticking : (w : World) (host : ℕ) → AllIdle w → (o : Option Client) → slice_get w.clients host ≡ o
+      → AllIdle (at_client w host (λ c. client_tick c (c.now + 1)) o)
   ticking w host all None is = all
   ticking w host all (Some c) is = after-one w host _ all (tick-idles Premise c (c.now + 1) (all-get (Rests Premise) w.clients host c is all))
 
@@ -78,7 +81,13 @@ module _ (Premise : Type 0) where
       rounds count (calm_round p) (ticked r.world (hosts (length q.world.clients) 0 q (flows (enough_deliveries p) p all)))
 
 resting : (clients : List Client) → All IsAnswered clients → All (Rests ⊥) clients
-resting clients all = λ k c below. let a = all k c below in record { attached = a.attached; answered = a.answered; dirty = λ no. absurd no; push = λ no. absurd no }
+resting clients all = λ k c below. let a = all k c below in record {
+  attached = a.attached;
+  answered = a.answered;
+  dirty = λ no. absurd no;
+  push =
+      λ no. absurd no;
+}
 
 pub answers-stay : AnswersStay
 answers-stay p count all = λ k c below.

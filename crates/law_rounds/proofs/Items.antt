@@ -43,10 +43,6 @@ pub each-map : (P Q : Item → Type 0) → ((i : Item) → P i → Q i) → (xs 
 each-map P Q f [] a = tt
 each-map P Q f (x ∷ xs) a = (f x a.0, each-map P Q f xs a.1)
 
-pub each-both : (P Q : Item → Type 0) (xs : List Item) → Each P xs → Each Q xs → Each (λ i. P i × Q i) xs
-each-both P Q [] a b = tt
-each-both P Q (x ∷ xs) a b = ((a.0, b.0), each-both P Q xs a.1 b.1)
-
 pub all-append : (xs ys : List Item) → all_numbers (xs ++ ys) ≡ all_numbers xs ++ all_numbers ys
 all-append [] ys = refl
 all-append (x ∷ xs) ys = ap (λ ns. numbers_of x ++ ns) (all-append xs ys) ∙ behind x
@@ -111,7 +107,11 @@ without-first k high numbers r =
 
 rise-from : (first count : ℕ) → Rise first (first + count) (numbers_from first count)
 rise-from first zero = omega arith
-rise-from first (suc count) = (omega arith, let same : (first + 1) + count ≡ first + suc count = omega arith in subst (λ n. Rise (first + 1) n (numbers_from (first + 1) count)) same (rise-from (first + 1) count))
+rise-from first (suc count) = (
+  omega arith,
+  let same : (first + 1) + count ≡ first + suc count = omega arith in
+      subst (λ n. Rise (first + 1) n (numbers_from (first + 1) count)) same (rise-from (first + 1) count),
+)
 
 rise-append : (low high count : ℕ) (numbers : List ℕ) → Rise low high numbers → Rise low (high + count) (numbers ++ numbers_from high count)
 rise-append low high count [] r = rise-lower low high (high + count) (numbers_from high count) r (rise-from high count)
@@ -150,7 +150,8 @@ ones-sent : (ps more : List Packet) (n : ℕ) → length ps ≡ n → Each (IsSe
 ones-sent ps [] n len = tt
 ones-sent ps (p ∷ more) n len = (
   subst (λ k. slice_get (ps ++ p ∷ more) k ≡ Some p) len (get-behind ps p more),
-  subst (λ qs. Each (IsSentAs qs) (ones (n + 1) more)) (append-one ps p more) (ones-sent (ps ++ p ∷ []) more (n + 1) (let both = length-append ps (p ∷ []) in omega arith)),
+  subst (λ qs. Each (IsSentAs qs) (ones (n + 1) more)) (append-one ps p more) (ones-sent (ps ++ p ∷ []) more (n + 1) (let both = length-append ps
+      (p ∷ []) in omega arith)),
 )
   where
     append-one : (xs : List Packet) (y : Packet) (ys : List Packet) → (xs ++ y ∷ []) ++ ys ≡ xs ++ y ∷ ys
@@ -164,31 +165,39 @@ adds-ones ps more = record { are = ones-are (length ps) more; sent = ones-sent p
 abbrev pub pair_sent : (host x y file : ℕ) (who : Who) (tag : Tag) (r : Request) → List Packet
 pair_sent host x y file who tag r = from_host host (call x (Request.Vacated who file tag)) ∷ from_host host (call y r) ∷ []
 
-pub adds-pair : (ps : List Packet) (host x y file : ℕ) (who : Who) (tag : Tag) (r : Request) → Adds ps (pair_sent host x y file who tag r) (pair (length ps) host x y file who tag r ∷ [])
+pub adds-pair : (ps : List Packet) (host x y file : ℕ) (who : Who) (tag : Tag) (r : Request) → Adds ps (pair_sent host x y file who tag r)
+    (pair (length ps) host x y file who tag r ∷ [])
 adds-pair ps host x y file who tag r =
     let two = ones-sent ps (pair_sent host x y file who tag r) (length ps) refl in
     record { are = refl; sent = ((two.0, two.1.0), tt) }
 
 -- the first packet is delivered, and others are sent
-pub delivered-queue : (w v : World) (more : List Packet) (k : ℕ) (p : Packet) (fresh : List ℕ) (items new : List Item) → Queued w.packets (k ∷ fresh) (one k p ∷ items) → v.packets ≡ w.packets ++ more → Adds w.packets more new → Queued v.packets (without k (k ∷ fresh) ++ added w v) (items ++ new)
+pub delivered-queue : (w v : World) (more : List Packet) (k : ℕ) (p : Packet) (fresh : List ℕ) (items new : List Item) → Queued w.packets (k ∷ fresh)
+    (one k p ∷ items) → v.packets ≡ w.packets ++ more → Adds w.packets more new → Queued v.packets (without k (k ∷ fresh) ++ added w v) (items ++ new)
 delivered-queue w v more k p fresh items new q grown adds =
     let gone = without-first k (length w.packets) fresh q.rises.1 in
     let longer : length v.packets ≡ length w.packets + length more = ap (λ (ps : List Packet). length ps) grown ∙ length-append w.packets more in
     let count : length v.packets - length w.packets ≡ length more = omega arith in
     let came : added w v ≡ numbers_from (length w.packets) (length more) = ap (numbers_from (length w.packets)) count in
     let rest : fresh ≡ all_numbers items = tail-same k k fresh (all_numbers items) q.is in
-    let both : without k (k ∷ fresh) ++ added w v ≡ fresh ++ numbers_from (length w.packets) (length more) = ap (λ ns. ns ++ added w v) gone ∙ ap (λ ns. fresh ++ ns) came in
+    let both : without k (k ∷ fresh) ++ added w v ≡ fresh ++ numbers_from (length w.packets) (length more) = ap (λ ns. ns ++ added w v) gone
+    ∙ ap (λ ns. fresh ++ ns) came in
     record {
-      is = both ∙ ap (λ ns. ns ++ numbers_from (length w.packets) (length more)) rest ∙ ap (λ ns. all_numbers items ++ ns) (sym adds.are) ∙ sym (all-append items new);
-      sent = subst (λ ps. Each (IsSentAs ps) (items ++ new)) (sym grown) (each-append (IsSentAs (w.packets ++ more)) items new (each-map (IsSentAs w.packets) (IsSentAs (w.packets ++ more)) (λ i s. sent-longer w.packets more i s) items q.sent.1) adds.sent);
-      rises = subst (λ ns. Rise 0 (length v.packets) ns) (sym both) (subst (λ n. Rise 0 n (fresh ++ numbers_from (length w.packets) (length more))) (sym longer) (rise-append 0 (length w.packets) (length more) fresh (rise-lower 0 (k + 1) (length w.packets) fresh (omega arith) q.rises.1)));
+      is = both ∙ ap (λ ns. ns ++ numbers_from (length w.packets) (length more)) rest ∙ ap (λ ns. all_numbers items ++ ns) (sym adds.are)
+          ∙ sym (all-append items new);
+      sent = subst (λ ps. Each (IsSentAs ps) (items ++ new)) (sym grown) (each-append (IsSentAs (w.packets ++ more)) items new
+          (each-map (IsSentAs w.packets) (IsSentAs (w.packets ++ more)) (λ i s. sent-longer w.packets more i s) items q.sent.1) adds.sent);
+      rises = subst (λ ns. Rise 0 (length v.packets) ns) (sym both) (subst (λ n. Rise 0 n (fresh ++ numbers_from (length w.packets) (length more)))
+          (sym longer) (rise-append 0 (length w.packets) (length more) fresh (rise-lower 0 (k + 1) (length w.packets) fresh (omega arith) q.rises.1)));
     }
   where
     tail-same : (a b : ℕ) (xs ys : List ℕ) → a ∷ xs ≡ b ∷ ys → xs ≡ ys
     tail-same a b xs ys e = cc
 
 -- a pair is two packets
-pub pair-apart : (ps : List Packet) (fresh : List ℕ) (items : List Item) (k host x y file : ℕ) (who : Who) (tag : Tag) (r : Request) → Queued ps fresh (pair k host x y file who tag r ∷ items) → Queued ps fresh (one k (from_host host (call x (Request.Vacated who file tag))) ∷ one (k + 1) (from_host host (call y r)) ∷ items)
+pub pair-apart : (ps : List Packet) (fresh : List ℕ) (items : List Item) (k host x y file : ℕ) (who : Who) (tag : Tag) (r : Request)
+    → Queued ps fresh (pair k host x y file who tag r ∷ items) → Queued ps fresh (one k (from_host host (call x (Request.Vacated who file tag)))
+    ∷ one (k + 1) (from_host host (call y r)) ∷ items)
 pair-apart ps fresh items k host x y file who tag r q = record { is = q.is; sent = (q.sent.0.0, (q.sent.0.1, q.sent.1)); rises = q.rises }
 
 -- all that is under way, each packet for itself
@@ -200,7 +209,8 @@ queue-of ps fresh rises = let found = packets-of 0 fresh rises in (found.0, (rec
     there (x ∷ xs) zero below = (x, refl)
     there (x ∷ xs) (suc k) below = there xs k (omega arith)
 
-    packets-of : (low : ℕ) (numbers : List ℕ) → Rise low (length ps) numbers → (items : List Item) × ((numbers ≡ all_numbers items) × (Each (IsSentAs ps) items × Each IsSingle items))
+    packets-of : (low : ℕ) (numbers : List ℕ) → Rise low (length ps) numbers → (items : List Item) × ((numbers ≡ all_numbers items)
+        × (Each (IsSentAs ps) items × Each IsSingle items))
     packets-of low [] r = ([], (refl, (tt, tt)))
     packets-of low (k ∷ numbers) r =
         let within = rise-within (k + 1) (length ps) numbers r.1 in

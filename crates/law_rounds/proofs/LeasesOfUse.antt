@@ -42,7 +42,8 @@ pub writers-get : WritersGetLeasesOfUse
 unfolding price_of
 writers-get s sender next xid file i who want p writing sent x inc grant is = by (is_idle grant) refl
   where
-    light : packets_weight (price_of s) 2 (receive s sender next (request xid (Request.GetLease who file want))).sends + 1 ≤ want_weight (price_of s) (is_writing want.mode)
+    light : packets_weight (price_of s) 2 (receive s sender next (request xid (Request.GetLease who file want))).sends + 1 ≤ want_weight (price_of s)
+        (is_writing want.mode)
     light = receive-lighter (price_of s) 2 s sender next (call xid (Request.GetLease who file want)) (dear s sender)
 
     one : packet_weight (price_of s) 2 p ≤ packets_weight (price_of s) 2 (receive s sender next (request xid (Request.GetLease who file want))).sends

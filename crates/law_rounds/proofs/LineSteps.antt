@@ -45,17 +45,20 @@ module _ (s : Server) (sender next : ℕ) (d : Datagram) (host : ℕ) (long : le
   apart : (who : Who) → (host == who.host) ≡ false → host ≢ who.host
   apart who differs same = let yes : (host == who.host) ≡ true = number-same host who.host same in absurd (cc)
 
-  goes-decided : (kept : Kept) (d' : Decision) (xid seq : ℕ) (who : Who) (r : Request) → kept.hosts ≡ s.kept.hosts → d ≡ request xid r → asker r ≡ Some who → sequence_of r ≡ Some seq → IsFresh s sender who seq → fair r d'.verdict ≡ true → Goes (with_row kept who.host (row_after who seq d'))
+  goes-decided : (kept : Kept) (d' : Decision) (xid seq : ℕ) (who : Who) (r : Request) → kept.hosts ≡ s.kept.hosts → d ≡ request xid r → asker r
+      ≡ Some who → sequence_of r ≡ Some seq → IsFresh s sender who seq → fair r d'.verdict ≡ true → Goes (with_row kept who.host (row_after who seq d'))
   goes-decided kept d' xid seq who r same e by sq fresh f = step (host == who.host) refl
     where
       step : (b : Bool) → (host == who.host) ≡ b → Goes (with_row kept who.host (row_after who seq d'))
       step true is =
           let here : host ≡ who.host = same-number host who.host is in
           let few = fresh.current.from.possible in
-          let own : host_row (with_row kept who.host (row_after who seq d')) who.host ≡ row_after who seq d' = own-line kept who.host (row_after who seq d') (let all : length kept.hosts ≡ most_hosts = ap (λ (hs : List HostRow). length hs) same ∙ long in omega arith) in
+          let own : host_row (with_row kept who.host (row_after who seq d')) who.host ≡ row_after who seq d' = own-line kept who.host
+          (row_after who seq d') (let all : length kept.hosts ≡ most_hosts = ap (λ (hs : List HostRow). length hs) same ∙ long in omega arith) in
           line_decided xid seq d'.value who r d'.verdict e by sq here fresh.current.from.host
           (fresh.current.inc ∙ ap (λ n. (host_row s.kept n).inc) (sym here))
-          (let above = fresh.above in let line : (host_row s.kept host).seq ≡ (host_row s.kept who.host).seq = ap (λ n. (host_row s.kept n).seq) here in omega arith)
+          (let above = fresh.above in let line : (host_row s.kept host).seq ≡ (host_row s.kept who.host).seq = ap (λ n. (host_row s.kept n).seq)
+          here in omega arith)
           (ap (host_row (with_row kept who.host (row_after who seq d'))) here ∙ own) f
       step false differs = line_same (other-line kept who.host host (row_after who seq d') (apart who differs) ∙ same-lines s.kept kept host same)
 
@@ -67,7 +70,8 @@ module _ (s : Server) (sender next : ℕ) (d : Datagram) (host : ℕ) (long : le
           let here : host ≡ who.host = same-number host who.host is in
           let few = from.possible in
           let line : (host_row s.kept host).inc ≡ (host_row s.kept who.host).inc = ap (λ n. (host_row s.kept n).inc) here in
-          line_attached who here (omega arith) (ap (host_row (with_row s.kept who.host (row_of_attach who))) here ∙ own-line s.kept who.host (row_of_attach who) (omega arith))
+          line_attached who here (omega arith) (ap (host_row (with_row s.kept who.host (row_of_attach who))) here ∙ own-line s.kept who.host
+          (row_of_attach who) (omega arith))
       step false differs = line_same (other-line s.kept who.host host (row_of_attach who) (apart who differs))
 
   pub line-goes : Goes (receive s sender next d).server.kept
@@ -90,10 +94,13 @@ module _ (s : Server) (sender next : ℕ) (d : Datagram) (host : ℕ) (long : le
     leasing_full = λ x w want f e asking c none room. line_same refl;
     leasing = λ x w want f row term e asking c g. line_same refl;
     declining = λ x w seq r v e by sq fresh declined. goes-decided s.kept (decides s v) x seq w r refl e by sq fresh (declined-fair s w r v declined);
-    putting_off_change = λ x w seq r f clash e by sq file base changing c. goes-decided s.kept (puts_off s w f.id (with_rows s.table (marked f.id w.host Access.Write s.table.rows))) x seq w r refl e by sq changing.fresh (fair-later r base);
+    putting_off_change = λ x w seq r f clash e by sq file base changing c. goes-decided s.kept
+        (puts_off s w f.id (with_rows s.table (marked f.id w.host Access.Write s.table.rows))) x seq w r refl e by sq changing.fresh (fair-later r base);
     creating = λ x w seq blocks name e fresh serves can. goes-decided _ (creates s name blocks) x seq w _ refl e refl refl fresh refl;
-    writing_through = λ x w seq block first last body f e changing below c. goes-decided _ (writes_through s w f block first body) x seq w _ refl e refl refl changing.fresh refl;
-    storing = λ x w seq block first last base body f row e changing below can. goes-decided _ (stores s w f row block first last body) x seq w _ refl e refl refl changing.fresh refl;
+    writing_through = λ x w seq block first last body f e changing below c. goes-decided _ (writes_through s w f block first body) x seq w _ refl e
+        refl refl changing.fresh refl;
+    storing = λ x w seq block first last base body f row e changing below can. goes-decided _ (stores s w f row block first last body) x seq w _ refl
+        e refl refl changing.fresh refl;
     storing_recovering =
         λ x w seq block first final base body f until heard last e fresh recovers found below boot rev.
         goes-decided _ (stores_recovering s until last w f block first final body) x seq w _ refl e refl refl fresh refl;

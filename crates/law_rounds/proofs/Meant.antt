@@ -12,8 +12,10 @@ use Rattle.nq_base.specs.declared.Value.{Value}
 use Rattle.nq_base.specs.declared.Want.{Want}
 use Rattle.nq_base.specs.declared.Who.{Who}
 use Rattle.nq_model.specs.Client.{Client, ClientStep, begun, for_call, Ticket, UnderWay, lease_on}
-use Rattle.nq_model.specs.ClientStep.{begins_call, is_called, says_busy, client_call, at_time, sends_again, client_tick, attached_client, starts, fresh_client, restart}
-use Rattle.nq_model.specs.Hear.{hear, spends, answers_call, takes_optional, then_caches, knows_revision, caches_write, marks_through, push_done, push_refused, attached, pauses, replied, cancels, vacates_lease, notes_notice, evicted, reply_counts}
+use Rattle.nq_model.specs.ClientStep.{begins_call, is_called, says_busy, client_call, at_time, sends_again, client_tick, attached_client, starts}
+use Rattle.nq_model.specs.ClientStep.{fresh_client, restart}
+use Rattle.nq_model.specs.Hear.{hear, spends, answers_call, takes_optional, then_caches, knows_revision, caches_write, marks_through, push_done}
+use Rattle.nq_model.specs.Hear.{push_refused, attached, pauses, replied, cancels, vacates_lease, notes_notice, evicted, reply_counts}
 use Rattle.nq_model.specs.Message.{Message}
 use Rattle.nq_model.specs.Send.{sends_request, after_seq, after_number, takes_push, gives_up, want_of, read_want, shares_live, send_next}
 use Rattle.nq_model.specs.Settle.{answers, after_read, reads_cached, after_write, marks_written, is_for_call, ticket_is_for_call, settle}
@@ -29,7 +31,8 @@ use Rattle.walk_steps.proofs.Steps.{Changes, nothing, by_client, by_server, Clie
 use Rattle.walk_steps.proofs.Worlds.{Holds, run-holds, get-set-same, get-set-other, first-client}
 use Rattle.walk_steps.proofs.Rows.{same-number, number-same}
 use Rattle.law_rounds.specs.RequestsAreMeant.{wanted, IsMeant, RequestsAreMeant}
-use Rattle.law_rounds.proofs.EffortReplies.{Goes, start as spent, start-same, known-goes, optional-goes, pushed-goes, refused-goes, read-goes, write-goes, attached-goes}
+use Rattle.law_rounds.proofs.EffortReplies.{Goes, start as spent, start-same, known-goes, optional-goes, pushed-goes, refused-goes, read-goes}
+use Rattle.law_rounds.proofs.EffortReplies.{write-goes, attached-goes}
 
 -- a client's request is meant
 Meant : Client → Type 0
@@ -52,8 +55,16 @@ unfolding Meant
 same-meant c d who term ticket call m t u asks job has =
     let old = m t u (sym ticket ∙ asks) job (sym call ∙ has) in
     record {
-      reads = λ w q file block want e. let k = old.reads w q file block want e in (k.0, k.1 ∙ ap (λ v. Request.Read v u.q file block (Some (wanted c Mode.Reading))) (sym who) ∙ ap (λ n. Request.Read d.who u.q file block (Some (record { mode = Mode.Reading; term = n }))) (sym term));
-      leases = λ w file want e. let k = old.leases w file want e in (k.0, k.1 ∙ ap (λ v. Request.GetLease v file (wanted c Mode.Writing)) (sym who) ∙ ap (λ n. Request.GetLease d.who file (record { mode = Mode.Writing; term = n })) (sym term));
+      reads = λ w q file block want e. let k = old.reads w q file block want e in (
+        k.0,
+        k.1 ∙ ap (λ v. Request.Read v u.q file block (Some (wanted c Mode.Reading))) (sym who)
+            ∙ ap (λ n. Request.Read d.who u.q file block (Some (record { mode = Mode.Reading; term = n }))) (sym term),
+      );
+      leases = λ w file want e. let k = old.leases w file want e in (
+        k.0,
+        k.1 ∙ ap (λ v. Request.GetLease v file (wanted c Mode.Writing)) (sym who)
+            ∙ ap (λ n. Request.GetLease d.who file (record { mode = Mode.Writing; term = n })) (sym term),
+      );
     }
 
 -- where the request under way is not the call's
@@ -66,14 +77,20 @@ settling-meant c idle = other-meant c (λ t asks job. clash t job (ap ticket_is_
 -- ---- what is sent
 
 -- no request that wants a lease
-plain-meant : (c : Client) (t : Ticket) (u : UnderWay) → ((who : Who) (q file block : ℕ) (want : Want) → t.request ≡ Request.Read who q file block (Some want) → ⊥) → ((who : Who) (file : ℕ) (want : Want) → t.request ≡ Request.GetLease who file want → ⊥) → IsMeant c t u
-plain-meant c t u no_read no_lease = record { reads = λ who q file block want is. absurd (no_read who q file block want is); leases = λ who file want is. absurd (no_lease who file want is) }
+plain-meant : (c : Client) (t : Ticket) (u : UnderWay) → ((who : Who) (q file block : ℕ) (want : Want) → t.request ≡ Request.Read who q file block
+    (Some want) → ⊥) → ((who : Who) (file : ℕ) (want : Want) → t.request ≡ Request.GetLease who file want → ⊥) → IsMeant c t u
+plain-meant c t u no_read no_lease = record {
+  reads = λ who q file block want is. absurd (no_read who q file block want is);
+  leases =
+      λ who file want is. absurd (no_lease who file want is);
+}
 
 module _ (t : ClientStep) (m : Meant t.client) where
   -- a request of the call, where the call is this
   sent : (d : Client) (u : UnderWay) (k : Ticket) → d.ticket ≡ Some k → d.call ≡ Some u → IsMeant d k u → Meant d
   unfolding Meant
-  sent d u k asks has is s w asked job other = subst (λ x. IsMeant d x w) (some-same k s (sym asks ∙ asked)) (subst (λ x. IsMeant d k x) (some-same u w (sym has ∙ other)) is)
+  sent d u k asks has is s w asked job other = subst (λ x. IsMeant d x w) (some-same k s (sym asks ∙ asked)) (subst (λ x. IsMeant d k x)
+      (some-same u w (sym has ∙ other)) is)
 
   other-job : (d : Client) (k : Ticket) → d.ticket ≡ Some k → (k.job ≡ for_call → ⊥) → Meant d
   other-job d k asks other = other-meant d (λ s asked job. other (ap (λ (x : Ticket). x.job) (some-same k s (sym asks ∙ asked)) ∙ job))
@@ -97,11 +114,14 @@ module _ (t : ClientStep) (m : Meant t.client) where
     renewing = λ file lease ticks free none unpaused due held same clean unnoticed. other-job _ _ refl (λ e. cc);
   })
     where
-      same : (d : Client) (u : UnderWay) (file : ℕ) (b : Bool) → d.who ≡ t.client.who → d.term ≡ t.client.term → shares_live t.client.now (lease_on file t.client.leases) ≡ b → (want : Want) → read_want t.client file ≡ Some want → Some want ≡ Some (wanted d Mode.Reading)
+      same : (d : Client) (u : UnderWay) (file : ℕ) (b : Bool) → d.who ≡ t.client.who → d.term ≡ t.client.term → shares_live t.client.now
+          (lease_on file t.client.leases) ≡ b → (want : Want) → read_want t.client file ≡ Some want → Some want ≡ Some (wanted d Mode.Reading)
       same d u file true who term e want is = let none : read_want t.client file ≡ None = rw e refl in none-some want (sym none ∙ is)
-      same d u file false who term e want is = let some : read_want t.client file ≡ Some (want_of t.client Mode.Reading) = rw e refl in sym is ∙ some ∙ ap (λ n. Some (record { mode = Mode.Reading; term = n })) (sym term)
+      same d u file false who term e want is = let some : read_want t.client file ≡ Some (want_of t.client Mode.Reading) = rw e refl in sym is ∙ some
+          ∙ ap (λ n. Some (record { mode = Mode.Reading; term = n })) (sym term)
 
-      read : (d : Client) (k : Ticket) (u : UnderWay) (file block : ℕ) → d.who ≡ t.client.who → d.term ≡ t.client.term → k.request ≡ Request.Read t.client.who u.q file block (read_want t.client file) → u.call ≡ Call.Read file block → IsMeant d k u
+      read : (d : Client) (k : Ticket) (u : UnderWay) (file block : ℕ) → d.who ≡ t.client.who → d.term ≡ t.client.term → k.request ≡ Request.Read
+          t.client.who u.q file block (read_want t.client file) → u.call ≡ Call.Read file block → IsMeant d k u
       read d k u file block mine term request is = record {
         reads = λ who q f b want e.
             let both : Request.Read t.client.who u.q file block (read_want t.client file) ≡ Request.Read who q f b (Some want) = sym request ∙ e in
@@ -110,19 +130,27 @@ module _ (t : ClientStep) (m : Meant t.client) where
             let same_want : read_want t.client file ≡ Some want = cc in
             let wants = same d u file (shares_live t.client.now (lease_on file t.client.leases)) mine term refl want same_want in (
               is ∙ ap (λ g. Call.Read g block) same_file ∙ ap (λ n. Call.Read f n) same_block,
-              request ∙ ap (λ w. Request.Read t.client.who u.q file block w) (same_want ∙ wants) ∙ ap (λ v. Request.Read v u.q file block (Some (wanted d Mode.Reading))) (sym mine) ∙ ap (λ g. Request.Read d.who u.q g block (Some (wanted d Mode.Reading))) same_file ∙ ap (λ n. Request.Read d.who u.q f n (Some (wanted d Mode.Reading))) same_block,
+              request ∙ ap (λ w. Request.Read t.client.who u.q file block w) (same_want ∙ wants)
+                  ∙ ap (λ v. Request.Read v u.q file block (Some (wanted d Mode.Reading))) (sym mine)
+                  ∙ ap (λ g. Request.Read d.who u.q g block (Some (wanted d Mode.Reading))) same_file
+                  ∙ ap (λ n. Request.Read d.who u.q f n (Some (wanted d Mode.Reading))) same_block,
             );
-        leases = λ who f want e. let both : Request.Read t.client.who u.q file block (read_want t.client file) ≡ Request.GetLease who f want = sym request ∙ e in absurd (cc);
+        leases = λ who f want e. let both : Request.Read t.client.who u.q file block (read_want t.client file) ≡ Request.GetLease who f want =
+            sym request ∙ e in absurd (cc);
       }
 
-      lease : (d : Client) (k : Ticket) (u : UnderWay) (file block : ℕ) (body : List ℕ) → d.who ≡ t.client.who → d.term ≡ t.client.term → k.request ≡ Request.GetLease t.client.who file (want_of t.client Mode.Writing) → u.call ≡ Call.Write file block body → u.through ≡ false → IsMeant d k u
+      lease : (d : Client) (k : Ticket) (u : UnderWay) (file block : ℕ) (body : List ℕ) → d.who ≡ t.client.who → d.term ≡ t.client.term → k.request
+          ≡ Request.GetLease t.client.who file (want_of t.client Mode.Writing) → u.call ≡ Call.Write file block body → u.through ≡ false → IsMeant d k u
       lease d k u file block body mine term request is through = record {
-        reads = λ who q f b want e. let both : Request.GetLease t.client.who file (want_of t.client Mode.Writing) ≡ Request.Read who q f b (Some want) = sym request ∙ e in absurd (cc);
+        reads = λ who q f b want e. let both : Request.GetLease t.client.who file (want_of t.client Mode.Writing) ≡ Request.Read who q f b
+            (Some want) = sym request ∙ e in absurd (cc);
         leases = λ who f want e.
             let both : Request.GetLease t.client.who file (want_of t.client Mode.Writing) ≡ Request.GetLease who f want = sym request ∙ e in
             let same_file : file ≡ f = cc in (
               record { block = block; body = body; is = is ∙ ap (λ g. Call.Write g block body) same_file; delayed = through },
-              request ∙ ap (λ v. Request.GetLease v file (want_of t.client Mode.Writing)) (sym mine) ∙ ap (λ n. Request.GetLease d.who file (record { mode = Mode.Writing; term = n })) (sym term) ∙ ap (λ g. Request.GetLease d.who g (wanted d Mode.Writing)) same_file,
+              request ∙ ap (λ v. Request.GetLease v file (want_of t.client Mode.Writing)) (sym mine)
+                  ∙ ap (λ n. Request.GetLease d.who file (record { mode = Mode.Writing; term = n })) (sym term)
+                  ∙ ap (λ g. Request.GetLease d.who g (wanted d Mode.Writing)) same_file,
             );
       }
 
@@ -170,25 +198,35 @@ evicted-meant t file tag m = evicted-cases t file tag (λ v. Meant v.client) (re
 
 -- after a reply the request under way is spent
 module _ (c : Client) where
-  pub replied-free : (number : ℕ) (ticket : Ticket) (r : Reply) → c.ticket ≡ Some ticket → reply_counts r ticket ≡ true → Alone c → (replied (begun c) number ticket r).client.ticket ≡ None
+  pub replied-free : (number : ℕ) (ticket : Ticket) (r : Reply) → c.ticket ≡ Some ticket → reply_counts r ticket ≡ true → Alone c
+      → (replied (begun c) number ticket r).client.ticket ≡ None
   unfolding answers pauses marks_through spends
-  replied-free number ticket r asks counts alone = replied-cases c number ticket r (λ v. v.client.ticket ≡ None) (alone.asking.ticketed ticket asks).fits counts (record {
-    attaching = λ who inc job request is. gone (attached (spent c)) 1 (attached-goes 3 5 c);
-    named = λ answer job is. said (spent c) answer None free;
-    reading = λ who q file block want inc rev body grant of is. said (then_caches (takes_optional (spent c) file grant ticket.first) file block body grant) (Answer.Ok (Value.Body body)) (Some number) (gone (then_caches (takes_optional (spent c) file grant ticket.first) file block body grant) 1 (read-goes 3 5 (spent c) file block body grant ticket.first));
-    leasing = λ who file want inc grant of is.
-        let taken = gone (takes_optional (spent c) file grant ticket.first) 1 (optional-goes 3 5 (spent c) file grant ticket.first) in
-        lease-done-cases (spent c) file grant ticket.first (λ v. v.client.ticket ≡ None) (λ caching. taken) (λ other. taken);
-    writing = λ who seq file block first last body inc rev of is. said (knows_revision (caches_write (spent c) file block body rev) file rev) (Answer.Ok Value.Nothing) None (gone (knows_revision (caches_write (spent c) file block body rev) file rev) 1 (write-goes 3 5 (spent c) file block body rev));
-    resizing = λ who seq q file blocks inc rev of is. said (knows_revision (spent c) file rev) (Answer.Ok Value.Nothing) None (gone (knows_revision (spent c) file rev) 0 (known-goes 3 5 (spent c) file rev));
-    removing = λ who seq q file inc of is. said (spent c) (Answer.Ok Value.Nothing) None free;
-    renewing = λ who file want inc grant job request is. gone (takes_optional (spent c) file grant ticket.first) 1 (optional-goes 3 5 (spent c) file grant ticket.first);
-    pushed = λ who seq file block first last base body inc rev job request is. gone (push_done (spent c) file block body rev) 1 (pushed-goes 3 5 (spent c) file block body rev);
-    putting_off = λ inc status of is off. refl;
-    refusing = λ inc status job is counted final. said (spent c) _ None free;
-    renewal_refused = λ inc status job is final. free;
-    push_refused = λ who seq file block first last base body inc status job request is final. gone (push_refused (spent c) file) 1 (refused-goes 3 5 (spent c) file);
-  })
+  replied-free number ticket r asks counts alone = replied-cases c number ticket r (λ v. v.client.ticket ≡ None) (alone.asking.ticketed ticket
+      asks).fits counts (record {
+        attaching = λ who inc job request is. gone (attached (spent c)) 1 (attached-goes 3 5 c);
+        named = λ answer job is. said (spent c) answer None free;
+        reading = λ who q file block want inc rev body grant of is. said (then_caches (takes_optional (spent c) file grant ticket.first) file block body
+            grant) (Answer.Ok (Value.Body body)) (Some number) (gone (then_caches (takes_optional (spent c) file grant ticket.first) file block body
+            grant) 1 (read-goes 3 5 (spent c) file block body grant ticket.first));
+        leasing = λ who file want inc grant of is.
+            let taken = gone (takes_optional (spent c) file grant ticket.first) 1 (optional-goes 3 5 (spent c) file grant ticket.first) in
+            lease-done-cases (spent c) file grant ticket.first (λ v. v.client.ticket ≡ None) (λ caching. taken) (λ other. taken);
+        writing = λ who seq file block first last body inc rev of is. said (knows_revision (caches_write (spent c) file block body rev) file rev)
+            (Answer.Ok Value.Nothing) None (gone (knows_revision (caches_write (spent c) file block body rev) file rev) 1 (write-goes 3 5 (spent c) file
+            block body rev));
+        resizing = λ who seq q file blocks inc rev of is. said (knows_revision (spent c) file rev) (Answer.Ok Value.Nothing) None
+            (gone (knows_revision (spent c) file rev) 0 (known-goes 3 5 (spent c) file rev));
+        removing = λ who seq q file inc of is. said (spent c) (Answer.Ok Value.Nothing) None free;
+        renewing = λ who file want inc grant job request is. gone (takes_optional (spent c) file grant ticket.first) 1 (optional-goes 3 5 (spent c) file
+            grant ticket.first);
+        pushed = λ who seq file block first last base body inc rev job request is. gone (push_done (spent c) file block body rev) 1
+            (pushed-goes 3 5 (spent c) file block body rev);
+        putting_off = λ inc status of is off. refl;
+        refusing = λ inc status job is counted final. said (spent c) _ None free;
+        renewal_refused = λ inc status job is final. free;
+        push_refused = λ who seq file block first last base body inc status job request is final. gone (push_refused (spent c) file) 1
+            (refused-goes 3 5 (spent c) file);
+      })
     where
       free : (spent c).client.ticket ≡ None
       free = (start-same 3 5 c).1
@@ -220,9 +258,11 @@ module _ (c : Client) where
     busy = λ why. same-meant c _ refl refl refl refl m;
     telling = λ file loss losses idle on changes has. idle-meant _ refl;
     going = λ idle on none.
-        let asked : Meant (is_called (begins_call c op) op).client = other-meant _ (λ t asks job. let has = alone.asking.called t asks job in let bad : false ≡ true = ap is_some (sym idle) ∙ has in cc) in
+        let asked : Meant (is_called (begins_call c op) op).client = other-meant _ (λ t asks job. let has = alone.asking.called t asks job in
+        let bad : false ≡ true = ap is_some (sym idle) ∙ has in cc) in
         let settled = settles (is_called (begins_call c op) op) asked in
-        unless-cached-cases (settle (is_called (begins_call c op) op)) (λ v. Meant v.client) (λ cached. settled) (λ other. sends (settle (is_called (begins_call c op) op)) settled false);
+        unless-cached-cases (settle (is_called (begins_call c op) op)) (λ v. Meant v.client) (λ cached. settled)
+        (λ other. sends (settle (is_called (begins_call c op) op)) settled false);
   })
 
   tick-meant : Meant c → Meant (client_tick c (c.now + 1)).client
@@ -251,7 +291,8 @@ acted w host c t (ticked is) own m = subst (λ (v : ClientStep). Meant v.client)
 acted w host c t (restarted is) own m = subst (λ (v : ClientStep). Meant v.client) (sym is) (restart-meant c)
 acted w host c t (heard k p sent to hears) own m = hear-meant c k p.message t own m hears
 
-client-meant : (w : World) (host : ℕ) (c : Client) (t : ClientStep) → slice_get w.clients host ≡ Some c → ClientActs w host c t → Holds w → EachMeant w → EachMeant (after_client w host t)
+client-meant : (w : World) (host : ℕ) (c : Client) (t : ClientStep) → slice_get w.clients host ≡ Some c → ClientActs w host c t → Holds w
+    → EachMeant w → EachMeant (after_client w host t)
 unfolding after_client EachMeant
 client-meant w host c t at acts before all = λ other d is. case other d (other == host) refl is
   where
@@ -281,7 +322,8 @@ first-meant head host c is =
 
 run-meant : (head : Head) (events : List Event) → EachMeant (run head events)
 run-meant head [] = first-meant head
-run-meant head (e ∷ events) = changed-meant (run head events) (run head (e ∷ events)) (step-changes (run head events) e) (run-holds head events) (run-meant head events)
+run-meant head (e ∷ events) = changed-meant (run head events) (run head (e ∷ events)) (step-changes (run head events) e) (run-holds head events)
+    (run-meant head events)
 
 pub requests-are-meant : RequestsAreMeant
 unfolding EachMeant Meant

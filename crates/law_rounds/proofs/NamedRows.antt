@@ -1,5 +1,6 @@
 -- In every run a row whose latest tag was named, by a notice or in a VACATED, is to go.
-use Rattle.std.proofs.Common.{◌≡◌, ◌≢◌, ◌<◌, ℕ, ◌+◌, ◌==◌, ◌&&◌, nat_lt, Bool, true, false, zero, suc, List, [], ◌∷◌, Option, Some, None, if◌then◌else◌, length, refl, sym, ap, subst, ◌∙◌, arith, inl, inr}
+use Rattle.std.proofs.Common.{◌≡◌, ◌≢◌, ◌<◌, ℕ, ◌+◌, ◌==◌, ◌&&◌, nat_lt, Bool, true, false, zero, suc, List, [], ◌∷◌, Option, Some, None}
+use Rattle.std.proofs.Common.{if◌then◌else◌, length, refl, sym, ap, subst, ◌∙◌, arith, inl, inr}
 use Rattle.std.specs.List.{filter}
 use Rattle.std.specs.Prelude.{map, slice_get, slice_set}
 use Rattle.nq_base.specs.declared.Access.{Access}
@@ -30,7 +31,8 @@ use Rattle.walk_steps.proofs.Runs.{Runs}
 use Rattle.walk_steps.proofs.Members.{in-filtered, in-map, find-in}
 use Rattle.walk_steps.proofs.Packets.{In, in-get, Asked, Told, message-same, told-same, not-both, call-same}
 use Rattle.walk_steps.proofs.ServerSays.{IsSaid, said_reply, said_error, said_notice}
-use Rattle.walk_steps.proofs.Steps.{Changes, nothing, by_client, by_server, ClientActs, called, ticked, restarted, heard, ServerActs, received, ticks, crashes, run-goes}
+use Rattle.walk_steps.proofs.Steps.{Changes, nothing, by_client, by_server, ClientActs, called, ticked, restarted, heard, ServerActs, received, ticks}
+use Rattle.walk_steps.proofs.Steps.{crashes, run-goes}
 use Rattle.walk_steps.proofs.TagFacts.{IsDrawn}
 use Rattle.walk_steps.proofs.Worlds.{run-holds, get-set-same, get-set-other, first-client, received-said, to-told}
 use Rattle.walk_steps.proofs.AskCases.{IsGranted, shares_again, begins_sharing, begins_caching, renews_row}
@@ -43,7 +45,8 @@ use Rattle.law_rounds.specs.NamedRows.{IsNamed, by_notice, by_vacated, NamedRows
 use Rattle.law_rounds.proofs.ClientCount.{client-count}
 use Rattle.law_rounds.proofs.HostsBelow.{run-local, one-row-each}
 use Rattle.law_rounds.proofs.NoticeRows.{member-found, notices-mark}
-use Rattle.law_rounds.proofs.NamedTags.{Named, NamedNow, Names, NoneGiven, NoneHeard, NoticedNamed, before, begun-names, given, given_now, hear-names, named-later, named-now, names-closed, restart-names, timed-names, told, told_now}
+use Rattle.law_rounds.proofs.NamedTags.{Named, NamedNow, Names, NoneGiven, NoneHeard, NoticedNamed, before, begun-names, given, given_now, hear-names}
+use Rattle.law_rounds.proofs.NamedTags.{named-later, named-now, names-closed, restart-names, timed-names, told, told_now}
 
 -- ---- what the server does to rows
 
@@ -81,7 +84,8 @@ module _ (s : Server) (each : HasOneRowEach s.table.rows) where
       let same = mark-is f by access m.was in
       kept_row m.was m.found (sym (ap (λ (x : Row). x.tag) m.is ∙ same.tag)) (λ going. ap (λ (x : Row). x.evicting) m.is ∙ same.evicts going)
 
-  put-rows : (row : Row) (rows : List Row) → ((file host : ℕ) → is_row_of file host row ≡ true → RowFrom s file host row) → RowsFrom s rows → RowsFrom s (put_row row rows)
+  put-rows : (row : Row) (rows : List Row) → ((file host : ℕ) → is_row_of file host row ≡ true → RowFrom s file host row) → RowsFrom s rows
+      → RowsFrom s (put_row row rows)
   unfolding RowsFrom
   put-rows row rows own from file host r e = by (is_row_of file host row) refl (sym (find-put file host row rows) ∙ e)
     where
@@ -91,7 +95,8 @@ module _ (s : Server) (each : HasOneRowEach s.table.rows) where
 
   vacated-rows : (who : Who) (file : ℕ) (tag : Tag) (own : Option Row) → RowsFrom s (vacated_rows who file tag s.table.rows own)
   vacated-rows who file tag None = same-rows
-  vacated-rows who file tag (Some row) = choice (RowsFrom s) (row.who.inc == who.inc && same_tag row.tag tag) (drop_row file who.host s.table.rows) s.table.rows (λ e. filtered-rows _) (λ e. same-rows)
+  vacated-rows who file tag (Some row) = choice (RowsFrom s) (row.who.inc == who.inc && same_tag row.tag tag) (drop_row file who.host s.table.rows)
+      s.table.rows (λ e. filtered-rows _) (λ e. same-rows)
 
   granted-tag : (q : Question) (want : Want) (row : Row) (term : ℕ) → IsGranted s.table q want row term → row.tag ≡ next_tag s.table
   unfolding shared_again sharing_row caching_row renewed_row
@@ -108,16 +113,20 @@ module _ (s : Server) (each : HasOneRowEach s.table.rows) where
     attaching = λ who later. filtered-rows _;
     vacating = λ who file tag current. vacated-rows who file tag _;
     marking = λ file host access serves. marked-rows file host access;
-    marking_waiting = λ xid r who f want e wants asking own room. put-rows _ _ (λ file host is. new_row asking.serves refl) (marked-rows f.id who.host (access_of (Some want)));
-    granting = λ xid r who f want row term e wants asking c g. put-rows row s.table.rows (λ file host is. new_row asking.serves (granted-tag (to_read s who f (Some want)) want row term g)) same-rows;
+    marking_waiting = λ xid r who f want e wants asking own room. put-rows _ _ (λ file host is. new_row asking.serves refl) (marked-rows f.id who.host
+        (access_of (Some want)));
+    granting = λ xid r who f want row term e wants asking c g. put-rows row s.table.rows (λ file host is. new_row asking.serves
+        (granted-tag (to_read s who f (Some want)) want row term g)) same-rows;
     creating = λ name blocks serves can. same-rows;
     changing = λ who f file serves current found same c. same-rows;
-    storing = λ who f file base row serves current found same can. put-rows (record row { heard = s.now }) s.table.rows (λ g h is. own_row f.id who.host row can.row_found g h is) same-rows;
+    storing = λ who f file base row serves current found same can. put-rows (record row { heard = s.now }) s.table.rows
+        (λ g h is. own_row f.id who.host row can.row_found g h is) same-rows;
     storing_recovering = λ f file until heard last p found same. same-rows;
     removing = λ who f serves current found c. filtered-rows _;
   })
     where
-      own_row : (f h : ℕ) (row : Row) → find_row f h s.table.rows ≡ Some row → (file host : ℕ) → is_row_of file host (record row { heard = s.now }) ≡ true → RowFrom s file host (record row { heard = s.now })
+      own_row : (f h : ℕ) (row : Row) → find_row f h s.table.rows ≡ Some row → (file host : ℕ) → is_row_of file host (record row { heard = s.now })
+          ≡ true → RowFrom s file host (record row { heard = s.now })
       own_row f h row found file host is =
           let i = find-in (is_row_of f h) s.table.rows row found in
           kept_row row (member-found file host row s.table.rows is (each file host) i) refl (λ going. going)
@@ -143,23 +152,27 @@ tick-silent s now = server-ticks s now (λ t. t.sends ≡ []) (record {
 -- ---- worlds
 
 record Marks (w : World) : Type 0 where
-  rows : (host file : ℕ) (tag : Tag) → Named w.packets host file tag → (row : Row) → find_row file host w.server.table.rows ≡ Some row → row.tag ≡ tag → row.evicting ≡ true
+  rows : (host file : ℕ) (tag : Tag) → Named w.packets host file tag → (row : Row) → find_row file host w.server.table.rows ≡ Some row → row.tag ≡ tag
+      → row.evicting ≡ true
   noticed : (host : ℕ) (c : Client) → slice_get w.clients host ≡ Some c → NoticedNamed w.packets host c
 
 -- a client's step names what was named before
 client-marks : (w : World) (host : ℕ) (t : ClientStep) → Names w.packets host (core_of t) → Marks w → Marks (after_client w host t)
 unfolding after_client NoticedNamed
 client-marks w host t names m = record {
-  rows = λ h file tag named row found is. m.rows h file tag (old h file tag (named-now w.packets (map (from_host host) t.sends) h file tag named)) row found is;
+  rows = λ h file tag named row found is. m.rows h file tag (old h file tag (named-now w.packets (map (from_host host) t.sends) h file tag named)) row
+      found is;
   noticed = λ h c is file n e. named-later w.packets (map (from_host host) t.sends) h file n.tag (case h c (h == host) refl is file n e);
 }
   where
-    sent : (h x : ℕ) (v : Who) (file : ℕ) (tag : Tag) → (y : Message) × In t.sends y × (from_host host y ≡ from_host h (call x (Request.Vacated v file tag))) → Named w.packets h file tag
+    sent : (h x : ℕ) (v : Who) (file : ℕ) (tag : Tag) → (y : Message) × In t.sends y
+        × (from_host host y ≡ from_host h (call x (Request.Vacated v file tag))) → Named w.packets h file tag
     sent h x v file tag y =
         let same = message-same host h y.0 (call x (Request.Vacated v file tag)) y.2 in
         subst (λ n. Named w.packets n file tag) same.0 (names.vacated x v file tag (subst (λ z. In t.sends z) same.1 y.1))
 
-    told-none : (h x : ℕ) (v : Who) (file : ℕ) (tag : Tag) → (y : Message) × In t.sends y × (from_host host y ≡ to_host h (call x (Request.Evicted v file tag))) → ⊥
+    told-none : (h x : ℕ) (v : Who) (file : ℕ) (tag : Tag) → (y : Message) × In t.sends y
+        × (from_host host y ≡ to_host h (call x (Request.Evicted v file tag))) → ⊥
     told-none h x v file tag y = not-both host h y.0 (call x (Request.Evicted v file tag)) y.2
 
     old : (h file : ℕ) (tag : Tag) → NamedNow w.packets (map (from_host host) t.sends) h file tag → Named w.packets h file tag
@@ -167,7 +180,8 @@ client-marks w host t names m = record {
     old h file tag (told_now x v i) = absurd (told-none h x v file tag (in-map (from_host host) t.sends _ i))
     old h file tag (given_now x v i) = sent h x v file tag (in-map (from_host host) t.sends _ i)
 
-    case : (h : ℕ) (c : Client) (b : Bool) → (h == host) ≡ b → slice_get (slice_set w.clients host t.client) h ≡ Some c → (file : ℕ) (n : Notice) → notice_on file c.notices ≡ Some n → Named w.packets h file n.tag
+    case : (h : ℕ) (c : Client) (b : Bool) → (h == host) ≡ b → slice_get (slice_set w.clients host t.client) h ≡ Some c → (file : ℕ) (n : Notice)
+        → notice_on file c.notices ≡ Some n → Named w.packets h file n.tag
     case h c true same is file n e =
         let one : h ≡ host = same-number h host same in
         let new : c ≡ t.client = get-set-same w.clients host t.client c (subst (λ k. slice_get (slice_set w.clients host t.client) k ≡ Some c) one is) in
@@ -176,12 +190,14 @@ client-marks w host t names m = record {
         let apart : h ≢ host = λ same. let yes : (h == host) ≡ true = number-same h host same in absurd (cc) in
         m.noticed h c (sym (get-set-other w.clients host h t.client apart) ∙ is) file n e
 
-after-rows : (w : World) (t : ServerStep) (file host : ℕ) (row : Row) → find_row file host t.server.table.rows ≡ Some row → find_row file host (after_server w t).server.table.rows ≡ Some row
+after-rows : (w : World) (t : ServerStep) (file host : ℕ) (row : Row) → find_row file host t.server.table.rows ≡ Some row
+    → find_row file host (after_server w t).server.table.rows ≡ Some row
 unfolding after_server
 after-rows w t file host row found = found
 
 -- a row is of a host that there is
-row-host : (head : Head) (events : List Event) (file host : ℕ) (row : Row) → find_row file host (run head events).server.table.rows ≡ Some row → host < head.hosts
+row-host : (head : Head) (events : List Event) (file host : ℕ) (row : Row) → find_row file host (run head events).server.table.rows ≡ Some row
+    → host < head.hosts
 unfolding HostedBelow
 row-host head events file host row found = by (nat_lt host head.hosts) refl
   where
@@ -199,7 +215,8 @@ get-client [] i below = absurd (omega arith)
 get-client (x ∷ xs) zero below = (x, refl)
 get-client (x ∷ xs) (suc i) below = get-client xs i (omega arith)
 
-module _ (most : ℕ) (head : Head) (events : List Event) (bounds : KeepsBounds most head events) (within : IsWithinSkew head.hosts most events) (m : Marks (run head events)) where
+module _ (most : ℕ) (head : Head) (events : List Event) (bounds : KeepsBounds most head events) (within : IsWithinSkew head.hosts most events)
+    (m : Marks (run head events)) where
   w : World
   w = run head events
 
@@ -207,15 +224,18 @@ module _ (most : ℕ) (head : Head) (events : List Event) (bounds : KeepsBounds 
   runs = run-runs most head events bounds within
 
   -- what was named was drawn
-  drawn : (host file : ℕ) (tag : Tag) (c : Client) → slice_get (run head events).clients host ≡ Some c → Named (run head events).packets host file tag → IsDrawn (standing (run head events).server).boot (standing (run head events).server).drawn tag
+  drawn : (host file : ℕ) (tag : Tag) (c : Client) → slice_get (run head events).clients host ≡ Some c → Named (run head events).packets host file tag
+      → IsDrawn (standing (run head events).server).boot (standing (run head events).server).drawn tag
   drawn host file tag c at (told x v i) =
       let here = ((run-holds head events).clients host c at).here in
-      (runs.known.clients host c at).tagged.evicts x v file tag (subst (λ h. Told (run head events).packets h (call x (Request.Evicted v file tag))) (sym here) i)
+      (runs.known.clients host c at).tagged.evicts x v file tag (subst (λ h. Told (run head events).packets h (call x (Request.Evicted v file tag)))
+      (sym here) i)
   drawn host file tag c at (given x v i) =
       let here = ((run-holds head events).clients host c at).here in
       (runs.known.clients host c at).tagged.vacates x v file tag (subst (λ h. Asked (run head events).packets h x (Request.Vacated v file tag)) (sym here) i)
 
-  not-next : (tag : Tag) → (run head events).server.phase ≡ serving → IsDrawn (standing (run head events).server).boot (standing (run head events).server).drawn tag → tag ≡ next_tag (run head events).server.table → ⊥
+  not-next : (tag : Tag) → (run head events).server.phase ≡ serving → IsDrawn (standing (run head events).server).boot
+      (standing (run head events).server).drawn tag → tag ≡ next_tag (run head events).server.table → ⊥
   not-next tag serves is e = by (subst (λ ph. IsDrawn (standing_table ph).boot (standing_table ph).drawn tag) serves is)
     where
       standing_table : Phase → Table
@@ -226,14 +246,19 @@ module _ (most : ℕ) (head : Head) (events : List Event) (bounds : KeepsBounds 
       by (inr same) = let n : tag.number ≡ (run head events).server.table.drawn + 1 = ap (λ (t : Tag). t.number) e in let k = same.1 in omega arith
 
   -- a step of the server, which sends no notice but for rows that are to go then
-  server-marks : (t : ServerStep) → RowsFrom (run head events).server t.server.table.rows → ((file host : ℕ) (row : Row) → find_row file host t.server.table.rows ≡ Some row → host < head.hosts) → ((x host file : ℕ) (v : Who) (tag : Tag) → In t.sends (to_host host (call x (Request.Evicted v file tag))) → (row : Row) → find_row file host t.server.table.rows ≡ Some row → row.evicting ≡ true) → ((x host file : ℕ) (v : Who) (tag : Tag) → In t.sends (from_host host (call x (Request.Vacated v file tag))) → ⊥) → Marks (after_server (run head events) t)
+  server-marks : (t : ServerStep) → RowsFrom (run head events).server t.server.table.rows → ((file host : ℕ) (row : Row)
+      → find_row file host t.server.table.rows ≡ Some row → host < head.hosts) → ((x host file : ℕ) (v : Who) (tag : Tag)
+      → In t.sends (to_host host (call x (Request.Evicted v file tag))) → (row : Row) → find_row file host t.server.table.rows ≡ Some row
+      → row.evicting ≡ true) → ((x host file : ℕ) (v : Who) (tag : Tag) → In t.sends (from_host host (call x (Request.Vacated v file tag))) → ⊥)
+      → Marks (after_server (run head events) t)
   unfolding after_server NoticedNamed RowsFrom
   server-marks t from inside goes none = record {
     rows = λ host file tag named row found is. by host file tag row found is (named-now (run head events).packets t.sends host file tag named);
     noticed = λ host c is file n e. named-later (run head events).packets t.sends host file n.tag (m.noticed host c is file n e);
   }
     where
-      kept : (host file : ℕ) (tag : Tag) (row : Row) → row.tag ≡ tag → find_row file host t.server.table.rows ≡ Some row → Named (run head events).packets host file tag → RowFrom (run head events).server file host row → row.evicting ≡ true
+      kept : (host file : ℕ) (tag : Tag) (row : Row) → row.tag ≡ tag → find_row file host t.server.table.rows ≡ Some row
+          → Named (run head events).packets host file tag → RowFrom (run head events).server file host row → row.evicting ≡ true
       kept host file tag row is found named (kept_row was at same going) = going (m.rows host file tag named was at (same ∙ is))
       kept host file tag row is found named (new_row serves next) =
           let all = client-count head events in
@@ -241,7 +266,8 @@ module _ (most : ℕ) (head : Head) (events : List Event) (bounds : KeepsBounds 
           let c = get-client (run head events).clients host (omega arith) in
           absurd (not-next tag serves (drawn host file tag c.0 c.1 named) (sym is ∙ next))
 
-      by : (host file : ℕ) (tag : Tag) (row : Row) → find_row file host t.server.table.rows ≡ Some row → row.tag ≡ tag → NamedNow (run head events).packets t.sends host file tag → row.evicting ≡ true
+      by : (host file : ℕ) (tag : Tag) (row : Row) → find_row file host t.server.table.rows ≡ Some row → row.tag ≡ tag
+          → NamedNow (run head events).packets t.sends host file tag → row.evicting ≡ true
       by host file tag row found is (before named) = kept host file tag row is found named (from file host row found)
       by host file tag row found is (told_now x v i) = goes x host file v tag i row found
       by host file tag row found is (given_now x v i) = absurd (none x host file v tag i)
@@ -261,7 +287,8 @@ module _ (most : ℕ) (head : Head) (events : List Event) (bounds : KeepsBounds 
   said-no-call host x r (said_error h y a e) = not-both host h _ _ e
   said-no-call host x r (said_notice y row e) = not-both host row.who.host _ _ e
 
-  acted-marks : (t : ServerStep) → ServerActs (run head events) t → ((file host : ℕ) (row : Row) → find_row file host t.server.table.rows ≡ Some row → host < head.hosts) → Marks (after_server (run head events) t)
+  acted-marks : (t : ServerStep) → ServerActs (run head events) t → ((file host : ℕ) (row : Row) → find_row file host t.server.table.rows ≡ Some row
+      → host < head.hosts) → Marks (after_server (run head events) t)
   unfolding crash boot empty_table RowsFrom
   acted-marks t (received k p sent to is) inside =
       let s = (run head events).server in
@@ -277,7 +304,8 @@ module _ (most : ℕ) (head : Head) (events : List Event) (bounds : KeepsBounds 
       let at = in-index (receive s sender next d).sends _ i in
       let go = notices-mark s sender next d each at.0 host x file v tag at.1 in
       let own = said-host host x file v tag (said _ i) in
-      let there : find_row file host (receive s sender next d).server.table.rows ≡ Some go.row = subst (λ h. find_row file h (receive s sender next d).server.table.rows ≡ Some go.row) own go.there in
+      let there : find_row file host (receive s sender next d).server.table.rows ≡ Some go.row =
+      subst (λ h. find_row file h (receive s sender next d).server.table.rows ≡ Some go.row) own go.there in
       let same : go.row ≡ row = some-same go.row row (sym there ∙ found) in
       ap (λ (r : Row). r.evicting) (sym same) ∙ go.going)
       (λ x host file v tag i. said-no-call host x (Request.Vacated v file tag) (said _ i)))
@@ -297,23 +325,30 @@ module _ (most : ℕ) (head : Head) (events : List Event) (bounds : KeepsBounds 
       (λ x host file v tag i row found. absurd i)
       (λ x host file v tag i. i))
 
-  acts-names : (host : ℕ) (c : Client) (t : ClientStep) → slice_get (run head events).clients host ≡ Some c → ClientActs (run head events) host c t → Names (run head events).packets host (core_of t)
+  acts-names : (host : ℕ) (c : Client) (t : ClientStep) → slice_get (run head events).clients host ≡ Some c → ClientActs (run head events) host c t
+      → Names (run head events).packets host (core_of t)
   acts-names host c t at (called op is) =
       let a = (run-holds head events).clients host c at in
-      subst (λ u. Names (run head events).packets host (core_of u)) (sym is) (call-keeps (names-closed (run head events).packets host NoneHeard NoneGiven (λ file tag bad. absurd bad)) c op a.alone (begun-names (run head events).packets host c a.alone (m.noticed host c at))).core
+      subst (λ u. Names (run head events).packets host (core_of u)) (sym is) (call-keeps (names-closed (run head events).packets host NoneHeard
+      NoneGiven (λ file tag bad. absurd bad)) c op a.alone (begun-names (run head events).packets host c a.alone (m.noticed host c at))).core
   acts-names host c t at (ticked is) =
       let a = (run-holds head events).clients host c at in
-      subst (λ u. Names (run head events).packets host (core_of u)) (sym is) (tick-keeps (names-closed (run head events).packets host NoneHeard NoneGiven (λ file tag bad. absurd bad)) c (c.now + 1) (omega arith) a.alone (timed-names (run head events).packets host c (c.now + 1) a.alone (m.noticed host c at))).core
-  acts-names host c t at (restarted is) = subst (λ u. Names (run head events).packets host (core_of u)) (sym is) (restart-names (run head events).packets host c)
+      subst (λ u. Names (run head events).packets host (core_of u)) (sym is) (tick-keeps (names-closed (run head events).packets host NoneHeard
+      NoneGiven (λ file tag bad. absurd bad)) c (c.now + 1) (omega arith) a.alone (timed-names (run head events).packets host c (c.now + 1)
+      a.alone (m.noticed host c at))).core
+  acts-names host c t at (restarted is) = subst (λ u. Names (run head events).packets host (core_of u)) (sym is)
+      (restart-names (run head events).packets host c)
   acts-names host c t at (heard k p sent to hears) =
       let h = run-holds head events in
       let i = in-get (run head events).packets k p sent in
-      hear-names (run head events).packets host c k p.message t (h.clients host c at) (to-told (run head events).packets p host (h.sent p i) to i) (m.noticed host c at) hears
+      hear-names (run head events).packets host c k p.message t (h.clients host c at) (to-told (run head events).packets p host (h.sent p i) to i)
+      (m.noticed host c at) hears
 
   changed-marks : (e : Event) → Changes (run head events) (run head (e ∷ events)) → Marks (run head (e ∷ events))
   changed-marks e (nothing is) = subst (λ v. Marks v) (sym is) m
   changed-marks e (by_client host c t at acts to) = subst (λ v. Marks v) (sym to) (client-marks (run head events) host t (acts-names host c t at acts) m)
-  changed-marks e (by_server t acts to) = subst (λ v. Marks v) (sym to) (acted-marks t acts (λ file host row found. row-host head (e ∷ events) file host row (subst (λ (v : World). find_row file host v.server.table.rows ≡ Some row) (sym to) (after-rows (run head events) t file host row found))))
+  changed-marks e (by_server t acts to) = subst (λ v. Marks v) (sym to) (acted-marks t acts (λ file host row found. row-host head (e ∷ events) file
+      host row (subst (λ (v : World). find_row file host v.server.table.rows ≡ Some row) (sym to) (after-rows (run head events) t file host row found))))
 
 first-marks : (head : Head) → Marks (start head)
 unfolding start boot empty_table NoticedNamed attached_client fresh_client
@@ -325,10 +360,12 @@ first-marks head = record {
 }
 
 run-marks : (most : ℕ) (head : Head) (events : List Event) → KeepsBounds most head events → IsWithinSkew head.hosts most events → Marks (run head events)
-run-marks most head events bounds within = run-goes most head (λ es. Marks (run head es)) (λ b. first-marks head) (λ e es during changes m. changed-marks most head es during.bounds during.within m e changes) events bounds within
+run-marks most head events bounds within = run-goes most head (λ es. Marks (run head es)) (λ b. first-marks head) (λ e es during changes m.
+    changed-marks most head es during.bounds during.within m e changes) events bounds within
 
 pub named-rows : NamedRowsAreToGo
-named-rows most head events bounds within file host row named found = (run-marks most head events bounds within).rows host file row.tag (by named) row found refl
+named-rows most head events bounds within file host row named found = (run-marks most head events bounds within).rows host file row.tag (by named) row
+    found refl
   where
     by : IsNamed (run head events).packets file host row.tag → Named (run head events).packets host file row.tag
     by (by_notice k xid who sent) = told xid who (in-get (run head events).packets k _ sent)

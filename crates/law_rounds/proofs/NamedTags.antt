@@ -1,5 +1,5 @@
 -- Which tags were named, and what a client names.
-use Rattle.std.proofs.Common.{◌≡◌, ◌≢◌, ◌⊎◌, ℕ, ◌+◌, ◌++◌, Bool, true, false, List, [], ◌∷◌, Option, Some, None, if◌then◌else◌, refl, sym, ap, subst, ◌∙◌, inl, inr}
+use Rattle.std.proofs.Common.{◌≡◌, ◌≢◌, ◌⊎◌, ℕ, ◌++◌, Bool, true, false, List, [], ◌∷◌, Option, Some, None, if◌then◌else◌, refl, sym, ap, subst, ◌∙◌, inl, inr}
 use Rattle.nq_base.specs.declared.Grant.{Grant}
 use Rattle.nq_base.specs.declared.Request.{Request}
 use Rattle.nq_base.specs.declared.Tag.{Tag}
@@ -66,7 +66,9 @@ no-vacated job r w file tag fits is = by job (subst (λ q. fits_job job q ≡ tr
     by Job.pushing e = let bad : false ≡ true = e in cc
 
 -- a call was sent that is no VACATED
-other-sent : (ps : List Packet) (host xid : ℕ) (r : Request) (sends : List Message) → ((w : Who) (file : ℕ) (tag : Tag) → r ≡ Request.Vacated w file tag → ⊥) → ((x : ℕ) (w : Who) (file : ℕ) (tag : Tag) → In sends (call x (Request.Vacated w file tag)) → Named ps host file tag) → (x : ℕ) (w : Who) (file : ℕ) (tag : Tag) → In (sends ++ call xid r ∷ []) (call x (Request.Vacated w file tag)) → Named ps host file tag
+other-sent : (ps : List Packet) (host xid : ℕ) (r : Request) (sends : List Message) → ((w : Who) (file : ℕ) (tag : Tag) → r ≡ Request.Vacated w file
+    tag → ⊥) → ((x : ℕ) (w : Who) (file : ℕ) (tag : Tag) → In sends (call x (Request.Vacated w file tag)) → Named ps host file tag)
+    → (x : ℕ) (w : Who) (file : ℕ) (tag : Tag) → In (sends ++ call xid r ∷ []) (call x (Request.Vacated w file tag)) → Named ps host file tag
 other-sent ps host xid r sends other old x w file tag i = by (in-last sends (call xid r) (call x (Request.Vacated w file tag)) i)
   where
     by : In sends (call x (Request.Vacated w file tag)) ⊎ (call xid r ≡ call x (Request.Vacated w file tag)) → Named ps host file tag
@@ -74,8 +76,12 @@ other-sent ps host xid r sends other old x w file tag i = by (in-last sends (cal
     by (inr e) = absurd (other w file tag (call-same xid x r (Request.Vacated w file tag) e).1)
 
 -- this VACATED was sent
-vacated-sent : (ps : List Packet) (host xid : ℕ) (who : Who) (f : ℕ) (v : Tag) (sends : List Message) → Named ps host f v → ((x : ℕ) (w : Who) (file : ℕ) (tag : Tag) → In sends (call x (Request.Vacated w file tag)) → Named ps host file tag) → (x : ℕ) (w : Who) (file : ℕ) (tag : Tag) → In (sends ++ call xid (Request.Vacated who f v) ∷ []) (call x (Request.Vacated w file tag)) → Named ps host file tag
-vacated-sent ps host xid who f v sends named old x w file tag i = by (in-last sends (call xid (Request.Vacated who f v)) (call x (Request.Vacated w file tag)) i)
+vacated-sent : (ps : List Packet) (host xid : ℕ) (who : Who) (f : ℕ) (v : Tag) (sends : List Message) → Named ps host f v
+    → ((x : ℕ) (w : Who) (file : ℕ) (tag : Tag) → In sends (call x (Request.Vacated w file tag)) → Named ps host file tag)
+    → (x : ℕ) (w : Who) (file : ℕ) (tag : Tag) → In (sends ++ call xid (Request.Vacated who f v) ∷ []) (call x (Request.Vacated w file tag))
+    → Named ps host file tag
+vacated-sent ps host xid who f v sends named old x w file tag i = by (in-last sends (call xid (Request.Vacated who f v))
+    (call x (Request.Vacated w file tag)) i)
   where
     by : In sends (call x (Request.Vacated w file tag)) ⊎ (call xid (Request.Vacated who f v) ≡ call x (Request.Vacated w file tag)) → Named ps host file tag
     by (inl j) = old x w file tag j
@@ -92,7 +98,8 @@ either-named ps host f a b x y = by (tag_below a b)
     by true = y
     by false = x
 
-pub names-closed : (ps : List Packet) (host : ℕ) (Heard : ℕ → Tag → Type 0) (Given : ℕ → Grant → ℕ → Type 0) → ((file : ℕ) (tag : Tag) → Heard file tag → Named ps host file tag) → Closed Heard Given (Names ps host)
+pub names-closed : (ps : List Packet) (host : ℕ) (Heard : ℕ → Tag → Type 0) (Given : ℕ → Grant → ℕ → Type 0)
+    → ((file : ℕ) (tag : Tag) → Heard file tag → Named ps host file tag) → Closed Heard Given (Names ps host)
 names-closed ps host Heard Given hears = record {
   uses = λ k file g. record { noticed = g.noticed; vacated = g.vacated; asking = g.asking };
   drops = λ k file g. record { noticed = g.noticed; vacated = g.vacated; asking = g.asking };
@@ -119,22 +126,28 @@ names-closed ps host Heard Given hears = record {
   holds = λ k file gr sent given free unnoticed g. record { noticed = g.noticed; vacated = g.vacated; asking = g.asking };
   cancels = λ k file g. record { noticed = g.noticed; vacated = g.vacated; asking = λ t e. g.asking t (keeps-or-cancels file k.ticket t e).0 };
   notes = λ k file tag now g. record {
-    noticed = λ f n e. put k file tag (hears file tag now) g f n (notice-after-put (record { file = file; tag = noticed_tag tag (notice_on file k.notices) }) f k.notices n e);
+    noticed = λ f n e. put k file tag (hears file tag now) g f n
+        (notice-after-put (record { file = file; tag = noticed_tag tag (notice_on file k.notices) }) f k.notices n e);
     vacated = g.vacated;
     asking = g.asking;
   };
 }
   where
-    source : (k : Core) (file : ℕ) (tag : Tag) → Names ps host k → ((n : Notice) × (notice_on file k.notices ≡ Some n) × (tag ≡ n.tag)) ⊎ Heard file tag → Named ps host file tag
+    source : (k : Core) (file : ℕ) (tag : Tag) → Names ps host k → ((n : Notice) × (notice_on file k.notices ≡ Some n) × (tag ≡ n.tag))
+        ⊎ Heard file tag → Named ps host file tag
     source k file tag g (inl n) = subst (λ t. Named ps host file t) (sym n.2) (g.noticed file n.0 n.1)
     source k file tag g (inr now) = hears file tag now
 
-    new : (k : Core) (file : ℕ) (tag : Tag) → Named ps host file tag → Names ps host k → (o : Option Notice) → notice_on file k.notices ≡ o → Named ps host file (noticed_tag tag o)
+    new : (k : Core) (file : ℕ) (tag : Tag) → Named ps host file tag → Names ps host k → (o : Option Notice) → notice_on file k.notices ≡ o
+        → Named ps host file (noticed_tag tag o)
     new k file tag named g None e = named
     new k file tag named g (Some n) e = either-named ps host file n.tag tag (g.noticed file n e) named
 
-    put : (k : Core) (file : ℕ) (tag : Tag) → Named ps host file tag → Names ps host k → (f : ℕ) (n : Notice) → ((f ≡ file) × (n ≡ record { file = file; tag = noticed_tag tag (notice_on file k.notices) })) ⊎ ((f ≢ file) × (notice_on f k.notices ≡ Some n)) → Named ps host f n.tag
-    put k file tag named g f n (inl p) = subst (λ h. Named ps host h n.tag) (sym p.0) (subst (λ (y : Notice). Named ps host file y.tag) (sym p.1) (new k file tag named g (notice_on file k.notices) refl))
+    put : (k : Core) (file : ℕ) (tag : Tag) → Named ps host file tag → Names ps host k → (f : ℕ) (n : Notice)
+        → ((f ≡ file) × (n ≡ record { file = file; tag = noticed_tag tag (notice_on file k.notices) }))
+        ⊎ ((f ≢ file) × (notice_on f k.notices ≡ Some n)) → Named ps host f n.tag
+    put k file tag named g f n (inl p) = subst (λ h. Named ps host h n.tag) (sym p.0) (subst (λ (y : Notice). Named ps host file y.tag) (sym p.1)
+        (new k file tag named g (notice_on file k.notices) refl))
     put k file tag named g f n (inr p) = g.noticed f n p.1
 
 abbrev pub NoneHeard : ℕ → Tag → Type 0
@@ -159,7 +172,10 @@ spent-names : (ps : List Packet) (host : ℕ) (c : Client) → NoticedNamed ps h
 unfolding NoticedNamed
 spent-names ps host c named = record { noticed = named; vacated = λ x w file tag i. absurd i; asking = λ t e. none-some t e }
 
-attached-names : (ps : List Packet) (host : ℕ) (c : Client) → NoticedNamed ps host c → Names ps host (record (core_of (begun c)) { ticket = None; attached = true })
+attached-names : (ps : List Packet) (host : ℕ) (c : Client) → NoticedNamed ps host c → Names ps host (record (core_of (begun c)) {
+  ticket = None;
+  attached = true;
+})
 unfolding NoticedNamed
 attached-names ps host c named = record { noticed = named; vacated = λ x w file tag i. absurd i; asking = λ t e. none-some t e }
 
@@ -176,14 +192,17 @@ unfolding starts fresh_client
 restart-names ps host c = record {
   noticed = λ file n e. none-some n e;
   vacated = λ x w file tag i. sent x w file tag i;
-  asking = λ t e w file tag is. let same : Request.Attach (next_incarnation c.who) ≡ Request.Vacated w file tag = ap (λ (y : Ticket). y.request) (some-same _ t e) ∙ is in cc;
+  asking = λ t e w file tag is. let same : Request.Attach (next_incarnation c.who) ≡ Request.Vacated w file tag = ap (λ (y : Ticket). y.request)
+      (some-same _ t e) ∙ is in cc;
 }
   where
-    sent : (x : ℕ) (w : Who) (file : ℕ) (tag : Tag) → (call 1 (Request.Attach (next_incarnation c.who)) ≡ call x (Request.Vacated w file tag)) ⊎ ⊥ → Named ps host file tag
+    sent : (x : ℕ) (w : Who) (file : ℕ) (tag : Tag) → (call 1 (Request.Attach (next_incarnation c.who)) ≡ call x (Request.Vacated w file tag)) ⊎ ⊥
+        → Named ps host file tag
     sent x w file tag (inl e) = let same = (call-same 1 x _ _ e).1 in absurd (cc)
     sent x w file tag (inr bad) = absurd bad
 
-pub hear-names : (ps : List Packet) (host : ℕ) (c : Client) (k : ℕ) (m : Message) (t : ClientStep) → IsAt host c ps → Told ps host m → NoticedNamed ps host c → hear c k m ≡ Some t → Names ps host (core_of t)
+pub hear-names : (ps : List Packet) (host : ℕ) (c : Client) (k : ℕ) (m : Message) (t : ClientStep) → IsAt host c ps → Told ps host m
+    → NoticedNamed ps host c → hear c k m ≡ Some t → Names ps host (core_of t)
 hear-names ps host c k m t a sent named hears = heard-cases c k m t (λ u. Names ps host (core_of u)) hears (record {
   answered = λ xid r ticket is asks own inc counts.
       let there : Told ps c.who.host (reply xid r) = subst (λ h. Told ps h (reply xid r)) (sym a.here) (subst (λ n. Told ps host n) is sent) in
@@ -197,8 +216,10 @@ hear-names ps host c k m t a sent named hears = heard-cases c k m t (λ u. Names
         only = λ file g at given. given;
       })).core;
   noticed = λ xid file tag is older.
-      (notice-keeps (names-closed ps host (λ f v. (f ≡ file) × (v ≡ tag)) NoneGiven (λ f v same. told xid c.who (subst (λ n. Told ps host n) (is ∙ renamed xid c.who file f tag v same) sent))) c file tag (refl, refl) (λ g at bad. bad) a.alone (begun-names ps host c a.alone named)).core;
+      (notice-keeps (names-closed ps host (λ f v. (f ≡ file) × (v ≡ tag)) NoneGiven (λ f v same. told xid c.who (subst (λ n. Told ps host n)
+      (is ∙ renamed xid c.who file f tag v same) sent))) c file tag (refl, refl) (λ g at bad. bad) a.alone (begun-names ps host c a.alone named)).core;
 })
   where
-    renamed : (xid : ℕ) (w : Who) (file f : ℕ) (tag v : Tag) → (f ≡ file) × (v ≡ tag) → call xid (Request.Evicted w file tag) ≡ call xid (Request.Evicted w f v)
+    renamed : (xid : ℕ) (w : Who) (file f : ℕ) (tag v : Tag) → (f ≡ file) × (v ≡ tag) → call xid (Request.Evicted w file tag)
+        ≡ call xid (Request.Evicted w f v)
     renamed xid w file f tag v same = ap (λ g. call xid (Request.Evicted w g tag)) (sym same.0) ∙ ap (λ u. call xid (Request.Evicted w f u)) (sym same.1)

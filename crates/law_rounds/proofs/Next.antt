@@ -1,5 +1,6 @@
 -- The next packet of a link: what stands before it under way is of other links, and what is of its link was sent later.
-use Rattle.std.proofs.Common.{◌≡◌, ◌≤◌, ◌<◌, ◌⊎◌, ℕ, ◌+◌, ◌==◌, ◌&&◌, ◌||◌, ◌++◌, not, Bool, true, false, List, [], ◌∷◌, Some, length, refl, sym, subst, ap, ◌∙◌, arith, inl, inr}
+use Rattle.std.proofs.Common.{◌≡◌, ◌≤◌, ◌<◌, ◌⊎◌, ℕ, ◌+◌, ◌==◌, ◌&&◌, ◌||◌, ◌++◌, not, Bool, true, false, List, [], ◌∷◌, Some, length, refl, sym}
+use Rattle.std.proofs.Common.{subst, ap, ◌∙◌, arith, inl, inr}
 use Rattle.std.specs.Prelude.{slice_get}
 use Rattle.std.proofs.lemmas.Bool.{and_from, and_parts}
 use Rattle.nq_base.specs.declared.Party.{Party}
@@ -37,9 +38,11 @@ pub next-among : (sent : List Packet) (fresh : List ℕ) (k : ℕ) → is_next s
 next-among sent [] k e = absurd (cc)
 next-among sent (j ∷ fresh) k e = by (j == k) refl e (next-among sent fresh k)
   where
-    linked : (a b : Packet) → slice_get sent j ≡ Some a → slice_get sent k ≡ Some b → OneLink a b → not (of_one_link (slice_get sent j) (slice_get sent k)) ≡ true → ⊥
+    linked : (a b : Packet) → slice_get sent j ≡ Some a → slice_get sent k ≡ Some b → OneLink a b
+        → not (of_one_link (slice_get sent j) (slice_get sent k)) ≡ true → ⊥
     linked a b at there one apart =
-        let yes : of_one_link (slice_get sent j) (slice_get sent k) ≡ true = ap (λ o. of_one_link o (slice_get sent k)) at ∙ ap (of_one_link (Some a)) there ∙ one-link a b one in
+        let yes : of_one_link (slice_get sent j) (slice_get sent k) ≡ true = ap (λ o. of_one_link o (slice_get sent k)) at ∙ ap (of_one_link (Some a))
+        there ∙ one-link a b one in
         let no : not true ≡ true = ap not (sym yes) ∙ apart in
         absurd (cc)
 
@@ -98,4 +101,5 @@ sent-later p k next rising n a b i at there one = by (in-append next.before (k �
     by : In next.before n ⊎ ((k ≡ n) ⊎ In next.behind n) → (n ≡ k) ⊎ (k < n)
     by (inl early) = absurd (next.apart n a b early at there one)
     by (inr (inl same)) = inl (sym same)
-    by (inr (inr late)) = inr (rise-behind 0 (length p.world.packets) k n next.before next.behind (subst (λ ns. Rise 0 (length p.world.packets) ns) next.split rising) late)
+    by (inr (inr late)) = inr (rise-behind 0 (length p.world.packets) k n next.before next.behind (subst (λ ns. Rise 0 (length p.world.packets) ns)
+        next.split rising) late)

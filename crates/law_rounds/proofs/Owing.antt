@@ -1,5 +1,6 @@
 -- A server sends one reply to each datagram that is owed one, and nothing to another.
-use Rattle.std.proofs.Common.{◌≡◌, ◌⊎◌, ℕ, ◌==◌, Bool, true, false, not, ◌&&◌, nat_lt, List, [], ◌∷◌, ◌++◌, Option, Some, None, if◌then◌else◌, refl, sym, subst, ap, inl, inr, arith}
+use Rattle.std.proofs.Common.{◌≡◌, ◌⊎◌, ℕ, ◌==◌, Bool, true, false, not, ◌&&◌, nat_lt, List, [], ◌∷◌, ◌++◌, Option, Some, None, if◌then◌else◌, refl}
+use Rattle.std.proofs.Common.{sym, subst, ap, inl, inr, arith}
 use Rattle.std.proofs.lemmas.Bool.Decides.{nat_tests}
 use Rattle.std.specs.Prelude.{slice_get}
 use Rattle.nq_base.specs.declared.Access.{Access}
@@ -13,13 +14,17 @@ use Rattle.nq_base.specs.declared.Tag.{Tag}
 use Rattle.nq_base.specs.declared.Verdict.{Verdict}
 use Rattle.nq_base.specs.declared.Want.{Want}
 use Rattle.nq_base.specs.declared.Who.{Who}
-use Rattle.nq_model.specs.RepliesAreOwed.{has_reply, goes_out, is_out_of_bounds, owes_incarnation, owes_request, owes, CanBe, IsReply, brings_result, brings_error, IsReplied, RepliesAreOwed}
-use Rattle.nq_model.specs.Decide.{Decision, decide, decides, creates, writes_through, stores, stores_recovering, resizes, removes, puts_off, verdict_reply, row_after, commits, decided_once}
+use Rattle.nq_model.specs.RepliesAreOwed.{has_reply, goes_out, is_out_of_bounds, owes_incarnation, owes_request, owes, CanBe, IsReply, brings_result}
+use Rattle.nq_model.specs.RepliesAreOwed.{brings_error, IsReplied, RepliesAreOwed}
+use Rattle.nq_model.specs.Decide.{Decision, decide, decides, creates, writes_through, stores, stores_recovering, resizes, removes, puts_off}
+use Rattle.nq_model.specs.Decide.{verdict_reply, row_after, commits, decided_once}
 use Rattle.nq_model.specs.Kept.{File, find_file, find_name, can_be_kept, host_row}
-use Rattle.nq_model.specs.Message.{Message, reply, Packet, Datagram, too_long, no_message, no_call, other_rpc, other_program, other_version, unknown_procedure, garbage_vacated, garbage, request, Reason, wrong_host, asker}
+use Rattle.nq_model.specs.Message.{Message, reply, Packet, Datagram, too_long, no_message, no_call, other_rpc, other_program, other_version}
+use Rattle.nq_model.specs.Message.{unknown_procedure, garbage_vacated, garbage, request, Reason, wrong_host, asker}
 use Rattle.nq_model.specs.Profile.{most_hosts}
 use Rattle.nq_model.specs.Server.{Phase, serving, recovering, Server, ServerStep, to_host, says, quiet, drops, notices}
-use Rattle.nq_model.specs.ServerStep.{row_of_attach, attaches, attach, look_up, get_attr, read_asked, read_block, read, lease_asked, get_lease, vacates, tells_later, serves, leases, look, perform, not_attached, is_attach, admit, answer_request, receive}
+use Rattle.nq_model.specs.ServerStep.{row_of_attach, attaches, attach, look_up, get_attr, read_asked, read_block, read, lease_asked, get_lease}
+use Rattle.nq_model.specs.ServerStep.{vacates, tells_later, serves, leases, look, perform, not_attached, is_attach, admit, answer_request, receive}
 use Rattle.nq_model.specs.Table.{Table}
 use Rattle.walk_steps.proofs.ClientMoves.{some-same, none-some}
 use Rattle.walk_steps.proofs.Rows.{choice}

@@ -54,7 +54,8 @@ keeps-coming p e q c stays = record {
 pub sent-comes : (p : Play) (e : Event) (q : Packet) → (step p.world e).packets ≡ p.world.packets ++ q ∷ [] → Comes (play p e) q
 sent-comes p e q is = record {
   number = length p.world.packets;
-  fresh = in-right (delivered e p.fresh) (added p.world (step p.world e)) (length p.world.packets) (subst (λ ns. In ns (length p.world.packets)) (sym new) (inl refl));
+  fresh = in-right (delivered e p.fresh) (added p.world (step p.world e)) (length p.world.packets) (subst (λ ns. In ns (length p.world.packets))
+      (sym new) (inl refl));
   is = ap (λ ps. slice_get ps (length p.world.packets)) is ∙ get-next p.world.packets q;
 }
   where

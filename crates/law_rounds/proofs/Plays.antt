@@ -7,7 +7,8 @@ use Rattle.nq_model.specs.Lines.{Play, play, flow_first, numbers_from, without, 
 use Rattle.nq_model.specs.Message.{Packet}
 use Rattle.nq_model.specs.World.{World, from_host, after_client, after_server, step}
 use Rattle.walk_steps.proofs.Steps.{Changes, nothing, by_client, by_server, step-changes}
-use Rattle.law_rounds.proofs.Items.{Item, one, pair, all_numbers, numbers_of, Each, IsSingle, Rise, Queued, Adds, adds-ones, all-append, ones, delivered-queue, queue-of}
+use Rattle.law_rounds.proofs.Items.{Item, one, pair, all_numbers, numbers_of, Each, IsSingle, Rise, Queued, Adds, adds-ones, all-append, ones}
+use Rattle.law_rounds.proofs.Items.{delivered-queue, queue-of}
 
 -- ---- packets that one delivery adds
 
@@ -61,21 +62,33 @@ module _ (p : Play) (k : ℕ) (q : Packet) (items : List Item) (queue : Queued p
   pub first-sent : slice_get p.world.packets k ≡ Some q
   first-sent = queue.sent.0
 
-  pub next-queue : (more : List Packet) (new : List Item) → (play p (Event.Deliver k)).world.packets ≡ p.world.packets ++ more → Adds p.world.packets more new → Queued (play p (Event.Deliver k)).world.packets (play p (Event.Deliver k)).fresh (items ++ new)
+  pub next-queue : (more : List Packet) (new : List Item) → (play p (Event.Deliver k)).world.packets ≡ p.world.packets ++ more → Adds p.world.packets
+      more new → Queued (play p (Event.Deliver k)).world.packets (play p (Event.Deliver k)).fresh (items ++ new)
   next-queue more new grown adds =
       let v = step p.world (Event.Deliver k) in
-      let here : Queued p.world.packets (k ∷ all_numbers items) (one k q ∷ items) = record { is = refl; sent = queue.sent; rises = subst (λ ns. Rise 0 (length p.world.packets) ns) queue.is queue.rises } in
-      subst (λ ns. Queued v.packets (without k ns ++ added p.world v) (items ++ new)) (sym queue.is) (delivered-queue p.world v more k q (all_numbers items) items new here grown adds)
+      let here : Queued p.world.packets (k ∷ all_numbers items) (one k q ∷ items) = record {
+        is = refl;
+        sent = queue.sent;
+        rises =
+            subst (λ ns. Rise 0 (length p.world.packets) ns) queue.is queue.rises;
+      } in
+      subst (λ ns. Queued v.packets (without k ns ++ added p.world v) (items ++ new)) (sym queue.is) (delivered-queue p.world v more k q
+      (all_numbers items) items new here grown adds)
 
   -- all of it, each packet for itself
-  pub any-queue : (more : List Packet) → (play p (Event.Deliver k)).world.packets ≡ p.world.packets ++ more → (all : List Item) × (Queued (play p (Event.Deliver k)).world.packets (play p (Event.Deliver k)).fresh all × (Each IsSingle all × (length all ≤ length (all_numbers items) + length more)))
+  pub any-queue : (more : List Packet) → (play p (Event.Deliver k)).world.packets ≡ p.world.packets ++ more → (all : List Item)
+      × (Queued (play p (Event.Deliver k)).world.packets (play p (Event.Deliver k)).fresh all
+      × (Each IsSingle all × (length all ≤ length (all_numbers items) + length more)))
   any-queue more grown =
       let v = step p.world (Event.Deliver k) in
       let r = next-queue more (ones (length p.world.packets) more) grown (adds-ones p.world.packets more) in
       let split = queue-of (play p (Event.Deliver k)).world.packets (play p (Event.Deliver k)).fresh r.rises in
       let a = items-most split.0 in
       let b : length (play p (Event.Deliver k)).fresh ≡ length (all_numbers split.0) = ap (λ (ns : List ℕ). length ns) split.1.0.is in
-      let c : length (play p (Event.Deliver k)).fresh ≡ length (all_numbers (items ++ ones (length p.world.packets) more)) = ap (λ (ns : List ℕ). length ns) r.is in
+      let c : length (play p (Event.Deliver k)).fresh ≡ length (all_numbers (items ++ ones (length p.world.packets) more)) =
+      ap (λ (ns : List ℕ). length ns) r.is in
       let d : length (all_numbers (items ++ ones (length p.world.packets) more)) ≡ length (all_numbers items) + length more =
-      ap (λ (ns : List ℕ). length ns) (all-append items (ones (length p.world.packets) more)) ∙ length-append (all_numbers items) (all_numbers (ones (length p.world.packets) more)) ∙ ap (λ n. length (all_numbers items) + n) (ap (λ (ns : List ℕ). length ns) (adds-ones p.world.packets more).are ∙ numbers-many (length p.world.packets) (length more)) in
+      ap (λ (ns : List ℕ). length ns) (all-append items (ones (length p.world.packets) more)) ∙ length-append (all_numbers items)
+      (all_numbers (ones (length p.world.packets) more)) ∙ ap (λ n. length (all_numbers items) + n) (ap (λ (ns : List ℕ). length ns)
+      (adds-ones p.world.packets more).are ∙ numbers-many (length p.world.packets) (length more)) in
       (split.0, (split.1.0, (split.1.1, omega arith)))

@@ -6,7 +6,8 @@ use Rattle.nq_base.specs.declared.Reply.{Reply}
 use Rattle.nq_base.specs.declared.Value.{Value}
 use Rattle.nq_model.specs.Client.{Client, ClientStep, begun, Ticket}
 use Rattle.nq_model.specs.ClientStep.{begins_call, is_called, says_busy, client_call, at_time, sends_again, client_tick, starts, fresh_client, restart}
-use Rattle.nq_model.specs.Hear.{hear, spends, answers_call, takes_optional, then_caches, knows_revision, caches_write, marks_through, push_done, push_refused, attached, pauses, replied, cancels, evicted, reply_counts}
+use Rattle.nq_model.specs.Hear.{hear, spends, answers_call, takes_optional, then_caches, knows_revision, caches_write, marks_through, push_done}
+use Rattle.nq_model.specs.Hear.{push_refused, attached, pauses, replied, cancels, evicted, reply_counts}
 use Rattle.nq_model.specs.Message.{Message}
 use Rattle.nq_model.specs.Profile.{patience}
 use Rattle.nq_model.specs.Send.{sends_request, after_seq, after_number, takes_push, gives_up, send_next}
@@ -18,7 +19,8 @@ use Rattle.walk_steps.proofs.RepliedCases.{replied-cases}
 use Rattle.walk_steps.proofs.SendCases.{send-moves}
 use Rattle.walk_steps.proofs.SettleCases.{settle-cases}
 use Rattle.walk_steps.proofs.StepCases.{call-cases, unless-cached-cases, tick-cases, heard-cases}
-use Rattle.law_rounds.proofs.EffortReplies.{Goes, start, start-same, known-goes, optional-goes, pushed-goes, refused-goes, read-goes, write-goes, attached-goes, evicted-goes}
+use Rattle.law_rounds.proofs.EffortReplies.{Goes, start, start-same, known-goes, optional-goes, pushed-goes, refused-goes, read-goes, write-goes}
+use Rattle.law_rounds.proofs.EffortReplies.{attached-goes, evicted-goes}
 
 pub record Prompt (c : Client) : Type 0 where
   pub short : c.pause ≤ c.now + patience
@@ -94,24 +96,35 @@ module _ (c : Client) (p : Prompt c) where
   goes : (u : ClientStep) (n : ℕ) → Goes 3 5 n (start c) u → Prompt u.client
   goes u n g = goes-prompt (start c) u n g begins
 
-  replied-prompt : (number : ℕ) (ticket : Ticket) (r : Reply) → c.ticket ≡ Some ticket → reply_counts r ticket ≡ true → Alone c → Prompt (replied (begun c) number ticket r).client
-  replied-prompt number ticket r asks counts alone = replied-cases c number ticket r (λ u. Prompt u.client) (alone.asking.ticketed ticket asks).fits counts (record {
-    attaching = λ who inc job request is. goes (attached (start c)) 1 (attached-goes 3 5 c);
-    named = λ answer job is. called (start c) begins answer None;
-    reading = λ who q file block want inc rev body grant of is. called (then_caches (takes_optional (start c) file grant ticket.first) file block body grant) (goes (then_caches (takes_optional (start c) file grant ticket.first) file block body grant) 1 (read-goes 3 5 (start c) file block body grant ticket.first)) (Answer.Ok (Value.Body body)) (Some number);
-    leasing = λ who file want inc grant of is.
-        let taken = goes (takes_optional (start c) file grant ticket.first) 1 (optional-goes 3 5 (start c) file grant ticket.first) in
-        lease-done-cases (start c) file grant ticket.first (λ u. Prompt u.client) (λ caching. taken) (λ other. through (takes_optional (start c) file grant ticket.first) taken true);
-    writing = λ who seq file block first last body inc rev of is. called (knows_revision (caches_write (start c) file block body rev) file rev) (goes (knows_revision (caches_write (start c) file block body rev) file rev) 1 (write-goes 3 5 (start c) file block body rev)) (Answer.Ok Value.Nothing) None;
-    resizing = λ who seq q file blocks inc rev of is. called (knows_revision (start c) file rev) (goes (knows_revision (start c) file rev) 0 (known-goes 3 5 (start c) file rev)) (Answer.Ok Value.Nothing) None;
-    removing = λ who seq q file inc of is. called (start c) begins (Answer.Ok Value.Nothing) None;
-    renewing = λ who file want inc grant job request is. goes (takes_optional (start c) file grant ticket.first) 1 (optional-goes 3 5 (start c) file grant ticket.first);
-    pushed = λ who seq file block first last base body inc rev job request is. goes (push_done (start c) file block body rev) 1 (pushed-goes 3 5 (start c) file block body rev);
-    putting_off = λ inc status of is off. paused-prompt c;
-    refusing = λ inc status job is counted final. called (start c) begins _ None;
-    renewal_refused = λ inc status job is final. begins;
-    push_refused = λ who seq file block first last base body inc status job request is final. goes (push_refused (start c) file) 1 (refused-goes 3 5 (start c) file);
-  })
+  replied-prompt : (number : ℕ) (ticket : Ticket) (r : Reply) → c.ticket ≡ Some ticket → reply_counts r ticket ≡ true → Alone c
+      → Prompt (replied (begun c) number ticket r).client
+  replied-prompt number ticket r asks counts alone = replied-cases c number ticket r (λ u. Prompt u.client) (alone.asking.ticketed ticket asks).fits
+      counts (record {
+        attaching = λ who inc job request is. goes (attached (start c)) 1 (attached-goes 3 5 c);
+        named = λ answer job is. called (start c) begins answer None;
+        reading = λ who q file block want inc rev body grant of is. called (then_caches (takes_optional (start c) file grant ticket.first) file block body
+            grant) (goes (then_caches (takes_optional (start c) file grant ticket.first) file block body grant) 1 (read-goes 3 5 (start c) file block body
+            grant ticket.first)) (Answer.Ok (Value.Body body)) (Some number);
+        leasing = λ who file want inc grant of is.
+            let taken = goes (takes_optional (start c) file grant ticket.first) 1 (optional-goes 3 5 (start c) file grant ticket.first) in
+            lease-done-cases (start c) file grant ticket.first (λ u. Prompt u.client) (λ caching. taken)
+            (λ other. through (takes_optional (start c) file grant ticket.first) taken true);
+        writing = λ who seq file block first last body inc rev of is. called (knows_revision (caches_write (start c) file block body rev) file rev)
+            (goes (knows_revision (caches_write (start c) file block body rev) file rev) 1 (write-goes 3 5 (start c) file block body rev))
+            (Answer.Ok Value.Nothing) None;
+        resizing = λ who seq q file blocks inc rev of is. called (knows_revision (start c) file rev) (goes (knows_revision (start c) file rev) 0
+            (known-goes 3 5 (start c) file rev)) (Answer.Ok Value.Nothing) None;
+        removing = λ who seq q file inc of is. called (start c) begins (Answer.Ok Value.Nothing) None;
+        renewing = λ who file want inc grant job request is. goes (takes_optional (start c) file grant ticket.first) 1 (optional-goes 3 5 (start c) file
+            grant ticket.first);
+        pushed = λ who seq file block first last base body inc rev job request is. goes (push_done (start c) file block body rev) 1
+            (pushed-goes 3 5 (start c) file block body rev);
+        putting_off = λ inc status of is off. paused-prompt c;
+        refusing = λ inc status job is counted final. called (start c) begins _ None;
+        renewal_refused = λ inc status job is final. begins;
+        push_refused = λ who seq file block first last base body inc status job request is final. goes (push_refused (start c) file) 1
+            (refused-goes 3 5 (start c) file);
+      })
 
   cut : (file : ℕ) → Prompt (cancels (begun c) file).client
   unfolding cancels
@@ -140,16 +153,29 @@ module _ (c : Client) (p : Prompt c) where
     going = λ idle on none.
         let asked : Prompt (is_called (begins_call c op) op).client = prompt-same c _ refl refl refl p in
         let settled = settles (is_called (begins_call c op) op) asked in
-        unless-cached-cases (settle (is_called (begins_call c op) op)) (λ u. Prompt u.client) (λ cached. settled) (λ other. sends (settle (is_called (begins_call c op) op)) settled false);
+        unless-cached-cases (settle (is_called (begins_call c op) op)) (λ u. Prompt u.client) (λ cached. settled)
+        (λ other. sends (settle (is_called (begins_call c op) op)) settled false);
   })
 
   pub tick-prompt : Prompt (client_tick c (c.now + 1)).client
   unfolding at_time sends_again
   tick-prompt = tick-cases c (c.now + 1) (λ u. Prompt u.client) (record {
-    again = λ ticket is late. record { short = let a = p.short in omega arith; recent = λ t e. let same : c.now + 1 ≡ t.last = ap (λ (x : Ticket). x.last) (some-same (record ticket { last = c.now + 1 }) t e) in omega arith };
-    quiet = λ ticket is soon. record { short = let a = p.short in omega arith; recent = λ t e. let same : ticket.last ≡ t.last = ap (λ (x : Ticket). x.last) (some-same ticket t (sym is ∙ e)) in omega arith };
+    again = λ ticket is late. record {
+      short = let a = p.short in omega arith;
+      recent = λ t e. let same : c.now + 1 ≡ t.last =
+          ap (λ (x : Ticket). x.last) (some-same (record ticket { last = c.now + 1 }) t e) in omega arith;
+    };
+    quiet = λ ticket is soon. record {
+      short = let a = p.short in omega arith;
+      recent = λ t e. let same : ticket.last ≡ t.last =
+          ap (λ (x : Ticket). x.last) (some-same ticket t (sym is ∙ e)) in omega arith;
+    };
     free = λ none.
-        let timed : Prompt (begun (at_time c (c.now + 1))).client = record { short = let a = p.short in omega arith; recent = λ t e. none-some t (sym none ∙ e) } in
+        let timed : Prompt (begun (at_time c (c.now + 1))).client = record {
+          short = let a = p.short in omega arith;
+          recent = λ t e.
+              none-some t (sym none ∙ e);
+        } in
         sends (settle (begun (at_time c (c.now + 1)))) (settles (begun (at_time c (c.now + 1))) timed) true;
   })
 

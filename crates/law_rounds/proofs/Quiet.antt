@@ -1,5 +1,6 @@
 -- From the third round on all clients are quiet once all has arrived.
-use Rattle.std.proofs.Common.{◌≡◌, ◌<◌, ◌⊎◌, ℕ, ◌+◌, Bool, true, false, List, [], Option, Some, None, is_some, length, refl, sym, subst, ap, ◌∙◌, arith, inl, inr}
+use Rattle.std.proofs.Common.{◌≡◌, ◌<◌, ◌⊎◌, ℕ, ◌+◌, Bool, true, false, List, [], Option, Some, None, is_some, length, refl, sym, subst, ap, ◌∙◌}
+use Rattle.std.proofs.Common.{arith, inl, inr}
 use Rattle.std.specs.Prelude.{slice_get}
 use Rattle.nq_base.specs.declared.Call.{Call}
 use Rattle.nq_base.specs.declared.Push.{Push}
@@ -87,17 +88,21 @@ module _ (most : ℕ) (head : Head) where
       notices file (Some n) e = absurd (due.noticed file n e)
 
   -- all clients of a play whose requests come are so once all has arrived
-  pub order-ends-quiet : (order : List ℕ) (p : Play) → IsLawful most head p → (play_order order p).fresh ≡ [] → IsSmall (play_order order p) → ((host : ℕ) → host < head.hosts → Covered most head host 0 p) → (host : ℕ) (c : Client) → slice_get (play_order order p).world.clients host ≡ Some c → IsQuiet c
+  pub order-ends-quiet : (order : List ℕ) (p : Play) → IsLawful most head p → (play_order order p).fresh ≡ [] → IsSmall (play_order order p)
+      → ((host : ℕ) → host < head.hosts → Covered most head host 0 p) → (host : ℕ) (c : Client) → slice_get (play_order order p).world.clients host
+      ≡ Some c → IsQuiet c
   order-ends-quiet order p l none small covers host c at =
       let lq = order-lawful most head order p l in
       let below : host < head.hosts =
       let inside = get-below (play_order order p).world.clients host c at in
-      let many : length (play_order order p).world.clients ≡ head.hosts = ap (λ (w : World). length w.clients) lq.is_run ∙ client-count head (play_order order p).events in
+      let many : length (play_order order p).world.clients ≡ head.hosts = ap (λ (w : World). length w.clients) lq.is_run
+      ∙ client-count head (play_order order p).events in
       omega arith in
       quiet-client (play_order order p) lq host c at (none-asks most head host order p l none small (covers host below) c at)
 
   -- so it is in a calm delivery
-  pub ends-quiet : (p : Play) → IsLawful most head p → IsRising p → IsSmall (all_delivered p) → ((host : ℕ) → host < head.hosts → Covered most head host 0 p) → (host : ℕ) (c : Client) → slice_get (all_delivered p).world.clients host ≡ Some c → IsQuiet c
+  pub ends-quiet : (p : Play) → IsLawful most head p → IsRising p → IsSmall (all_delivered p) → ((host : ℕ) → host < head.hosts
+      → Covered most head host 0 p) → (host : ℕ) (c : Client) → slice_get (all_delivered p).world.clients host ≡ Some c → IsQuiet c
   ends-quiet p l rising small covers host c at =
       order-ends-quiet (calm_order p) p l (calm-arrives most head p l rising) (subst (λ (q : Play). IsSmall q) (delivered-is p) small) covers host c
       (subst (λ (q : Play). slice_get q.world.clients host ≡ Some c) (delivered-is p) at)

@@ -1,5 +1,6 @@
 -- Calm deliveries end while the server recovers, and where no call waits for a lease.
-use Rattle.std.proofs.Common.{◌≡◌, ◌≤◌, ◌<◌, ℕ, ◌+◌, ◌%◌, nat_lt, Bool, true, false, zero, suc, List, [], ◌∷◌, Option, Some, None, length, refl, sym, ap, subst, ◌∙◌, arith}
+use Rattle.std.proofs.Common.{◌≡◌, ◌≤◌, ◌<◌, ℕ, ◌+◌, ◌%◌, nat_lt, Bool, true, false, zero, suc, List, [], ◌∷◌, Option, Some, None, length, refl, sym}
+use Rattle.std.proofs.Common.{ap, subst, ◌∙◌, arith}
 use Rattle.std.specs.Prelude.{map, slice_get}
 use Rattle.std.proofs.lemmas.List.{append-nil, length-append}
 use Rattle.nq_base.specs.declared.Event.{Event}
@@ -10,7 +11,8 @@ use Rattle.nq_model.specs.Lines.{Play, play, play_flow, flow_first, play_hosts, 
 use Rattle.nq_model.specs.Message.{Message, Packet, Datagram, datagram_of}
 use Rattle.nq_model.specs.Server.{serving, Server}
 use Rattle.nq_model.specs.ServerStep.{receive}
-use Rattle.nq_model.specs.World.{Head, World, from_host, after_server, after_client, after_hearing, sending_host, deliver, deliver_to, deliver_to_client, step, run}
+use Rattle.nq_model.specs.World.{Head, World, from_host, after_server, after_client, after_hearing, sending_host, deliver, deliver_to}
+use Rattle.nq_model.specs.World.{deliver_to_client, step, run}
 use Rattle.walk_steps.proofs.Steps.{Changes, nothing, by_client, by_server, step-changes}
 use Rattle.walk_steps.proofs.Worlds.{run-holds}
 use Rattle.walk_steps.proofs.ServerMoves.{server-moves, phase-moves}
@@ -94,14 +96,16 @@ under-way-sent : (sent : ℕ) (numbers : List ℕ) → AreUnderWay sent numbers 
 under-way-sent sent [] all = tt
 under-way-sent sent (k ∷ numbers) all = (all.0, under-way-sent sent numbers all.2)
 
-pub calm-sent : (head : Head) (events : List Event) (under_way : List ℕ) (count : ℕ) → AreUnderWay (length (run head events).packets) under_way → IsSentAll (calm_rounds count (calmed head events under_way))
+pub calm-sent : (head : Head) (events : List Event) (under_way : List ℕ) (count : ℕ) → AreUnderWay (length (run head events).packets) under_way
+    → IsSentAll (calm_rounds count (calmed head events under_way))
 unfolding calmed
 calm-sent head events under_way count all = rounds-sent count (calmed head events under_way) (under-way-sent (length (run head events).packets) under_way all)
 
 -- ---- a delivery neither ends a recovery nor begins one
 
 received-phase : (s : Server) (sender next : ℕ) (d : Datagram) → recovers (receive s sender next d).server.phase ≡ recovers s.phase
-received-phase s sender next d = server-moves s sender next d (λ kept phase table. recovers phase ≡ recovers s.phase) (phase-moves s d (λ longest phase. recovers phase ≡ recovers s.phase) refl (λ until heard last is. sym (ap recovers is)))
+received-phase s sender next d = server-moves s sender next d (λ kept phase table. recovers phase ≡ recovers s.phase)
+    (phase-moves s d (λ longest phase. recovers phase ≡ recovers s.phase) refl (λ until heard last is. sym (ap recovers is)))
 
 hearing-phase : (w : World) (host : ℕ) (o : Option ClientStep) → (after_hearing w host o).server ≡ w.server
 unfolding after_client
@@ -154,7 +158,11 @@ pub recovering-ends : RecoveringDeliveryEnds
 recovering-ends most head events bounds within under_way count all phase =
     let p = calm_rounds count (calmed head events under_way) in
     let lawful = calm-is-lawful most head events bounds within under_way count in
-    flow-ends 3 5 3 (Recovers head) (recovering-affords head) (recovering-goes head) (most_deliveries p) p (record { is_run = lawful.is_run; phase = phase }) (calm-sent head events under_way count all) (within-bound 3 5 (omega arith) (omega arith) p (omega arith) (λ some. omega arith))
+    flow-ends 3 5 3 (Recovers head) (recovering-affords head) (recovering-goes head) (most_deliveries p) p (record {
+      is_run = lawful.is_run;
+      phase =
+          phase;
+    }) (calm-sent head events under_way count all) (within-bound 3 5 (omega arith) (omega arith) p (omega arith) (λ some. omega arith))
 
 -- ---- no call waits for a lease
 
@@ -186,12 +194,15 @@ module _ (head : Head) (p : Play) (s : Stands head p) where
   all-alone host c is = ((run-holds head p.events).clients host c (subst (λ (w : World). slice_get w.clients host ≡ Some c) s.is_run is)).alone
 
   -- the notices of one step are fewer than the hosts
-  few-notices : (k : ℕ) (q : Packet) → slice_get p.world.packets k ≡ Some q → (file host : ℕ) (access : Access) → host ≡ sending_host q.sender → host < most_hosts → length (in_the_way p.world.server file host access) + 1 ≤ head.hosts
-  few-notices k q sent file host access same within = fewer-than-hosts file host access head.hosts p.world.server.table.rows (each-row file) local.rows (by q.sender refl)
+  few-notices : (k : ℕ) (q : Packet) → slice_get p.world.packets k ≡ Some q → (file host : ℕ) (access : Access) → host ≡ sending_host q.sender
+      → host < most_hosts → length (in_the_way p.world.server file host access) + 1 ≤ head.hosts
+  few-notices k q sent file host access same within = fewer-than-hosts file host access head.hosts p.world.server.table.rows (each-row file)
+      local.rows (by q.sender refl)
     where
       by : (party : Party) → q.sender ≡ party → host < head.hosts
       by Party.Server is = let at : host ≡ most_hosts = same ∙ ap sending_host is in absurd (omega arith)
-      by (Party.Client h) is = let at : host ≡ h = same ∙ ap sending_host is in let below = local.senders q (in-get p.world.packets k q sent) h is in omega arith
+      by (Party.Client h) is = let at : host ≡ h = same ∙ ap sending_host is in let below = local.senders q (in-get p.world.packets k q sent) h is in
+          omega arith
 
   some-host : (file host : ℕ) (row : Row) → find_row file host p.world.server.table.rows ≡ Some row → host < head.hosts
   unfolding HostedBelow
@@ -232,8 +243,12 @@ spared-goes head p k s = record {
 }
 
 -- a play of a calm network stands so, and its bound is kept
-pub calm-stands : (most : ℕ) (head : Head) (events : List Event) → KeepsBounds most head events → IsWithinSkew head.hosts most events → (under_way : List ℕ) (count : ℕ) → Stands head (calm_rounds count (calmed head events under_way))
-calm-stands most head events bounds within under_way count = record { is_run = (calm-is-lawful most head events bounds within under_way count).is_run; hosts = bounds.hosts }
+pub calm-stands : (most : ℕ) (head : Head) (events : List Event) → KeepsBounds most head events → IsWithinSkew head.hosts most events
+    → (under_way : List ℕ) (count : ℕ) → Stands head (calm_rounds count (calmed head events under_way))
+calm-stands most head events bounds within under_way count = record {
+  is_run = (calm-is-lawful most head events bounds within under_way count).is_run;
+  hosts = bounds.hosts;
+}
 
 pub stands-bound : (head : Head) (p : Play) → Stands head p → left_to_pay (price_for head) 2 p ≤ most_deliveries p
 stands-bound head p s =
@@ -244,4 +259,5 @@ pub spared-ends : SparedDeliveryEnds
 spared-ends most head events bounds within under_way count all spared =
     let p = calm_rounds count (calmed head events under_way) in
     let stands = calm-stands most head events bounds within under_way count in
-    flow-ends (price_for head) 2 0 (Spared head) (spared-affords head) (spared-goes head) (most_deliveries p) p (record { stands = stands; spared = spared }) (calm-sent head events under_way count all) (stands-bound head p stands)
+    flow-ends (price_for head) 2 0 (Spared head) (spared-affords head) (spared-goes head) (most_deliveries p) p
+    (record { stands = stands; spared = spared }) (calm-sent head events under_way count all) (stands-bound head p stands)

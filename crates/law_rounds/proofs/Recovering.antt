@@ -1,5 +1,6 @@
 -- A recovery ends soon once the network is calm: the leases of the boot before end, then no client has delayed writes, and none is stored.
-use Rattle.std.proofs.Common.{◌≡◌, ◌≢◌, ◌≤◌, ◌<◌, ℕ, ◌+◌, ◌==◌, max, Bool, true, false, List, [], ◌∷◌, Option, Some, None, length, refl, sym, subst, ap, ◌∙◌, arith, inl, inr}
+use Rattle.std.proofs.Common.{◌≡◌, ◌≢◌, ◌≤◌, ◌<◌, ℕ, ◌+◌, ◌==◌, max, Bool, true, false, List, [], ◌∷◌, Option, Some, None, length, refl, sym, subst}
+use Rattle.std.proofs.Common.{ap, ◌∙◌, arith, inl, inr}
 use Rattle.std.specs.Prelude.{slice_get, slice_set}
 use Rattle.nq_base.specs.declared.Event.{Event}
 use Rattle.nq_base.specs.declared.Grant.{Grant}
@@ -44,7 +45,8 @@ use Rattle.law_rounds.proofs.Sleeping.{Asleep, AllOver, hear-sleeps}
 
 -- a recovery ends no later than this, and the rows of its last table before
 abbrev pub RecoversBy : (U : ℕ) → Phase → Type 0
-RecoversBy U phase = (until heard : ℕ) (last : Option Table) → phase ≡ recovering until heard last → (until ≤ U + write_slack) × ((file host : ℕ) (row : Row) → find_row file host (last_table last).rows ≡ Some row → row.until ≤ U)
+RecoversBy U phase = (until heard : ℕ) (last : Option Table) → phase ≡ recovering until heard last → (until ≤ U + write_slack)
+    × ((file host : ℕ) (row : Row) → find_row file host (last_table last).rows ≡ Some row → row.until ≤ U)
 
 -- all clients are attached, have no delayed writes, and no running lease to write
 abbrev pub AllAsleep : World → Type 0
@@ -53,16 +55,22 @@ AllAsleep w = (host : ℕ) (c : Client) → slice_get w.clients host ≡ Some c 
 -- ---- a datagram at the server
 
 by-receive : (U : ℕ) (s : Server) (sender next : ℕ) (d : Datagram) → s.now ≤ U → RecoversBy U s.phase → RecoversBy U (receive s sender next d).server.phase
-by-receive U s sender next d early h = server-moves s sender next d (λ kept phase table. RecoversBy U phase) (phase-moves s d (λ longest phase. RecoversBy U phase) h (λ until heard last is u hd l e.
+by-receive U s sender next d early h = server-moves s sender next d (λ kept phase table. RecoversBy U phase)
+    (phase-moves s d (λ longest phase. RecoversBy U phase) h (λ until heard last is u hd l e.
     let before = h until heard last is in
-    let grown : max until (s.now + write_slack) ≡ u = same-until _ u _ hd last l e in
-    (more until (s.now + write_slack) u (U + write_slack) grown before.0 (omega arith), λ file host row found. before.1 file host row (ap (λ o. find_row file host (last_table o).rows) (same-last _ u _ hd last l e) ∙ found))))
+    let grown : max until (s.now + write_slack) ≡ u = same-until _ u _ hd last l e in (
+      more until (s.now + write_slack) u (U + write_slack) grown before.0 (omega arith),
+      λ file host row found. before.1 file host row
+          (ap (λ o. find_row file host (last_table o).rows) (same-last _ u _ hd last l e) ∙ found),
+    )))
   where
     more : (a b u n : ℕ) → max a b ≡ u → a ≤ n → b ≤ n → u ≤ n
     more a b u n e low high = omega arith
 
 -- where no delayed writes come they are not stored
-phase-same : (s : Server) (sender next : ℕ) (d : Datagram) → ((xid : ℕ) (who : Who) (seq file block first final : ℕ) (base : PushBase) (body : List ℕ) → d ≡ request xid (Request.Write who seq file block first final (Some base) body) → IsFresh s sender who seq → ⊥) → (receive s sender next d).server.phase ≡ s.phase
+phase-same : (s : Server) (sender next : ℕ) (d : Datagram) → ((xid : ℕ) (who : Who) (seq file block first final : ℕ) (base : PushBase) (body : List ℕ)
+    → d ≡ request xid (Request.Write who seq file block first final (Some base) body) → IsFresh s sender who seq → ⊥)
+    → (receive s sender next d).server.phase ≡ s.phase
 unfolding quiet drops says attaches vacates tells_later serves leases decides creates writes_through stores wrote stores_recovering resizes
     removes puts_off commits keeping keeping_with with_table after_notices with_files with_new_file
 phase-same s sender next d none = server-hears s sender next d (λ (t : ServerStep). t.server.phase ≡ s.phase) (record {
@@ -86,7 +94,8 @@ phase-same s sender next d none = server-hears s sender next d (λ (t : ServerSt
   creating = λ x w seq blocks name e fresh serves can. refl;
   writing_through = λ x w seq block first last body f e changing below c. refl;
   storing = λ x w seq block first last base body f row e changing below can. refl;
-  storing_recovering = λ x w seq block first final base body f until heard last e fresh recovers found below boot rev. absurd (none x w seq f.id block first final base body e fresh);
+  storing_recovering = λ x w seq block first final base body f until heard last e fresh recovers found below boot rev.
+      absurd (none x w seq f.id block first final base body e fresh);
   resizing = λ x w seq q blocks f e changing can c. refl;
   removing = λ x w seq q f e changing c. refl;
 })
@@ -109,7 +118,8 @@ goes-on-after s now until heard last is = tick-moves s now (λ kept phase table.
 }) is
 
 -- a reply that brings a grant counts for a request that wants one
-read-file : (inc rev : ℕ) (body : List ℕ) (grant : Option Grant) (z : Request) → is_of_procedure (Reply.Read inc rev body grant) z ≡ true → requested_file z ≡ None → ⊥
+read-file : (inc rev : ℕ) (body : List ℕ) (grant : Option Grant) (z : Request) → is_of_procedure (Reply.Read inc rev body grant) z ≡ true
+    → requested_file z ≡ None → ⊥
 read-file inc rev body grant (Request.Read who n file block want) e f = cc
 read-file inc rev body grant other e f = cc
 
@@ -133,7 +143,9 @@ module _ (most : ℕ) (head : Head) (U : ℕ) where
     at-run host c at = subst (λ (u : World). slice_get u.clients host ≡ Some c) l.is_run at
 
     -- a client that sleeps has no push under way, so none is stored
-    none-stored : (k : ℕ) (q : Packet) → slice_get p.world.packets k ≡ Some q → q.to ≡ Party.Server → AllAsleep p.world → (xid : ℕ) (who : Who) (seq file block first final : ℕ) (base : PushBase) (body : List ℕ) → datagram_of q.message ≡ request xid (Request.Write who seq file block first final (Some base) body) → IsFresh p.world.server (sending_host q.sender) who seq → ⊥
+    none-stored : (k : ℕ) (q : Packet) → slice_get p.world.packets k ≡ Some q → q.to ≡ Party.Server → AllAsleep p.world → (xid : ℕ) (who : Who)
+        (seq file block first final : ℕ) (base : PushBase) (body : List ℕ) → datagram_of q.message ≡ request xid (Request.Write who seq file block
+        first final (Some base) body) → IsFresh p.world.server (sending_host q.sender) who seq → ⊥
     none-stored k q sent to all xid who seq file block first final base body d fresh = by (slice_get p.world.clients host) refl
       where
         host : ℕ
@@ -148,13 +160,16 @@ module _ (most : ℕ) (head : Head) (U : ℕ) where
         asked : Asked (run head p.events).packets (sending_host q.sender) xid (Request.Write who seq file block first final (Some base) body)
         asked =
             let i = in-get (run head p.events).packets k q sent-run in
-            (to-server (run head p.events).packets q ((run-holds head p.events).sent q i) to i xid (Request.Write who seq file block first final (Some base) body) d).0
+            (to-server (run head p.events).packets q ((run-holds head p.events).sent q i) to i xid (Request.Write who seq file block first final
+            (Some base) body) d).0
 
         above : (host_row (run head p.events).server.kept (sending_host q.sender)).seq < seq
-        above = subst (λ (u : World). (host_row u.server.kept (sending_host q.sender)).seq < seq) l.is_run (subst (λ n. (host_row p.world.server.kept n).seq < seq) fresh.current.from.host fresh.above)
+        above = subst (λ (u : World). (host_row u.server.kept (sending_host q.sender)).seq < seq) l.is_run
+            (subst (λ n. (host_row p.world.server.kept n).seq < seq) fresh.current.from.host fresh.above)
 
         kept : who.inc ≡ (host_row (run head p.events).server.kept (sending_host q.sender)).inc
-        kept = subst (λ (u : World). who.inc ≡ (host_row u.server.kept (sending_host q.sender)).inc) l.is_run (subst (λ n. who.inc ≡ (host_row p.world.server.kept n).inc) fresh.current.from.host fresh.current.inc)
+        kept = subst (λ (u : World). who.inc ≡ (host_row u.server.kept (sending_host q.sender)).inc) l.is_run
+            (subst (λ n. who.inc ≡ (host_row p.world.server.kept n).inc) fresh.current.from.host fresh.current.inc)
 
         found : (c : Client) → slice_get p.world.clients (sending_host q.sender) ≡ Some c → ⊥
         found c at = case (knows.lined.settled line xid (Request.Write who seq file block first final (Some base) body) who seq mine refl (kept ∙ line) refl)
@@ -162,7 +177,8 @@ module _ (most : ℕ) (head : Head) (U : ℕ) where
             there : slice_get (run head p.events).clients (sending_host q.sender) ≡ Some c
             there = at-run (sending_host q.sender) c at
 
-            knows : KnowsOf (host_row (run head p.events).server.kept (sending_host q.sender)) (run head p.events).server p.events c (run head p.events).packets
+            knows : KnowsOf (host_row (run head p.events).server.kept (sending_host q.sender)) (run head p.events).server p.events c
+                (run head p.events).packets
             knows = (run-runs most head p.events l.bounds l.within).known.clients (sending_host q.sender) c there
 
             line : (host_row (run head p.events).server.kept (sending_host q.sender)).inc ≡ c.who.inc
@@ -177,12 +193,16 @@ module _ (most : ℕ) (head : Head) (U : ℕ) where
             case : IsSettled c.ticket (host_row (run head p.events).server.kept (sending_host q.sender)).seq xid seq → ⊥
             case (inl low) = let high = above in omega arith
             case (inr u) =
-                let is : u.0.request ≡ Request.Write who seq file block first final (Some base) body = (((run-holds head p.events).clients (sending_host q.sender) c there).mail.asked xid (Request.Write who seq file block first final (Some base) body) who mine refl).same (kept ∙ line) u.0 u.1 u.2 in
-                let pushed = (chain-fits most head p.events (sending_host q.sender) c l.bounds l.within there).writes.pushed u.0 who seq file block first final base body u.1 is in
+                let is : u.0.request ≡ Request.Write who seq file block first final (Some base) body =
+                (((run-holds head p.events).clients (sending_host q.sender) c there).mail.asked xid (Request.Write who seq file block first final
+                (Some base) body) who mine refl).same (kept ∙ line) u.0 u.1 u.2 in
+                let pushed = (chain-fits most head p.events (sending_host q.sender) c l.bounds l.within there).writes.pushed u.0 who seq file block
+                first final base body u.1 is in
                 none-some _ (sym (all (sending_host q.sender) c at).0.push ∙ pushed.under_way)
 
         by : (o : Option Client) → slice_get p.world.clients (sending_host q.sender) ≡ o → ⊥
-        by None none = (run-draws head p.events).lone (sending_host q.sender) xid (Request.Write who seq file block first final (Some base) body) asked (subst (λ (u : World). slice_get u.clients (sending_host q.sender) ≡ None) l.is_run none)
+        by None none = (run-draws head p.events).lone (sending_host q.sender) xid (Request.Write who seq file block first final (Some base) body)
+            asked (subst (λ (u : World). slice_get u.clients (sending_host q.sender) ≡ None) l.is_run none)
         by (Some c) at = found c at
 
     -- a delivery before the rows are over
@@ -192,7 +212,8 @@ module _ (most : ℕ) (head : Head) (U : ℕ) where
       where
         by : Delivery p.world k (step p.world (Event.Deliver k)) → RecoversBy U (step p.world (Event.Deliver k)).server.phase
         by (no_packet none is) = subst (λ (w : World). RecoversBy U w.server.phase) (sym is) h
-        by (at_server q sent to is) = subst (λ (w : World). RecoversBy U w.server.phase) (sym is) (by-receive U p.world.server (sending_host q.sender) (length p.world.packets) (datagram_of q.message) soon h)
+        by (at_server q sent to is) = subst (λ (w : World). RecoversBy U w.server.phase) (sym is) (by-receive U p.world.server (sending_host q.sender)
+            (length p.world.packets) (datagram_of q.message) soon h)
         by (at_host host q c t sent to at hears is) = subst (λ (w : World). RecoversBy U w.server.phase) (sym is) h
         by (ignored host q c sent to at hears is) = subst (λ (w : World). RecoversBy U w.server.phase) (sym is) h
         by (no_client host q sent to none is) = subst (λ (w : World). RecoversBy U w.server.phase) (sym is) h
@@ -213,14 +234,17 @@ module _ (most : ℕ) (head : Head) (U : ℕ) where
 
     -- ---- sleep goes on, where the rows are over
 
-    module _ (until heard : ℕ) (last : Option Table) (phase : p.world.server.phase ≡ recovering until heard last) (over : RecoversBy U p.world.server.phase) (past : U ≤ p.world.server.now) where
+    module _ (until heard : ℕ) (last : Option Table) (phase : p.world.server.phase ≡ recovering until heard last)
+        (over : RecoversBy U p.world.server.phase) (past : U ≤ p.world.server.now) where
       phase-run : (run head p.events).server.phase ≡ recovering until heard last
       phase-run = subst (λ (u : World). u.server.phase ≡ recovering until heard last) l.is_run phase
 
       past-run : U ≤ (run head p.events).server.now
       past-run = subst (λ (u : World). U ≤ u.server.now) l.is_run past
 
-      grants-over : (host : ℕ) (c : Client) (k : ℕ) (q : Packet) → slice_get p.world.clients host ≡ Some c → slice_get p.world.packets k ≡ Some q → q.to ≡ Party.Client host → (xid : ℕ) (r : Reply) (t : Ticket) → q.message ≡ reply xid r → c.ticket ≡ Some t → xid ≡ t.xid → inc_of r ≡ c.who.inc → reply_counts r t ≡ true → AllOver c.now t.first (grant_in r)
+      grants-over : (host : ℕ) (c : Client) (k : ℕ) (q : Packet) → slice_get p.world.clients host ≡ Some c → slice_get p.world.packets k ≡ Some q
+          → q.to ≡ Party.Client host → (xid : ℕ) (r : Reply) (t : Ticket) → q.message ≡ reply xid r → c.ticket ≡ Some t → xid ≡ t.xid → inc_of r
+          ≡ c.who.inc → reply_counts r t ≡ true → AllOver c.now t.first (grant_in r)
       grants-over host c k q at sent to xid r t is has number inc counts g grants writes = by (requested_file t.request) refl
         where
           there : slice_get (run head p.events).clients host ≡ Some c
@@ -233,7 +257,8 @@ module _ (most : ℕ) (head : Head) (U : ℕ) where
           mail =
               let a = (run-holds head p.events).clients host c there in
               let i = in-get (run head p.events).packets k q (subst (λ (u : World). slice_get u.packets k ≡ Some q) l.is_run sent) in
-              subst (λ h. Told (run head p.events).packets h (reply xid r)) (sym a.here) (subst (λ m. Told (run head p.events).packets host m) is (to-told (run head p.events).packets q host ((run-holds head p.events).sent q i) to i))
+              subst (λ h. Told (run head p.events).packets h (reply xid r)) (sym a.here) (subst (λ m. Told (run head p.events).packets host m) is
+              (to-told (run head p.events).packets q host ((run-holds head p.events).sent q i) to i))
 
           by : (o : Option ℕ) → requested_file t.request ≡ o → t.first + g.term ≤ c.now
           by (Some file) on =
@@ -260,12 +285,18 @@ module _ (most : ℕ) (head : Head) (U : ℕ) where
               mail = let i = in-get p.world.packets k q sent in to-told p.world.packets q host (holds.sent q i) to i
 
               own : Asleep t.client × (t.client.attached ≡ true)
-              own = (hear-sleeps c k q.message t hears (grants-over host c k q at sent to) (all host c at).0, hear-stays host c p.world.packets k q.message t a mail (all host c at).1 hears)
+              own = (
+                hear-sleeps c k q.message t hears (grants-over host c k q at sent to) (all host c at).0,
+                hear-stays host c p.world.packets k
+                    q.message t a mail (all host c at).1 hears,
+              )
 
-              case : (other : ℕ) (d : Client) (b : Bool) → (other == host) ≡ b → slice_get (slice_set p.world.clients host t.client) other ≡ Some d → Asleep d × (d.attached ≡ true)
+              case : (other : ℕ) (d : Client) (b : Bool) → (other == host) ≡ b → slice_get (slice_set p.world.clients host t.client) other ≡ Some d
+                  → Asleep d × (d.attached ≡ true)
               case other d true same there =
                   let one : other ≡ host = same-number other host same in
-                  let new : d ≡ t.client = get-set-same p.world.clients host t.client d (subst (λ n. slice_get (slice_set p.world.clients host t.client) n ≡ Some d) one there) in
+                  let new : d ≡ t.client = get-set-same p.world.clients host t.client d
+                  (subst (λ n. slice_get (slice_set p.world.clients host t.client) n ≡ Some d) one there) in
                   subst (λ z. Asleep z × (z.attached ≡ true)) (sym new) own
               case other d false differs there =
                   let apart : other ≢ host = λ same. let yes : (other == host) ≡ true = number-same other host same in absurd (cc) in
@@ -276,7 +307,8 @@ module _ (most : ℕ) (head : Head) (U : ℕ) where
       quiet-sleeps host c at q = (record { dirty = none-dirty c.dirty refl; push = q.no_push; dead = dead }, q.attached)
         where
           dead : (file : ℕ) (l2 : Lease) → lease_on file c.leases ≡ Some l2 → is_writing l2.mode ≡ true → l2.expiry ≤ c.now
-          dead file l2 on writes = lease-over most head p.events l.bounds l.within until heard last phase-run U (over until heard last phase).1 past-run host c (at-run host c at) file l2 on writes
+          dead file l2 on writes = lease-over most head p.events l.bounds l.within until heard last phase-run U (over until heard last phase).1
+              past-run host c (at-run host c at) file l2 on writes
 
           none-dirty : (ds : List Push) → c.dirty ≡ ds → c.dirty ≡ []
           none-dirty [] e = e

@@ -1,5 +1,6 @@
 -- Round after round: until the rows of the last table are over the recovery's end stays near, and then all clients sleep.
-use Rattle.std.proofs.Common.{◌≡◌, ◌≢◌, ◌≤◌, ◌<◌, ◌⊎◌, ℕ, ◌+◌, ◌==◌, nat_lt, Bool, true, false, zero, suc, List, [], ◌∷◌, Option, Some, None, length, refl, sym, subst, ap, ◌∙◌, arith, inl, inr}
+use Rattle.std.proofs.Common.{◌≡◌, ◌≢◌, ◌≤◌, ◌<◌, ◌⊎◌, ℕ, ◌+◌, ◌==◌, nat_lt, Bool, true, false, zero, suc, List, [], ◌∷◌, Option, Some, None, length}
+use Rattle.std.proofs.Common.{refl, sym, subst, ap, ◌∙◌, arith, inl, inr}
 use Rattle.std.specs.Prelude.{slice_get, slice_set}
 use Rattle.nq_base.specs.declared.Event.{Event}
 use Rattle.nq_model.specs.Client.{Client, ClientStep}
@@ -45,7 +46,8 @@ delivered-now w k = by (delivery w k)
   where
     by : Delivery w k (step w (Event.Deliver k)) → (step w (Event.Deliver k)).server.now ≡ w.server.now
     by (no_packet none is) = ap (λ (v : World). v.server.now) is
-    by (at_server q sent to is) = ap (λ (v : World). v.server.now) is ∙ (receive-keeps w.server (sending_host q.sender) (length w.packets) (datagram_of q.message)).1
+    by (at_server q sent to is) = ap (λ (v : World). v.server.now) is ∙ (receive-keeps w.server (sending_host q.sender) (length w.packets)
+        (datagram_of q.message)).1
     by (at_host host q c t sent to at hears is) = ap (λ (v : World). v.server.now) is
     by (ignored host q c sent to at hears is) = ap (λ (v : World). v.server.now) is
     by (no_client host q sent to none is) = ap (λ (v : World). v.server.now) is
@@ -64,15 +66,18 @@ unfolding after_client
 client-server w h None = refl
 client-server w h (Some c) = refl
 
-before-tick : (s : Server) (now until heard : ℕ) (last : Option Table) → (tick s now).server.phase ≡ recovering until heard last → s.phase ≡ recovering until heard last
-before-tick s now until heard last = tick-moves s now (λ kept phase table. phase ≡ recovering until heard last → s.phase ≡ recovering until heard last) (record {
-  waits = λ u hd l p goes e. e;
-  opening = λ u hd l p over e. absurd (not-serving until heard last e);
-  ends_reading = λ serves e. e;
-  ending_writing = λ row serves due e. e;
-})
+before-tick : (s : Server) (now until heard : ℕ) (last : Option Table) → (tick s now).server.phase ≡ recovering until heard last → s.phase
+    ≡ recovering until heard last
+before-tick s now until heard last = tick-moves s now (λ kept phase table. phase ≡ recovering until heard last → s.phase ≡ recovering until heard
+    last) (record {
+      waits = λ u hd l p goes e. e;
+      opening = λ u hd l p over e. absurd (not-serving until heard last e);
+      ends_reading = λ serves e. e;
+      ending_writing = λ row serves due e. e;
+    })
 
-serves-on : (w : World) (k until heard : ℕ) (last : Option Table) → w.server.phase ≡ serving → (step w (Event.Deliver k)).server.phase ≡ recovering until heard last → ⊥
+serves-on : (w : World) (k until heard : ℕ) (last : Option Table) → w.server.phase ≡ serving → (step w (Event.Deliver k)).server.phase
+    ≡ recovering until heard last → ⊥
 serves-on w k until heard last serves e =
     let same = delivered-phase w k (slice_get w.packets k) in
     let yes : recovers (step w (Event.Deliver k)).server.phase ≡ true = ap recovers e in
@@ -101,7 +106,8 @@ unfolding whole_round after_server
 serving-round order p serves =
     let q = play_order order p in
     let r = play_hosts (length q.world.clients) 0 q in
-    let same : recovers r.world.server.phase ≡ recovers q.world.server.phase = ap (λ (s : Server). recovers s.phase) (hosts-server (length q.world.clients) 0 q) in
+    let same : recovers r.world.server.phase ≡ recovers q.world.server.phase = ap (λ (s : Server). recovers s.phase)
+    (hosts-server (length q.world.clients) 0 q) in
     tick-serves r.world.server (r.world.server.now + 1) (same ∙ order-phase order p ∙ serves)
 
 pub serving-rounds : (orders : List (List ℕ)) (p : Play) → recovers p.world.server.phase ≡ false → recovers (whole_rounds orders p).world.server.phase ≡ false
@@ -185,8 +191,13 @@ module _ (most : ℕ) (head : Head) (U : ℕ) where
       by None none = all
       by (Some c) at = ticked c at (all h c at)
         where
-          ticked : (c : Client) → slice_get p.world.clients h ≡ Some c → Asleep c × (c.attached ≡ true) → AllAsleep (after_client p.world h (client_tick c (c.now + 1)))
-          ticked c at a = stepped p.world h (client_tick c (c.now + 1)) (tick-sleeps c a.0, tick-stays c ((run-holds head p.events).clients h c (subst (λ (u : World). slice_get u.clients h ≡ Some c) l.is_run at)).alone a.1) all
+          ticked : (c : Client) → slice_get p.world.clients h ≡ Some c → Asleep c × (c.attached ≡ true)
+              → AllAsleep (after_client p.world h (client_tick c (c.now + 1)))
+          ticked c at a = stepped p.world h (client_tick c (c.now + 1)) (
+            tick-sleeps c a.0,
+            tick-stays c ((run-holds head p.events).clients h c
+                (subst (λ (u : World). slice_get u.clients h ≡ Some c) l.is_run at)).alone a.1,
+          ) all
 
   late-hosts : (count h : ℕ) (p : Play) → IsLawful most head p → Late p → Late (play_hosts count h p)
   late-hosts zero h p l e = e
@@ -215,7 +226,8 @@ module _ (most : ℕ) (head : Head) (U : ℕ) where
 
   hosts-now : (count h : ℕ) (p : Play) → (play_hosts count h p).world.server.now ≡ p.world.server.now
   hosts-now zero h p = refl
-  hosts-now (suc count) h p = hosts-now count (h + 1) (play p (Event.ClientTick h)) ∙ ap (λ (s : Server). s.now) (client-server p.world h (slice_get p.world.clients h))
+  hosts-now (suc count) h p = hosts-now count (h + 1) (play p (Event.ClientTick h)) ∙ ap (λ (s : Server). s.now)
+      (client-server p.world h (slice_get p.world.clients h))
 
   order-now : (order : List ℕ) (p : Play) → (play_order order p).world.server.now ≡ p.world.server.now
   order-now [] p = refl
@@ -257,14 +269,16 @@ module _ (most : ℕ) (head : Head) (U : ℕ) where
   State p = Early p ⊎ Late p
 
   -- where the rows are over once all has arrived, all clients sleep
-  falls-asleep : (q : Play) → IsLawful most head q → ((host : ℕ) (c : Client) → slice_get q.world.clients host ≡ Some c → IsQuiet c) → U ≤ q.world.server.now → RecoversBy U q.world.server.phase → Late q
+  falls-asleep : (q : Play) → IsLawful most head q → ((host : ℕ) (c : Client) → slice_get q.world.clients host ≡ Some c → IsQuiet c)
+      → U ≤ q.world.server.now → RecoversBy U q.world.server.phase → Late q
   falls-asleep q l quiet past near = record {
     near = near;
     past = past;
     asleep = λ until heard last is host c at. quiet-sleeps most head U q l until heard last is near past host c at (quiet host c at);
   }
 
-  round-state : (order : List ℕ) (p : Play) → IsLawful most head p → (play_order order p).fresh ≡ [] → IsSmall (play_order order p) → ((host : ℕ) → host < head.hosts → Covered most head host 0 p) → State p → State (whole_round order p)
+  round-state : (order : List ℕ) (p : Play) → IsLawful most head p → (play_order order p).fresh ≡ [] → IsSmall (play_order order p)
+      → ((host : ℕ) → host < head.hosts → Covered most head host 0 p) → State p → State (whole_round order p)
   round-state order p l none small covers (inr e) = inr (late-after order p l (order-late order p l e))
   round-state order p l none small covers (inl e) = by (nat_lt p.world.server.now U) refl
     where
@@ -295,7 +309,8 @@ module _ (most : ℕ) (head : Head) (U : ℕ) where
       let now = tick-now r.world.server (r.world.server.now + 1) in
       omega arith
 
-  rounds-state : (orders : List (List ℕ)) (p : Play) → IsLawful most head p → AreWhole orders p → IsSmall (whole_rounds orders p) → ((host : ℕ) → host < head.hosts → Covered most head host 0 p) → State p → IsToGoOn p → State (whole_rounds orders p) × IsToGoOn (whole_rounds orders p)
+  rounds-state : (orders : List (List ℕ)) (p : Play) → IsLawful most head p → AreWhole orders p → IsSmall (whole_rounds orders p)
+      → ((host : ℕ) → host < head.hosts → Covered most head host 0 p) → State p → IsToGoOn p → State (whole_rounds orders p) × IsToGoOn (whole_rounds orders p)
   rounds-state [] p l whole small covers e goes = (e, goes)
   rounds-state (order ∷ orders) p l whole small covers e goes =
       let one = wholes-small orders (whole_round order p) small in
@@ -307,14 +322,18 @@ module _ (most : ℕ) (head : Head) (U : ℕ) where
 -- the end of a run's recovery, and the rows of its last table
 first-near : (most : ℕ) (head : Head) (p : Play) → IsLawful most head p → RecoversBy (p.world.server.now + (most + skew)) p.world.server.phase
 first-near most head p l until heard last is =
-    let there : (run head p.events).server.phase ≡ recovering until heard last = subst (λ (u : World). u.server.phase ≡ recovering until heard last) l.is_run is in
-    let soon : until ≤ ((run head p.events).server.now + (run head p.events).server.kept.longest) + (skew + write_slack) = recoveries-end-soon head p.events until heard last there in
+    let there : (run head p.events).server.phase ≡ recovering until heard last = subst (λ (u : World). u.server.phase ≡ recovering until heard last)
+    l.is_run is in
+    let soon : until ≤ ((run head p.events).server.now + (run head p.events).server.kept.longest) + (skew + write_slack) = recoveries-end-soon head
+    p.events until heard last there in
     let few = (run-runs most head p.events l.bounds l.within).served.terms.kept_few in
     let same : (run head p.events).server.now ≡ p.world.server.now = ap (λ (u : World). u.server.now) (sym l.is_run) in
     let ends = run-ends most head p.events l.bounds l.within until heard last there in
     (omega arith, λ file host row found. let before = ends file host row found in omega arith)
 
-serves-after : (most : ℕ) (head : Head) (base : Play) → IsLawful most head base → (first second : List ℕ) (orders : List (List ℕ)) → most + (skew + write_slack) ≤ 2 + length orders → AreWhole (first ∷ second ∷ orders) base → IsSmall (whole_rounds (first ∷ second ∷ orders) base) → (until heard : ℕ) (last : Option Table) → (whole_rounds (first ∷ second ∷ orders) base).world.server.phase ≡ recovering until heard last → ⊥
+serves-after : (most : ℕ) (head : Head) (base : Play) → IsLawful most head base → (first second : List ℕ) (orders : List (List ℕ))
+    → most + (skew + write_slack) ≤ 2 + length orders → AreWhole (first ∷ second ∷ orders) base → IsSmall (whole_rounds (first ∷ second ∷ orders)
+    base) → (until heard : ℕ) (last : Option Table) → (whole_rounds (first ∷ second ∷ orders) base).world.server.phase ≡ recovering until heard last → ⊥
 serves-after most head base l first second orders enough whole small until heard last is =
     let U = base.world.server.now + (most + skew) in
     let long = l.bounds.first_long in
@@ -328,7 +347,8 @@ serves-after most head base l first second orders enough whole small until heard
     let e0 : Early most head U base = record { near = first-near most head base l; soon = omega arith } in
     let e1 : Early most head U p1 = early-round most head U first base l (omega arith) e0 in
     let e2 : Early most head U p2 = early-round most head U second p1 l1 (omega arith) e1 in
-    let covers : (host : ℕ) → host < head.hosts → Covered most head host 0 p2 = λ host below. later-covers most head host (first ∷ second ∷ []) base (omega arith) l below (wholes-small orders p2 small) in
+    let covers : (host : ℕ) → host < head.hosts → Covered most head host 0 p2 = λ host below. later-covers most head host (first ∷ second ∷ []) base
+    (omega arith) l below (wholes-small orders p2 small) in
     let state = rounds-state most head U orders p2 l2 whole.1.1 small covers (inl e2) (round-goes-on most head U second p1) in
     let near = (near-of most head U (whole_rounds orders p2) state.0 until heard last is).0 in
     let late = state.1 until heard last is in
@@ -336,10 +356,12 @@ serves-after most head base l first second orders enough whole small until heard
     omega arith
 
 -- of any lawful play: the server serves after so many whole rounds
-pub serves-from : (most : ℕ) (head : Head) (base : Play) → IsLawful most head base → (orders : List (List ℕ)) → most + (skew + write_slack) ≤ length orders → AreWhole orders base → IsSmall (whole_rounds orders base) → recovers (whole_rounds orders base).world.server.phase ≡ false
+pub serves-from : (most : ℕ) (head : Head) (base : Play) → IsLawful most head base → (orders : List (List ℕ)) → most + (skew + write_slack)
+    ≤ length orders → AreWhole orders base → IsSmall (whole_rounds orders base) → recovers (whole_rounds orders base).world.server.phase ≡ false
 serves-from most head base l orders enough whole small = by (whole_rounds orders base).world.server.phase refl
   where
-    never : (orders : List (List ℕ)) → most + (skew + write_slack) ≤ length orders → AreWhole orders base → IsSmall (whole_rounds orders base) → (until heard : ℕ) (last : Option Table) → (whole_rounds orders base).world.server.phase ≡ recovering until heard last → ⊥
+    never : (orders : List (List ℕ)) → most + (skew + write_slack) ≤ length orders → AreWhole orders base → IsSmall (whole_rounds orders base)
+        → (until heard : ℕ) (last : Option Table) → (whole_rounds orders base).world.server.phase ≡ recovering until heard last → ⊥
     never [] many w s until heard last is = absurd (omega arith)
     never (first ∷ []) many w s until heard last is = absurd (omega arith)
     never (first ∷ second ∷ rest) many w s until heard last is = serves-after most head base l first second rest (omega arith) w s until heard last is

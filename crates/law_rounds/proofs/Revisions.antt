@@ -3,7 +3,8 @@ use Rattle.std.proofs.Common.{◌≡◌, ◌≤◌, ℕ, ◌+◌, ◌==◌, not,
 use Rattle.std.specs.Prelude.{All}
 use Rattle.std.proofs.lemmas.List.Elements.{All-nil, All-cons, All-head, All-tail, All-append, All-filter, All-weaker}
 use Rattle.nq_base.specs.declared.Event.{Event}
-use Rattle.nq_model.specs.Kept.{File, Kept, find_file, replace_file, drop_file, new_file, written_file, resized_file, fenced_file, with_row, with_files, with_new_file}
+use Rattle.nq_model.specs.Kept.{File, Kept, find_file, replace_file, drop_file, new_file, written_file, resized_file, fenced_file, with_row}
+use Rattle.nq_model.specs.Kept.{with_files, with_new_file}
 use Rattle.nq_model.specs.Message.{Datagram, datagram_of}
 use Rattle.nq_model.specs.Decide.{decides, creates, writes_through, stores, wrote, stores_recovering, resizes, removes, puts_off, commits}
 use Rattle.nq_model.specs.Server.{Server, ServerStep, quiet, drops, says, after_notices, keeping, keeping_with, with_table}
@@ -121,7 +122,8 @@ unfolding crash boot
 crash-grows n s longest g = later n _ (booted-same n s.kept longest g)
 
 acted : (n : ℕ) (w : World) (t : ServerStep) → ServerActs w t → UpTo n w.server.kept.files → UpTo (n + 1) t.server.kept.files
-acted n w t (received k p sent to is) g = subst (λ (u : ServerStep). UpTo (n + 1) u.server.kept.files) (sym is) (receive-grows n w.server (sending_host p.sender) (length w.packets) (datagram_of p.message) g)
+acted n w t (received k p sent to is) g = subst (λ (u : ServerStep). UpTo (n + 1) u.server.kept.files) (sym is)
+    (receive-grows n w.server (sending_host p.sender) (length w.packets) (datagram_of p.message) g)
 acted n w t (ticks is) g = subst (λ (u : ServerStep). UpTo (n + 1) u.server.kept.files) (sym is) (tick-grows n w.server (w.server.now + 1) g)
 acted n w t (crashes longest is) g = subst (λ (u : ServerStep). UpTo (n + 1) u.server.kept.files) (sym is) (crash-grows n w.server longest g)
 

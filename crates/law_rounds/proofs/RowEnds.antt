@@ -1,5 +1,6 @@
 -- In every run each row ends soon, and each recovery.
-use Rattle.std.proofs.Common.{◌≡◌, ◌≤◌, ◌⊎◌, ℕ, ◌+◌, ◌==◌, ◌&&◌, not, max, Bool, true, false, List, [], ◌∷◌, Option, Some, None, if◌then◌else◌, length, refl, sym, subst, arith, inl, inr}
+use Rattle.std.proofs.Common.{◌≡◌, ◌≤◌, ◌⊎◌, ℕ, ◌+◌, ◌==◌, ◌&&◌, not, max, Bool, true, false, List, [], ◌∷◌, Option, Some, None, if◌then◌else◌}
+use Rattle.std.proofs.Common.{length, refl, sym, subst, arith, inl, inr}
 use Rattle.std.specs.List.{filter}
 use Rattle.std.proofs.lemmas.Bool.Decides.{nat_tests}
 use Rattle.nq_base.specs.declared.Access.{Access}
@@ -44,7 +45,11 @@ none-within now longest row i = absurd i
 
 later-within : (now later longest : ℕ) (rows : List Row) → now ≤ later → AllWithin now longest rows → AllWithin later longest rows
 unfolding AllWithin
-later-within now later longest rows goes all row i = let w = all row i in record { until = let u = w.until in omega arith; heard = let h = w.heard in omega arith }
+later-within now later longest rows goes all row i = let w = all row i in record {
+  until = let u = w.until in omega arith;
+  heard = let h = w.heard in
+      omega arith;
+}
 
 filter-within : (now longest : ℕ) (q : Row → Bool) (rows : List Row) → AllWithin now longest rows → AllWithin now longest (filter q rows)
 unfolding AllWithin
@@ -59,7 +64,8 @@ in-insert row (r ∷ rows) x i = by (λ h. in-insert row rows x h) (row_before r
     which (inl e) = inl e
     which (inr j) = inr (inr j)
 
-    by : (In (insert_row row rows) x → (row ≡ x) ⊎ In rows x) → (b : Bool) → In (if b then row ∷ r ∷ rows else r ∷ insert_row row rows) x → (row ≡ x) ⊎ In (r ∷ rows) x
+    by : (In (insert_row row rows) x → (row ≡ x) ⊎ In rows x) → (b : Bool) → In (if b then row ∷ r ∷ rows else r ∷ insert_row row rows) x → (row ≡ x)
+        ⊎ In (r ∷ rows) x
     by rest true (inl e) = inl e
     by rest true (inr j) = inr j
     by rest false (inl e) = inr (inl e)
@@ -73,31 +79,46 @@ put-within now longest row rows w all x i = by (in-insert row (drop_row row.file
     by (inl e) = subst (λ r. Within now longest r) e w
     by (inr j) = all x (in-filtered _ rows x j)
 
-marked-within : (now longest file host : ℕ) (access : Access) (rows : List Row) → AllWithin now longest rows → AllWithin now longest (marked file host access rows)
+marked-within : (now longest file host : ℕ) (access : Access) (rows : List Row) → AllWithin now longest rows → AllWithin now longest
+    (marked file host access rows)
 unfolding AllWithin
 marked-within now longest file host access rows all x i =
     let m = in-map (mark file host access) rows x i in
     let w = all m.0 m.1 in
     let same = mark-is file host access m.0 in
-    subst (λ r. Within now longest r) m.2 (record { until = let u = w.until in let e = same.until in omega arith; heard = let h = w.heard in let e = same.heard in omega arith })
+    subst (λ r. Within now longest r) m.2 (record {
+      until = let u = w.until in let e = same.until in omega arith;
+      heard = let h = w.heard in let e =
+          same.heard in omega arith;
+    })
 
-vacated-within : (now longest : ℕ) (who : Who) (file : ℕ) (tag : Tag) (rows : List Row) (own : Option Row) → AllWithin now longest rows → AllWithin now longest (vacated_rows who file tag rows own)
+vacated-within : (now longest : ℕ) (who : Who) (file : ℕ) (tag : Tag) (rows : List Row) (own : Option Row) → AllWithin now longest rows
+    → AllWithin now longest (vacated_rows who file tag rows own)
 vacated-within now longest who file tag rows None all = all
-vacated-within now longest who file tag rows (Some row) all = choice (AllWithin now longest) (row.who.inc == who.inc && same_tag row.tag tag) (drop_row file who.host rows) rows (λ e. filter-within now longest _ rows all) (λ e. all)
+vacated-within now longest who file tag rows (Some row) all = choice (AllWithin now longest) (row.who.inc == who.inc && same_tag row.tag tag)
+    (drop_row file who.host rows) rows (λ e. filter-within now longest _ rows all) (λ e. all)
 
 -- a term is no longer than the longest
 short-term : (longest wish : ℕ) → shortest_term ≤ longest → granted_term longest wish ≤ longest
 short-term longest wish long = grind (arith, nat_tests)
 
-granted-within : (table : Table) (q : Question) (want : Want) (row : Row) (term : ℕ) → shortest_term ≤ q.longest → IsGranted table q want row term → AllWithin q.time q.longest table.rows → Within q.time q.longest row
+granted-within : (table : Table) (q : Question) (want : Want) (row : Row) (term : ℕ) → shortest_term ≤ q.longest → IsGranted table q want row term
+    → AllWithin q.time q.longest table.rows → Within q.time q.longest row
 unfolding AllWithin shared_again sharing_row caching_row renewed_row
-granted-within table q want row term long (shares_again own has quiet alone is t) all = let w = all own (find-in (is_row_of q.file q.who.host) table.rows own has) in subst (λ r. Within q.time q.longest r) (sym is) (record { until = w.until; heard = w.heard })
-granted-within table q want row term long (begins_sharing none room shared is t) all = let short = short-term q.longest want.term long in subst (λ r. Within q.time q.longest r) (sym is) (record { until = omega arith; heard = omega arith })
-granted-within table q want row term long (begins_caching none room alone is t) all = let short = short-term q.longest want.term long in subst (λ r. Within q.time q.longest r) (sym is) (record { until = omega arith; heard = omega arith })
+granted-within table q want row term long (shares_again own has quiet alone is t) all = let w = all own (find-in (is_row_of q.file q.who.host)
+    table.rows own has) in subst (λ r. Within q.time q.longest r) (sym is) (record { until = w.until; heard = w.heard })
+granted-within table q want row term long (begins_sharing none room shared is t) all = let short = short-term q.longest want.term long in
+    subst (λ r. Within q.time q.longest r) (sym is) (record { until = omega arith; heard = omega arith })
+granted-within table q want row term long (begins_caching none room alone is t) all = let short = short-term q.longest want.term long in
+    subst (λ r. Within q.time q.longest r) (sym is) (record { until = omega arith; heard = omega arith })
 granted-within table q want row term long (renews_row own has quiet caching is t) all =
     let w = all own (find-in (is_row_of q.file q.who.host) table.rows own has) in
     let short = short-term q.longest want.term long in
-    subst (λ r. Within q.time q.longest r) (sym is) (record { until = most own.until (q.time + term_of q want + skew) ((q.time + q.longest) + skew) w.until (omega arith); heard = heard_by (is_writing want.mode && not (is_writing own.mode)) w.heard })
+    subst (λ r. Within q.time q.longest r) (sym is) (record {
+      until = most own.until (q.time + term_of q want + skew) ((q.time + q.longest) + skew)
+          w.until (omega arith);
+      heard = heard_by (is_writing want.mode && not (is_writing own.mode)) w.heard;
+    })
   where
     most : (a b n : ℕ) → a ≤ n → b ≤ n → max a b ≤ n
     most a b n x y = grind (arith, nat_tests)
@@ -117,11 +138,14 @@ module _ (s : Server) (long : shortest_term ≤ s.longest) (all : AllWithin s.no
     marking = λ file host access serves. marked-within s.now s.longest file host access s.table.rows all;
     marking_waiting = λ xid r who f want e wants asking own room.
         let short = short-term s.longest want.term long in
-        put-within s.now s.longest _ _ (record { until = omega arith; heard = omega arith }) (marked-within s.now s.longest f.id who.host (access_of (Some want)) s.table.rows all);
-    granting = λ xid r who f want row term e wants asking c g. put-within s.now s.longest row s.table.rows (granted-within s.table (to_read s who f (Some want)) want row term long g all) all;
+        put-within s.now s.longest _ _ (record { until = omega arith; heard = omega arith }) (marked-within s.now s.longest f.id who.host
+        (access_of (Some want)) s.table.rows all);
+    granting = λ xid r who f want row term e wants asking c g. put-within s.now s.longest row s.table.rows
+        (granted-within s.table (to_read s who f (Some want)) want row term long g all) all;
     creating = λ name blocks serves can. all;
     changing = λ who f file serves current found same c. all;
-    storing = λ who f file base row serves current found same can. put-within s.now s.longest _ s.table.rows (heard_now row (find-in (is_row_of f.id who.host) s.table.rows row can.row_found)) all;
+    storing = λ who f file base row serves current found same can. put-within s.now s.longest _ s.table.rows
+        (heard_now row (find-in (is_row_of f.id who.host) s.table.rows row can.row_found)) all;
     storing_recovering = λ f file until heard last p found same. all;
     removing = λ who f serves current found c. filter-within s.now s.longest _ s.table.rows all;
   })
@@ -135,7 +159,8 @@ module _ (s : Server) (long : shortest_term ≤ s.longest) (all : AllWithin s.no
     waits = λ until heard last p goes_on. later-within s.now now s.longest s.table.rows goes all;
     opening = λ until heard last p over. later-within s.now now s.longest s.table.rows goes all;
     ends_reading = λ p. filter-within now s.longest _ s.table.rows (later-within s.now now s.longest s.table.rows goes all);
-    ending_writing = λ row p due. filter-within now s.longest _ (end_reading now s.table.rows) (filter-within now s.longest _ s.table.rows (later-within s.now now s.longest s.table.rows goes all));
+    ending_writing = λ row p due. filter-within now s.longest _ (end_reading now s.table.rows) (filter-within now s.longest _ s.table.rows
+        (later-within s.now now s.longest s.table.rows goes all));
   })
 
 RowsFit : Server → Type 0
@@ -146,8 +171,10 @@ unfolding RowsFit crash boot empty_table
 acted-fit w t (received k p sent to is) long all =
     let keeps = receive-keeps w.server (sending_host p.sender) (length w.packets) (datagram_of p.message) in
     subst (λ (u : ServerStep). RowsFit u.server) (sym is)
-    (subst (λ n. AllWithin n (receive w.server (sending_host p.sender) (length w.packets) (datagram_of p.message)).server.longest (receive w.server (sending_host p.sender) (length w.packets) (datagram_of p.message)).server.table.rows) (sym keeps.1)
-    (subst (λ n. AllWithin w.server.now n (receive w.server (sending_host p.sender) (length w.packets) (datagram_of p.message)).server.table.rows) (sym keeps.0)
+    (subst (λ n. AllWithin n (receive w.server (sending_host p.sender) (length w.packets) (datagram_of p.message)).server.longest
+    (receive w.server (sending_host p.sender) (length w.packets) (datagram_of p.message)).server.table.rows) (sym keeps.1)
+    (subst (λ n. AllWithin w.server.now n (receive w.server (sending_host p.sender) (length w.packets) (datagram_of p.message)).server.table.rows)
+    (sym keeps.0)
     (received-within w.server long all (sending_host p.sender) (length w.packets) (datagram_of p.message))))
 acted-fit w t (ticks is) long all =
     let keeps = tick-keeps w.server (w.server.now + 1) in
@@ -163,9 +190,12 @@ changed-fit w v (nothing is) long all = subst (λ (u : World). RowsFit u.server)
 changed-fit w v (by_client host c t at acts to) long all = subst (λ (u : World). RowsFit u.server) (sym to) all
 changed-fit w v (by_server t acts to) long all = subst (λ (u : World). RowsFit u.server) (sym to) (acted-fit w t acts long all)
 
-run-fit : (most : ℕ) (head : Head) (events : List Event) → KeepsBounds most head events → IsWithinSkew head.hosts most events → RowsFit (run head events).server
+run-fit : (most : ℕ) (head : Head) (events : List Event) → KeepsBounds most head events → IsWithinSkew head.hosts most events
+    → RowsFit (run head events).server
 unfolding start boot empty_table RowsFit
-run-fit most head events bounds within = run-goes most head (λ es. RowsFit (run head es).server) (λ b. none-within 0 head.longest) (λ e es during changes fit. changed-fit (run head es) (run head (e ∷ es)) changes (run-runs most head es during.bounds during.within).served.terms.long fit) events bounds within
+run-fit most head events bounds within = run-goes most head (λ es. RowsFit (run head es).server) (λ b. none-within 0 head.longest)
+    (λ e es during changes fit. changed-fit (run head es) (run head (e ∷ es)) changes (run-runs most head es during.bounds
+    during.within).served.terms.long fit) events bounds within
 
 pub rows-end-soon : RowsEndSoon
 unfolding RowsFit AllWithin
@@ -182,7 +212,8 @@ serves-by : (now longest : ℕ) → EndsBy now longest serving
 unfolding EndsBy
 serves-by now longest until heard last e = absurd (cc)
 
-recovers-by : (now longest until heard : ℕ) (last : Option Table) → until ≤ (now + longest) + (skew + write_slack) → EndsBy now longest (recovering until heard last)
+recovers-by : (now longest until heard : ℕ) (last : Option Table) → until ≤ (now + longest) + (skew + write_slack)
+    → EndsBy now longest (recovering until heard last)
 unfolding EndsBy
 recovers-by now longest until heard last fits u h l e = let same : until ≡ u = cc in omega arith
 
@@ -193,9 +224,13 @@ later-by now later longest phase goes by until heard last e = let u = by until h
 PhaseFits : Server → Type 0
 PhaseFits s = EndsBy s.now s.kept.longest s.phase
 
-received-phase : (s : Server) (sender next : ℕ) (d : Datagram) → PhaseFits s → EndsBy s.now (receive s sender next d).server.kept.longest (receive s sender next d).server.phase
+received-phase : (s : Server) (sender next : ℕ) (d : Datagram) → PhaseFits s → EndsBy s.now (receive s sender next d).server.kept.longest
+    (receive s sender next d).server.phase
 unfolding PhaseFits EndsBy
-received-phase s sender next d fits = server-moves s sender next d (λ kept phase table. EndsBy s.now kept.longest phase) (phase-moves s d (λ longest phase. EndsBy s.now longest phase) fits (λ until heard last is. recovers-by s.now s.kept.longest (max until (s.now + write_slack)) s.now last (most until (s.now + write_slack) ((s.now + s.kept.longest) + (skew + write_slack)) (fits until heard last is) (omega arith))))
+received-phase s sender next d fits = server-moves s sender next d (λ kept phase table. EndsBy s.now kept.longest phase)
+    (phase-moves s d (λ longest phase. EndsBy s.now longest phase) fits (λ until heard last is. recovers-by s.now s.kept.longest
+    (max until (s.now + write_slack)) s.now last (most until (s.now + write_slack) ((s.now + s.kept.longest) + (skew + write_slack))
+    (fits until heard last is) (omega arith))))
   where
     most : (a b n : ℕ) → a ≤ n → b ≤ n → max a b ≤ n
     most a b n x y = grind (arith, nat_tests)
@@ -206,13 +241,15 @@ ticked-phase s now goes fits = tick-moves s now (λ kept phase table. EndsBy now
   waits = λ until heard last p goes_on. later-by s.now now s.kept.longest s.phase goes fits;
   opening = λ until heard last p over. serves-by now s.longest;
   ends_reading = λ p. later-by s.now now s.kept.longest s.phase goes fits;
-  ending_writing = λ row p due. subst (λ ph. EndsBy now (fence s.kept (find_file row.file s.kept.files)).longest ph) (sym p) (serves-by now (fence s.kept (find_file row.file s.kept.files)).longest);
+  ending_writing = λ row p due. subst (λ ph. EndsBy now (fence s.kept (find_file row.file s.kept.files)).longest ph) (sym p)
+      (serves-by now (fence s.kept (find_file row.file s.kept.files)).longest);
 })
 
 crashed-phase : (kept : Kept) (longest now : ℕ) (last : Option Table) → EndsBy now (booted kept longest).longest (boot_phase kept.opened kept.longest now last)
 crashed-phase kept longest now last = by (kept.opened == 0) refl
   where
-    by : (b : Bool) → (kept.opened == 0) ≡ b → EndsBy now (if b then record kept { boot = kept.boot + 1; opened = kept.boot + 1; longest = longest } else record kept { boot = kept.boot + 1 }).longest (if b then serving else recovering (now + kept.longest + (skew + write_slack)) now last)
+    by : (b : Bool) → (kept.opened == 0) ≡ b → EndsBy now (if b then record kept { boot = kept.boot + 1; opened = kept.boot + 1; longest = longest }
+        else record kept { boot = kept.boot + 1 }).longest (if b then serving else recovering (now + kept.longest + (skew + write_slack)) now last)
     by true e = serves-by now longest
     by false e = recovers-by now kept.longest (now + kept.longest + (skew + write_slack)) now last (omega arith)
 
@@ -221,7 +258,8 @@ unfolding PhaseFits crash boot
 phase-acted w t (received k p sent to is) fits =
     let keeps = receive-keeps w.server (sending_host p.sender) (length w.packets) (datagram_of p.message) in
     subst (λ (u : ServerStep). PhaseFits u.server) (sym is)
-    (subst (λ n. EndsBy n (receive w.server (sending_host p.sender) (length w.packets) (datagram_of p.message)).server.kept.longest (receive w.server (sending_host p.sender) (length w.packets) (datagram_of p.message)).server.phase) (sym keeps.1)
+    (subst (λ n. EndsBy n (receive w.server (sending_host p.sender) (length w.packets) (datagram_of p.message)).server.kept.longest
+    (receive w.server (sending_host p.sender) (length w.packets) (datagram_of p.message)).server.phase) (sym keeps.1)
     (received-phase w.server (sending_host p.sender) (length w.packets) (datagram_of p.message) fits))
 phase-acted w t (ticks is) fits =
     let keeps = tick-keeps w.server (w.server.now + 1) in

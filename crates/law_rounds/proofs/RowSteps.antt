@@ -1,5 +1,6 @@
 -- What becomes of the rows that hosts wait for: as a row is dropped, marked or put.
-use Rattle.std.proofs.Common.{◌≡◌, ◌≢◌, ◌<◌, ◌⊎◌, ℕ, ◌==◌, ◌&&◌, ◌||◌, Bool, true, false, not, List, Option, Some, None, if◌then◌else◌, refl, sym, ap, subst, ◌∙◌, inl, inr}
+use Rattle.std.proofs.Common.{◌≡◌, ◌≢◌, ◌<◌, ◌⊎◌, ℕ, ◌==◌, ◌&&◌, ◌||◌, Bool, true, false, not, List, Option, Some, None, if◌then◌else◌, refl, sym, ap}
+use Rattle.std.proofs.Common.{subst, ◌∙◌, inl, inr}
 use Rattle.std.specs.Option.{option_map}
 use Rattle.std.proofs.lemmas.Bool.{and_parts}
 use Rattle.nq_base.specs.declared.Access.{Access}
@@ -43,66 +44,77 @@ at-key file host f h = by (f == file) (h == host) refl refl
     by true false x y = inr (λ e. is-other h host y)
     by false b x y = inr (λ e. absurd (is-other f file x e))
 
-pub tame-self : (hosts : ℕ) (rows : List Row) → IsTame hosts rows rows
-tame-self hosts rows = record { sharing = λ file host e. e; doomed = λ file host e. e }
-
 -- ---- what is changed at one place only
 
 module _ (hosts : ℕ) (before after : List Row) (file host : ℕ) (others : (f h : ℕ) → (f ≡ file → h ≢ host) → find_row f h after ≡ find_row f h before) where
   -- a row that caches goes, or comes where nobody else shares the file
-  shared-old : ((f h : ℕ) → (f ≡ file) → (h ≡ host) → shares_file after f h ≡ true → shares_file before f h ≡ true) → (f : ℕ) → is_shared_in hosts after f ≡ true → is_shared_in hosts before f ≡ true
+  shared-old : ((f h : ℕ) → (f ≡ file) → (h ≡ host) → shares_file after f h ≡ true → shares_file before f h ≡ true) → (f : ℕ)
+      → is_shared_in hosts after f ≡ true → is_shared_in hosts before f ≡ true
   shared-old own f e = any-more hosts (shares_file after f) (shares_file before f) (λ h is. by f h is (at-key file host f h)) e
     where
       by : (f h : ℕ) → shares_file after f h ≡ true → ((f ≡ file) × (h ≡ host)) ⊎ (f ≡ file → h ≢ host) → shares_file before f h ≡ true
       by f h is (inl k) = own f h k.0 k.1 is
       by f h is (inr other) = ap is_sharing (sym (others f h other)) ∙ is
 
-  pub tame-place : (shares_file before file host ≡ true → shares_file after file host ≡ true) → (shares_file after file host ≡ true → shares_file before file host ≡ true) → (doomed_at hosts after file host ≡ true → doomed_at hosts before file host ≡ true) → IsTame hosts before after
+  pub tame-place : (shares_file before file host ≡ true → shares_file after file host ≡ true) → (shares_file after file host ≡ true
+      → shares_file before file host ≡ true) → (doomed_at hosts after file host ≡ true → doomed_at hosts before file host ≡ true) → IsTame hosts before after
   tame-place keeps old own = record {
     sharing = λ f h e. share f h e (at-key file host f h);
     doomed = λ f h e. doom f h e (at-key file host f h);
   }
     where
       share : (f h : ℕ) → shares_file before f h ≡ true → ((f ≡ file) × (h ≡ host)) ⊎ (f ≡ file → h ≢ host) → shares_file after f h ≡ true
-      share f h e (inl k) = subst (λ g. shares_file after g h ≡ true) (sym k.0) (subst (λ n. shares_file after file n ≡ true) (sym k.1) (keeps (subst (λ n. shares_file before file n ≡ true) k.1 (subst (λ g. shares_file before g h ≡ true) k.0 e))))
+      share f h e (inl k) = subst (λ g. shares_file after g h ≡ true) (sym k.0) (subst (λ n. shares_file after file n ≡ true) (sym k.1)
+          (keeps (subst (λ n. shares_file before file n ≡ true) k.1 (subst (λ g. shares_file before g h ≡ true) k.0 e))))
       share f h e (inr other) = ap is_sharing (others f h other) ∙ e
 
       back : (f h : ℕ) → f ≡ file → h ≡ host → shares_file after f h ≡ true → shares_file before f h ≡ true
-      back f h at by e = subst (λ g. shares_file before g h ≡ true) (sym at) (subst (λ n. shares_file before file n ≡ true) (sym by) (old (subst (λ n. shares_file after file n ≡ true) by (subst (λ g. shares_file after g h ≡ true) at e))))
+      back f h at by e = subst (λ g. shares_file before g h ≡ true) (sym at) (subst (λ n. shares_file before file n ≡ true) (sym by)
+          (old (subst (λ n. shares_file after file n ≡ true) by (subst (λ g. shares_file after g h ≡ true) at e))))
 
       doom : (f h : ℕ) → doomed_at hosts after f h ≡ true → ((f ≡ file) × (h ≡ host)) ⊎ (f ≡ file → h ≢ host) → doomed_at hosts before f h ≡ true
-      doom f h e (inl k) = subst (λ g. doomed_at hosts before g h ≡ true) (sym k.0) (subst (λ n. doomed_at hosts before file n ≡ true) (sym k.1) (own (subst (λ n. doomed_at hosts after file n ≡ true) k.1 (subst (λ g. doomed_at hosts after g h ≡ true) k.0 e))))
-      doom f h e (inr other) = doomed-more (is_shared_in hosts after f) (is_shared_in hosts before f) (find_row f h before) (shared-old back f) (subst (λ o. is_doomed (is_shared_in hosts after f) o ≡ true) (others f h other) e)
+      doom f h e (inl k) = subst (λ g. doomed_at hosts before g h ≡ true) (sym k.0) (subst (λ n. doomed_at hosts before file n ≡ true) (sym k.1)
+          (own (subst (λ n. doomed_at hosts after file n ≡ true) k.1 (subst (λ g. doomed_at hosts after g h ≡ true) k.0 e))))
+      doom f h e (inr other) = doomed-more (is_shared_in hosts after f) (is_shared_in hosts before f) (find_row f h before) (shared-old back f)
+          (subst (λ o. is_doomed (is_shared_in hosts after f) o ≡ true) (others f h other) e)
 
   -- the row at the place goes, or does not share the file, and did not before
-  pub tame-unshared : shares_file before file host ≡ false → shares_file after file host ≡ false → (doomed_at hosts after file host ≡ true → doomed_at hosts before file host ≡ true) → IsTame hosts before after
-  tame-unshared was is own = tame-place (λ e. let bad : false ≡ true = sym was ∙ e in absurd (cc)) (λ e. let bad : false ≡ true = sym is ∙ e in absurd (cc)) own
+  pub tame-unshared : shares_file before file host ≡ false → shares_file after file host ≡ false → (doomed_at hosts after file host ≡ true
+      → doomed_at hosts before file host ≡ true) → IsTame hosts before after
+  tame-unshared was is own = tame-place (λ e. let bad : false ≡ true = sym was ∙ e in absurd (cc)) (λ e. let bad : false ≡ true = sym is ∙ e in
+      absurd (cc)) own
 
   pub keep-place : shares_file before file host ≡ false ⊎ (shares_file after file host ≡ true) → KeepSharing before after
   keep-place either f h e = by (at-key file host f h) either
     where
-      by : ((f ≡ file) × (h ≡ host)) ⊎ (f ≡ file → h ≢ host) → shares_file before file host ≡ false ⊎ (shares_file after file host ≡ true) → shares_file after f h ≡ true
+      by : ((f ≡ file) × (h ≡ host)) ⊎ (f ≡ file → h ≢ host) → shares_file before file host ≡ false ⊎ (shares_file after file host ≡ true)
+          → shares_file after f h ≡ true
       by (inr other) x = ap is_sharing (others f h other) ∙ e
       by (inl k) (inr is) = subst (λ g. shares_file after g h ≡ true) (sym k.0) (subst (λ n. shares_file after file n ≡ true) (sym k.1) is)
-      by (inl k) (inl was) = let there : shares_file before file host ≡ true = subst (λ n. shares_file before file n ≡ true) k.1 (subst (λ g. shares_file before g h ≡ true) k.0 e) in let bad : false ≡ true = sym was ∙ there in absurd (cc)
+      by (inl k) (inl was) = let there : shares_file before file host ≡ true = subst (λ n. shares_file before file n ≡ true) k.1
+          (subst (λ g. shares_file before g h ≡ true) k.0 e) in let bad : false ≡ true = sym was ∙ there in absurd (cc)
 
 -- ---- a row is dropped
 
 pub dropped-others : (rows : List Row) (file host : ℕ) (f h : ℕ) → (f ≡ file → h ≢ host) → find_row f h (drop_row file host rows) ≡ find_row f h rows
 dropped-others rows file host f h other = find-other-dropped file host f h rows other
 
-pub tame-dropped : (hosts : ℕ) (rows : List Row) (file host : ℕ) (row : Row) → find_row file host rows ≡ Some row → caches row.mode ≡ true → IsTame hosts rows (drop_row file host rows)
+pub tame-dropped : (hosts : ℕ) (rows : List Row) (file host : ℕ) (row : Row) → find_row file host rows ≡ Some row → caches row.mode ≡ true
+    → IsTame hosts rows (drop_row file host rows)
 tame-dropped hosts rows file host row found caching =
     tame-unshared hosts rows (drop_row file host rows) file host (dropped-others rows file host)
     (ap is_sharing found ∙ sharing-not row caching)
     (ap is_sharing (find-row-dropped file host rows))
-    (λ e. let none : doomed_at hosts (drop_row file host rows) file host ≡ false = ap (is_doomed (is_shared_in hosts (drop_row file host rows) file)) (find-row-dropped file host rows) in let bad : true ≡ false = sym e ∙ none in absurd (cc))
+    (λ e. let none : doomed_at hosts (drop_row file host rows) file host ≡ false = ap (is_doomed (is_shared_in hosts (drop_row file host rows) file))
+    (find-row-dropped file host rows) in let bad : true ≡ false = sym e ∙ none in absurd (cc))
 
 pub dropped-none : (hosts : ℕ) (rows : List Row) (file host : ℕ) → doomed_at hosts (drop_row file host rows) file host ≡ false
 dropped-none hosts rows file host = ap (is_doomed (is_shared_in hosts (drop_row file host rows) file)) (find-row-dropped file host rows)
 
-pub going-doomed : (hosts : ℕ) (rows : List Row) (file host : ℕ) (row : Row) → find_row file host rows ≡ Some row → caches row.mode ≡ true → row.evicting ≡ true → doomed_at hosts rows file host ≡ true
-going-doomed hosts rows file host row found caching going = ap (is_doomed (is_shared_in hosts rows file)) found ∙ doomed-by (is_shared_in hosts rows file) row caching (rw going refl)
+pub going-doomed : (hosts : ℕ) (rows : List Row) (file host : ℕ) (row : Row) → find_row file host rows ≡ Some row → caches row.mode ≡ true
+    → row.evicting ≡ true → doomed_at hosts rows file host ≡ true
+going-doomed hosts rows file host row found caching going = ap (is_doomed (is_shared_in hosts rows file)) found
+    ∙ doomed-by (is_shared_in hosts rows file) row caching (rw going refl)
 
 -- ---- a row is put
 
@@ -117,7 +129,8 @@ pub put-there : (rows : List Row) (row : Row) (file host : ℕ) → row.file ≡
 put-there rows row file host at by = find-put file host row rows ∙ ap (λ b. if b then Some row else find_row file host rows) (has-key file host row at by)
 
 -- one like the one that was there
-pub tame-put : (hosts : ℕ) (rows : List Row) (row own : Row) → find_row row.file row.who.host rows ≡ Some own → caches row.mode ≡ caches own.mode → row.evicting ≡ own.evicting → IsTame hosts rows (put_row row rows)
+pub tame-put : (hosts : ℕ) (rows : List Row) (row own : Row) → find_row row.file row.who.host rows ≡ Some own → caches row.mode ≡ caches own.mode
+    → row.evicting ≡ own.evicting → IsTame hosts rows (put_row row rows)
 tame-put hosts rows row own has kind going =
     tame-place hosts rows (put_row row rows) row.file row.who.host (put-others rows row)
     (λ e. ap is_sharing (there) ∙ ap not kind ∙ ap is_sharing (sym has) ∙ e)
@@ -130,20 +143,26 @@ tame-put hosts rows row own has kind going =
     back : (f h : ℕ) → f ≡ row.file → h ≡ row.who.host → shares_file (put_row row rows) f h ≡ true → shares_file rows f h ≡ true
     back f h at by e =
         let here : find_row f h (put_row row rows) ≡ Some row = put-there rows row f h (sym at) (sym by) in
-        let was : find_row f h rows ≡ Some own = subst (λ g. find_row g h rows ≡ Some own) (sym at) (subst (λ n. find_row row.file n rows ≡ Some own) (sym by) has) in
+        let was : find_row f h rows ≡ Some own = subst (λ g. find_row g h rows ≡ Some own) (sym at) (subst (λ n. find_row row.file n rows ≡ Some own)
+        (sym by) has) in
         ap is_sharing was ∙ ap not (sym kind) ∙ ap is_sharing (sym here) ∙ e
 
     doom : is_doomed (is_shared_in hosts (put_row row rows) row.file) (Some row) ≡ true → doomed_at hosts rows row.file row.who.host ≡ true
     doom e =
         let k = doomed-caches (is_shared_in hosts (put_row row rows) row.file) row e in
-        let more : (own.evicting || is_shared_in hosts rows row.file) ≡ true = or-more own.evicting (is_shared_in hosts (put_row row rows) row.file) (is_shared_in hosts rows row.file) (shared-old hosts rows (put_row row rows) row.file row.who.host (put-others rows row) back row.file) (subst (λ b. (b || is_shared_in hosts (put_row row rows) row.file) ≡ true) going k.1) in
+        let more : (own.evicting || is_shared_in hosts rows row.file) ≡ true = or-more own.evicting (is_shared_in hosts (put_row row rows) row.file)
+        (is_shared_in hosts rows row.file) (shared-old hosts rows (put_row row rows) row.file row.who.host (put-others rows row) back row.file)
+        (subst (λ b. (b || is_shared_in hosts (put_row row rows) row.file) ≡ true) going k.1) in
         ap (is_doomed (is_shared_in hosts rows row.file)) has ∙ doomed-by (is_shared_in hosts rows row.file) own (sym kind ∙ k.0) more
 
 -- a caching one, where nobody shares the file
-pub tame-begun : (hosts : ℕ) (rows : List Row) (row : Row) → find_row row.file row.who.host rows ≡ None → caches row.mode ≡ true → row.evicting ≡ false → ((h : ℕ) → h ≢ row.who.host → shares_file rows row.file h ≡ false) → IsTame hosts rows (put_row row rows)
+pub tame-begun : (hosts : ℕ) (rows : List Row) (row : Row) → find_row row.file row.who.host rows ≡ None → caches row.mode ≡ true → row.evicting
+    ≡ false → ((h : ℕ) → h ≢ row.who.host → shares_file rows row.file h ≡ false) → IsTame hosts rows (put_row row rows)
 tame-begun hosts rows row none caching stays nobody =
-    tame-unshared hosts rows (put_row row rows) row.file row.who.host (put-others rows row) (ap is_sharing none) (ap is_sharing there ∙ sharing-not row caching)
-    (λ e. let k = doomed-caches (is_shared_in hosts (put_row row rows) row.file) row (subst (λ o. is_doomed (is_shared_in hosts (put_row row rows) row.file) o ≡ true) there e) in let bad = no k.1 in absurd bad)
+    tame-unshared hosts rows (put_row row rows) row.file row.who.host (put-others rows row) (ap is_sharing none) (ap is_sharing there
+    ∙ sharing-not row caching)
+    (λ e. let k = doomed-caches (is_shared_in hosts (put_row row rows) row.file) row
+    (subst (λ o. is_doomed (is_shared_in hosts (put_row row rows) row.file) o ≡ true) there e) in let bad = no k.1 in absurd bad)
   where
     there : find_row row.file row.who.host (put_row row rows) ≡ Some row
     there = put-there rows row row.file row.who.host refl refl
@@ -156,7 +175,8 @@ tame-begun hosts rows row none caching stays nobody =
         by (inr other) = ap is_sharing (put-others rows row row.file h other) ∙ nobody h (other refl)
 
     no : (row.evicting || is_shared_in hosts (put_row row rows) row.file) ≡ true → ⊥
-    no e = let none_shares : is_shared_in hosts (put_row row rows) row.file ≡ false = any-none hosts (shares_file (put_row row rows) row.file) each in let bad : true ≡ false = sym e ∙ ap (λ b. b || is_shared_in hosts (put_row row rows) row.file) stays ∙ none_shares in cc
+    no e = let none_shares : is_shared_in hosts (put_row row rows) row.file ≡ false = any-none hosts (shares_file (put_row row rows) row.file) each in
+        let bad : true ≡ false = sym e ∙ ap (λ b. b || is_shared_in hosts (put_row row rows) row.file) stays ∙ none_shares in cc
 
 -- ---- rows are marked
 
@@ -171,14 +191,17 @@ pub keep-marked : (f by : ℕ) (access : Access) (rows : List Row) → KeepShari
 keep-marked f by access rows file host e = shares-marked f by access rows file host ∙ e
 
 -- where some host shares the file
-pub tame-marked : (hosts f by : ℕ) (access : Access) (rows : List Row) (host : ℕ) → host < hosts → shares_file rows f host ≡ true → IsTame hosts rows (marked f by access rows)
+pub tame-marked : (hosts f by : ℕ) (access : Access) (rows : List Row) (host : ℕ) → host < hosts → shares_file rows f host ≡ true
+    → IsTame hosts rows (marked f by access rows)
 tame-marked hosts f by access rows host below shares = record {
   sharing = keep-marked f by access rows;
-  doomed = λ file h e. doom file h (find_row file h rows) refl (subst (λ o. is_doomed (is_shared_in hosts (marked f by access rows) file) o ≡ true) (find-marked file h f by access rows) e);
+  doomed = λ file h e. doom file h (find_row file h rows) refl (subst (λ o. is_doomed (is_shared_in hosts (marked f by access rows) file) o ≡ true)
+      (find-marked file h f by access rows) e);
 }
   where
     old : (file : ℕ) → is_shared_in hosts (marked f by access rows) file ≡ true → is_shared_in hosts rows file ≡ true
-    old file e = any-more hosts (shares_file (marked f by access rows) file) (shares_file rows file) (λ h is. sym (shares-marked f by access rows file h) ∙ is) e
+    old file e = any-more hosts (shares_file (marked f by access rows) file) (shares_file rows file)
+        (λ h is. sym (shares-marked f by access rows file h) ∙ is) e
 
     shared : is_shared_in hosts rows f ≡ true
     shared = any-here hosts (shares_file rows f) host below shares
@@ -186,7 +209,8 @@ tame-marked hosts f by access rows host below shares = record {
     unmarked : (row : Row) → (row.file == f) ≡ false → mark f by access row ≡ row
     unmarked row e = let off : conflicts f by access row ≡ false = ap (λ b. b && not (row.who.host == by) && mode_conflicts access row.mode) e in rw off refl
 
-    doom : (file h : ℕ) (o : Option Row) → find_row file h rows ≡ o → is_doomed (is_shared_in hosts (marked f by access rows) file) (option_map (mark f by access) o) ≡ true → doomed_at hosts rows file h ≡ true
+    doom : (file h : ℕ) (o : Option Row) → find_row file h rows ≡ o → is_doomed (is_shared_in hosts (marked f by access rows) file)
+        (option_map (mark f by access) o) ≡ true → doomed_at hosts rows file h ≡ true
     doom file h None found e = absurd (cc)
     doom file h (Some row) found e = which (row.file == f) refl
       where
@@ -197,8 +221,11 @@ tame-marked hosts f by access rows host below shares = record {
         which true same =
             let at : file ≡ f = sym (found-row file h rows row found).0 ∙ same-number row.file f same in
             let yes : is_shared_in hosts rows file ≡ true = subst (λ g. is_shared_in hosts rows g ≡ true) (sym at) shared in
-            ap (is_doomed (is_shared_in hosts rows file)) found ∙ doomed-by (is_shared_in hosts rows file) row (ap caches (sym (mark-is f by access row).mode) ∙ k.0) (or-last row.evicting (is_shared_in hosts rows file) yes)
+            ap (is_doomed (is_shared_in hosts rows file)) found ∙ doomed-by (is_shared_in hosts rows file) row
+            (ap caches (sym (mark-is f by access row).mode) ∙ k.0) (or-last row.evicting (is_shared_in hosts rows file) yes)
         which false differs =
             let same = unmarked row differs in
-            let more = or-more row.evicting (is_shared_in hosts (marked f by access rows) file) (is_shared_in hosts rows file) (old file) (subst (λ (r : Row). (r.evicting || is_shared_in hosts (marked f by access rows) file) ≡ true) same k.1) in
-            ap (is_doomed (is_shared_in hosts rows file)) found ∙ doomed-by (is_shared_in hosts rows file) row (ap caches (sym (mark-is f by access row).mode) ∙ k.0) more
+            let more = or-more row.evicting (is_shared_in hosts (marked f by access rows) file) (is_shared_in hosts rows file) (old file)
+            (subst (λ (r : Row). (r.evicting || is_shared_in hosts (marked f by access rows) file) ≡ true) same k.1) in
+            ap (is_doomed (is_shared_in hosts rows file)) found ∙ doomed-by (is_shared_in hosts rows file) row
+            (ap caches (sym (mark-is f by access row).mode) ∙ k.0) more

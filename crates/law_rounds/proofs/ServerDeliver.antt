@@ -1,5 +1,5 @@
 -- A packet is delivered to the server, or a VACATED and the request right behind it.
-use Rattle.std.proofs.Common.{◌≡◌, ◌≤◌, ◌<◌, ℕ, ◌+◌, ◌*◌, ◌++◌, true, pred, List, [], ◌∷◌, Option, Some, length, refl, sym, ap, subst, ◌∙◌, arith}
+use Rattle.std.proofs.Common.{◌≡◌, ◌≤◌, ◌<◌, ℕ, ◌*◌, ◌++◌, true, pred, List, [], ◌∷◌, Option, Some, length, refl, sym, ap, subst, ◌∙◌, arith}
 use Rattle.std.specs.Prelude.{slice_get}
 use Rattle.std.proofs.lemmas.Bool.{and_parts}
 use Rattle.nq_base.specs.declared.Event.{Event}
@@ -31,13 +31,15 @@ use Rattle.law_rounds.proofs.ServerSteps.{taken-row}
 
 module _ (hosts few : ℕ) (turns : Client → ℕ) (asks : ℕ → Option Request) where
   -- all that the server sends fits
-  each-fit : (level : ℕ) (s : Server) (items : List Item) → level ≤ 2 → Each (IsFormed hosts asks) items → Each (NoticeIsGood hosts asks s) items → Each (PairIsGood hosts asks s) items → Each (Fits hosts asks level s) items
+  each-fit : (level : ℕ) (s : Server) (items : List Item) → level ≤ 2 → Each (IsFormed hosts asks) items → Each (NoticeIsGood hosts asks s) items
+      → Each (PairIsGood hosts asks s) items → Each (Fits hosts asks level s) items
   each-fit level s [] small a b c = tt
   each-fit level s (i ∷ items) small a b c = (sends-fit hosts asks level s i small a.0 b.0 c.0, each-fit level s items small a.1 b.1 c.1)
 
   -- ---- one packet of a host
 
-  module _ (p : Play) (facts : Facts hosts few turns p.world) (agree : Agree hosts asks p.world) (k host : ℕ) (m : Message) (rest : List Item) (queue : Queued p.world.packets p.fresh (one k (from_host host m) ∷ rest)) where
+  module _ (p : Play) (facts : Facts hosts few turns p.world) (agree : Agree hosts asks p.world) (k host : ℕ) (m : Message) (rest : List Item)
+      (queue : Queued p.world.packets p.fresh (one k (from_host host m) ∷ rest)) where
     abbrev q : Play
     q = play p (Event.Deliver k)
 
@@ -66,21 +68,26 @@ module _ (hosts few : ℕ) (turns : Client → ℕ) (asks : ℕ → Option Reque
     clients-are = ap (λ (u : World). u.clients) world-is
 
     pub queue-then : Queued q.world.packets q.fresh (rest ++ came_then)
-    queue-then = next-queue p k (from_host host m) rest queue step_then.sends came_then packets-are (adds hosts few turns asks p.world facts k (from_host host m) sent refl)
+    queue-then = next-queue p k (from_host host m) rest queue step_then.sends came_then packets-are (adds hosts few turns asks p.world facts k
+        (from_host host m) sent refl)
 
     pub agree-then : Agree hosts asks q.world
     agree-then h c is = agree h c (subst (λ cs. slice_get cs h ≡ Some c) clients-are is)
 
     pub few-then : length came_then ≤ few
-    few-then = let a = adds-most p.world.packets step_then.sends came_then (adds hosts few turns asks p.world facts k (from_host host m) sent refl) in let b = few-sent hosts few turns asks p.world facts k (from_host host m) sent refl in omega arith
+    few-then = let a = adds-most p.world.packets step_then.sends came_then (adds hosts few turns asks p.world facts k (from_host host m) sent refl) in
+        let b = few-sent hosts few turns asks p.world facts k (from_host host m) sent refl in omega arith
 
     pub fits-then : (level : ℕ) → level ≤ 2 → Each (Fits hosts asks level q.world.server) came_then
     fits-then level small =
         subst (λ s. Each (Fits hosts asks level s) came_then) (sym server-is)
-        (each-fit level step_then.server came_then small (new-formed hosts few turns asks p.world facts k (from_host host m) sent refl) (new-good hosts few turns asks p.world facts k (from_host host m) sent refl) (new-pairs hosts few turns asks p.world facts k (from_host host m) sent refl))
+        (each-fit level step_then.server came_then small (new-formed hosts few turns asks p.world facts k (from_host host m) sent refl)
+        (new-good hosts few turns asks p.world facts k (from_host host m) sent refl) (new-pairs hosts few turns asks p.world facts k
+        (from_host host m) sent refl))
 
     pub light-then : weight_of few asks q.world.server.table.rows came_then ≤ 5 * few
-    light-then = subst (λ (s : Server). weight_of few asks s.table.rows came_then ≤ 5 * few) (sym server-is) (new-light hosts few turns asks p.world facts k (from_host host m) sent refl)
+    light-then = subst (λ (s : Server). weight_of few asks s.table.rows came_then ≤ 5 * few) (sym server-is) (new-light hosts few turns asks p.world
+        facts k (from_host host m) sent refl)
 
     -- a VACATED alone
     module _ (x file : ℕ) (who : Who) (tag : Tag) (is : m ≡ call x (Request.Vacated who file tag)) (from : who.host ≡ host) (below : host < hosts) where
@@ -91,7 +98,8 @@ module _ (hosts few : ℕ) (turns : Client → ℕ) (asks : ℕ → Option Reque
       vacates =
           let small : who.host < most_hosts = let most = facts.hosts_most in omega arith in
           subst (λ mm. Vacates p.world.server who file tag (receive p.world.server host (length p.world.packets) (datagram_of mm))) (sym is)
-          (subst (λ h. Vacates p.world.server who file tag (receive p.world.server h (length p.world.packets) (datagram_of (call x (Request.Vacated who file tag))))) from
+          (subst (λ h. Vacates p.world.server who file tag (receive p.world.server h (length p.world.packets)
+          (datagram_of (call x (Request.Vacated who file tag))))) from
           (vacated-request p.world.server who x (length p.world.packets) file tag current small))
         where
           current : is_taken who tag (find_row file who.host p.world.server.table.rows) ≡ true → who.inc ≡ (host_row p.world.server.kept who.host).inc
@@ -101,7 +109,8 @@ module _ (hosts few : ℕ) (turns : Client → ℕ) (asks : ℕ → Option Reque
               sym (same-number k2.row.who.inc who.inc same.0) ∙ facts.current file who.host k2.row k2.there
 
     keeps-one : (level : ℕ) → level ≤ 2 → Fits hosts asks level p.world.server (one k (from_host host m)) → KeepsGood hosts asks p.world.server q.world.server
-    keeps-one level small f = subst (λ s. KeepsGood hosts asks p.world.server s) (sym server-is) (by (form-of hosts asks level p.world.server (one k (from_host host m)) small f))
+    keeps-one level small f = subst (λ s. KeepsGood hosts asks p.world.server s) (sym server-is)
+        (by (form-of hosts asks level p.world.server (one k (from_host host m)) small f))
       where
         by : IsFormed hosts asks (one k (from_host host m)) → KeepsGood hosts asks p.world.server step_then.server
         by (to_client n h mm e) = let same : from_host host m ≡ to_host h mm = cc in absurd (not-both host h m mm same)
@@ -111,12 +120,16 @@ module _ (hosts few : ℕ) (turns : Client → ℕ) (asks : ℕ → Option Reque
             let parts = message-same host h m (call x (Request.Vacated who file tag)) same in
             let one_host = parts.0 in
             let is = parts.1 in
-            alone-keeps hosts few turns asks p.world facts file host who tag (from ∙ sym one_host) (ap (λ g. wants_in file (asks g)) one_host ∙ off) step_then (vacates x file who tag is (from ∙ sym one_host) (subst (λ g. g < hosts) (sym one_host) below))
+            alone-keeps hosts few turns asks p.world facts file host who tag (from ∙ sym one_host) (ap (λ g. wants_in file (asks g)) one_host ∙ off)
+            step_then (vacates x file who tag is (from ∙ sym one_host) (subst (λ g. g < hosts) (sym one_host) below))
 
-    spends-one : Fits hosts asks 0 p.world.server (one k (from_host host m)) → Each (IsFormed hosts asks) rest → Each (IsSentAs p.world.packets) rest → Spends hosts few turns asks (one k (from_host host m)) rest came_then p.world.server.table.rows q.world.server.table.rows 1
-    spends-one f formed sent_as = subst (λ (s : Server). Spends hosts few turns asks (one k (from_host host m)) rest came_then p.world.server.table.rows s.table.rows 1) (sym server-is) (by f.0)
+    spends-one : Fits hosts asks 0 p.world.server (one k (from_host host m)) → Each (IsFormed hosts asks) rest → Each (IsSentAs p.world.packets) rest
+        → Spends hosts few turns asks (one k (from_host host m)) rest came_then p.world.server.table.rows q.world.server.table.rows 1
+    spends-one f formed sent_as = subst (λ (s : Server). Spends hosts few turns asks (one k (from_host host m)) rest came_then
+        p.world.server.table.rows s.table.rows 1) (sym server-is) (by f.0)
       where
-        by : IsFormed hosts asks (one k (from_host host m)) → Spends hosts few turns asks (one k (from_host host m)) rest came_then p.world.server.table.rows step_then.server.table.rows 1
+        by : IsFormed hosts asks (one k (from_host host m)) → Spends hosts few turns asks (one k (from_host host m)) rest came_then
+            p.world.server.table.rows step_then.server.table.rows 1
         by (to_client n h mm e) = let same : from_host host m ≡ to_host h mm = cc in absurd (not-both host h m mm same)
         by (paired n h x y file who tag r e from below asked wants) = absurd (cc)
         by (alone n h x file who tag e from below off) =
@@ -129,10 +142,13 @@ module _ (hosts few : ℕ) (turns : Client → ℕ) (asks : ℕ → Option Reque
             let free = ap (λ g. wants_in file (asks g)) one_host ∙ off in
             let gone = vacates x file who tag is at small in
             let none : came_then ≡ [] = ap (ones (length p.world.packets)) gone.none in
-            let less = items-less hosts few turns asks p.world facts step_then.server.table.rows (λ f2 h2 wh tg row on there going taken. ap (is_taken wh tg) (alone-look hosts few turns asks p.world facts file host who tag at free step_then gone f2 h2 on ∙ there) ∙ taken) rest formed sent_as in
+            let less = items-less hosts few turns asks p.world facts step_then.server.table.rows (λ f2 h2 wh tg row on there going taken.
+            ap (is_taken wh tg) (alone-look hosts few turns asks p.world facts file host who tag at free step_then gone f2 h2 on ∙ there) ∙ taken)
+            rest formed sent_as in
             let both = weight-append few asks step_then.server.table.rows rest came_then in
             let zero_came : weight_of few asks step_then.server.table.rows came_then ≡ 0 = ap (weight_of few asks step_then.server.table.rows) none in
-            less_weight (alone-energy hosts few turns asks p.world facts file host who tag at free step_then gone (named x file who tag is at small)) (omega arith)
+            less_weight (alone-energy hosts few turns asks p.world facts file host who tag at free step_then gone (named x file who tag is at small))
+            (omega arith)
 
     pub to-server : GoesOn hosts few turns asks (one k (from_host host m)) rest p.world q.world q.fresh 1
     to-server = record {

@@ -1,5 +1,6 @@
 -- What the server sends in a delivery: notices for rows that are to go, replies and errors, each a light packet.
-use Rattle.std.proofs.Common.{◌≡◌, ◌≤◌, ℕ, ◌+◌, ◌*◌, ◌==◌, ◌&&◌, ◌++◌, Bool, true, false, List, [], ◌∷◌, Option, Some, length, refl, sym, ap, subst, ◌∙◌, arith, inl, inr}
+use Rattle.std.proofs.Common.{◌≡◌, ◌≤◌, ℕ, ◌+◌, ◌*◌, ◌==◌, ◌&&◌, ◌++◌, Bool, true, false, List, [], ◌∷◌, Option, Some, length, refl, sym, ap, subst}
+use Rattle.std.proofs.Common.{◌∙◌, arith, inl, inr}
 use Rattle.std.specs.Prelude.{slice_get}
 use Rattle.std.proofs.lemmas.List.{length-append}
 use Rattle.nq_base.specs.declared.Event.{Event}
@@ -43,7 +44,8 @@ named-taken rows host file who tag n = ap (is_taken who tag) n.there ∙ same
     same : (n.row.who.inc == who.inc && same_tag n.row.tag tag) ≡ true
     same = rw (a, b, c) refl
 
-module _ (hosts few : ℕ) (turns : Client → ℕ) (asks : ℕ → Option Request) (w : World) (facts : Facts hosts few turns w) (k : ℕ) (p : Packet) (sent : slice_get w.packets k ≡ Some p) (to : p.to ≡ Party.Server) where
+module _ (hosts few : ℕ) (turns : Client → ℕ) (asks : ℕ → Option Request) (w : World) (facts : Facts hosts few turns w) (k : ℕ) (p : Packet)
+    (sent : slice_get w.packets k ≡ Some p) (to : p.to ≡ Party.Server) where
   -- the step of the server
   abbrev pub t : ServerStep
   t = receive w.server (sending_host p.sender) (length w.packets) (datagram_of p.message)
@@ -95,9 +97,11 @@ module _ (hosts few : ℕ) (turns : Client → ℕ) (asks : ℕ → Option Reque
   light n q i (said_error host x er e) = subst (λ z. item_weight few asks rows_then (one n z) ≤ 5) (sym e) (omega arith)
   light n q i (said_notice x row e) =
       let named = facts.marks k p q sent to i row.who.host x row.file row.who row.tag e in
-      subst (λ z. item_weight few asks rows_then (one n z) ≤ 5) (sym e) (light-notice (wants_in row.file (asks row.who.host)) _ (named-taken rows_then row.who.host row.file row.who row.tag named))
+      subst (λ z. item_weight few asks rows_then (one n z) ≤ 5) (sym e) (light-notice (wants_in row.file (asks row.who.host)) _
+      (named-taken rows_then row.who.host row.file row.who row.tag named))
 
-  all-light : (n : ℕ) (sends : List Packet) → ((m : ℕ) (q : Packet) → In sends q → item_weight few asks rows_then (one m q) ≤ 5) → weight_of few asks rows_then (ones n sends) ≤ 5 * length sends
+  all-light : (n : ℕ) (sends : List Packet) → ((m : ℕ) (q : Packet) → In sends q → item_weight few asks rows_then (one m q) ≤ 5)
+      → weight_of few asks rows_then (ones n sends) ≤ 5 * length sends
   all-light n [] f = omega arith
   all-light n (q ∷ sends) f = let a = f n q (inl refl) in let rest = all-light (n + 1) sends (λ m r i. f m r (inr i)) in omega arith
 

@@ -1,5 +1,6 @@
 -- A VACATED is delivered, and the request right behind it: what becomes of the rows.
-use Rattle.std.proofs.Common.{◌≡◌, ◌≢◌, ◌≤◌, ◌<◌, ◌⊎◌, ℕ, ◌-◌, ◌==◌, Bool, true, false, nat_lt, List, Option, Some, None, length, refl, sym, ap, subst, ◌∙◌, arith, inl, inr}
+use Rattle.std.proofs.Common.{◌≡◌, ◌≢◌, ◌≤◌, ◌<◌, ◌⊎◌, ℕ, ◌==◌, Bool, true, false, nat_lt, List, Option, Some, None, length, refl, sym, ap, subst}
+use Rattle.std.proofs.Common.{◌∙◌, arith, inl, inr}
 use Rattle.std.proofs.lemmas.Bool.Decides.{nat_tests}
 use Rattle.std.proofs.lemmas.Bool.{and_parts}
 use Rattle.nq_base.specs.declared.Question.{Question}
@@ -8,7 +9,8 @@ use Rattle.nq_base.specs.declared.Row.{Row}
 use Rattle.nq_base.specs.declared.Tag.{Tag}
 use Rattle.nq_base.specs.declared.Want.{Want}
 use Rattle.nq_base.specs.declared.Who.{Who}
-use Rattle.nq_model.specs.Ask.{ask, conflicts, mode_conflicts, marked, sharing_row, caching_row, shared_again, renewed_row, put_off_by_own, granted, no_lease, free}
+use Rattle.nq_model.specs.Ask.{ask, conflicts, mode_conflicts, marked, sharing_row, caching_row, shared_again, renewed_row, put_off_by_own, granted}
+use Rattle.nq_model.specs.Ask.{no_lease, free}
 use Rattle.nq_model.specs.Client.{Client}
 use Rattle.nq_model.specs.Hear.{wants_of}
 use Rattle.nq_model.specs.Profile.{most_rows}
@@ -36,20 +38,26 @@ module _ (table : Table) (q : Question) (file host : ℕ) (who : Who) (tag : Tag
   GoodIn rows = IsGood rows file host who tag writes
 
   put-good : (rows : List Row) (row : Row) → row.file ≡ q.file → row.who.host ≡ q.who.host → GoodIn rows → GoodIn (put_row row rows)
-  put-good rows row at by good = good-same rows (put_row row rows) file host who tag writes (put-others rows row file host (λ e same. other (e ∙ at) (same ∙ by))) good
+  put-good rows row at by good = good-same rows (put_row row rows) file host who tag writes (put-others rows row file host
+      (λ e same. other (e ∙ at) (same ∙ by))) good
 
   grants-good : (v : Want) (row : Row) (term : ℕ) → IsGranted table q v row term → GoodIn table.rows → GoodIn (put_row row table.rows)
   unfolding shared_again sharing_row caching_row renewed_row
-  grants-good v row term (shares_again own has quiet alone is t) good = let k = found-row q.file q.who.host table.rows own has in put-good table.rows row (ap (λ (x : Row). x.file) is ∙ k.0) (ap (λ (x : Row). x.who.host) is ∙ k.1) good
-  grants-good v row term (begins_sharing none room some is t) good = put-good table.rows row (ap (λ (x : Row). x.file) is) (ap (λ (x : Row). x.who.host) is) good
-  grants-good v row term (begins_caching none room some is t) good = put-good table.rows row (ap (λ (x : Row). x.file) is) (ap (λ (x : Row). x.who.host) is) good
-  grants-good v row term (renews_row own has quiet kind is t) good = let k = found-row q.file q.who.host table.rows own has in put-good table.rows row (ap (λ (x : Row). x.file) is ∙ k.0) (ap (λ (x : Row). x.who.host) is ∙ k.1) good
+  grants-good v row term (shares_again own has quiet alone is t) good = let k = found-row q.file q.who.host table.rows own has in
+      put-good table.rows row (ap (λ (x : Row). x.file) is ∙ k.0) (ap (λ (x : Row). x.who.host) is ∙ k.1) good
+  grants-good v row term (begins_sharing none room some is t) good = put-good table.rows row (ap (λ (x : Row). x.file) is)
+      (ap (λ (x : Row). x.who.host) is) good
+  grants-good v row term (begins_caching none room some is t) good = put-good table.rows row (ap (λ (x : Row). x.file) is)
+      (ap (λ (x : Row). x.who.host) is) good
+  grants-good v row term (renews_row own has quiet kind is t) good = let k = found-row q.file q.who.host table.rows own has in put-good table.rows row
+      (ap (λ (x : Row). x.file) is ∙ k.0) (ap (λ (x : Row). x.who.host) is ∙ k.1) good
 
   pub others-good : GoodIn table.rows → GoodIn (ask table q).table.rows
   unfolding granted put_off_by_own no_lease free with_rows after_draw sharing_row
   others-good good = asks table q (λ a. GoodIn a.table.rows) (record {
     later = λ clash c. good-marked table.rows file host who tag writes q.file q.who.host q.access good;
-    later_waiting = λ clash v c w n room. put-good (marked q.file q.who.host q.access table.rows) _ refl refl (good-marked table.rows file host who tag writes q.file q.who.host q.access good);
+    later_waiting = λ clash v c w n room. put-good (marked q.file q.who.host q.access table.rows) _ refl refl (good-marked table.rows file host who
+        tag writes q.file q.who.host q.access good);
     freely = λ c w. good;
     later_by_own = λ v o c w h e. good;
     granting = λ v row term c w g. grants-good v row term g good;
@@ -61,7 +69,8 @@ module _ (table : Table) (q : Question) (file host : ℕ) (who : Who) (tag : Tag
 taken-tag : (who : Who) (tag : Tag) (row : Row) → is_taken who tag (Some row) ≡ true → row.tag ≡ tag
 taken-tag who tag row e =
     let a = and_parts _ _ (and_parts (row.who.inc == who.inc) (same_tag row.tag tag) e).1 in
-    ap (λ n. record { boot = n; number = row.tag.number }) (same-number row.tag.boot tag.boot a.0) ∙ ap (λ n. record { boot = tag.boot; number = n }) (same-number row.tag.number tag.number a.1)
+    ap (λ n. record { boot = n; number = row.tag.number }) (same-number row.tag.boot tag.boot a.0) ∙ ap (λ n. record { boot = tag.boot; number = n })
+    (same-number row.tag.number tag.number a.1)
 
 -- the row that is taken
 pub record Taken (rows : List Row) (file host : ℕ) (who : Who) (tag : Tag) : Type 0 where
@@ -78,20 +87,25 @@ taken-row rows file host who tag e = by (find_row file host rows) refl e
     by (Some row) is f = record { row = row; there = is; taken = f; latest = taken-tag who tag row f }
 
 -- rows at other places are as before
-pub without-others : (rows : List Row) (file : ℕ) (who : Who) (b : Bool) (f h : ℕ) → (f ≡ file → h ≢ who.host) → find_row f h (rows_without who file rows b) ≡ find_row f h rows
+pub without-others : (rows : List Row) (file : ℕ) (who : Who) (b : Bool) (f h : ℕ) → (f ≡ file → h ≢ who.host)
+    → find_row f h (rows_without who file rows b) ≡ find_row f h rows
 without-others rows file who true f h other = find-other-dropped file who.host f h rows other
 without-others rows file who false f h other = refl
 
 -- ---- the request right behind
 
-module _ (hosts : ℕ) (wants : ℕ → Option Request) (has_rows : AskersHaveRows) (few : ℕ) (turns : Client → ℕ) (w u : World) (facts : Facts hosts few turns w) (behind : Facts hosts few turns u) (file host : ℕ) (who : Who) (tag : Tag) (r : Request) (from : who.host ≡ host) (below : host < hosts) (asks_it : wants host ≡ Some r) (wants_it : wants_of file r ≡ true) (wishes : wish (wants host) ≡ Some file) where
+module _ (hosts : ℕ) (wants : ℕ → Option Request) (has_rows : AskersHaveRows) (few : ℕ) (turns : Client → ℕ) (w u : World)
+    (facts : Facts hosts few turns w) (behind : Facts hosts few turns u) (file host : ℕ) (who : Who) (tag : Tag) (r : Request) (from : who.host
+    ≡ host) (below : host < hosts) (asks_it : wants host ≡ Some r) (wants_it : wants_of file r ≡ true) (wishes : wish (wants host) ≡ Some file) where
   abbrev before : List Row
   before = w.server.table.rows
 
   abbrev is_gone : Bool
   is_gone = is_taken who tag (find_row file host before)
 
-  module _ (first : u.server.table.rows ≡ rows_without who file before is_gone) (same_first : IsSame w.server u.server) (t : ServerStep) (hears : Hears u.server (question_of u.server host r) t) (named : (row : Row) → find_row file host before ≡ Some row → row.tag ≡ tag → row.evicting ≡ true) where
+  module _ (first : u.server.table.rows ≡ rows_without who file before is_gone) (same_first : IsSame w.server u.server) (t : ServerStep)
+      (hears : Hears u.server (question_of u.server host r) t) (named : (row : Row) → find_row file host before ≡ Some row → row.tag ≡ tag
+      → row.evicting ≡ true) where
     abbrev between : List Row
     between = u.server.table.rows
 
@@ -107,13 +121,15 @@ module _ (hosts : ℕ) (wants : ℕ → Option Request) (has_rows : AskersHaveRo
 
     -- the row is gone: there is none, and there is room for one
     gone-none : is_gone ≡ true → find_row file host between ≡ None
-    gone-none e = ap (find_row file host) (first ∙ ap (rows_without who file before) e) ∙ subst (λ h. find_row file h (drop_row file who.host before) ≡ None) from (find-row-dropped file who.host before)
+    gone-none e = ap (find_row file host) (first ∙ ap (rows_without who file before) e) ∙ subst (λ h. find_row file h (drop_row file who.host before)
+        ≡ None) from (find-row-dropped file who.host before)
 
     gone-room : is_gone ≡ true → length between < most_rows
     gone-room e =
         let k = taken-row before file host who tag e in
         let shorter = dropped-shorter file who.host before k.row (subst (λ h. find_row file h before ≡ Some k.row) (sym from) k.there) in
-        let same : length between ≡ length (drop_row file who.host before) = ap (λ (rows : List Row). length rows) (first ∙ ap (rows_without who file before) e) in
+        let same : length between ≡ length (drop_row file who.host before) = ap (λ (rows : List Row). length rows) (first
+        ∙ ap (rows_without who file before) e) in
         let all = facts.few_rows in
         omega arith
 
@@ -134,7 +150,8 @@ module _ (hosts : ℕ) (wants : ℕ → Option Request) (has_rows : AskersHaveRo
       room-there e = is-less (length between) most_rows (gone-room e)
 
       -- a good row of the host, after the request
-      moved : (wh : Who) (tg : Tag) → IsGood (ask u.server.table q).table.rows q.file q.who.host wh tg (is_writing of.want.mode) → IsGood after file host wh tg (writes_for r)
+      moved : (wh : Who) (tg : Tag) → IsGood (ask u.server.table q).table.rows q.file q.who.host wh tg (is_writing of.want.mode)
+          → IsGood after file host wh tg (writes_for r)
       moved wh tg good =
           subst (λ b. IsGood after file host wh tg b) of.writes_is
           (subst (λ rows. IsGood rows file host wh tg (is_writing of.want.mode)) (sym rows-are)
@@ -162,7 +179,8 @@ module _ (hosts : ℕ) (wants : ℕ → Option Request) (has_rows : AskersHaveRo
           by false e =
               let row = some-row wh tg good in
               let there : find_row file host between ≡ Some row.0 = ap (find_row file host) (stays e) ∙ row.1 in
-              moved wh tg (asker-keeps u.server.table q of.want of.wants wh tg row.0 (own-at ∙ there) (back wh tg (subst (λ rows. IsGood rows file host wh tg (writes_for r)) (sym (stays e)) good)))
+              moved wh tg (asker-keeps u.server.table q of.want of.wants wh tg row.0 (own-at ∙ there)
+              (back wh tg (subst (λ rows. IsGood rows file host wh tg (writes_for r)) (sym (stays e)) good)))
 
       -- ---- energy
 
@@ -172,23 +190,29 @@ module _ (hosts : ℕ) (wants : ℕ → Option Request) (has_rows : AskersHaveRo
       asker-wishes : wish (wants q.who.host) ≡ Some q.file
       asker-wishes = subst (λ h. wish (wants h) ≡ Some q.file) (sym of.host_is) (wishes ∙ ap Some (sym of.file_is))
 
-      no-clash-for : (row : Row) → find_row file host between ≡ Some row → caches row.mode ≡ true → (writes_for r ≡ true → is_writing row.mode ≡ true) → clash_in u.server.table q ≡ None
+      no-clash-for : (row : Row) → find_row file host between ≡ Some row → caches row.mode ≡ true → (writes_for r ≡ true → is_writing row.mode ≡ true)
+          → clash_in u.server.table q ≡ None
       no-clash-for row there kind serves = by (clash_in u.server.table q) refl
         where
-          which : (r2 : Row) → find_row file r2.who.host between ≡ Some r2 → r2.who.host ≢ host → (b : Bool) → writes_for r ≡ b → mode_conflicts (access_of_mode b) r2.mode ≡ true → ⊥
-          which r2 at other true e k = let no = behind.alone file host r2.who.host row r2 there at other (serves e) in let bad : true ≡ false = sym k ∙ no in cc
-          which r2 at other false e k = let no = behind.alone file r2.who.host host r2 row at there (λ same. other (sym same)) k in let bad : true ≡ false = sym kind ∙ no in cc
+          which : (r2 : Row) → find_row file r2.who.host between ≡ Some r2 → r2.who.host ≢ host → (b : Bool) → writes_for r ≡ b
+              → mode_conflicts (access_of_mode b) r2.mode ≡ true → ⊥
+          which r2 at other true e k = let no = behind.alone file host r2.who.host row r2 there at other (serves e) in let bad : true ≡ false = sym k
+              ∙ no in cc
+          which r2 at other false e k = let no = behind.alone file r2.who.host host r2 row at there (λ same. other (sym same)) k in let bad : true
+              ≡ false = sym kind ∙ no in cc
 
           by : (o : Option Row) → clash_in u.server.table q ≡ o → clash_in u.server.table q ≡ None
           by None e = e
           by (Some r2) e =
               let c = is-clash q.file q.who.host q.access r2 (find-passes (conflicts q.file q.who.host q.access) r2 between e) in
-              let at : find_row file r2.who.host between ≡ Some r2 = subst (λ f. find_row f r2.who.host between ≡ Some r2) (c.of_file ∙ of.file_is) (behind.members (conflicts q.file q.who.host q.access) r2 e) in
+              let at : find_row file r2.who.host between ≡ Some r2 = subst (λ f. find_row f r2.who.host between ≡ Some r2) (c.of_file ∙ of.file_is)
+              (behind.members (conflicts q.file q.who.host q.access) r2 e) in
               let access : q.access ≡ access_of_mode (writes_for r) = of.access_is ∙ ap access_of_mode of.writes_is in
               let k : mode_conflicts (access_of_mode (writes_for r)) r2.mode ≡ true = subst (λ a. mode_conflicts a r2.mode ≡ true) access c.kind in
               absurd (which r2 at (λ same. c.other (same ∙ sym of.host_is)) (writes_for r) refl k)
 
-      own-row : (row : Row) → find_row file host between ≡ Some row → (writes_for r ≡ true → is_writing row.mode ≡ true) ⊎ (caches row.mode ≡ false) → OwnRow hosts wants u.server.table q of.want of.wants asker-below asker-wishes row
+      own-row : (row : Row) → find_row file host between ≡ Some row → (writes_for r ≡ true → is_writing row.mode ≡ true) ⊎ (caches row.mode ≡ false)
+          → OwnRow hosts wants u.server.table q of.want of.wants asker-below asker-wishes row
       own-row row there (inr off) = sharing off
       own-row row there (inl serves) = by (caches row.mode) refl
         where
@@ -196,18 +220,22 @@ module _ (hosts : ℕ) (wants : ℕ → Option Request) (has_rows : AskersHaveRo
           by false e = sharing e
           by true e = caching e (no-clash-for row there e serves)
 
-      own-out : (row : Row) → find_row file host between ≡ Some row → (writes_for r ≡ true → is_writing row.mode ≡ true) ⊎ (caches row.mode ≡ false) → Outcome hosts wants between after
-      own-out row there kind = subst (λ rows. Outcome hosts wants between rows) (sym rows-are) (own-asks hosts wants u.server.table q of.want of.wants asker-below asker-wishes row (own-at ∙ there) (own-row row there kind))
+      own-out : (row : Row) → find_row file host between ≡ Some row → (writes_for r ≡ true → is_writing row.mode ≡ true) ⊎ (caches row.mode ≡ false)
+          → Outcome hosts wants between after
+      own-out row there kind = subst (λ rows. Outcome hosts wants between rows) (sym rows-are) (own-asks hosts wants u.server.table q of.want of.wants
+          asker-below asker-wishes row (own-at ∙ there) (own-row row there kind))
 
       pub stays-out : is_gone ≡ false → IsGood before file host who tag (writes_for r) → Outcome hosts wants between after
       stays-out e (shares row there kind) = own-out row (ap (find_row file host) (stays e) ∙ there) (inr kind)
       stays-out e (serves_it row there kind) = own-out row (ap (find_row file host) (stays e) ∙ there) (inl kind)
-      stays-out e (goes row there taken) = let yes : is_gone ≡ true = ap (is_taken who tag) there ∙ taken in let bad : true ≡ false = sym yes ∙ e in absurd (cc)
+      stays-out e (goes row there taken) = let yes : is_gone ≡ true = ap (is_taken who tag) there ∙ taken in let bad : true ≡ false = sym yes ∙ e in
+          absurd (cc)
 
       pub gone-out : is_gone ≡ true → Outcome hosts wants between after
       gone-out e =
           let some = has_rows u.server.table q of.want of.wants (gone-room e) in
-          subst (λ rows. Outcome hosts wants between rows) (sym rows-are) (new-asks hosts wants u.server.table q of.want of.wants asker-below asker-wishes (own-at ∙ gone-none e) (room-there e) some.0 some.1)
+          subst (λ rows. Outcome hosts wants between rows) (sym rows-are) (new-asks hosts wants u.server.table q of.want of.wants asker-below
+          asker-wishes (own-at ∙ gone-none e) (room-there e) some.0 some.1)
 
     -- where the row is gone, energy fell
     gone-falls : is_gone ≡ true → energy hosts wants between < energy hosts wants before
@@ -217,7 +245,8 @@ module _ (hosts : ℕ) (wants : ℕ → Option Request) (has_rows : AskersHaveRo
         let kind = facts.going file host k.row k.there going in
         let is : between ≡ drop_row file host before = first ∙ ap (rows_without who file before) e ∙ ap (λ h. drop_row file h before) from in
         subst (λ rows. energy hosts wants rows < energy hosts wants before) (sym is)
-        (doomed-goes hosts wants before (drop_row file host before) (tame-dropped hosts before file host k.row k.there kind) file host below wishes (going-doomed hosts before file host k.row k.there kind going) (dropped-none hosts before file host))
+        (doomed-goes hosts wants before (drop_row file host before) (tame-dropped hosts before file host k.row k.there kind) file host below wishes
+        (going-doomed hosts before file host k.row k.there kind going) (dropped-none hosts before file host))
 
     outcome-no-more : (a b : List Row) → Outcome hosts wants a b → energy hosts wants b ≤ energy hosts wants a
     outcome-no-more a b (falls less) = omega arith
@@ -248,10 +277,12 @@ module _ (hosts : ℕ) (wants : ℕ → Option Request) (has_rows : AskersHaveRo
           where
             which : HasGoodRow hosts wants w.server file host who tag r → Outcome hosts wants before after
             which (inl g) = subst (λ rows. Outcome hosts wants rows after) (stays e) (stays-out q (question-is u.server host file r q wants_it some) table e g)
-            which (inr none) = let no : question_of u.server host r ≡ None = same-question w.server u.server host r same_first ∙ none in absurd (none-some q (sym no ∙ some))
+            which (inr none) = let no : question_of u.server host r ≡ None = same-question w.server u.server host r same_first ∙ none in
+                absurd (none-some q (sym no ∙ some))
 
     -- good rows stay good
-    pub pair-keeps : (f h : ℕ) (wh : Who) (tg : Tag) (r2 : Request) → wants h ≡ Some r2 → wants_of f r2 ≡ true → HasGoodRow hosts wants w.server f h wh tg r2 → HasGoodRow hosts wants t.server f h wh tg r2
+    pub pair-keeps : (f h : ℕ) (wh : Who) (tg : Tag) (r2 : Request) → wants h ≡ Some r2 → wants_of f r2 ≡ true → HasGoodRow hosts wants w.server f h
+        wh tg r2 → HasGoodRow hosts wants t.server f h wh tg r2
     pair-keeps f h wh tg r2 asks_two wants_two (inr none) = inr (same-question w.server t.server h r2 same-server ∙ none)
     pair-keeps f h wh tg r2 asks_two wants_two (inl good) = place (f == file) (h == host) refl refl
       where
@@ -259,21 +290,26 @@ module _ (hosts : ℕ) (wants : ℕ → Option Request) (has_rows : AskersHaveRo
         elsewhere other = inl (by hears)
           where
             here : IsGood between f h wh tg (writes_for r2)
-            here = good-same before between f h wh tg (writes_for r2) (ap (find_row f h) first ∙ without-others before file who is_gone f h (λ e same. other e (same ∙ from))) good
+            here = good-same before between f h wh tg (writes_for r2) (ap (find_row f h) first ∙ without-others before file who is_gone f h
+                (λ e same. other e (same ∙ from))) good
 
             by : Hears u.server (question_of u.server host r) t → IsGood after f h wh tg (writes_for r2)
             by (mute o s none same table) = subst (λ (x : Table). IsGood x.rows f h wh tg (writes_for r2)) (sym table) here
             by (asked o s q some same table) =
                 let of = question-is u.server host file r q wants_it some in
-                subst (λ (x : Table). IsGood x.rows f h wh tg (writes_for r2)) (sym table) (others-good u.server.table q f h wh tg (writes_for r2) (λ e same. other (e ∙ of.file_is) (same ∙ of.host_is)) here)
+                subst (λ (x : Table). IsGood x.rows f h wh tg (writes_for r2)) (sym table) (others-good u.server.table q f h wh tg (writes_for r2)
+                (λ e same. other (e ∙ of.file_is) (same ∙ of.host_is)) here)
 
         at-own : f ≡ file → h ≡ host → HasGoodRow hosts wants t.server f h wh tg r2
         at-own at by_host =
             let one : r2 ≡ r = some-same r2 r (sym asks_two ∙ ap wants by_host ∙ asks_it) in
-            subst (λ g. HasGoodRow hosts wants t.server g h wh tg r2) (sym at) (subst (λ n. HasGoodRow hosts wants t.server file n wh tg r2) (sym by_host) (subst (λ x. HasGoodRow hosts wants t.server file host wh tg x) (sym one)
-            (by hears (subst (λ x. IsGood before file host wh tg (writes_for x)) one (subst (λ n. IsGood before file n wh tg (writes_for r2)) by_host (subst (λ g. IsGood before g h wh tg (writes_for r2)) at good))))))
+            subst (λ g. HasGoodRow hosts wants t.server g h wh tg r2) (sym at) (subst (λ n. HasGoodRow hosts wants t.server file n wh tg r2)
+            (sym by_host) (subst (λ x. HasGoodRow hosts wants t.server file host wh tg x) (sym one)
+            (by hears (subst (λ x. IsGood before file host wh tg (writes_for x)) one (subst (λ n. IsGood before file n wh tg (writes_for r2)) by_host
+            (subst (λ g. IsGood before g h wh tg (writes_for r2)) at good))))))
           where
-            by : Hears u.server (question_of u.server host r) t → IsGood before file host wh tg (writes_for r) → HasGoodRow hosts wants t.server file host wh tg r
+            by : Hears u.server (question_of u.server host r) t → IsGood before file host wh tg (writes_for r) → HasGoodRow hosts wants t.server file
+                host wh tg r
             by (mute o s none same table) g = inr (same-question u.server t.server host r same ∙ none)
             by (asked o s q some same table) g = inl (own-good q (question-is u.server host file r q wants_it some) table wh tg g)
 

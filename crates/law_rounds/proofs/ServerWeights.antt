@@ -1,5 +1,6 @@
 -- What the server sends for a datagram weighs less than the datagram, where a request pays for the notices that it may cause.
-use Rattle.std.proofs.Common.{◌≡◌, ◌≤◌, ◌<◌, ℕ, ◌+◌, ◌==◌, ◌&&◌, ◌++◌, Bool, true, false, not, nat_lt, List, [], ◌∷◌, Some, None, if◌then◌else◌, refl, sym, ap, subst, ◌∙◌, arith}
+use Rattle.std.proofs.Common.{◌≡◌, ◌≤◌, ◌<◌, ℕ, ◌+◌, ◌==◌, ◌&&◌, ◌++◌, Bool, true, false, not, nat_lt, List, [], ◌∷◌, Some, None, if◌then◌else◌, refl}
+use Rattle.std.proofs.Common.{sym, ap, subst, ◌∙◌, arith}
 use Rattle.std.proofs.lemmas.Bool.Decides.{nat_tests}
 use Rattle.nq_base.specs.declared.Access.{Access}
 use Rattle.nq_base.specs.declared.Mode.{Mode}
@@ -14,7 +15,8 @@ use Rattle.nq_base.specs.declared.Verdict.{Verdict}
 use Rattle.nq_base.specs.declared.Want.{Want}
 use Rattle.nq_base.specs.declared.Who.{Who}
 use Rattle.nq_model.specs.Ask.{grant_of, sharing_row, caching_row, shared_again, renewed_row}
-use Rattle.nq_model.specs.Decide.{in_the_way, verdict_reply, done_reply, decides, creates, writes_through, stores, stores_recovering, resizes, removes, puts_off, commits}
+use Rattle.nq_model.specs.Decide.{in_the_way, verdict_reply, done_reply, decides, creates, writes_through, stores, stores_recovering, resizes}
+use Rattle.nq_model.specs.Decide.{removes, puts_off, commits}
 use Rattle.nq_model.specs.Kept.{host_row}
 use Rattle.nq_model.specs.LeaseInterval.{requested_file}
 use Rattle.nq_model.specs.Message.{Message, Packet, call, reply, error, request, datagram_of, datagram_of_call, old_incarnation, wrong_host}
@@ -26,7 +28,8 @@ use Rattle.walk_steps.proofs.ClientMoves.{some-same}
 use Rattle.walk_steps.proofs.AskCases.{IsGranted, shares_again, begins_sharing, begins_caching, renews_row}
 use Rattle.walk_steps.proofs.Rows.{choice}
 use Rattle.walk_steps.proofs.ServerCases.{server-hears}
-use Rattle.walk_steps.proofs.ServerOutcomes.{error_for, file_changed_by, wanted_by, base_in, IsPlain, unattached, attached_again, not_yet, no_entry, entry, no_attributes, attributes, no_file, no_block, decided_again, is_old}
+use Rattle.walk_steps.proofs.ServerOutcomes.{error_for, file_changed_by, wanted_by, base_in, IsPlain, unattached, attached_again, not_yet, no_entry}
+use Rattle.walk_steps.proofs.ServerOutcomes.{entry, no_attributes, attributes, no_file, no_block, decided_again, is_old}
 use Rattle.law_rounds.specs.Efforts.{is_idle}
 use Rattle.law_rounds.proofs.Requests.{message-of}
 use Rattle.law_rounds.proofs.Efforts.{total, total-more, lease_weight, reply_weight, want_weight, request_weight, weight}
@@ -50,13 +53,15 @@ idle-by NonCaching term w t = refl
 idle-by Reading term w t = absurd (cc)
 idle-by Writing term w t = rw t refl
 
-useful : (table : Table) (q : Question) (want : Want) (row : Row) (term : ℕ) → is_writing want.mode ≡ true → IsGranted table q want row term → is_idle (Some (grant_of q row term)) ≡ false
+useful : (table : Table) (q : Question) (want : Want) (row : Row) (term : ℕ) → is_writing want.mode ≡ true → IsGranted table q want row term
+    → is_idle (Some (grant_of q row term)) ≡ false
 unfolding grant_of shared_again sharing_row caching_row renewed_row
 useful table q want row term writing (shares_again own has quiet alone is t) =
     let mode : row.mode ≡ own.mode = ap (λ (r : Row). r.mode) is in
     let none : caches row.mode ≡ false = ap caches mode ∙ alone in
     rw none refl
-useful table q want row term writing (begins_sharing none room shared is t) = let mode : row.mode ≡ NonCaching = ap (λ (r : Row). r.mode) is in let off : caches row.mode ≡ false = ap caches mode in rw off refl
+useful table q want row term writing (begins_sharing none room shared is t) = let mode : row.mode ≡ NonCaching = ap (λ (r : Row). r.mode) is in
+    let off : caches row.mode ≡ false = ap caches mode in rw off refl
 useful table q want row term writing (begins_caching none room alone is t) =
     let mode : row.mode ≡ want.mode = ap (λ (r : Row). r.mode) is in
     idle-by row.mode term (ap is_writing mode ∙ writing) (ap (nat_lt 0) t ∙ some-term q.longest want.term)
@@ -65,15 +70,18 @@ useful table q want row term writing (renews_row own has quiet caching is t) =
     idle-by row.mode term (ap is_writing mode ∙ greater-writes own.mode want.mode writing) (ap (nat_lt 0) t ∙ some-term q.longest want.term)
 
 -- VACATED is never answered
-vacated-silent : (s : Server) (sender next xid : ℕ) (who : Who) (file : ℕ) (tag : Tag) → (receive s sender next (request xid (Request.Vacated who file tag))).sends ≡ []
+vacated-silent : (s : Server) (sender next xid : ℕ) (who : Who) (file : ℕ) (tag : Tag)
+    → (receive s sender next (request xid (Request.Vacated who file tag))).sends ≡ []
 unfolding drops quiet vacates
 vacated-silent s sender next xid who file tag =
     let r = Request.Vacated who file tag in
     let line = host_row s.kept who.host in
     choice (λ (t : ServerStep). t.sends ≡ []) (who.host == sender && nat_lt who.host most_hosts) (admit s who xid next r line) (drops s wrong_host)
-    (λ e. choice (λ (t : ServerStep). t.sends ≡ []) (nat_lt who.inc line.inc) (drops s old_incarnation) (if nat_lt line.inc who.inc then not_attached s who xid r else perform s who xid next line r)
+    (λ e. choice (λ (t : ServerStep). t.sends ≡ []) (nat_lt who.inc line.inc) (drops s old_incarnation) (if nat_lt line.inc who.inc then not_attached
+    s who xid r else perform s who xid next line r)
     (λ f. refl)
-    (λ f. choice (λ (t : ServerStep). t.sends ≡ []) (nat_lt line.inc who.inc) (not_attached s who xid r) (perform s who xid next line r) (λ g. refl) (λ g. refl)))
+    (λ f. choice (λ (t : ServerStep). t.sends ≡ []) (nat_lt line.inc who.inc) (not_attached s who xid r) (perform s who xid next line r) (λ g. refl)
+    (λ g. refl)))
     (λ e. refl)
 
 module _ (price note : ℕ) where
@@ -87,7 +95,8 @@ module _ (price note : ℕ) where
   pub record Dear (s : Server) (sender : ℕ) : Type 0 where
     pub least : 3 ≤ price
     pub noted : 2 ≤ note
-    pub others : s.phase ≡ serving → (file host : ℕ) (access : Access) → host ≡ sender → host < most_hosts → packets_weight (notices s.notice (in_the_way s file host access)) + 3 ≤ price
+    pub others : s.phase ≡ serving → (file host : ℕ) (access : Access) → host ≡ sender → host < most_hosts
+        → packets_weight (notices s.notice (in_the_way s file host access)) + 3 ≤ price
     pub own : s.phase ≡ serving → (file host : ℕ) (row : Row) → find_row file host s.table.rows ≡ Some row → note + 3 ≤ price
 
   lease-most : (b : Bool) → lease_weight price b ≤ price + 2
@@ -231,7 +240,8 @@ module _ (price note : ℕ) where
 
     -- a request that is no VACATED
     module _ (other : (xid : ℕ) (r : Request) → m ≡ Message.call xid r → is_vacated r ≡ false) where
-      requested : (xid : ℕ) (r : Request) → datagram_of m ≡ request xid r → (weight price note m ≡ request_weight price note r) × (3 ≤ request_weight price note r)
+      requested : (xid : ℕ) (r : Request) → datagram_of m ≡ request xid r → (weight price note m ≡ request_weight price note r)
+          × (3 ≤ request_weight price note r)
       requested xid r e =
           let is = message-of m xid r e in
           let d : datagram_of_call xid r ≡ request xid r = subst (λ n. datagram_of n ≡ request xid r) is e in
@@ -242,14 +252,17 @@ module _ (price note : ℕ) where
       replied xid r p e two = let w = requested xid r e in let a = w.0 in let b = w.1 in omega arith
 
       -- notices, and a reply of the common weight
-      notified : (xid : ℕ) (r : Request) (ps : List Packet) (p : Packet) → datagram_of m ≡ request xid r → packet_weight p ≡ 2 → packets_weight ps + 3 ≤ price → price ≤ request_weight price note r → packets_weight (ps ++ p ∷ []) + 1 ≤ weight price note m
+      notified : (xid : ℕ) (r : Request) (ps : List Packet) (p : Packet) → datagram_of m ≡ request xid r → packet_weight p ≡ 2 → packets_weight ps + 3
+          ≤ price → price ≤ request_weight price note r → packets_weight (ps ++ p ∷ []) + 1 ≤ weight price note m
       notified xid r ps p e two paid most =
           let w = requested xid r e in
           let a = w.0 in
           let more = total-more packet_weight ps p in
           omega arith
 
-      granted : (xid : ℕ) (who : Who) (want : Want) (file : ℕ) (table : Table) (q : Question) (row : Row) (term : ℕ) (p : Packet) → datagram_of m ≡ request xid (Request.GetLease who file want) → packet_weight p ≡ lease_weight price (is_idle (Some (grant_of q row term))) → IsGranted table q want row term → packets_weight (p ∷ []) + 1 ≤ weight price note m
+      granted : (xid : ℕ) (who : Who) (want : Want) (file : ℕ) (table : Table) (q : Question) (row : Row) (term : ℕ) (p : Packet) → datagram_of m
+          ≡ request xid (Request.GetLease who file want) → packet_weight p ≡ lease_weight price (is_idle (Some (grant_of q row term)))
+          → IsGranted table q want row term → packets_weight (p ∷ []) + 1 ≤ weight price note m
       granted xid who want file table q row term p e is g = by (is_writing want.mode) refl
         where
           by : (b : Bool) → is_writing want.mode ≡ b → packets_weight (p ∷ []) + 1 ≤ weight price note m
@@ -264,7 +277,8 @@ module _ (price note : ℕ) where
               omega arith
 
       lighter : Lighter (receive s sender next (datagram_of m))
-      unfolding quiet drops says attaches vacates serves leases tells_later decides creates writes_through stores stores_recovering resizes removes puts_off commits
+      unfolding quiet drops says attaches vacates serves leases tells_later decides creates writes_through stores stores_recovering resizes removes
+          puts_off commits
       lighter = server-hears s sender next (datagram_of m) Lighter (record {
         stays = let some = some-weight dear.least dear.noted m in omega arith;
         dropping = λ reason. let some = some-weight dear.least dear.noted m in omega arith;
@@ -273,22 +287,48 @@ module _ (price note : ℕ) where
         replying = λ xid who r a e by from plain. replied xid r (to_host who.host (reply xid a)) e (plain-weight s who r a plain);
         attaching = λ xid who e from later. replied xid (Request.Attach who) (to_host who.host (reply xid (Answer.Attach who.inc))) e refl;
         vacating = λ xid who file tag e current. let some = some-weight dear.least dear.noted m in omega arith;
-        putting_off = λ xid who r f clash e by file asking c. notified xid r (notices s.notice (in_the_way s f.id who.host (access_of (wanted_by r)))) (to_host who.host (reply xid (Answer.Refused who.inc Refusal.TryLater))) e refl (dear.others asking.serves f.id who.host (access_of (wanted_by r)) asking.current.from.host asking.current.from.possible) (asked-price r f.id file);
-        putting_off_waiting = λ xid who r f clash want e by file wants asking c own room. notified xid r (notices s.notice (in_the_way s f.id who.host (access_of (Some want)))) (to_host who.host (reply xid (Answer.Refused who.inc Refusal.TryLater))) e refl (dear.others asking.serves f.id who.host (access_of (Some want)) asking.current.from.host asking.current.from.possible) (asked-price r f.id file);
-        putting_off_by_own = λ xid who r f want own e by file wants asking c o evicting. notified xid r (notices s.notice (own ∷ [])) (to_host who.host (reply xid (Answer.Refused who.inc Refusal.TryLater))) e refl (let few = dear.own asking.serves f.id who.host own o in omega arith) (asked-price r f.id file);
-        reading = λ xid who q block f body e asking there c. replied xid (Request.Read who q f.id block None) (to_host who.host (reply xid (Answer.Read who.inc f.rev body None))) e refl;
-        reading_full = λ xid who q block want f body e asking there c own room. replied xid (Request.Read who q f.id block (Some want)) (to_host who.host (reply xid (Answer.Read who.inc f.rev body None))) e refl;
-        reading_granted = λ xid who q block want f body row term e asking there c g. replied xid (Request.Read who q f.id block (Some want)) (to_host who.host (reply xid (Answer.Read who.inc f.rev body (Some (grant_of (to_read s who f (Some want)) row term))))) e refl;
-        leasing_full = λ xid who want f e asking c own room. replied xid (Request.GetLease who f.id want) (to_host who.host (reply xid (Answer.GetLease who.inc None))) e refl;
-        leasing = λ xid who want f row term e asking c g. granted xid who want f.id s.table (to_read s who f (Some want)) row term (to_host who.host (reply xid (Answer.GetLease who.inc (Some (grant_of (to_read s who f (Some want)) row term))))) e refl g;
-        declining = λ xid who seq r verdict e by sq fresh declined. replied xid r (to_host who.host (reply xid (verdict_reply who.inc verdict 0 r))) e (verdict-weight who.inc verdict 0 r);
-        putting_off_change = λ xid who seq r f clash e by sq file base changing c. notified xid r (notices s.notice (in_the_way s f.id who.host Access.Write)) (to_host who.host (reply xid (verdict_reply who.inc Verdict.TryLater 0 r))) e refl (dear.others changing.serves f.id who.host Access.Write changing.fresh.current.from.host changing.fresh.current.from.possible) (changed-price r f.id file base);
-        creating = λ xid who seq blocks name e fresh serves can. replied xid (Request.Create who seq name blocks) (to_host who.host (reply xid (verdict_reply who.inc Verdict.Done s.kept.next (Request.Create who seq name blocks)))) e refl;
-        writing_through = λ xid who seq block first last body f e changing below c. replied xid (Request.Write who seq f.id block first last None body) (to_host who.host (reply xid (verdict_reply who.inc Verdict.Done (f.rev + 1) (Request.Write who seq f.id block first last None body)))) e refl;
-        storing = λ xid who seq block first last base body f row e changing below can. replied xid (Request.Write who seq f.id block first last (Some base) body) (to_host who.host (reply xid (verdict_reply who.inc Verdict.Done (f.rev + 1) (Request.Write who seq f.id block first last (Some base) body)))) e refl;
-        storing_recovering = λ xid who seq block first final base body f until heard last e fresh recovers found below boot rev. replied xid (Request.Write who seq f.id block first final (Some base) body) (to_host who.host (reply xid (verdict_reply who.inc Verdict.Done (f.rev + 1) (Request.Write who seq f.id block first final (Some base) body)))) e refl;
-        resizing = λ xid who seq q blocks f e changing can c. replied xid (Request.Resize who seq q f.id blocks) (to_host who.host (reply xid (verdict_reply who.inc Verdict.Done (f.rev + 1) (Request.Resize who seq q f.id blocks)))) e refl;
-        removing = λ xid who seq q f e changing c. replied xid (Request.Remove who seq q f.id) (to_host who.host (reply xid (verdict_reply who.inc Verdict.Done 0 (Request.Remove who seq q f.id)))) e refl;
+        putting_off = λ xid who r f clash e by file asking c. notified xid r (notices s.notice (in_the_way s f.id who.host (access_of (wanted_by r))))
+            (to_host who.host (reply xid (Answer.Refused who.inc Refusal.TryLater))) e refl (dear.others asking.serves f.id who.host
+            (access_of (wanted_by r)) asking.current.from.host asking.current.from.possible) (asked-price r f.id file);
+        putting_off_waiting = λ xid who r f clash want e by file wants asking c own room. notified xid r
+            (notices s.notice (in_the_way s f.id who.host (access_of (Some want))))
+            (to_host who.host (reply xid (Answer.Refused who.inc Refusal.TryLater))) e refl (dear.others asking.serves f.id who.host
+            (access_of (Some want)) asking.current.from.host asking.current.from.possible) (asked-price r f.id file);
+        putting_off_by_own = λ xid who r f want own e by file wants asking c o evicting. notified xid r (notices s.notice (own ∷ []))
+            (to_host who.host (reply xid (Answer.Refused who.inc Refusal.TryLater))) e refl (let few = dear.own asking.serves f.id who.host own o in
+            omega arith) (asked-price r f.id file);
+        reading = λ xid who q block f body e asking there c. replied xid (Request.Read who q f.id block None)
+            (to_host who.host (reply xid (Answer.Read who.inc f.rev body None))) e refl;
+        reading_full = λ xid who q block want f body e asking there c own room. replied xid (Request.Read who q f.id block (Some want))
+            (to_host who.host (reply xid (Answer.Read who.inc f.rev body None))) e refl;
+        reading_granted = λ xid who q block want f body row term e asking there c g. replied xid (Request.Read who q f.id block (Some want))
+            (to_host who.host (reply xid (Answer.Read who.inc f.rev body (Some (grant_of (to_read s who f (Some want)) row term))))) e refl;
+        leasing_full = λ xid who want f e asking c own room. replied xid (Request.GetLease who f.id want)
+            (to_host who.host (reply xid (Answer.GetLease who.inc None))) e refl;
+        leasing = λ xid who want f row term e asking c g. granted xid who want f.id s.table (to_read s who f (Some want)) row term
+            (to_host who.host (reply xid (Answer.GetLease who.inc (Some (grant_of (to_read s who f (Some want)) row term))))) e refl g;
+        declining = λ xid who seq r verdict e by sq fresh declined. replied xid r (to_host who.host (reply xid (verdict_reply who.inc verdict 0 r))) e
+            (verdict-weight who.inc verdict 0 r);
+        putting_off_change = λ xid who seq r f clash e by sq file base changing c. notified xid r
+            (notices s.notice (in_the_way s f.id who.host Access.Write)) (to_host who.host (reply xid (verdict_reply who.inc Verdict.TryLater 0 r))) e
+            refl (dear.others changing.serves f.id who.host Access.Write changing.fresh.current.from.host changing.fresh.current.from.possible)
+            (changed-price r f.id file base);
+        creating = λ xid who seq blocks name e fresh serves can. replied xid (Request.Create who seq name blocks)
+            (to_host who.host (reply xid (verdict_reply who.inc Verdict.Done s.kept.next (Request.Create who seq name blocks)))) e refl;
+        writing_through = λ xid who seq block first last body f e changing below c. replied xid (Request.Write who seq f.id block first last None
+            body) (to_host who.host (reply xid (verdict_reply who.inc Verdict.Done (f.rev + 1) (Request.Write who seq f.id block first last None
+            body)))) e refl;
+        storing = λ xid who seq block first last base body f row e changing below can. replied xid (Request.Write who seq f.id block first last
+            (Some base) body) (to_host who.host (reply xid (verdict_reply who.inc Verdict.Done (f.rev + 1) (Request.Write who seq f.id block first
+            last (Some base) body)))) e refl;
+        storing_recovering = λ xid who seq block first final base body f until heard last e fresh recovers found below boot rev.
+            replied xid (Request.Write who seq f.id block first final (Some base) body)
+            (to_host who.host (reply xid (verdict_reply who.inc Verdict.Done (f.rev + 1) (Request.Write who seq f.id block first final (Some base)
+            body)))) e refl;
+        resizing = λ xid who seq q blocks f e changing can c. replied xid (Request.Resize who seq q f.id blocks)
+            (to_host who.host (reply xid (verdict_reply who.inc Verdict.Done (f.rev + 1) (Request.Resize who seq q f.id blocks)))) e refl;
+        removing = λ xid who seq q f e changing c. replied xid (Request.Remove who seq q f.id)
+            (to_host who.host (reply xid (verdict_reply who.inc Verdict.Done 0 (Request.Remove who seq q f.id)))) e refl;
       })
 
     pub receive-lighter : packets_weight (receive s sender next (datagram_of m)).sends + 1 ≤ weight price note m
@@ -299,9 +339,12 @@ module _ (price note : ℕ) where
         by (reply x a) is = lighter (λ xid r c. let two = sym is ∙ c in absurd (cc))
         by (call x r) is = vacated r is
           where
-            silent : (who : Who) (file : ℕ) (tag : Tag) → m ≡ Message.call x (Request.Vacated who file tag) → packets_weight (receive s sender next (datagram_of m)).sends + 1 ≤ weight price note m
+            silent : (who : Who) (file : ℕ) (tag : Tag) → m ≡ Message.call x (Request.Vacated who file tag)
+                → packets_weight (receive s sender next (datagram_of m)).sends + 1 ≤ weight price note m
             silent who file tag e =
-                let none : packets_weight (receive s sender next (datagram_of m)).sends ≡ 0 = ap (λ n. packets_weight (receive s sender next (datagram_of n)).sends) e ∙ ap packets_weight (vacated-silent s sender next x who file tag) in
+                let none : packets_weight (receive s sender next (datagram_of m)).sends ≡ 0 =
+                ap (λ n. packets_weight (receive s sender next (datagram_of n)).sends) e ∙ ap packets_weight (vacated-silent s sender next x who
+                file tag) in
                 let some = some-weight dear.least dear.noted m in
                 omega arith
 

@@ -1,5 +1,6 @@
 -- A client that has no delayed writes and no running lease to write gets no delayed writes, unless it is granted a running one.
-use Rattle.std.proofs.Common.{◌≡◌, ◌≢◌, ◌≤◌, ◌⊎◌, ℕ, ◌+◌, Bool, true, false, not, ◌&&◌, List, [], Option, Some, None, refl, sym, subst, ap, ◌∙◌, arith, inl, inr}
+use Rattle.std.proofs.Common.{◌≡◌, ◌≢◌, ◌≤◌, ◌⊎◌, ℕ, ◌+◌, Bool, true, false, not, ◌&&◌, List, [], Option, Some, None, refl, sym, subst, ap, ◌∙◌}
+use Rattle.std.proofs.Common.{arith, inl, inr}
 use Rattle.std.specs.Prelude.{is_some}
 use Rattle.nq_base.specs.declared.Answer.{Answer}
 use Rattle.nq_base.specs.declared.Grant.{Grant}
@@ -8,9 +9,16 @@ use Rattle.nq_base.specs.declared.Refusal.{Refusal}
 use Rattle.nq_base.specs.declared.Reply.{Reply}
 use Rattle.nq_base.specs.declared.Request.{Request}
 use Rattle.nq_base.specs.declared.Tag.{Tag}
-use Rattle.nq_model.specs.Client.{Client, ClientStep, Lease, lease_on, drop_lease, put_lease, used_lease, lets_write, notice_on, first_dirty, dirty_at, other_dirty, is_clean, revision_of, is_revision_before, Job, attaching, for_call, renewing, pushing, Notice, Ticket, UnderWay, begun}
+use Rattle.nq_model.specs.Client.{Client, ClientStep, Lease, lease_on, drop_lease, put_lease, used_lease, lets_write, notice_on, first_dirty}
+use Rattle.nq_model.specs.Client.{dirty_at, other_dirty, is_clean, revision_of, is_revision_before, Job, attaching, for_call, renewing, pushing}
+use Rattle.nq_model.specs.Client.{Notice, Ticket, UnderWay, begun}
 use Rattle.nq_model.specs.ClientStep.{client_tick, sends_again, at_time}
-use Rattle.nq_model.specs.Hear.{hear, inc_of, reply_counts, granted_lease, waits_for, breaks, grant_caches, holds_caching, is_put_off, answer_of, answers_call, vacates_lease, vacates_noticed, other_push, loses, reports_to, without_lease, push_refused, breaks_chain, if_broken, holds, takes_grant, takes_optional, answers_call_of, caches_block, purges, knows_revision, then_caches, read_done, marks_through, lease_done, caches_write, write_done, ends_push, caches_push, push_done, spends, attached, pauses, done_for_call, done_renewal, done_push, done, refused_push, refused, replied, cancels, notes_notice, evicted}
+use Rattle.nq_model.specs.Hear.{hear, inc_of, reply_counts, granted_lease, waits_for, breaks, grant_caches, holds_caching, is_put_off, answer_of}
+use Rattle.nq_model.specs.Hear.{answers_call, vacates_lease, vacates_noticed, other_push, loses, reports_to, without_lease, push_refused}
+use Rattle.nq_model.specs.Hear.{breaks_chain, if_broken, holds, takes_grant, takes_optional, answers_call_of, caches_block, purges, knows_revision}
+use Rattle.nq_model.specs.Hear.{then_caches, read_done, marks_through, lease_done, caches_write, write_done, ends_push, caches_push, push_done}
+use Rattle.nq_model.specs.Hear.{spends, attached, pauses, done_for_call, done_renewal, done_push, done, refused_push, refused, replied, cancels}
+use Rattle.nq_model.specs.Hear.{notes_notice, evicted}
 use Rattle.nq_model.specs.Message.{Message, reply}
 use Rattle.nq_model.specs.Send.{sends_request, after_seq, after_number, gives_up, send_next}
 use Rattle.nq_model.specs.Settle.{answers, names_losses, after_read, reads_cached, after_write, marks_written, settle}
@@ -44,17 +52,20 @@ dead-used now file leases d f l on writes =
     let same : l.expiry ≡ m.before.expiry = ap (λ (x : Lease). x.expiry) m.same ∙ marked-expiry file m.before in
     omega arith
 
-dead-put : (now : ℕ) (lease : Lease) (leases : List Lease) → (is_writing lease.mode ≡ true → lease.expiry ≤ now) → Dead now leases → Dead now (put_lease lease leases)
+dead-put : (now : ℕ) (lease : Lease) (leases : List Lease) → (is_writing lease.mode ≡ true → lease.expiry ≤ now) → Dead now leases
+    → Dead now (put_lease lease leases)
 dead-put now lease leases own d f l on writes = by (lease-after-put lease f leases l on)
   where
     by : ((f ≡ lease.file) × (l ≡ lease)) ⊎ ((f ≢ lease.file) × (lease_on f leases ≡ Some l)) → l.expiry ≤ now
-    by (inl p) = let late = own (ap (λ (x : Lease). is_writing x.mode) (sym p.1) ∙ writes) in let same : l.expiry ≡ lease.expiry = ap (λ (x : Lease). x.expiry) p.1 in omega arith
+    by (inl p) = let late = own (ap (λ (x : Lease). is_writing x.mode) (sym p.1) ∙ writes) in let same : l.expiry ≡ lease.expiry =
+        ap (λ (x : Lease). x.expiry) p.1 in omega arith
     by (inr p) = d f l p.1 writes
 
 abbrev Rest : ClientStep → Type 0
 Rest t = Asleep t.client
 
-same : (t u : ClientStep) → u.client.now ≡ t.client.now → u.client.leases ≡ t.client.leases → u.client.dirty ≡ t.client.dirty → u.client.push ≡ t.client.push → Rest t → Rest u
+same : (t u : ClientStep) → u.client.now ≡ t.client.now → u.client.leases ≡ t.client.leases → u.client.dirty ≡ t.client.dirty → u.client.push
+    ≡ t.client.push → Rest t → Rest u
 same t u now leases kept going h = record {
   dirty = kept ∙ h.dirty;
   push = going ∙ h.push;
@@ -69,7 +80,12 @@ settles t h = settle-cases t Rest (record {
   idle = λ none. h;
   asking = λ u called own. h;
   read_out = λ u file block lease is read can out. record { dirty = h.dirty; push = h.push; dead = h.dead };
-  reading = λ u file block lease body is read can below has. record { dirty = h.dirty; push = h.push; dead = dead-used t.client.now file t.client.leases h.dead };
+  reading = λ u file block lease body is read can below has. record {
+    dirty = h.dirty;
+    push = h.push;
+    dead = dead-used t.client.now file
+        t.client.leases h.dead;
+  };
   read_waits = λ u file block is read waits. h;
   write_out = λ u sync file block body lease is write can out. record { dirty = h.dirty; push = h.push; dead = h.dead };
   write_full = λ u sync file block body lease is write can below full. record { dirty = h.dirty; push = h.push; dead = h.dead };
@@ -88,7 +104,8 @@ settles t h = settle-cases t Rest (record {
         let over = h.dead file lease held p.0 in
         omega arith
 
-requests : (t u : ClientStep) (job : Job) (request : Request) → u.client.now ≡ t.client.now → u.client.leases ≡ t.client.leases → u.client.dirty ≡ t.client.dirty → u.client.push ≡ t.client.push → Rest t → Rest (sends_request u job request)
+requests : (t u : ClientStep) (job : Job) (request : Request) → u.client.now ≡ t.client.now → u.client.leases ≡ t.client.leases → u.client.dirty
+    ≡ t.client.dirty → u.client.push ≡ t.client.push → Rest t → Rest (sends_request u job request)
 unfolding sends_request
 requests t u job request now leases kept going h = record {
   dirty = kept ∙ h.dirty;
@@ -136,7 +153,11 @@ noticed t file (Some n) h = vacates t file n.tag h
 reported : (t : ClientStep) (file : ℕ) (o : Option UnderWay) → Rest t → Rest (reports_to t file o)
 unfolding answers
 reported t file None h = h
-reported t file (Some u) h = choice Rest (waits_for file u.written u.call) (names_losses t u.q file) t (λ e. record { dirty = h.dirty; push = h.push; dead = h.dead }) (λ e. h)
+reported t file (Some u) h = choice Rest (waits_for file u.written u.call) (names_losses t u.q file) t (λ e. record {
+  dirty = h.dirty;
+  push = h.push;
+  dead = h.dead;
+}) (λ e. h)
 
 lost-rest : (t : ClientStep) (file : ℕ) → Rest t → Rest (loses t file)
 unfolding loses
@@ -149,7 +170,12 @@ broken t file h =
 
 free-rest : (t : ClientStep) (file : ℕ) → Rest t → Rest (without_lease (loses t file) file)
 unfolding loses without_lease
-free-rest t file h = record { dirty = ap (other_dirty file) h.dirty; push = ap (other_push file) h.push; dead = dead-dropped t.client.now file t.client.leases h.dead }
+free-rest t file h = record {
+  dirty = ap (other_dirty file) h.dirty;
+  push = ap (other_push file) h.push;
+  dead = dead-dropped t.client.now file
+      t.client.leases h.dead;
+}
 
 refused-push : (t : ClientStep) (file : ℕ) → Rest t → Rest (push_refused t file)
 refused-push t file h =
@@ -166,13 +192,16 @@ AllOver now sent o = (g : Grant) → o ≡ Some g → Over now sent g
 
 same-now : (t : ClientStep) (file : ℕ) (g : Grant) → (if_broken t file g).client.now ≡ t.client.now
 unfolding loses answers vacates_lease
-same-now t file g = choice (λ (u : ClientStep). u.client.now ≡ t.client.now) (breaks g (lease_on file t.client.leases) && not (is_clean t.client file)) (breaks_chain t file) t (λ e. chain (notice_on file t.client.notices)) (λ e. refl)
+same-now t file g = choice (λ (u : ClientStep). u.client.now ≡ t.client.now) (breaks g (lease_on file t.client.leases)
+    && not (is_clean t.client file)) (breaks_chain t file) t (λ e. chain (notice_on file t.client.notices)) (λ e. refl)
   where
     told : (v : ClientStep) (o : Option UnderWay) → v.client.now ≡ t.client.now → (reports_to v file o).client.now ≡ t.client.now
     told v None e = e
-    told v (Some u) e = choice (λ (x : ClientStep). x.client.now ≡ t.client.now) (waits_for file u.written u.call) (names_losses v u.q file) v (λ f. e) (λ f. e)
+    told v (Some u) e = choice (λ (x : ClientStep). x.client.now ≡ t.client.now) (waits_for file u.written u.call) (names_losses v u.q file) v
+        (λ f. e) (λ f. e)
 
-    chain : (o : Option Notice) → (reports_to (vacates_noticed (loses t file) file o) file (vacates_noticed (loses t file) file o).client.call).client.now ≡ t.client.now
+    chain : (o : Option Notice) → (reports_to (vacates_noticed (loses t file) file o) file (vacates_noticed (loses t file) file
+        o).client.call).client.now ≡ t.client.now
     chain None = told (loses t file) (loses t file).client.call refl
     chain (Some n) = told (vacates_lease (loses t file) file n.tag) (vacates_lease (loses t file) file n.tag).client.call refl
 
@@ -180,11 +209,13 @@ taken : (t : ClientStep) (file : ℕ) (g : Grant) (sent : ℕ) → Over t.client
 unfolding holds granted_lease
 taken t file g sent over h =
     let u = if_broken t file g in
-    let still : Rest u = choice Rest (breaks g (lease_on file t.client.leases) && not (is_clean t.client file)) (breaks_chain t file) t (λ e. broken t file h) (λ e. h) in
+    let still : Rest u = choice Rest (breaks g (lease_on file t.client.leases) && not (is_clean t.client file)) (breaks_chain t file) t
+    (λ e. broken t file h) (λ e. h) in
     record {
       dirty = still.dirty;
       push = still.push;
-      dead = dead-put u.client.now (granted_lease file g sent) u.client.leases (λ writes. let late = over writes in let now = same-now t file g in omega arith) still.dead;
+      dead = dead-put u.client.now (granted_lease file g sent) u.client.leases (λ writes. let late = over writes in let now = same-now t file g in
+          omega arith) still.dead;
     }
 
 optional : (t : ClientStep) (file : ℕ) (o : Option Grant) (sent : ℕ) → AllOver t.client.now sent o → Rest t → Rest (takes_optional t file o sent)
@@ -196,13 +227,15 @@ unfolding answers
 answered t answer by None h = h
 answered t answer by (Some u) h = record { dirty = h.dirty; push = h.push; dead = h.dead }
 
-read : (t : ClientStep) (file block : ℕ) (body : List ℕ) (g : Option Grant) (sent number : ℕ) → AllOver t.client.now sent g → Rest t → Rest (read_done t file block body g sent number)
+read : (t : ClientStep) (file block : ℕ) (body : List ℕ) (g : Option Grant) (sent number : ℕ) → AllOver t.client.now sent g → Rest t
+    → Rest (read_done t file block body g sent number)
 unfolding caches_block
 read t file block body g sent number over h =
     let u = takes_optional t file g sent in
     let v = then_caches u file block body g in
     let took : Rest u = optional t file g sent over h in
-    let kept : Rest v = choice Rest (grant_caches g) (caches_block u file block body) u (λ e. same u (caches_block u file block body) refl refl refl refl took) (λ e. took) in
+    let kept : Rest v = choice Rest (grant_caches g) (caches_block u file block body) u (λ e. same u (caches_block u file block body) refl refl refl
+    refl took) (λ e. took) in
     answered v _ _ v.client.call kept
 
 through : (on : Bool) (t : ClientStep) → Rest t → Rest (marks_through on t)
@@ -219,7 +252,9 @@ unfolding caches_block purges knows_revision
 written t file block body rev h =
     let u = caches_write t file block body rev in
     let v = knows_revision u file rev in
-    let kept : Rest u = choice Rest (holds_caching (lease_on file t.client.leases) && is_revision_before rev (revision_of file t.client.revisions)) (caches_block t file block body) (purges t file) (λ e. same t (caches_block t file block body) refl refl refl refl h) (λ e. same t (purges t file) refl refl refl refl h) in
+    let kept : Rest u = choice Rest (holds_caching (lease_on file t.client.leases) && is_revision_before rev (revision_of file t.client.revisions))
+    (caches_block t file block body) (purges t file) (λ e. same t (caches_block t file block body) refl refl refl refl h)
+    (λ e. same t (purges t file) refl refl refl refl h) in
     answered v _ _ v.client.call (same u v refl refl refl refl kept)
 
 pushed : (t : ClientStep) (file block : ℕ) (body : List ℕ) (rev : ℕ) → Rest t → Rest (push_done t file block body rev)
@@ -228,14 +263,17 @@ pushed t file block body rev h =
     let known = knows_revision (ends_push t) file rev in
     let u = caches_push known file block body in
     let knew : Rest known = record { dirty = h.dirty; push = refl; dead = h.dead } in
-    let kept : Rest u = choice Rest (is_some (dirty_at file block t.client.dirty)) known (caches_block known file block body) (λ e. knew) (λ e. same known (caches_block known file block body) refl refl refl refl knew) in
-    choice Rest (is_clean u.client file) (vacates_noticed u file (notice_on file u.client.notices)) u (λ e. noticed u file (notice_on file u.client.notices) kept) (λ e. kept)
+    let kept : Rest u = choice Rest (is_some (dirty_at file block t.client.dirty)) known (caches_block known file block body) (λ e. knew)
+    (λ e. same known (caches_block known file block body) refl refl refl refl knew) in
+    choice Rest (is_clean u.client file) (vacates_noticed u file (notice_on file u.client.notices)) u
+    (λ e. noticed u file (notice_on file u.client.notices) kept) (λ e. kept)
 
 known : (t : ClientStep) (file rev : ℕ) → Rest t → Rest (knows_revision t file rev)
 unfolding knows_revision
 known t file rev h = same t (knows_revision t file rev) refl refl refl refl h
 
-called : (t : ClientStep) (number sent : ℕ) (request : Request) (r : Reply) → AllOver t.client.now sent (grant_in r) → Rest t → Rest (done_for_call t number sent request r)
+called : (t : ClientStep) (number sent : ℕ) (request : Request) (r : Reply) → AllOver t.client.now sent (grant_in r) → Rest t
+    → Rest (done_for_call t number sent request r)
 called t number sent (Request.Lookup who name) (Reply.Lookup inc file blocks) over h = answered t _ _ t.client.call h
 called t number sent (Request.Create who seq name blocks) (Reply.Create inc file) over h = answered t _ _ t.client.call h
 called t number sent (Request.GetAttr who file) (Reply.GetAttr inc blocks rev) over h = answered t _ _ t.client.call h
@@ -255,7 +293,8 @@ stored : (t : ClientStep) (request : Request) (r : Reply) → Rest t → Rest (d
 stored t (Request.Write who seq file block first last push body) (Reply.Write inc rev) h = pushed t file block body rev h
 stored t request other h = h
 
-finished : (t : ClientStep) (number : ℕ) (ticket : Ticket) (job : Job) (r : Reply) → AllOver t.client.now ticket.first (grant_in r) → Rest t → Rest (done t number ticket job r)
+finished : (t : ClientStep) (number : ℕ) (ticket : Ticket) (job : Job) (r : Reply) → AllOver t.client.now ticket.first (grant_in r) → Rest t
+    → Rest (done t number ticket job r)
 unfolding attached
 finished t number ticket attaching r over h = record { dirty = h.dirty; push = h.push; dead = h.dead }
 finished t number ticket for_call r over h = called t number ticket.first ticket.request r over h
@@ -272,7 +311,8 @@ paused t h = record { dirty = h.dirty; push = h.push; dead = h.dead }
 
 refusal : (t : ClientStep) (status : Refusal) (ticket : Ticket) (job : Job) → Rest t → Rest (refused t status ticket job)
 refusal t status ticket attaching h = h
-refusal t status ticket for_call h = choice Rest (is_put_off status) (pauses t) (answers_call t (answer_of status) None) (λ e. paused t h) (λ e. answered t (answer_of status) None t.client.call h)
+refusal t status ticket for_call h = choice Rest (is_put_off status) (pauses t) (answers_call t (answer_of status) None) (λ e. paused t h)
+    (λ e. answered t (answer_of status) None t.client.call h)
 refusal t status ticket renewing h = choice Rest (is_put_off status) (pauses t) t (λ e. paused t h) (λ e. h)
 refusal t status ticket pushing h = refuses-push t ticket.request h
 
@@ -280,32 +320,45 @@ spent : (t : ClientStep) → Rest t → Rest (spends t)
 unfolding spends
 spent t h = same t (spends t) refl refl refl refl h
 
-replies : (c : Client) (number : ℕ) (ticket : Ticket) (r : Reply) → AllOver c.now ticket.first (grant_in r) → Asleep c → Rest (replied (begun c) number ticket r)
+replies : (c : Client) (number : ℕ) (ticket : Ticket) (r : Reply) → AllOver c.now ticket.first (grant_in r) → Asleep c
+    → Rest (replied (begun c) number ticket r)
 unfolding spends
 replies c number ticket (Reply.Refused inc status) over h = refusal (spends (begun c)) status ticket ticket.job (spent (begun c) h)
 replies c number ticket other over h = finished (spends (begun c)) number ticket ticket.job other over (spent (begun c) h)
 
 evicts : (t : ClientStep) (file : ℕ) (tag : Tag) → Rest t → Rest (evicted t file tag)
 unfolding notes_notice
-evicts t file tag h = evicted-cases t file tag Rest (record { clean = λ e. vacates t file tag h; waiting = λ e. same t (notes_notice t file tag) refl refl refl refl h })
+evicts t file tag h = evicted-cases t file tag Rest (record {
+  clean = λ e. vacates t file tag h;
+  waiting = λ e. same t (notes_notice t file tag) refl
+      refl refl refl h;
+})
 
 -- ---- the steps
 
 pub tick-sleeps : (c : Client) → Asleep c → Rest (client_tick c (c.now + 1))
 unfolding sends_again at_time
 tick-sleeps c h =
-    let at : Rest (begun (at_time c (c.now + 1))) = record { dirty = h.dirty; push = h.push; dead = λ f l on writes. let late = h.dead f l on writes in omega arith } in
+    let at : Rest (begun (at_time c (c.now + 1))) = record {
+      dirty = h.dirty;
+      push = h.push;
+      dead = λ f l on writes. let late =
+          h.dead f l on writes in omega arith;
+    } in
     tick-cases c (c.now + 1) Rest (record {
       again = λ ticket asks long. record { dirty = at.dirty; push = at.push; dead = at.dead };
       quiet = λ ticket asks short. at;
       free = λ free. sends true (settle (begun (at_time c (c.now + 1)))) (settles (begun (at_time c (c.now + 1))) at);
     })
 
-pub hear-sleeps : (c : Client) (k : ℕ) (m : Message) (t : ClientStep) → hear c k m ≡ Some t → ((xid : ℕ) (r : Reply) (ticket : Ticket) → m ≡ reply xid r → c.ticket ≡ Some ticket → xid ≡ ticket.xid → inc_of r ≡ c.who.inc → reply_counts r ticket ≡ true → AllOver c.now ticket.first (grant_in r)) → Asleep c → Rest t
+pub hear-sleeps : (c : Client) (k : ℕ) (m : Message) (t : ClientStep) → hear c k m ≡ Some t → ((xid : ℕ) (r : Reply) (ticket : Ticket)
+    → m ≡ reply xid r → c.ticket ≡ Some ticket → xid ≡ ticket.xid → inc_of r ≡ c.who.inc → reply_counts r ticket ≡ true → AllOver c.now ticket.first
+    (grant_in r)) → Asleep c → Rest t
 unfolding cancels
 hear-sleeps c k m t hears over h =
     heard-cases c k m t Rest hears (record {
-      answered = λ xid r ticket is asks own inc counts. sends false (settle (replied (begun c) k ticket r)) (settles (replied (begun c) k ticket r) (replies c k ticket r (over xid r ticket is asks own inc counts) h));
+      answered = λ xid r ticket is asks own inc counts. sends false (settle (replied (begun c) k ticket r)) (settles (replied (begun c) k ticket r)
+          (replies c k ticket r (over xid r ticket is asks own inc counts) h));
       noticed = λ xid file tag is older.
           let cut : Rest (cancels (begun c) file) = record { dirty = h.dirty; push = h.push; dead = h.dead } in
           let gone = evicted (cancels (begun c) file) file tag in

@@ -56,21 +56,24 @@ over (k ∷ fresh) e = absurd (cc)
 module _ (most : ℕ) (head : Head) where
   one-soon : (p : Play) → IsLawful most head p → IsRising p → is_over (play_flow (most_deliveries p) p).fresh ≡ true → calm_round p ≡ soon_round p
   unfolding calm_round
-  one-soon p l r e = ap (play_rounds 1) (same-end (enough_deliveries p) (most_deliveries p) p (lawful-delivers most head p l r) (over (play_flow (most_deliveries p) p).fresh e))
+  one-soon p l r e = ap (play_rounds 1) (same-end (enough_deliveries p) (most_deliveries p) p (lawful-delivers most head p l r)
+      (over (play_flow (most_deliveries p) p).fresh e))
 
   pub all-soon : (count : ℕ) (p : Play) → IsLawful most head p → IsRising p → soon_ends count p ≡ true → calm_rounds count p ≡ soon_rounds count p
   all-soon zero p l r e = refl
   all-soon (suc count) p l r e =
       let parts = and_parts (is_over (play_flow (most_deliveries p) p).fresh) (soon_ends count (soon_round p)) e in
       let same = one-soon p l r parts.0 in
-      ap (calm_rounds count) same ∙ all-soon count (soon_round p) (subst (IsLawful most head) same (calm-round most head p l)) (subst IsRising same (round-rising p r)) parts.1
+      ap (calm_rounds count) same ∙ all-soon count (soon_round p) (subst (IsLawful most head) same (calm-round most head p l))
+      (subst IsRising same (round-rising p r)) parts.1
 
 -- ---- the schedule that needs half
 
 -- none of its crashes but one, with a longest term of 6
 late-boots : All (BootsWithin 6) late_events
 late-boots =
-    one-first 6 (Event.Call 2 (Call.WriteSync 1 0 (filled 7))) (Event.Call 0 (Call.Read 1 0) ∷ Event.ClientTick 1 ∷ Event.Call 1 (Call.Read 1 0) ∷ Event.Crash 6 ∷ []) tt
+    one-first 6 (Event.Call 2 (Call.WriteSync 1 0 (filled 7))) (Event.Call 0 (Call.Read 1 0) ∷ Event.ClientTick 1 ∷ Event.Call 1 (Call.Read 1 0)
+    ∷ Event.Crash 6 ∷ []) tt
     (one-first 6 (Event.Call 0 (Call.Read 1 0)) (Event.ClientTick 1 ∷ Event.Call 1 (Call.Read 1 0) ∷ Event.Crash 6 ∷ []) tt
     (one-first 6 (Event.ClientTick 1) (Event.Call 1 (Call.Read 1 0) ∷ Event.Crash 6 ∷ []) tt
     (one-first 6 (Event.Call 1 (Call.Read 1 0)) (Event.Crash 6 ∷ []) tt
@@ -109,7 +112,9 @@ answered-19 = refl
 pub needs-half : NeedsHalf
 needs-half = record {
   within = late-within;
-  unanswered = ap (λ (p : Play). is_open (slice_get p.world.clients 2)) (all-soon 6 late_head 18 (calmed late_head late_events []) late-lawful late-rising ends-18) ∙ open-18;
-  answered = ap (λ (p : Play). is_open (slice_get p.world.clients 2)) (all-soon 6 late_head 19 (calmed late_head late_events []) late-lawful late-rising ends-19) ∙ answered-19;
+  unanswered = ap (λ (p : Play). is_open (slice_get p.world.clients 2)) (all-soon 6 late_head 18 (calmed late_head late_events []) late-lawful
+      late-rising ends-18) ∙ open-18;
+  answered = ap (λ (p : Play). is_open (slice_get p.world.clients 2)) (all-soon 6 late_head 19 (calmed late_head late_events []) late-lawful
+      late-rising ends-19) ∙ answered-19;
   half = refl;
 }

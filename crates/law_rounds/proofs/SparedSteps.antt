@@ -7,7 +7,8 @@ use Rattle.nq_base.specs.declared.Party.{Party}
 use Rattle.nq_base.specs.declared.Reply.{Reply}
 use Rattle.nq_base.specs.declared.Value.{Value}
 use Rattle.nq_model.specs.Client.{Client, ClientStep, begun, Ticket, UnderWay}
-use Rattle.nq_model.specs.Hear.{hear, spends, answers_call, takes_optional, then_caches, knows_revision, caches_write, with_through, marks_through, push_done, push_refused, attached, pauses, replied, cancels, evicted, reply_counts}
+use Rattle.nq_model.specs.Hear.{hear, spends, answers_call, takes_optional, then_caches, knows_revision, caches_write, with_through, marks_through}
+use Rattle.nq_model.specs.Hear.{push_done, push_refused, attached, pauses, replied, cancels, evicted, reply_counts}
 use Rattle.nq_model.specs.Message.{Message, Packet}
 use Rattle.nq_model.specs.Send.{sends_request, after_seq, after_number, takes_push, gives_up, send_next}
 use Rattle.nq_model.specs.Settle.{answers, after_read, reads_cached, after_write, marks_written, settle}
@@ -20,7 +21,8 @@ use Rattle.walk_steps.proofs.SendCases.{send-moves}
 use Rattle.walk_steps.proofs.SettleCases.{settle-cases}
 use Rattle.walk_steps.proofs.StepCases.{heard-cases}
 use Rattle.law_rounds.specs.Spared.{wants_lease, IsSpared, pausing, wants_none}
-use Rattle.law_rounds.proofs.EffortReplies.{Goes, start, start-same, known-goes, optional-goes, pushed-goes, refused-goes, read-goes, write-goes, attached-goes, evicted-goes}
+use Rattle.law_rounds.proofs.EffortReplies.{Goes, start, start-same, known-goes, optional-goes, pushed-goes, refused-goes, read-goes, write-goes}
+use Rattle.law_rounds.proofs.EffortReplies.{attached-goes, evicted-goes}
 
 -- a client with no call
 spared-idle : (c : Client) → c.call ≡ None → IsSpared c
@@ -48,7 +50,8 @@ module _ (t : ClientStep) (s : IsSpared t.client) where
     write_out = λ u sync file block body lease is write can out. spared-idle _ refl;
     write_full = λ u sync file block body lease is write can below full. spared-idle _ refl;
     writing = λ u file block body lease is write can below room. spared-idle _ refl;
-    putting = λ u file block body lease is put first can below room. wants_none (λ v is. let same = some-same (record u { written = true }) v is in ap (λ (x : UnderWay). wants_lease x.call) (sym same) ∙ ap wants_lease put);
+    putting = λ u file block body lease is put first can below room. wants_none (λ v is. let same = some-same (record u { written = true }) v is in
+        ap (λ (x : UnderWay). wants_lease x.call) (sym same) ∙ ap wants_lease put);
     write_waits = λ u sync file block body is write waits. s;
     syncing = λ u file is sync clean. spared-idle _ refl;
     sync_waits = λ u file is sync dirty. s;
@@ -70,7 +73,8 @@ module _ (t : ClientStep) (s : IsSpared t.client) where
   unfolding marks_through
   through on = by s
     where
-      call : (o : Option UnderWay) → ((u : UnderWay) → o ≡ Some u → wants_lease u.call ≡ false) → (v : UnderWay) → with_through on o ≡ Some v → wants_lease v.call ≡ false
+      call : (o : Option UnderWay) → ((u : UnderWay) → o ≡ Some u → wants_lease u.call ≡ false) → (v : UnderWay) → with_through on o ≡ Some v
+          → wants_lease v.call ≡ false
       call None none v is = none-some v is
       call (Some u) none v is = let same = some-same (record u { through = on }) v is in ap (λ (x : UnderWay). wants_lease x.call) (sym same) ∙ none u refl
 
@@ -95,24 +99,35 @@ module _ (c : Client) (s : IsSpared c) where
   goes : (u : ClientStep) → Goes 3 5 1 (start c) u → IsSpared u.client
   goes u g = goes-spared (start c) u 1 g begins
 
-  replied-spared : (number : ℕ) (ticket : Ticket) (r : Reply) → c.ticket ≡ Some ticket → reply_counts r ticket ≡ true → Alone c → IsSpared (replied (begun c) number ticket r).client
-  replied-spared number ticket r asks counts alone = replied-cases c number ticket r (λ u. IsSpared u.client) (alone.asking.ticketed ticket asks).fits counts (record {
-    attaching = λ who inc job request is. goes (attached (start c)) (attached-goes 3 5 c);
-    named = λ answer job is. called (start c) begins answer None;
-    reading = λ who q file block want inc rev body grant of is. called (then_caches (takes_optional (start c) file grant ticket.first) file block body grant) (goes (then_caches (takes_optional (start c) file grant ticket.first) file block body grant) (read-goes 3 5 (start c) file block body grant ticket.first)) (Answer.Ok (Value.Body body)) (Some number);
-    leasing = λ who file want inc grant of is.
-        let taken = goes (takes_optional (start c) file grant ticket.first) (optional-goes 3 5 (start c) file grant ticket.first) in
-        lease-done-cases (start c) file grant ticket.first (λ u. IsSpared u.client) (λ caching. taken) (λ other. through (takes_optional (start c) file grant ticket.first) taken true);
-    writing = λ who seq file block first last body inc rev of is. called (knows_revision (caches_write (start c) file block body rev) file rev) (goes (knows_revision (caches_write (start c) file block body rev) file rev) (write-goes 3 5 (start c) file block body rev)) (Answer.Ok Value.Nothing) None;
-    resizing = λ who seq q file blocks inc rev of is. called (knows_revision (start c) file rev) (goes-spared (start c) (knows_revision (start c) file rev) 0 (known-goes 3 5 (start c) file rev) begins) (Answer.Ok Value.Nothing) None;
-    removing = λ who seq q file inc of is. called (start c) begins (Answer.Ok Value.Nothing) None;
-    renewing = λ who file want inc grant job request is. goes (takes_optional (start c) file grant ticket.first) (optional-goes 3 5 (start c) file grant ticket.first);
-    pushed = λ who seq file block first last base body inc rev job request is. goes (push_done (start c) file block body rev) (pushed-goes 3 5 (start c) file block body rev);
-    putting_off = λ inc status of is off. paused-spared c;
-    refusing = λ inc status job is counted final. called (start c) begins _ None;
-    renewal_refused = λ inc status job is final. begins;
-    push_refused = λ who seq file block first last base body inc status job request is final. goes (push_refused (start c) file) (refused-goes 3 5 (start c) file);
-  })
+  replied-spared : (number : ℕ) (ticket : Ticket) (r : Reply) → c.ticket ≡ Some ticket → reply_counts r ticket ≡ true → Alone c
+      → IsSpared (replied (begun c) number ticket r).client
+  replied-spared number ticket r asks counts alone = replied-cases c number ticket r (λ u. IsSpared u.client) (alone.asking.ticketed ticket asks).fits
+      counts (record {
+        attaching = λ who inc job request is. goes (attached (start c)) (attached-goes 3 5 c);
+        named = λ answer job is. called (start c) begins answer None;
+        reading = λ who q file block want inc rev body grant of is. called (then_caches (takes_optional (start c) file grant ticket.first) file block body
+            grant) (goes (then_caches (takes_optional (start c) file grant ticket.first) file block body grant) (read-goes 3 5 (start c) file block body
+            grant ticket.first)) (Answer.Ok (Value.Body body)) (Some number);
+        leasing = λ who file want inc grant of is.
+            let taken = goes (takes_optional (start c) file grant ticket.first) (optional-goes 3 5 (start c) file grant ticket.first) in
+            lease-done-cases (start c) file grant ticket.first (λ u. IsSpared u.client) (λ caching. taken)
+            (λ other. through (takes_optional (start c) file grant ticket.first) taken true);
+        writing = λ who seq file block first last body inc rev of is. called (knows_revision (caches_write (start c) file block body rev) file rev)
+            (goes (knows_revision (caches_write (start c) file block body rev) file rev) (write-goes 3 5 (start c) file block body rev))
+            (Answer.Ok Value.Nothing) None;
+        resizing = λ who seq q file blocks inc rev of is. called (knows_revision (start c) file rev) (goes-spared (start c) (knows_revision (start c) file
+            rev) 0 (known-goes 3 5 (start c) file rev) begins) (Answer.Ok Value.Nothing) None;
+        removing = λ who seq q file inc of is. called (start c) begins (Answer.Ok Value.Nothing) None;
+        renewing = λ who file want inc grant job request is. goes (takes_optional (start c) file grant ticket.first) (optional-goes 3 5 (start c) file
+            grant ticket.first);
+        pushed = λ who seq file block first last base body inc rev job request is. goes (push_done (start c) file block body rev)
+            (pushed-goes 3 5 (start c) file block body rev);
+        putting_off = λ inc status of is off. paused-spared c;
+        refusing = λ inc status job is counted final. called (start c) begins _ None;
+        renewal_refused = λ inc status job is final. begins;
+        push_refused = λ who seq file block first last base body inc status job request is final. goes (push_refused (start c) file)
+            (refused-goes 3 5 (start c) file);
+      })
 
   cut : (file : ℕ) → IsSpared (cancels (begun c) file).client
   unfolding cancels
@@ -142,7 +157,8 @@ module _ (w : World) (alone : (host : ℕ) (c : Client) → slice_get w.clients 
   unfolding after_client
   after-one host t here = All-set IsSpared w.clients host t.client here all
 
-  hearing : (k host : ℕ) (m : Message) (c : Client) → slice_get w.clients host ≡ Some c → (o : Option ClientStep) → hear c k m ≡ o → All IsSpared (after_hearing w host o).clients
+  hearing : (k host : ℕ) (m : Message) (c : Client) → slice_get w.clients host ≡ Some c → (o : Option ClientStep) → hear c k m ≡ o
+      → All IsSpared (after_hearing w host o).clients
   hearing k host m c is None hears = all
   hearing k host m c is (Some t) hears = after-one host t (hear-spared c (found-all IsSpared w.clients host c is all) k m t (alone host c is) hears)
 

@@ -1,5 +1,6 @@
 -- What a client hears costs it a turn, but for notices that it answers by VACATED alone, or by VACATED and the same request.
-use Rattle.std.proofs.Common.{◌≡◌, ◌≤◌, ◌<◌, ◌⊎◌, ℕ, ◌+◌, nat_lt, Bool, true, false, List, [], ◌∷◌, Option, Some, None, is_some, refl, sym, ap, ◌∙◌, arith, inl, inr}
+use Rattle.std.proofs.Common.{◌≡◌, ◌≤◌, ◌<◌, ◌⊎◌, ℕ, ◌+◌, nat_lt, Bool, true, false, List, [], ◌∷◌, Option, Some, None, is_some, refl, sym, ap, ◌∙◌}
+use Rattle.std.proofs.Common.{arith, inl, inr}
 use Rattle.std.specs.Prelude.{slice_get}
 use Rattle.std.proofs.lemmas.Bool.{and_parts}
 use Rattle.nq_base.specs.declared.Event.{Event}
@@ -11,7 +12,8 @@ use Rattle.nq_base.specs.declared.Tag.{Tag}
 use Rattle.nq_model.specs.Client.{Client, ClientStep, begun, Ticket, UnderWay, for_call}
 use Rattle.nq_model.specs.Hear.{hear, replied, cancels, cancelled, wants_of, vacates_lease, notes_notice, evicted, goes_on, reply_counts}
 use Rattle.nq_model.specs.Message.{Message, call, reply}
-use Rattle.nq_model.specs.Send.{sends_request, after_seq, after_number, takes_push, gives_up, base_of, want_of, read_want, noticed_file, ending_file, is_asking, then_pushes, then_ending, then_calls, send_next}
+use Rattle.nq_model.specs.Send.{sends_request, after_seq, after_number, takes_push, gives_up, base_of, want_of, read_want, noticed_file, ending_file}
+use Rattle.nq_model.specs.Send.{is_asking, then_pushes, then_ending, then_calls, send_next}
 use Rattle.nq_model.specs.Settle.{answers, after_read, reads_cached, after_write, marks_written, is_for_call, settle}
 use Rattle.nq_model.specs.Table.{is_writing}
 use Rattle.nq_model.specs.World.{Head, run}
@@ -39,24 +41,36 @@ use Rattle.law_rounds.proofs.SendsAgain.{sends-again}
 data Sends (s v : ClientStep) : Type 0 where
   nothing_sent : v ≡ s → Sends s v
   push_sent : sent_weight 2 2 s + 3 ≤ sent_weight 2 2 v → Sends s v
-  call_sent : (u : UnderWay) → s.client.call ≡ Some u → s.client.pause ≤ s.client.now → sent_weight 2 2 s + 2 ≤ sent_weight 2 2 v → v.client.push ≡ s.client.push → Sends s v
+  call_sent : (u : UnderWay) → s.client.call ≡ Some u → s.client.pause ≤ s.client.now → sent_weight 2 2 s + 2 ≤ sent_weight 2 2 v → v.client.push
+      ≡ s.client.push → Sends s v
 
 next-sent : (s : ClientStep) → s.client.ticket ≡ None → Sends s (send_next false s)
 unfolding sends_request after_seq after_number takes_push gives_up
 next-sent s free = send-cases false s (Sends s) (record {
   stays_asking = λ ticket is. nothing_sent refl;
   stays = λ none nothing. nothing_sent refl;
-  pushing = λ file p none first same. push_sent (let more = total-more (weight 2 2) s.sends (call s.client.xid (Request.Write s.client.who s.client.seq p.file p.block p.first p.last (Some (base_of s.client p.file)) p.body)) in omega arith);
-  creating = λ u name blocks f is. call_sent u f.called f.unpaused (let more = total-more (weight 2 2) s.sends (call s.client.xid (Request.Create s.client.who s.client.seq name blocks)) in omega arith) refl;
-  looking_up = λ u name f is. call_sent u f.called f.unpaused (let more = total-more (weight 2 2) s.sends (call s.client.xid (Request.Lookup s.client.who name)) in omega arith) refl;
-  getting_attributes = λ u file f is. call_sent u f.called f.unpaused (let more = total-more (weight 2 2) s.sends (call s.client.xid (Request.GetAttr s.client.who file)) in omega arith) refl;
-  reading = λ u file block f is. call_sent u f.called f.unpaused (let more = total-more (weight 2 2) s.sends (call s.client.xid (Request.Read s.client.who u.q file block (read_want s.client file))) in omega arith) refl;
-  fetching = λ u file block f is. call_sent u f.called f.unpaused (let more = total-more (weight 2 2) s.sends (call s.client.xid (Request.Read s.client.who u.q file block None)) in omega arith) refl;
-  writing = λ u file block body f is through. call_sent u f.called f.unpaused (let more = total-more (weight 2 2) s.sends (call s.client.xid (Request.Write s.client.who s.client.seq file block s.client.number s.client.number None body)) in omega arith) refl;
-  leasing = λ u file block body f is through shares. call_sent u f.called f.unpaused (let more = total-more (weight 2 2) s.sends (call s.client.xid (Request.GetLease s.client.who file (want_of s.client Mode.Writing))) in omega arith) refl;
-  putting = λ u file block body f is written. call_sent u f.called f.unpaused (let more = total-more (weight 2 2) s.sends (call s.client.xid (Request.Write s.client.who s.client.seq file block s.client.number s.client.number None body)) in omega arith) refl;
-  resizing = λ u file blocks f is clean. call_sent u f.called f.unpaused (let more = total-more (weight 2 2) s.sends (call s.client.xid (Request.Resize s.client.who s.client.seq u.q file blocks)) in omega arith) refl;
-  removing = λ u file f is clean. call_sent u f.called f.unpaused (let more = total-more (weight 2 2) s.sends (call s.client.xid (Request.Remove s.client.who s.client.seq u.q file)) in omega arith) refl;
+  pushing = λ file p none first same. push_sent (let more = total-more (weight 2 2) s.sends
+      (call s.client.xid (Request.Write s.client.who s.client.seq p.file p.block p.first p.last (Some (base_of s.client p.file)) p.body)) in omega arith);
+  creating = λ u name blocks f is. call_sent u f.called f.unpaused (let more = total-more (weight 2 2) s.sends
+      (call s.client.xid (Request.Create s.client.who s.client.seq name blocks)) in omega arith) refl;
+  looking_up = λ u name f is. call_sent u f.called f.unpaused (let more = total-more (weight 2 2) s.sends
+      (call s.client.xid (Request.Lookup s.client.who name)) in omega arith) refl;
+  getting_attributes = λ u file f is. call_sent u f.called f.unpaused (let more = total-more (weight 2 2) s.sends
+      (call s.client.xid (Request.GetAttr s.client.who file)) in omega arith) refl;
+  reading = λ u file block f is. call_sent u f.called f.unpaused (let more = total-more (weight 2 2) s.sends
+      (call s.client.xid (Request.Read s.client.who u.q file block (read_want s.client file))) in omega arith) refl;
+  fetching = λ u file block f is. call_sent u f.called f.unpaused (let more = total-more (weight 2 2) s.sends
+      (call s.client.xid (Request.Read s.client.who u.q file block None)) in omega arith) refl;
+  writing = λ u file block body f is through. call_sent u f.called f.unpaused (let more = total-more (weight 2 2) s.sends
+      (call s.client.xid (Request.Write s.client.who s.client.seq file block s.client.number s.client.number None body)) in omega arith) refl;
+  leasing = λ u file block body f is through shares. call_sent u f.called f.unpaused (let more = total-more (weight 2 2) s.sends
+      (call s.client.xid (Request.GetLease s.client.who file (want_of s.client Mode.Writing))) in omega arith) refl;
+  putting = λ u file block body f is written. call_sent u f.called f.unpaused (let more = total-more (weight 2 2) s.sends
+      (call s.client.xid (Request.Write s.client.who s.client.seq file block s.client.number s.client.number None body)) in omega arith) refl;
+  resizing = λ u file blocks f is clean. call_sent u f.called f.unpaused (let more = total-more (weight 2 2) s.sends
+      (call s.client.xid (Request.Resize s.client.who s.client.seq u.q file blocks)) in omega arith) refl;
+  removing = λ u file f is clean. call_sent u f.called f.unpaused (let more = total-more (weight 2 2) s.sends
+      (call s.client.xid (Request.Remove s.client.who s.client.seq u.q file)) in omega arith) refl;
   renewing = λ file lease ticks none nothing unpaused due held same clean unnoticed. absurd (cc);
 })
 
@@ -75,12 +89,51 @@ settle-kept t = settle-cases t (Kept t) (record {
   idle = λ none. same;
   asking = λ u has own. same;
   read_out = λ u file block lease is read can out. record { ticket = refl; push = refl; now = refl; pause = refl; sends = refl; call = λ w e. none-some w e };
-  reading = λ u file block lease body is read can below has. record { ticket = refl; push = refl; now = refl; pause = refl; sends = refl; call = λ w e. none-some w e };
+  reading = λ u file block lease body is read can below has. record {
+    ticket = refl;
+    push = refl;
+    now = refl;
+    pause = refl;
+    sends = refl;
+    call =
+        λ w e. none-some w e;
+  };
   read_waits = λ u file block is read waits. same;
-  write_out = λ u sync file block body lease is write can out. record { ticket = refl; push = refl; now = refl; pause = refl; sends = refl; call = λ w e. none-some w e };
-  write_full = λ u sync file block body lease is write can below full. record { ticket = refl; push = refl; now = refl; pause = refl; sends = refl; call = λ w e. none-some w e };
-  writing = λ u file block body lease is write can below room. record { ticket = refl; push = refl; now = refl; pause = refl; sends = refl; call = λ w e. none-some w e };
-  putting = λ u file block body lease is put first can below room. record { ticket = refl; push = refl; now = refl; pause = refl; sends = refl; call = λ w e. ap is_some is.called };
+  write_out = λ u sync file block body lease is write can out. record {
+    ticket = refl;
+    push = refl;
+    now = refl;
+    pause = refl;
+    sends = refl;
+    call =
+        λ w e. none-some w e;
+  };
+  write_full = λ u sync file block body lease is write can below full. record {
+    ticket = refl;
+    push = refl;
+    now = refl;
+    pause = refl;
+    sends = refl;
+    call = λ w e. none-some w e;
+  };
+  writing = λ u file block body lease is write can below room. record {
+    ticket = refl;
+    push = refl;
+    now = refl;
+    pause = refl;
+    sends = refl;
+    call =
+        λ w e. none-some w e;
+  };
+  putting = λ u file block body lease is put first can below room. record {
+    ticket = refl;
+    push = refl;
+    now = refl;
+    pause = refl;
+    sends = refl;
+    call =
+        λ w e. ap is_some is.called;
+  };
   write_waits = λ u sync file block body is write waits. same;
   syncing = λ u file is sync clean. record { ticket = refl; push = refl; now = refl; pause = refl; sends = refl; call = λ w e. none-some w e };
   sync_waits = λ u file is sync dirty. same;
@@ -112,7 +165,9 @@ of-use m xid r is useful = ap (weight 2 2) is ∙ by r is
     by (Reply.Remove inc) e = refl
     by (Reply.Refused inc status) e = refl
 
-reply-turn : (c : Client) (k : ℕ) (m : Message) (xid : ℕ) (r : Reply) (ticket : Ticket) → Alone c → m ≡ reply xid r → c.ticket ≡ Some ticket → reply_counts r ticket ≡ true → hear c k m ≡ Some (goes_on (replied (begun c) k ticket r)) → IsOfUseTo c m → TakesTurn c m (goes_on (replied (begun c) k ticket r))
+reply-turn : (c : Client) (k : ℕ) (m : Message) (xid : ℕ) (r : Reply) (ticket : Ticket) → Alone c → m ≡ reply xid r → c.ticket ≡ Some ticket
+    → reply_counts r ticket ≡ true → hear c k m ≡ Some (goes_on (replied (begun c) k ticket r)) → IsOfUseTo c m
+    → TakesTurn c m (goes_on (replied (begun c) k ticket r))
 reply-turn c k m xid r ticket alone is asks counts hears useful = by (next-sent (settle s) (kept.ticket ∙ free))
   where
     s : ClientStep
@@ -179,7 +234,8 @@ module _ (c : Client) (file : ℕ) (tag : Tag) where
   })
 
 -- what is left of the client is no more than of one whose request was cancelled, less what was sent beside VACATED
-left : (c : Client) (file : ℕ) (tag : Tag) (rise : ℕ) → CancelCosts 2 2 rise c file → cost 2 2 (goes_on (evicted (cancels (begun c) file) file tag)) ≤ (effort 2 c + rise) + sent_weight 2 2 (evicted (cancels (begun c) file) file tag)
+left : (c : Client) (file : ℕ) (tag : Tag) (rise : ℕ) → CancelCosts 2 2 rise c file → cost 2 2 (goes_on (evicted (cancels (begun c) file) file tag))
+    ≤ (effort 2 c + rise) + sent_weight 2 2 (evicted (cancels (begun c) file) file tag)
 unfolding cut
 left c file tag rise costs =
     let a = cancels-cost 2 2 rise c file costs in
@@ -190,7 +246,8 @@ left c file tag rise costs =
     omega arith
 
 -- where no request is under way, and none can be sent, only delayed writes are
-quiet-sends : (v w : ClientStep) → ((u : UnderWay) → v.client.call ≡ Some u → v.client.pause ≤ v.client.now → ⊥) → Sends v w → (w ≡ v) ⊎ (sent_weight 2 2 v + 3 ≤ sent_weight 2 2 w)
+quiet-sends : (v w : ClientStep) → ((u : UnderWay) → v.client.call ≡ Some u → v.client.pause ≤ v.client.now → ⊥) → Sends v w → (w ≡ v)
+    ⊎ (sent_weight 2 2 v + 3 ≤ sent_weight 2 2 w)
 quiet-sends v w none (nothing_sent e) = inl e
 quiet-sends v w none (push_sent more) = inr more
 quiet-sends v w none (call_sent u has unpaused more same) = absurd (none u has unpaused)
@@ -227,7 +284,9 @@ paused-costs c file late = by (nat_lt c.now c.pause) refl
     by true is = omega arith
     by false is = let runs = is-not-below c.now c.pause is in absurd (omega arith)
 
-module _ (head : Head) (events : List Event) (host : ℕ) (c : Client) (k : ℕ) (m : Message) (xid file : ℕ) (tag : Tag) (at : slice_get (run head events).clients host ≡ Some c) (is : m ≡ call xid (Request.Evicted c.who file tag)) (hears : hear c k m ≡ Some (goes_on (evicted (cancels (begun c) file) file tag))) where
+module _ (head : Head) (events : List Event) (host : ℕ) (c : Client) (k : ℕ) (m : Message) (xid file : ℕ) (tag : Tag)
+    (at : slice_get (run head events).clients host ≡ Some c) (is : m ≡ call xid (Request.Evicted c.who file tag)) (hears : hear c k m
+    ≡ Some (goes_on (evicted (cancels (begun c) file) file tag))) where
   abbrev v : ClientStep
   v = evicted (cancels (begun c) file) file tag
 
@@ -354,7 +413,8 @@ module _ (head : Head) (events : List Event) (host : ℕ) (c : Client) (k : ℕ)
               (let all = left c file tag 0 costs in
               let w = same-weight in
               let same : sent_weight 2 2 t ≡ sent_weight 2 2 s = ap (sent_weight 2 2) e in
-              let zero_turns : asking_turns t.client.ticket ≡ 0 = ap (λ (y : ClientStep). asking_turns y.client.ticket) e ∙ ap asking_turns (s-ticket ∙ ap (cancelled file) free) in
+              let zero_turns : asking_turns t.client.ticket ≡ 0 = ap (λ (y : ClientStep). asking_turns y.client.ticket) e ∙ ap asking_turns (s-ticket
+              ∙ ap (cancelled file) free) in
               omega arith)
           which (inr more) =
               let all = left c file tag 0 costs in
@@ -374,7 +434,8 @@ module _ (head : Head) (events : List Event) (host : ℕ) (c : Client) (k : ℕ)
           (let all = left c file tag 0 costs in
           let w = same-weight in
           let same : sent_weight 2 2 t ≡ sent_weight 2 2 s = ap (sent_weight 2 2) e in
-          let turns : asking_turns t.client.ticket ≡ asking_turns c.ticket = ap (λ (y : ClientStep). asking_turns y.client.ticket) e ∙ ap asking_turns (there ∙ sym asks) in
+          let turns : asking_turns t.client.ticket ≡ asking_turns c.ticket = ap (λ (y : ClientStep). asking_turns y.client.ticket) e
+          ∙ ap asking_turns (there ∙ sym asks) in
           omega arith)
 
       by : (o : Option Ticket) → c.ticket ≡ o → TakesTurn c m t
@@ -391,6 +452,7 @@ module _ (head : Head) (events : List Event) (host : ℕ) (c : Client) (k : ℕ)
 
 pub turns-fall : TurnsFall
 turns-fall head events host c k m t at hears useful = heard-cases c k m t (λ x. hear c k m ≡ Some x → TakesTurn c m x) hears (record {
-  answered = λ xid r ticket is asks own inc counts now. reply-turn c k m xid r ticket ((run-holds head events).clients host c at).alone is asks counts now useful;
+  answered = λ xid r ticket is asks own inc counts now. reply-turn c k m xid r ticket ((run-holds head events).clients host c at).alone is asks counts
+      now useful;
   noticed = λ xid file tag is older now. notice-turn head events host c k m xid file tag at is now (is_cancelled file c.ticket) refl;
 }) hears

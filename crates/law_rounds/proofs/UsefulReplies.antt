@@ -1,5 +1,5 @@
 -- A lease by which no write can be delayed is sent to those alone who want to read, in every run.
-use Rattle.std.proofs.Common.{◌≡◌, ℕ, ◌-◌, ◌&&◌, Bool, true, false, not, nat_lt, Some, refl, sym, ap, ◌∙◌, arith}
+use Rattle.std.proofs.Common.{◌≡◌, ℕ, ◌&&◌, Bool, true, false, not, nat_lt, Some, refl, sym, ap, ◌∙◌, arith}
 use Rattle.std.proofs.lemmas.Bool.Decides.{nat_tests}
 use Rattle.nq_base.specs.declared.Mode.{Mode}
 use Rattle.nq_base.specs.declared.Question.{Question}
@@ -41,13 +41,15 @@ idle-by Mode.NonCaching term w t = refl
 idle-by Mode.Reading term w t = absurd (cc)
 idle-by Mode.Writing term w t = rw t refl
 
-useful : (table : Table) (q : Question) (want : Want) (row : Row) (term : ℕ) → is_writing want.mode ≡ true → IsGranted table q want row term → is_idle (Some (grant_of q row term)) ≡ false
+useful : (table : Table) (q : Question) (want : Want) (row : Row) (term : ℕ) → is_writing want.mode ≡ true → IsGranted table q want row term
+    → is_idle (Some (grant_of q row term)) ≡ false
 unfolding grant_of shared_again sharing_row caching_row renewed_row
 useful table q want row term writing (shares_again own has quiet alone is t) =
     let mode : row.mode ≡ own.mode = ap (λ (r : Row). r.mode) is in
     let none : caches row.mode ≡ false = ap caches mode ∙ alone in
     rw none refl
-useful table q want row term writing (begins_sharing none room shared is t) = let mode : row.mode ≡ Mode.NonCaching = ap (λ (r : Row). r.mode) is in let off : caches row.mode ≡ false = ap caches mode in rw off refl
+useful table q want row term writing (begins_sharing none room shared is t) = let mode : row.mode ≡ Mode.NonCaching = ap (λ (r : Row). r.mode) is in
+    let off : caches row.mode ≡ false = ap caches mode in rw off refl
 useful table q want row term writing (begins_caching none room alone is t) =
     let mode : row.mode ≡ want.mode = ap (λ (r : Row). r.mode) is in
     idle-by row.mode term (ap is_writing mode ∙ writing) (ap (nat_lt 0) t ∙ some-term q.longest want.term)
@@ -55,7 +57,8 @@ useful table q want row term writing (renews_row own has quiet caching is t) =
     let mode : row.mode ≡ greater_mode own.mode want.mode = ap (λ (r : Row). r.mode) is in
     idle-by row.mode term (ap is_writing mode ∙ greater-writes own.mode want.mode writing) (ap (nat_lt 0) t ∙ some-term q.longest want.term)
 
-idle-reads : (table : Table) (q : Question) (want : Want) (row : Row) (term : ℕ) → IsGranted table q want row term → is_idle (Some (grant_of q row term)) ≡ true → is_writing want.mode ≡ false
+idle-reads : (table : Table) (q : Question) (want : Want) (row : Row) (term : ℕ) → IsGranted table q want row term
+    → is_idle (Some (grant_of q row term)) ≡ true → is_writing want.mode ≡ false
 idle-reads table q want row term g idle = by (is_writing want.mode) refl
   where
     by : (b : Bool) → is_writing want.mode ≡ b → is_writing want.mode ≡ false

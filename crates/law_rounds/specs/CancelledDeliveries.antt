@@ -50,5 +50,6 @@ DeliveryEndsButForCancels =
     InEveryRun (λ head events.
     (under_way : List ℕ) (count fuel : ℕ)
     → AreUnderWay (length (run head events).packets) under_way
-    → most_deliveries (calm_rounds count (calmed head events under_way)) + (2 * head.hosts + 3) * cancelled_in fuel (calm_rounds count (calmed head events under_way)) ≤ fuel
+    → most_deliveries (calm_rounds count (calmed head events under_way)) + (2 * head.hosts + 3) * cancelled_in fuel
+    (calm_rounds count (calmed head events under_way)) ≤ fuel
     → (play_flow fuel (calm_rounds count (calmed head events under_way))).fresh ≡ [])

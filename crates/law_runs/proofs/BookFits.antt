@@ -1,5 +1,6 @@
 -- A client's calls, losses and delayed writes fit the journal in the middle of each step.
-use Rattle.std.proofs.Common.{◌≡◌, ◌≤◌, ℕ, ◌+◌, Bool, true, false, ◌==◌, List, [], ◌∷◌, ◌++◌, Option, Some, None, map, filter, reverse, is_some, if◌then◌else◌, refl, subst, ap, ◌∙◌, arith}
+use Rattle.std.proofs.Common.{◌≡◌, ◌≤◌, ℕ, ◌+◌, Bool, true, false, ◌==◌, List, [], ◌∷◌, ◌++◌, Option, Some, None, map, filter, reverse, is_some}
+use Rattle.std.proofs.Common.{if◌then◌else◌, refl, subst, ap, ◌∙◌, arith}
 use Rattle.std.proofs.lemmas.Bool.{and_from}
 use Rattle.nq_base.specs.declared.Answer.{Answer}
 use Rattle.nq_base.specs.declared.Entry.{Entry}
@@ -12,10 +13,12 @@ use Rattle.nq_base.specs.declared.Who.{Who}
 use Rattle.walk_steps.proofs.ClientMoves.{some-same, none-some}
 use Rattle.walk_steps.proofs.Rows.{choice, same-number, number-same}
 use Rattle.law_runs.proofs.Books.{Book, unsaved_on, after_loss, after_names, after_report, tells_losses, Closed}
-use Rattle.law_runs.proofs.Tallies.{IsOne, tally, tally-nil, tally-cons, tally-append, tally-reverse, tally-map, tally-split, tally-one, tally-taken, tally-added, one-added, added-one, one-found}
+use Rattle.law_runs.proofs.Tallies.{IsOne, tally, tally-nil, tally-cons, tally-append, tally-reverse, tally-map, tally-split, tally-one, tally-taken}
+use Rattle.law_runs.proofs.Tallies.{tally-added, one-added, added-one, one-found}
 use Rattle.law_runs.proofs.Told.{Grows, grows}
 use Rattle.law_runs.proofs.Journals.{Journals, call-begun}
-use Rattle.law_runs.proofs.JournalMoves.{journals-quiet, is_lost, journals-answer, journals-busy, journals-begin, loss_at, waits-speaks, journals-names, journals-tell}
+use Rattle.law_runs.proofs.JournalMoves.{journals-quiet, is_lost, journals-answer, journals-busy, journals-begin, loss_at, waits-speaks}
+use Rattle.law_runs.proofs.JournalMoves.{journals-names, journals-tell}
 use Rattle.law_runs.proofs.LossMoves.{journals-lose, journals-same, lost_at, push_at, lost-counts, loss-of-counts, named-lost}
 use Rattle.nq_model.specs.Client.{UnderWay, file_of_loss, other_losses, add_losses, dirty_at, drop_dirty, other_dirty, is_push_of, is_push_at}
 use Rattle.nq_base.specs.Calls.{told}
@@ -72,7 +75,8 @@ counted-takes {dirty = dirty} p there h = record {
   waiting = h.waiting;
 } where
   taken : (n : ℕ) → tally (push_at n) (drop_dirty p.file p.block dirty) + push_at n p ≤ tally (push_at n) dirty
-  taken n = tally-taken (push_at n) (is_push_at p.file p.block) p dirty there (and_from _ _ (number-same p.file p.file refl) (number-same p.block p.block refl))
+  taken n = tally-taken (push_at n) (is_push_at p.file p.block) p dirty there (and_from _ _ (number-same p.file p.file refl)
+      (number-same p.block p.block refl))
 
   one : (n : ℕ) → tally (push_at n) (p ∷ []) ≡ push_at n p
   one n = let split = tally-cons (push_at n) p [] in let none = tally-nil (push_at n) in omega arith
@@ -181,7 +185,8 @@ pub record Fits (b : Book) : Type 0 where
   pub under_way : (u : UnderWay) → b.call ≡ Some u → call_of b.journal b.who u.q ≡ Some (told u.call)
   pub counted : Counted b.who b.number b.dirty b.push b.losses b.journal
 
-pub still-called : {old new : List Entry} → Grows old new → (who : Who) (q : ℕ) (tells : Told) → call_of old who q ≡ Some tells → call_of new who q ≡ Some tells
+pub still-called : {old new : List Entry} → Grows old new → (who : Who) (q : ℕ) (tells : Told) → call_of old who q ≡ Some tells → call_of new who q
+    ≡ Some tells
 still-called g who q tells is = g.calls who q (ap is_some is) ∙ is
 
 plain-said : (answer : Answer) (by : Option ℕ) → tells_losses answer ≡ false → is_lost (said answer by) ≡ false
@@ -230,7 +235,8 @@ pub fits-closed : Closed Fits
 fits-closed = record {
   marks = λ b u v is q same f. record {
     journals = f.journals;
-    under_way = λ w e. let one : v ≡ w = some-same v w e in subst (λ z. call_of b.journal b.who z.q ≡ Some (told z.call)) one (rw (q, same) (f.under_way u is));
+    under_way = λ w e. let one : v ≡ w = some-same v w e in subst (λ z. call_of b.journal b.who z.q ≡ Some (told z.call)) one
+        (rw (q, same) (f.under_way u is));
     counted = f.counted;
   };
   answers = λ b u answer by is plain f. record {

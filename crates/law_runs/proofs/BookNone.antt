@@ -1,5 +1,6 @@
 -- While a sync, resize or removal is under way no loss on its file waits; and what a client's step tells is of its incarnation.
-use Rattle.std.proofs.Common.{◌≡◌, ◌⊎◌, ℕ, ◌+◌, Bool, true, false, ◌==◌, List, [], ◌∷◌, ◌++◌, Option, Some, None, map, filter, reverse, if◌then◌else◌, refl, sym, subst, ap, ◌∙◌, append_assoc, inl, inr}
+use Rattle.std.proofs.Common.{◌≡◌, ◌⊎◌, ℕ, ◌+◌, Bool, true, false, ◌==◌, List, [], ◌∷◌, ◌++◌, Option, Some, None, map, filter, reverse, if◌then◌else◌}
+use Rattle.std.proofs.Common.{refl, sym, subst, ap, ◌∙◌, append_assoc, inl, inr}
 use Rattle.nq_base.specs.declared.Call.{Call}
 use Rattle.nq_base.specs.declared.Call.TheVariants.{Sync, Resize, Remove}
 use Rattle.nq_base.specs.declared.Entry.{Entry}
@@ -90,7 +91,8 @@ none-report b file (Some w) is h =
 
 pub none-closed : Closed NoneWaits
 none-closed = record {
-  marks = λ b u v is q same h w file e cleaned. let one : v ≡ w = some-same v w e in h u file is (ap (cleans file) (sym same ∙ ap (λ z. z.call) one) ∙ cleaned);
+  marks = λ b u v is q same h w file e cleaned. let one : v ≡ w = some-same v w e in h u file is (ap (cleans file) (sym same ∙ ap (λ z. z.call) one)
+      ∙ cleaned);
   answers = λ b u answer by is plain h v file e. none-some v e;
   loses = λ b file h. none-report b file b.call refl h;
   takes = λ b file p is h. h;

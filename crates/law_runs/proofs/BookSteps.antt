@@ -13,7 +13,8 @@ use Rattle.nq_base.specs.declared.Request.{Request}
 use Rattle.nq_base.specs.declared.Tag.{Tag}
 use Rattle.nq_base.specs.declared.Value.{Value}
 use Rattle.walk_steps.proofs.ClientFacts.{fits_job}
-use Rattle.walk_steps.proofs.PartCases.{answers-call-cases, if-broken-cases, takes-optional-cases, lease-done-cases, then-caches-cases, caches-write-cases, caches-push-cases, vacates-if-clean-cases}
+use Rattle.walk_steps.proofs.PartCases.{answers-call-cases, if-broken-cases, takes-optional-cases, lease-done-cases, then-caches-cases}
+use Rattle.walk_steps.proofs.PartCases.{caches-write-cases, caches-push-cases, vacates-if-clean-cases}
 use Rattle.walk_steps.proofs.RepliedCases.{IsNamed, looked_up, created, attributes, replied-cases}
 use Rattle.walk_steps.proofs.SendCases.{send-moves, pushed}
 use Rattle.walk_steps.proofs.SettleCases.{settle-cases}
@@ -21,7 +22,10 @@ use Rattle.walk_steps.proofs.StepCases.{call-cases, unless-cached-cases, tick-ca
 use Rattle.law_runs.proofs.Books.{Book, book_of, book_at, unsaved_on, after_loss, after_names, after_report, tells_losses, Closed}
 use Rattle.nq_model.specs.Client.{Client, ClientStep, Job, begun, Notice, Ticket, UnderWay, notice_on, first_dirty}
 use Rattle.nq_model.specs.ClientStep.{begins_call, is_called, losses_for, changed_file, says_busy, client_call, at_time, sends_again, client_tick}
-use Rattle.nq_model.specs.Hear.{vacates_lease, vacates_noticed, loses, loss_entry, reports_to, reports, waits_for, without_lease, push_refused, breaks_chain, if_broken, holds, takes_optional, answers_call, caches_block, purges, knows_revision, then_caches, with_through, marks_through, caches_write, ends_push, caches_push, push_done, answer_of, spends, attached, pauses, reply_counts, replied, notes_notice, evicted, cancels, hear}
+use Rattle.nq_model.specs.Hear.{vacates_lease, vacates_noticed, loses, loss_entry, reports_to, reports, waits_for, without_lease, push_refused}
+use Rattle.nq_model.specs.Hear.{breaks_chain, if_broken, holds, takes_optional, answers_call, caches_block, purges, knows_revision, then_caches}
+use Rattle.nq_model.specs.Hear.{with_through, marks_through, caches_write, ends_push, caches_push, push_done, answer_of, spends, attached, pauses}
+use Rattle.nq_model.specs.Hear.{reply_counts, replied, notes_notice, evicted, cancels, hear}
 use Rattle.nq_model.specs.Message.{Message}
 use Rattle.nq_model.specs.Send.{sends_request, after_seq, after_number, takes_push, gives_up, sends_write, send_next}
 use Rattle.nq_model.specs.Settle.{answers, after_read, reads_cached, after_write, delays, marks_written, names_losses, settle}

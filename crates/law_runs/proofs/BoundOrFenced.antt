@@ -95,7 +95,8 @@ module _ (hosts most : ℕ) (w : World) (events : List Event) (k : KnownOf hosts
       case (earlier below) =
           early held.0.tag b.row.since w.server.kept.opened z.began
           ((k.runs.served.stood.fits file c.who.host b.row b.stands).since_boot ∙ standing-boot w.server w.server.phase k.runs.served.boots) below
-      case (gone none) = let knows = f.held.chained file held.0 b.row held.1 (writing-caches held.0.mode held.2) z in none-some knows.f (sym none ∙ knows.found)
+      case (gone none) = let knows = f.held.chained file held.0 b.row held.1 (writing-caches held.0.mode held.2) z in
+          none-some knows.f (sym none ∙ knows.found)
       case (ahead g found above) =
           let knows = f.held.chained file held.0 b.row held.1 (writing-caches held.0.mode held.2) z in
           let same : g ≡ knows.f = some-same g knows.f (sym found ∙ knows.found) in

@@ -1,5 +1,6 @@
 -- A block that a client has under a lease that runs has the value that stands for its reads.
-use Rattle.std.proofs.Common.{◌≡◌, ◌≢◌, ◌<◌, ◌⊎◌, ℕ, ◌+◌, ◌==◌, Bool, true, false, List, [], ◌∷◌, Option, Some, None, is_some, nat_lt, if◌then◌else◌, refl, sym, subst, ap, ◌∙◌, arith, inl, inr}
+use Rattle.std.proofs.Common.{◌≡◌, ◌≢◌, ◌<◌, ◌⊎◌, ℕ, ◌+◌, ◌==◌, Bool, true, false, List, [], ◌∷◌, Option, Some, None, is_some, nat_lt, if◌then◌else◌}
+use Rattle.std.proofs.Common.{refl, sym, subst, ap, ◌∙◌, arith, inl, inr}
 use Rattle.std.proofs.lemmas.Bool.Decides.{nat_tests}
 use Rattle.std.specs.List.{find}
 use Rattle.std.specs.Prelude.{slice_get, ◌-◌}
@@ -37,7 +38,8 @@ use Rattle.law_runs.proofs.RestingRuns.{run-rests}
 use Rattle.walk_files.proofs.Held.{HasHeld}
 use Rattle.walk_files.proofs.ReaderValues.{NoneWaits, held-stands, unsaved-stands, covered-either}
 use Rattle.walk_files.proofs.Stores.{lost-covered, stored-value}
-use Rattle.nq_model.specs.Client.{Client, Clean, Job, for_call, Lease, Ticket, lease_on, revision_of, revision_or_zero, is_push_at, dirty_at, clean_at, lets_read}
+use Rattle.nq_model.specs.Client.{Client, Clean, Job, for_call, Lease, Ticket, lease_on, revision_of, revision_or_zero, is_push_at, dirty_at}
+use Rattle.nq_model.specs.Client.{clean_at, lets_read}
 use Rattle.nq_model.specs.Journal.{IsStored, IsLost}
 use Rattle.nq_model.specs.Kept.{host_row}
 use Rattle.nq_model.specs.LeaseInterval.{claim_of, IsCovered, cover_end}

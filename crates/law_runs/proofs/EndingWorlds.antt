@@ -1,5 +1,6 @@
 -- In every run the ends of writing leases come late enough.
-use Rattle.std.proofs.Common.{◌≡◌, ◌≤◌, ℕ, ◌+◌, ◌==◌, ◌&&◌, Bool, true, false, not, List, [], ◌∷◌, ◌++◌, Option, Some, if◌then◌else◌, length, max, nat_le, refl, sym, subst, ap, ◌∙◌, arith}
+use Rattle.std.proofs.Common.{◌≡◌, ◌≤◌, ℕ, ◌+◌, ◌==◌, ◌&&◌, Bool, true, false, not, List, [], ◌∷◌, ◌++◌, Option, Some, if◌then◌else◌, length, max}
+use Rattle.std.proofs.Common.{nat_le, refl, sym, subst, ap, ◌∙◌, arith}
 use Rattle.std.specs.List.{find}
 use Rattle.std.proofs.lemmas.Bool.{and_parts}
 use Rattle.nq_base.specs.declared.Entry.{Entry}
@@ -23,7 +24,8 @@ use Rattle.nq_model.specs.Kept.{find_file, with_files, with_new_file, with_row}
 use Rattle.nq_model.specs.Message.{Datagram, datagram_of}
 use Rattle.nq_model.specs.Profile.{write_slack}
 use Rattle.nq_model.specs.Server.{serving, recovering, Server, ServerStep, quiet, drops, says, keeping, keeping_with, with_table, after_notices}
-use Rattle.nq_model.specs.ServerStep.{boot, is_over, attaches, vacates, tells_later, serves, leases, is_due, end_reading, at_time, opens, ends_writing, receive, tick, crash}
+use Rattle.nq_model.specs.ServerStep.{boot, is_over, attaches, vacates, tells_later, serves, leases, is_due, end_reading, at_time, opens}
+use Rattle.nq_model.specs.ServerStep.{ends_writing, receive, tick, crash}
 use Rattle.nq_model.specs.Skew.{IsWithinSkew}
 use Rattle.nq_model.specs.Table.{Table, caches, is_writing, find_row, with_rows, same_who}
 use Rattle.nq_model.specs.World.{Head, World, after_server, after_client, sending_host, start, run}

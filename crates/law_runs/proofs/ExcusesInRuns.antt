@@ -24,7 +24,8 @@ losses-excused chains most head events bounds within = cut-excused (run head eve
 
 bound-at : (w : World) (c : Client) (file : ℕ) → IsHeldBound w.server c.who c.leases file → IsBoundAt w c file
 bound-at w c file b =
-    let f : HasFitting (claim_of c.who file Writing b.lease.tag 0) (standing w.server) = bound-fitting w.server w.server.phase c.who file b.lease.tag b.bound in
+    let f : HasFitting (claim_of c.who file Writing b.lease.tag 0) (standing w.server) = bound-fitting w.server w.server.phase c.who file b.lease.tag
+    b.bound in
     record {
       lease = b.lease;
       held = b.held;

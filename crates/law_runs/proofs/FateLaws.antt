@@ -13,7 +13,8 @@ use Rattle.nq_model.specs.Fate.{IsDelayed, Restarts}
 use Rattle.nq_model.specs.FateTest.{restarts}
 use Rattle.nq_model.specs.Tests.{Tells}
 use Rattle.walk_files.proofs.WritesFit.{CoversNumber, LiesWithin, in_list, under_way}
-use Rattle.nq_model.specs.WritesAreAccounted.{AccountedInEveryRun, Encloses, UnderWayEncloses, StillHas, IsDelayedBy, WaitingAreUnsavedInEveryRun, IsAtItsClient, HasFate, EachHasItsFateInEveryRun}
+use Rattle.nq_model.specs.WritesAreAccounted.{AccountedInEveryRun, Encloses, UnderWayEncloses, StillHas, IsDelayedBy, WaitingAreUnsavedInEveryRun}
+use Rattle.nq_model.specs.WritesAreAccounted.{IsAtItsClient, HasFate, EachHasItsFateInEveryRun}
 use Rattle.nq_model.specs.Client.{Client}
 use Rattle.nq_model.specs.Journal.{Exists, AtEachPlace, Covers, IsStored, IsLost}
 use Rattle.nq_model.specs.JournalTest.{exists, covers}

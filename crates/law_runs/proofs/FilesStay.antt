@@ -1,5 +1,6 @@
 -- In every run a file stays under its id and name until it is removed.
-use Rattle.std.proofs.Common.{◌≡◌, ◌≢◌, ◌⊎◌, ℕ, ◌+◌, ◌==◌, Bool, true, false, List, [], ◌∷◌, ◌++◌, Option, Some, None, length, refl, sym, subst, ap, ◌∙◌, inl, inr, append_assoc}
+use Rattle.std.proofs.Common.{◌≡◌, ◌≢◌, ◌⊎◌, ℕ, ◌+◌, ◌==◌, Bool, true, false, List, [], ◌∷◌, ◌++◌, Option, Some, None, length, refl, sym, subst, ap}
+use Rattle.std.proofs.Common.{◌∙◌, inl, inr, append_assoc}
 use Rattle.std.specs.Prelude.{slice_get}
 use Rattle.nq_base.specs.declared.Entry.{Entry}
 use Rattle.nq_base.specs.declared.Event.{Event}
@@ -11,11 +12,13 @@ use Rattle.nq_model.specs.ClientStep.{client_call, client_tick, restart}
 use Rattle.nq_model.specs.Decide.{Decision, decides, creates, writes_through, stores, wrote, stores_recovering, resizes, removes, puts_off, commits}
 use Rattle.nq_model.specs.Hear.{hear}
 use Rattle.nq_model.specs.Journal.{Exists}
-use Rattle.nq_model.specs.Kept.{File, Kept, find_file, replace_file, drop_file, new_file, written_file, resized_file, fenced_file, with_files, with_new_file, with_row}
+use Rattle.nq_model.specs.Kept.{File, Kept, find_file, replace_file, drop_file, new_file, written_file, resized_file, fenced_file, with_files}
+use Rattle.nq_model.specs.Kept.{with_new_file, with_row}
 use Rattle.nq_model.specs.Message.{Datagram, Message, Packet, datagram_of}
 use Rattle.nq_model.specs.Server.{Server, ServerStep, quiet, drops, says, keeping, keeping_with, with_table, after_notices}
 use Rattle.nq_model.specs.ServerStep.{receive, tick, crash, boot, booted, fence, at_time, opens, ends_writing, attaches, vacates, tells_later, serves, leases}
-use Rattle.nq_model.specs.World.{Head, World, after_server, after_client, at_client, after_hearing, sending_host, deliver_to_client, deliver_to, deliver, step, run}
+use Rattle.nq_model.specs.World.{Head, World, after_server, after_client, at_client, after_hearing, sending_host, deliver_to_client, deliver_to}
+use Rattle.nq_model.specs.World.{deliver, step, run}
 use Rattle.walk_steps.proofs.KeptChanges.{find-own-replaced, find-other-replaced, find-not-removed, find-added}
 use Rattle.walk_steps.proofs.Rows.{same-number, number-same}
 use Rattle.walk_steps.proofs.ServerCases.{found-file, server-hears, server-ticks}
@@ -24,7 +27,8 @@ use Rattle.law_runs.specs.Staying.{KeepsUnder, IsRemoval, WasRemoved, FilesStayU
 -- ---- the files of a server
 
 -- a file of the same id and name takes the place of one that is kept
-replaced-keeps : (id : ℕ) (name : List ℕ) (f g : File) (files : List File) → find_file f.id files ≡ Some f → g.id ≡ f.id → g.name ≡ f.name → KeepsUnder id name files
+replaced-keeps : (id : ℕ) (name : List ℕ) (f g : File) (files : List File) → find_file f.id files ≡ Some f → g.id ≡ f.id → g.name ≡ f.name
+    → KeepsUnder id name files
     → KeepsUnder id name (replace_file g files)
 replaced-keeps id name f g files found same_id same_name k = by (id == g.id) refl
   where
@@ -70,7 +74,8 @@ module _ (s : Server) (id : ℕ) (name : List ℕ) (k : KeepsUnder id name s.kep
   abbrev Stays : ServerStep → Type 0
   Stays t = KeepsUnder id name t.server.kept.files ⊎ Exists (IsRemoval id) t.entries
 
-  committed : (who : Who) (seq xid : ℕ) (r : Request) (c : Decision) → KeepsUnder id name c.server.kept.files ⊎ Exists (IsRemoval id) c.entries → Stays (commits who seq xid r c)
+  committed : (who : Who) (seq xid : ℕ) (r : Request) (c : Decision) → KeepsUnder id name c.server.kept.files ⊎ Exists (IsRemoval id) c.entries
+      → Stays (commits who seq xid r c)
   unfolding commits keeping with_row
   committed who seq xid r c stays = stays
 
@@ -85,7 +90,8 @@ module _ (s : Server) (id : ℕ) (name : List ℕ) (k : KeepsUnder id name s.kep
           inl (record { file = k.file; found = find-not-removed f.id id s.kept.files apart ∙ k.found; named = k.named })
 
   receive-stays : (sender next : ℕ) (d : Datagram) → Stays (receive s sender next d)
-  unfolding quiet drops says vacates serves leases with_table attaches tells_later after_notices keeping_with with_row decides creates with_new_file keeping puts_off writes_through stores wrote stores_recovering resizes with_files written_file resized_file
+  unfolding quiet drops says vacates serves leases with_table attaches tells_later after_notices keeping_with with_row decides creates with_new_file
+      keeping puts_off writes_through stores wrote stores_recovering resizes with_files written_file resized_file
   receive-stays sender next d = server-hears s sender next d Stays (record {
     stays = inl k;
     dropping = λ reason. inl k;

@@ -16,7 +16,8 @@ use Rattle.nq_model.specs.Journal.{Each}
 use Rattle.nq_model.specs.Message.{Message, call, reply, error, Packet, request, datagram_of, datagram_of_call}
 use Rattle.nq_model.specs.Server.{ServerStep}
 use Rattle.nq_model.specs.ServerStep.{boot}
-use Rattle.nq_model.specs.World.{Head, World, from_host, after_server, after_client, at_client, after_hearing, sending_host, deliver_to_client, deliver_to, deliver, first_files, first_clients, start, step, run}
+use Rattle.nq_model.specs.World.{Head, World, from_host, after_server, after_client, at_client, after_hearing, sending_host, deliver_to_client}
+use Rattle.nq_model.specs.World.{deliver_to, deliver, first_files, first_clients, start, step, run}
 use Rattle.nq_model.specs.BodiesAreFilled.{AsksFilled, HasFilledBody, HasFilledBodies, BringsFilledBody, BodiesAreFilled, BodiesAreFilledInEveryRun}
 use Rattle.walk_steps.proofs.ClientMoves.{none-some}
 use Rattle.walk_steps.proofs.Worlds.{Holds, run-holds}

@@ -11,7 +11,8 @@ use Rattle.nq_base.specs.declared.Verdict.{Verdict}
 use Rattle.nq_base.specs.declared.Who.{Who}
 use Rattle.law_runs.proofs.EachOf.{each-get, each-find, each-filter, each-through, each-set, each-take, each-replicate}
 use Rattle.nq_model.proofs.Lists.{each-append}
-use Rattle.nq_model.specs.Decide.{Decision, decides, creates, writes_through, stores, wrote, stores_recovering, resizes, removes, puts_off, verdict_reply, commits}
+use Rattle.nq_model.specs.Decide.{Decision, decides, creates, writes_through, stores, wrote, stores_recovering, resizes, removes, puts_off}
+use Rattle.nq_model.specs.Decide.{verdict_reply, commits}
 use Rattle.nq_model.specs.Journal.{Each}
 use Rattle.nq_model.specs.Kept.{File, find_file, replace_file, new_file, written_file, resized_file, fenced_file, with_row, with_files, with_new_file}
 use Rattle.nq_model.specs.Message.{Message, Packet, Datagram, other_rpc, other_program, other_version, unknown_procedure, garbage, request, Reason}
@@ -22,7 +23,8 @@ use Rattle.nq_model.specs.Table.{Table, with_rows}
 use Rattle.nq_model.specs.BodiesAreFilled.{IsFilled, AsksFilled, TellsFilled, HasFilledBody}
 use Rattle.walk_steps.proofs.ClientMoves.{some-same, none-some}
 use Rattle.walk_steps.proofs.ServerCases.{server-hears, server-ticks}
-use Rattle.walk_steps.proofs.ServerOutcomes.{error_for, IsPlain, unattached, attached_again, not_yet, no_entry, entry, no_attributes, attributes, no_file, no_block, decided_again, is_old}
+use Rattle.walk_steps.proofs.ServerOutcomes.{error_for, IsPlain, unattached, attached_again, not_yet, no_entry, entry, no_attributes, attributes}
+use Rattle.walk_steps.proofs.ServerOutcomes.{no_file, no_block, decided_again, is_old}
 
 -- the blocks of a file are filled
 abbrev pub FileFilled : File → Type 0
@@ -150,7 +152,14 @@ module _ (s : Server) (h : Each FileFilled s.kept.files) where
   committing : (who : Who) (seq xid : ℕ) (r : Request) (d : Decision) → Each FileFilled d.server.kept.files → Each PacketFilled d.sends
       → StepFilled (commits who seq xid r d)
   unfolding commits keeping with_row
-  committing who seq xid r d kept sent = record { kept = kept; sent = each-append PacketFilled d.sends _ sent (verdict-filled who.inc d.verdict d.value r, tt) }
+  committing who seq xid r d kept sent = record {
+    kept = kept;
+    sent = each-append PacketFilled d.sends _ sent (
+      verdict-filled who.inc d.verdict
+          d.value r,
+      tt,
+    );
+  }
 
   declining : (who : Who) (seq xid : ℕ) (r : Request) (v : Verdict) → StepFilled (commits who seq xid r (decides s v))
   unfolding decides

@@ -19,7 +19,8 @@ use Rattle.nq_model.specs.Ask.{grant_of}
 use Rattle.nq_model.specs.Decide.{Decision, decides, creates, writes_through, stores, stores_recovering, resizes, removes, puts_off, verdict_reply, commits}
 use Rattle.nq_model.specs.Kept.{File}
 use Rattle.nq_model.specs.LeaseInterval.{grant_in}
-use Rattle.nq_model.specs.Message.{Message, Packet, call, reply, error, RpcError, Reason, Datagram, request, too_long, no_message, no_call, other_rpc, other_program, other_version, unknown_procedure, garbage_vacated, garbage}
+use Rattle.nq_model.specs.Message.{Message, Packet, call, reply, error, RpcError, Reason, Datagram, request, too_long, no_message, no_call, other_rpc}
+use Rattle.nq_model.specs.Message.{other_program, other_version, unknown_procedure, garbage_vacated, garbage}
 use Rattle.nq_model.specs.Profile.{xid_end}
 use Rattle.nq_model.specs.Server.{serving, Server, ServerStep, to_host, says, quiet, drops, notices, with_table}
 use Rattle.nq_model.specs.ServerStep.{to_read, attaches, vacates, tells_later, serves, leases, receive}
@@ -80,7 +81,8 @@ error-backed t sender no_call m e = none-some m e
 error-backed t sender (other_rpc xid) m e = subst (λ z. IsBacked t (to_host sender z)) (some-same _ m e) (error-none t sender xid RpcError.rpc_mismatch)
 error-backed t sender (other_program xid) m e =
     subst (λ z. IsBacked t (to_host sender z)) (some-same _ m e) (error-none t sender xid RpcError.program_unavailable)
-error-backed t sender (other_version xid) m e = subst (λ z. IsBacked t (to_host sender z)) (some-same _ m e) (error-none t sender xid RpcError.program_mismatch)
+error-backed t sender (other_version xid) m e = subst (λ z. IsBacked t (to_host sender z)) (some-same _ m e)
+    (error-none t sender xid RpcError.program_mismatch)
 error-backed t sender (unknown_procedure xid) m e =
     subst (λ z. IsBacked t (to_host sender z)) (some-same _ m e) (error-none t sender xid RpcError.procedure_unavailable)
 error-backed t sender garbage_vacated m e = none-some m e

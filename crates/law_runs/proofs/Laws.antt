@@ -13,7 +13,8 @@ use Rattle.walk_files.proofs.Facts.{History, SetsBlock, Changed, GrantTells, Tel
 use Rattle.law_runs.proofs.RunContents.{run-fits}
 use Rattle.law_runs.proofs.WorldFacts.{history_now, Fits}
 use Rattle.nq_model.specs.Told.{GrantFits, SetsOne, TellsContents, HasChanged, IsDoneAs}
-use Rattle.nq_model.specs.RevisionsHaveOneContent.{first_length, FilesAreTheirHistoryInEveryRun, CleanBlocksHaveTheirRevisionInEveryRun, DoneRequestsAreChangesInEveryRun, PushesCarryTheirLastWriteInEveryRun}
+use Rattle.nq_model.specs.RevisionsHaveOneContent.{first_length, FilesAreTheirHistoryInEveryRun, CleanBlocksHaveTheirRevisionInEveryRun}
+use Rattle.nq_model.specs.RevisionsHaveOneContent.{DoneRequestsAreChangesInEveryRun, PushesCarryTheirLastWriteInEveryRun}
 use Rattle.nq_model.specs.Contents.{delayed_value}
 use Rattle.nq_model.specs.Client.{Client, Ticket, is_push_at}
 use Rattle.nq_model.specs.Kept.{host_row}

@@ -1,5 +1,6 @@
 -- How what is kept of a client and the journal changes with each entry, and with the lists of delayed writes.
-use Rattle.std.proofs.Common.{◌≡◌, ◌≢◌, ◌<◌, ◌≤◌, ◌⊎◌, ℕ, ◌+◌, Bool, true, false, List, [], ◌∷◌, Option, Some, None, map, if◌then◌else◌, refl, sym, subst, ap, ◌∙◌, arith, inl, inr}
+use Rattle.std.proofs.Common.{◌≡◌, ◌≢◌, ◌<◌, ◌≤◌, ◌⊎◌, ℕ, ◌+◌, Bool, true, false, List, [], ◌∷◌, Option, Some, None, map, if◌then◌else◌, refl, sym}
+use Rattle.std.proofs.Common.{subst, ap, ◌∙◌, arith, inl, inr}
 use Rattle.std.specs.Prelude.{reverse}
 use Rattle.std.specs.List.{filter}
 use Rattle.nq_base.specs.declared.Entry.{Entry}
@@ -46,7 +47,8 @@ foreign-mild who w e is other = record {
 
 -- ---- what is open, waits or was made
 
-pub open-more : (who : Who) (u : UnderWay) (e : Entry) (journal : List Entry) → (IsAnswer who u.q e → ⊥) → IsOpenAs who u journal → IsOpenAs who u (e ∷ journal)
+pub open-more : (who : Who) (u : UnderWay) (e : Entry) (journal : List Entry) → (IsAnswer who u.q e → ⊥) → IsOpenAs who u journal
+    → IsOpenAs who u (e ∷ journal)
 open-more who u e journal none h = record {
   is_open = (inr h.is_open.0, λ a. answered a);
   tells = call-later (e ∷ []) journal who u.q (told u.call) h.tells;

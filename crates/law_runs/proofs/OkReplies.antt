@@ -16,7 +16,8 @@ use Rattle.nq_base.specs.declared.Value.{Value}
 use Rattle.nq_base.specs.declared.Verdict.{Verdict}
 use Rattle.nq_base.specs.declared.Want.{Want}
 use Rattle.nq_base.specs.declared.Who.{Who}
-use Rattle.walk_steps.proofs.PartCases.{answers-call-cases, vacates-noticed-cases, reports-cases, if-broken-cases, takes-optional-cases, lease-done-cases, then-caches-cases, caches-write-cases, caches-push-cases, vacates-if-clean-cases}
+use Rattle.walk_steps.proofs.PartCases.{answers-call-cases, vacates-noticed-cases, reports-cases, if-broken-cases, takes-optional-cases}
+use Rattle.walk_steps.proofs.PartCases.{lease-done-cases, then-caches-cases, caches-write-cases, caches-push-cases, vacates-if-clean-cases}
 use Rattle.walk_steps.proofs.RepliedCases.{OfCall, IsNamed, looked_up, created, attributes, replied-cases}
 use Rattle.walk_steps.proofs.SettleCases.{IsRead}
 use Rattle.walk_steps.proofs.StepCases.{evicted-cases}
@@ -26,7 +27,10 @@ use Rattle.walk_files.proofs.ServerTells.{Tells, later, decided}
 use Rattle.nq_model.specs.Client.{Client, ClientStep, for_call, Ticket, UnderWay, Notice, begun, notice_on}
 use Rattle.nq_base.specs.Calls.{told}
 use Rattle.nq_model.specs.Decide.{verdict_reply}
-use Rattle.nq_model.specs.Hear.{vacates_lease, vacates_noticed, loses, reports, without_lease, push_refused, breaks_chain, if_broken, holds, takes_grant, takes_optional, answers_call, caches_block, purges, knows_revision, then_caches, read_done, marks_through, lease_done, caches_write, write_done, ends_push, caches_push, push_done, answer_of, spends, attached, pauses, replied, reply_counts, waits_for, counts_for_call, is_put_off, cancels, notes_notice, evicted}
+use Rattle.nq_model.specs.Hear.{vacates_lease, vacates_noticed, loses, reports, without_lease, push_refused, breaks_chain, if_broken, holds}
+use Rattle.nq_model.specs.Hear.{takes_grant, takes_optional, answers_call, caches_block, purges, knows_revision, then_caches, read_done}
+use Rattle.nq_model.specs.Hear.{marks_through, lease_done, caches_write, write_done, ends_push, caches_push, push_done, answer_of, spends, attached}
+use Rattle.nq_model.specs.Hear.{pauses, replied, reply_counts, waits_for, counts_for_call, is_put_off, cancels, notes_notice, evicted}
 use Rattle.nq_model.specs.Journal.{Somewhere}
 use Rattle.nq_model.specs.Message.{sequence_of}
 use Rattle.nq_model.specs.Settle.{said, answers, names_losses}
@@ -71,7 +75,12 @@ spent-reports : {call : Option UnderWay} {line : HostRow} {journal : List Entry}
 spent-reports {call = call} {line = line} {journal = journal} t file s =
     reports-cases t file (Spent call All line journal)
     (λ none. record { mid = mid-spared (book_of t) (λ u e. none-some u (sym none ∙ e)) s.mid; free = s.free; from = s.from })
-    (λ u is waits. record { mid = mid-spared (book_of t) (λ v e. subst (Sparing file) (some-same u v (sym is ∙ e)) waits) s.mid; free = s.free; from = s.from })
+    (λ u is waits. record {
+      mid = mid-spared (book_of t) (λ v e. subst (Sparing file) (some-same u v (sym is ∙ e)) waits) s.mid;
+      free = s.free;
+      from =
+          s.from;
+    })
     (λ u is waits. spent-names t u file is (waits-changes file u.written u.call waits) s)
 
 spent-holds : {call : Option UnderWay} {line : HostRow} {journal : List Entry} (t : ClientStep) (file : ℕ) (g : Grant) (sent : ℕ)

@@ -18,7 +18,8 @@ use Rattle.nq_model.specs.Kept.{host_row}
 use Rattle.nq_model.specs.Message.{Packet, reply, datagram_of}
 use Rattle.nq_model.specs.Server.{ServerStep}
 use Rattle.nq_model.specs.Skew.{IsWithinSkew}
-use Rattle.nq_model.specs.World.{Head, World, after_server, after_client, at_client, after_hearing, sending_host, deliver_to_client, deliver_to, deliver, start, run}
+use Rattle.nq_model.specs.World.{Head, World, after_server, after_client, at_client, after_hearing, sending_host, deliver_to_client, deliver_to}
+use Rattle.nq_model.specs.World.{deliver, start, run}
 use Rattle.nq_model.proofs.Lists.{exists-right}
 use Rattle.nq_model.specs.BusyIsSaidAtOnce.{IsStartOf}
 use Rattle.walk_steps.proofs.WorldClocks.{StillOf, StillIf, call-still, tick-still, hear-still}

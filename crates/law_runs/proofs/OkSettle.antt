@@ -30,7 +30,8 @@ use Rattle.walk_steps.proofs.Packets.{In}
 use Rattle.walk_steps.proofs.Rows.{number-same}
 use Rattle.law_runs.proofs.KeptPlaces.{KeptHere, IsMadeOpen, OkAt}
 use Rattle.law_runs.proofs.OkAnswers.{is_plain, plain-ok, write-ok, answers-open, sync-ok, put-ok}
-use Rattle.law_runs.proofs.OkFacts.{CoversNumber, LiesWithin, in_list, under_way, PutWaits, IsOpenAs, IsFor, IsDone, Numbered, KeepsOk, All, Book, book_of, Mid, After, ended, not-for-call}
+use Rattle.law_runs.proofs.OkFacts.{CoversNumber, LiesWithin, in_list, under_way, PutWaits, IsOpenAs, IsFor, IsDone, Numbered, KeepsOk, All, Book}
+use Rattle.law_runs.proofs.OkFacts.{book_of, Mid, After, ended, not-for-call}
 use Rattle.law_runs.proofs.OkMoves.{open-more, put-more, numbered-more, numbered-raised, numbered-written, numbered-taken}
 
 -- the step's entries with one more of the client

@@ -1,5 +1,6 @@
 -- In every run reads and their answers are as they should be.
-use Rattle.std.proofs.Common.{◌≡◌, ◌⊎◌, ℕ, ◌+◌, ◌==◌, Bool, true, false, List, [], ◌∷◌, ◌++◌, Option, Some, None, map, length, nat_lt, nat_le, not, ◌&&◌, ◌||◌, if◌then◌else◌, refl, sym, subst, ap, ◌∙◌, arith, inl, inr}
+use Rattle.std.proofs.Common.{◌≡◌, ◌⊎◌, ℕ, ◌+◌, ◌==◌, Bool, true, false, List, [], ◌∷◌, ◌++◌, Option, Some, None, map, length, nat_lt, nat_le, not}
+use Rattle.std.proofs.Common.{◌&&◌, ◌||◌, if◌then◌else◌, refl, sym, subst, ap, ◌∙◌, arith, inl, inr}
 use Rattle.std.specs.List.{filter, list_any}
 use Rattle.std.specs.Prelude.{slice_get}
 use Rattle.nq_base.specs.Block.{value_of}
@@ -29,13 +30,15 @@ use Rattle.walk_files.proofs.ReadFacts.{ReadsOf, ReadsFit, told-packet}
 use Rattle.walk_files.proofs.ReadServer.{reads-after-server}
 use Rattle.law_runs.proofs.RestingRuns.{rests-on}
 use Rattle.walk_files.proofs.ServerReads.{ServesRead, receive-reads, tick-reads, crash-reads}
-use Rattle.walk_steps.proofs.Steps.{ClientActs, called, ticked, restarted, heard, ServerActs, received, ticks, crashes, Changes, nothing, by_client, by_server, run-goes}
+use Rattle.walk_steps.proofs.Steps.{ClientActs, called, ticked, restarted, heard, ServerActs, received, ticks, crashes, Changes, nothing, by_client}
+use Rattle.walk_steps.proofs.Steps.{by_server, run-goes}
 use Rattle.walk_files.proofs.ReaderValues.{NoneWaits}
 use Rattle.walk_files.proofs.ReadParts.{IsDull, MadeFor}
 use Rattle.walk_files.proofs.ReadSends.{Done, NewRead, IsCachedIn}
 use Rattle.walk_files.proofs.ReadSteps.{ValuedBy, NoneValued, call-done, tick-done, hear-done}
 use Rattle.walk_files.proofs.Stores.{Rests}
-use Rattle.nq_model.specs.Client.{Client, ClientStep, Lease, Ticket, UnderWay, lease_on, lets_read, first_dirty, dirty_at, clean_at, is_push_of, is_push_at, push_passes, is_clean, Job, file_of_lease}
+use Rattle.nq_model.specs.Client.{Client, ClientStep, Lease, Ticket, UnderWay, lease_on, lets_read, first_dirty, dirty_at, clean_at, is_push_of}
+use Rattle.nq_model.specs.Client.{is_push_at, push_passes, is_clean, Job, file_of_lease}
 use Rattle.nq_model.specs.ClientStep.{restart, starts, fresh_client, attached_client, next_incarnation}
 use Rattle.nq_model.specs.Journal.{Throughout}
 use Rattle.nq_model.specs.Kept.{host_row}

@@ -1,5 +1,6 @@
 -- In every run each store rests on what it must, and what is written or stored is of a block that its file has.
-use Rattle.std.proofs.Common.{◌≡◌, ◌≢◌, ◌<◌, ◌≤◌, ℕ, ◌+◌, ◌==◌, Bool, true, false, List, [], ◌∷◌, ◌++◌, Option, Some, None, map, length, refl, sym, subst, ap, ◌∙◌, arith, inl, inr}
+use Rattle.std.proofs.Common.{◌≡◌, ◌≢◌, ◌<◌, ◌≤◌, ℕ, ◌+◌, ◌==◌, Bool, true, false, List, [], ◌∷◌, ◌++◌, Option, Some, None, map, length, refl, sym}
+use Rattle.std.proofs.Common.{subst, ap, ◌∙◌, arith, inl, inr}
 use Rattle.std.proofs.lemmas.List.{length-map}
 use Rattle.std.specs.Prelude.{slice_get}
 use Rattle.nq_base.specs.Block.{value_of}
@@ -22,7 +23,8 @@ use Rattle.walk_files.proofs.EarlierServer.{Around, earlier-server}
 use Rattle.walk_files.proofs.EarlierStores.{Earlier, Goes, goes_on, begins, earlier-own, earlier-other}
 use Rattle.walk_files.proofs.Entries.{IsIdle, accesses-idle, rests-idle, IsInsideAt, inside-idle, inside-is, inside-later, throughout-weaker, throughout-idle}
 use Rattle.walk_files.proofs.ServerMakes.{Makes, MakesStore, idle, writes, stored, receive-makes, tick-makes, crash-makes}
-use Rattle.walk_steps.proofs.Steps.{ClientActs, called, ticked, restarted, heard, ServerActs, received, ticks, crashes, Changes, nothing, by_client, by_server, run-goes}
+use Rattle.walk_steps.proofs.Steps.{ClientActs, called, ticked, restarted, heard, ServerActs, received, ticks, crashes, Changes, nothing, by_client}
+use Rattle.walk_steps.proofs.Steps.{by_server, run-goes}
 use Rattle.walk_files.proofs.HeldContents.{content}
 use Rattle.walk_files.proofs.HeldFiles.{RestsOn}
 use Rattle.walk_files.proofs.Stores.{StoreFits, Rests}
@@ -183,7 +185,8 @@ client-rests first after w held host c t same there acts facts facts_after home 
       (earlier-own (host_row w.server.kept host) c t w.packets w.journal facts h.stores journal.rising quiet
       (subst (λ n. Earlier (host_row w.server.kept n) c w.packets w.journal) here (h.earlier host c there))
       (acts-goes w held host c t there acts) (home ∙ sym here)
-      (subst (λ n. WritesFit (host_row w.server.kept host) t.client (w.packets ++ map (from_host n) t.sends) (t.entries ++ w.journal)) (sym here) facts_after)))
+      (subst (λ n. WritesFit (host_row w.server.kept host) t.client (w.packets ++ map (from_host n) t.sends) (t.entries ++ w.journal)) (sym here)
+      facts_after)))
 
   others : (other : ℕ) (d : Client) → other ≢ host → slice_get w.clients other ≡ Some d
       → Earlier (host_row w.server.kept d.who.host) d (w.packets ++ map (from_host host) t.sends) (t.entries ++ w.journal)
@@ -312,7 +315,8 @@ module _ (most : ℕ) (head : Head)
         let i = in-get w.packets k p sent in
         let known_now = known events b within in
         subst (λ z. Resting after (after_server w z)) (sym is)
-        (server-rests after _ same (grows-receive s (sending_host p.sender) (length w.packets) (datagram_of p.message)) (received-said w p i to known_now.holds)
+        (server-rests after _ same (grows-receive s (sending_host p.sender) (length w.packets) (datagram_of p.message))
+        (received-said w p i to known_now.holds)
         (received-tells head.hosts most w events p i to known_now.holds known_now.runs).moves
         (receive-makes w.packets s (sending_host p.sender) (length w.packets) (datagram_of p.message)
         (λ xid r e. (to-server w.packets p (known_now.holds.sent p i) to i xid r e).0) known_now.runs.served.boots))

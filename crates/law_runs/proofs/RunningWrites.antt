@@ -218,5 +218,6 @@ running-keeps most head = record {
       → Mid (host_row (run head events).server.kept host) (run head events).packets (run head events).journal (begun c)
   before events host c b within is = let h = writes-fit most head events b within in mid-begins c (h.clients host c is) h.journal
 
-pub writes-run : (most : ℕ) (head : Head) (events : List Event) → KeepsBounds most head events → IsWithinSkew head.hosts most events → Running (run head events)
+pub writes-run : (most : ℕ) (head : Head) (events : List Event) → KeepsBounds most head events → IsWithinSkew head.hosts most events
+    → Running (run head events)
 writes-run most head events b within = run-keeps (running-keeps most head) events b within

@@ -1,12 +1,14 @@
 -- In every run the table that stands grows, so that what was drawn is below what is drawn next.
-use Rattle.std.proofs.Common.{◌≡◌, ◌<◌, ◌≤◌, ◌⊎◌, ℕ, ◌+◌, ◌==◌, Bool, true, false, List, [], ◌∷◌, ◌++◌, Option, Some, None, if◌then◌else◌, refl, sym, subst, ◌∙◌, arith, inl, inr, length}
+use Rattle.std.proofs.Common.{◌≡◌, ◌<◌, ◌≤◌, ◌⊎◌, ℕ, ◌+◌, ◌==◌, Bool, true, false, List, [], ◌∷◌, ◌++◌, Option, Some, None, if◌then◌else◌, refl, sym}
+use Rattle.std.proofs.Common.{subst, ◌∙◌, arith, inl, inr, length}
 use Rattle.std.specs.Prelude.{slice_get}
 use Rattle.std.proofs.lemmas.Bool.Decides.{nat_tests}
 use Rattle.nq_base.specs.declared.Event.{Event}
 use Rattle.nq_base.specs.declared.Party.{Party}
 use Rattle.nq_base.specs.declared.Tag.{Tag}
 use Rattle.walk_steps.proofs.ServerMoves.{server-moves, tick-moves}
-use Rattle.walk_steps.proofs.ServerTables.{BootsFit, BootsFitOf, RecoversBoot, boots-receive, boots-tick, boots-crash, boots-boot, standing-boot, opened-before}
+use Rattle.walk_steps.proofs.ServerTables.{BootsFit, BootsFitOf, RecoversBoot, boots-receive, boots-tick, boots-crash, boots-boot, standing-boot}
+use Rattle.walk_steps.proofs.ServerTables.{opened-before}
 use Rattle.nq_model.specs.TagsAreInOrder.{IsUpTo, IsNoEarlier, StandingTableGrows}
 use Rattle.nq_model.specs.Client.{Client, ClientStep}
 use Rattle.nq_model.specs.ClientStep.{client_call, client_tick, restart}
@@ -16,7 +18,8 @@ use Rattle.nq_model.specs.Message.{Message, Packet, Datagram, datagram_of}
 use Rattle.nq_model.specs.Server.{Phase, serving, recovering, Server, standing, standing_in, last_table, last_in}
 use Rattle.nq_model.specs.ServerStep.{receive, tick, crash, boot}
 use Rattle.nq_model.specs.Table.{Table, tag_below, next_tag, with_rows, after_draw, empty_table}
-use Rattle.nq_model.specs.World.{Head, World, after_server, after_client, at_client, after_hearing, deliver_to_client, deliver_to, deliver, step, start, run, sending_host, first_kept}
+use Rattle.nq_model.specs.World.{Head, World, after_server, after_client, at_client, after_hearing, deliver_to_client, deliver_to, deliver, step}
+use Rattle.nq_model.specs.World.{start, run, sending_host, first_kept}
 
 -- ---- the table that stands grows
 

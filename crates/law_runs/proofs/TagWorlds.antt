@@ -1,5 +1,6 @@
 -- In every run within skew each tag was drawn, and what was given up is past.
-use Rattle.std.proofs.Common.{◌≡◌, ◌≢◌, ◌<◌, ◌≤◌, ◌⊎◌, ℕ, zero, suc, ◌+◌, ◌==◌, Bool, true, false, List, [], ◌∷◌, ◌++◌, Option, Some, None, map, length, refl, sym, subst, ap, ◌∙◌, arith, inl, inr}
+use Rattle.std.proofs.Common.{◌≡◌, ◌≢◌, ◌<◌, ◌≤◌, ◌⊎◌, ℕ, zero, suc, ◌+◌, ◌==◌, Bool, true, false, List, [], ◌∷◌, ◌++◌, Option, Some, None, map}
+use Rattle.std.proofs.Common.{length, refl, sym, subst, ap, ◌∙◌, arith, inl, inr}
 use Rattle.std.specs.Prelude.{slice_get, slice_set}
 use Rattle.nq_base.specs.declared.Event.{Event}
 use Rattle.nq_base.specs.declared.Grant.{Grant}
@@ -29,7 +30,8 @@ use Rattle.law_runs.proofs.TagOrder.{standing-grows, drawn-later, below-later}
 use Rattle.law_runs.proofs.TagSources.{AllIn, AllHeld, Leaves, LeavesIf, call-told, tick-told, restart-told, hear-told}
 use Rattle.walk_steps.proofs.Worlds.{IsAt, Holds, IsSent, by_host, by_server, run-holds, to-told, get-set-same, get-set-other, first-client}
 use Rattle.nq_model.specs.Bounds.{KeepsBounds}
-use Rattle.nq_model.specs.TagsAreInOrder.{IsKnown, of_lease, of_notice, of_vacated, of_evicted, of_grant, of_grant_chain, of_row, of_chain, WasDrawn, IsUpTo, TagsAreDrawnInOrder, VacatedTagsArePast}
+use Rattle.nq_model.specs.TagsAreInOrder.{IsKnown, of_lease, of_notice, of_vacated, of_evicted, of_grant, of_grant_chain, of_row, of_chain, WasDrawn}
+use Rattle.nq_model.specs.TagsAreInOrder.{IsUpTo, TagsAreDrawnInOrder, VacatedTagsArePast}
 use Rattle.nq_model.specs.Client.{Client, ClientStep}
 use Rattle.nq_model.specs.ClientStep.{client_call, client_tick, restart, attached_client, fresh_client}
 use Rattle.nq_model.specs.Hear.{hear}
@@ -39,7 +41,8 @@ use Rattle.nq_model.specs.Server.{Phase, serving, recovering, Server, ServerStep
 use Rattle.nq_model.specs.ServerStep.{receive, tick, crash}
 use Rattle.nq_model.specs.Skew.{IsWithinSkew}
 use Rattle.nq_model.specs.Table.{Table, find_row}
-use Rattle.nq_model.specs.World.{Head, World, after_server, after_client, at_client, after_hearing, deliver_to_client, deliver_to, deliver, step, start, run, sending_host, from_host}
+use Rattle.nq_model.specs.World.{Head, World, after_server, after_client, at_client, after_hearing, deliver_to_client, deliver_to, deliver, step}
+use Rattle.nq_model.specs.World.{start, run, sending_host, from_host}
 
 -- ---- all tags of a world's clients and packets
 
@@ -86,7 +89,8 @@ client-told T w host c t is l h = record {
   packets = λ p i. from p (in-append w.packets (map (from_host host) t.sends) p i);
   senders = λ other m i. sender other m (in-append w.packets (map (from_host host) t.sends) (from_host other m) i);
 } where
-  case : (other : ℕ) (d : Client) (b : Bool) → (other == host) ≡ b → slice_get (slice_set w.clients host t.client) other ≡ Some d → AllHeld T d.leases d.notices
+  case : (other : ℕ) (d : Client) (b : Bool) → (other == host) ≡ b → slice_get (slice_set w.clients host t.client) other ≡ Some d
+      → AllHeld T d.leases d.notices
   case other d true same e =
       let one : other ≡ host = same-number other host same in
       let new : d ≡ t.client = get-set-same w.clients host t.client d (subst (λ n. slice_get (slice_set w.clients host t.client) n ≡ Some d) one e) in

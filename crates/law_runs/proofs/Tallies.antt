@@ -1,5 +1,6 @@
 -- Sums over lists, and what is in a list after each change of it.
-use Rattle.std.proofs.Common.{◌≡◌, ◌≤◌, ◌⊎◌, ℕ, ◌+◌, Bool, true, false, not, List, [], ◌∷◌, ◌++◌, Some, map, reverse, filter, find, nat_le, if◌then◌else◌, refl, sym, subst, ap, arith, inl, inr}
+use Rattle.std.proofs.Common.{◌≡◌, ◌≤◌, ◌⊎◌, ℕ, ◌+◌, Bool, true, false, not, List, [], ◌∷◌, ◌++◌, Some, map, reverse, filter, find, nat_le}
+use Rattle.std.proofs.Common.{if◌then◌else◌, refl, sym, subst, ap, arith, inl, inr}
 use Rattle.std.proofs.lemmas.Grind.{reverse_onto}
 use Rattle.nq_model.proofs.Lists.{exists-left, exists-right, exists-append, each-append}
 use Rattle.nq_model.specs.ByFile.{up_to, past, add_by}

@@ -1,5 +1,6 @@
 -- In every run within skew, delayed writes that can still be stored are undisturbed.
-use Rattle.std.proofs.Common.{◌≡◌, ◌≢◌, ◌<◌, ◌⊎◌, ℕ, ◌+◌, ◌==◌, Bool, true, false, List, [], ◌∷◌, ◌++◌, Option, Some, None, is_some, map, length, refl, sym, subst, ap, ◌∙◌, arith, inl, inr}
+use Rattle.std.proofs.Common.{◌≡◌, ◌≢◌, ◌<◌, ◌⊎◌, ℕ, ◌+◌, ◌==◌, Bool, true, false, List, [], ◌∷◌, ◌++◌, Option, Some, None, is_some, map, length}
+use Rattle.std.proofs.Common.{refl, sym, subst, ap, ◌∙◌, arith, inl, inr}
 use Rattle.std.specs.Prelude.{slice_get, slice_set}
 use Rattle.nq_base.specs.declared.Call.{Call}
 use Rattle.nq_base.specs.declared.Event.{Event}
@@ -25,7 +26,8 @@ use Rattle.nq_model.specs.Message.{Message, Packet, call, datagram_of, request, 
 use Rattle.nq_model.specs.Server.{Server, ServerStep, standing}
 use Rattle.nq_model.specs.ServerStep.{receive, tick, crash, boot}
 use Rattle.nq_model.specs.Skew.{IsWithinSkew}
-use Rattle.nq_model.specs.World.{Head, World, after_server, after_client, at_client, after_hearing, sending_host, deliver_to_client, deliver_to, deliver, start, run, from_host}
+use Rattle.nq_model.specs.World.{Head, World, after_server, after_client, at_client, after_hearing, sending_host, deliver_to_client, deliver_to}
+use Rattle.nq_model.specs.World.{deliver, start, run, from_host}
 use Rattle.walk_steps.proofs.Sequences.{asked-before-server}
 use Rattle.walk_steps.proofs.RunCases.{During, Keeps, client_at, OfClients, run-keeps, clients-after}
 use Rattle.walk_steps.proofs.Packets.{In, in-append, in-get, Asked, Told, message-same, call-same}
@@ -261,18 +263,19 @@ module _ (most : ℕ) (head : Head)
         tells = received-tells head.hosts most w events p in_list to before.holds before.runs;
         fenced = λ file boot rev below h. fenced-receive w.server file boot rev from (length w.packets) d below h;
         stood = λ who file tag drawn h. stood-receive w.server who file tag before.runs.served.stood drawn from (length w.packets) d h;
-        alone = λ who file h now nothing. receive-alone w.server from (length w.packets) d who file before.runs.served.stood before.runs.served.incs h (record {
-          own =
-              λ xid r seq is by sq fresh changes base. nothing xid r seq (asked w p in_list to before.holds who xid r is fresh.current.from.host) by sq
-              fresh.current.inc fresh.above changes base;
-          pushers = λ xid other seq block first final base body f is fresh found boot rev.
-              let mine : Asked w.packets other.host xid (Request.Write other seq file block first final (Some base) body) = asked w p in_list to
-              before.holds other xid (Request.Write other seq file block first final (Some base) body) is fresh.current.from.host in
-              let c = there-is (slice_get w.clients other.host)
-              (g.there other.host xid (Request.Write other seq file block first final (Some base) body) mine) in
-              push-writes w.server other.host w.packets (before.pushes other.host c.0 c.1) xid other seq file block first final base body mine refl
-              fresh.current.inc fresh.above (unfenced w.server file base f found boot rev);
-        });
+        alone = λ who file h now nothing. receive-alone w.server from (length w.packets) d who file before.runs.served.stood before.runs.served.incs h
+            (record {
+              own =
+                  λ xid r seq is by sq fresh changes base. nothing xid r seq (asked w p in_list to before.holds who xid r is fresh.current.from.host) by sq
+                  fresh.current.inc fresh.above changes base;
+              pushers = λ xid other seq block first final base body f is fresh found boot rev.
+                  let mine : Asked w.packets other.host xid (Request.Write other seq file block first final (Some base) body) = asked w p in_list to
+                  before.holds other xid (Request.Write other seq file block first final (Some base) body) is fresh.current.from.host in
+                  let c = there-is (slice_get w.clients other.host)
+                  (g.there other.host xid (Request.Write other seq file block first final (Some base) body) mine) in
+                  push-writes w.server other.host w.packets (before.pushes other.host c.0 c.1) xid other seq file block first final base body mine refl
+                  fresh.current.inc fresh.above (unfenced w.server file base f found boot rev);
+            });
       }) g
     where
       asked : (w : World) (p : Packet) → In w.packets p → p.to ≡ Party.Server → Holds w → (who : Who) (xid : ℕ) (r : Request)

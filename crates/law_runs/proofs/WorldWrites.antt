@@ -84,7 +84,8 @@ client-writes w host t held s h = record {
       let a = held.clients other c is in
       let differs : c.who.host ≡ host → ⊥ = λ same. apart (sym a.here ∙ same) in
       facts-packets (packets_with w.packets host t.sends) (λ x r asked. other-asked w.packets host c.who.host t.sends x r differs asked)
-      (facts-others t.entries w.journal (λ e i. own-other t.client.who c.who.host e (λ same. differs (sym same ∙ s.here)) (s.own e i)) (h.clients other c is)));
+      (facts-others t.entries w.journal (λ e i. own-other t.client.who c.who.host e (λ same. differs (sym same ∙ s.here)) (s.own e i))
+      (h.clients other c is)));
   journal = s.journal;
 }
 

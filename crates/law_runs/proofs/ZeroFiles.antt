@@ -1,5 +1,6 @@
 -- What no write has touched stays zeros at each change of the kept files and of the journal.
-use Rattle.std.proofs.Common.{◌≡◌, ◌≢◌, ◌<◌, ◌⊎◌, ℕ, zero, suc, ◌==◌, Bool, true, false, ◌&&◌, ◌||◌, List, [], ◌∷◌, ◌++◌, Some, nat_le, if◌then◌else◌, take, replicate, refl, sym, subst, ap, ◌∙◌, arith, inl, inr}
+use Rattle.std.proofs.Common.{◌≡◌, ◌≢◌, ◌<◌, ◌⊎◌, ℕ, zero, suc, ◌==◌, Bool, true, false, ◌&&◌, ◌||◌, List, [], ◌∷◌, ◌++◌, Some, nat_le, if◌then◌else◌}
+use Rattle.std.proofs.Common.{take, replicate, refl, sym, subst, ap, ◌∙◌, arith, inl, inr}
 use Rattle.std.specs.Prelude.{slice_get}
 use Rattle.std.proofs.lemmas.Bool.Decides.{nat_tests}
 use Rattle.nq_base.specs.Block.{zeros}
@@ -90,7 +91,8 @@ get-replicate zero z i x h = none-some x h
 get-replicate (suc n) z zero x h = sym (some-same z x h)
 get-replicate (suc n) z (suc i) x h = get-replicate n z i x h
 
-get-append : {A : Type 0} (xs ys : List A) (i : ℕ) (x : A) → slice_get (xs ++ ys) i ≡ Some x → (slice_get xs i ≡ Some x) ⊎ ((k : ℕ) × (slice_get ys k ≡ Some x))
+get-append : {A : Type 0} (xs ys : List A) (i : ℕ) (x : A) → slice_get (xs ++ ys) i ≡ Some x → (slice_get xs i ≡ Some x)
+    ⊎ ((k : ℕ) × (slice_get ys k ≡ Some x))
 get-append [] ys i x h = inr (i, h)
 get-append (y ∷ xs) ys zero x h = inl h
 get-append (y ∷ xs) ys (suc i) x h = get-append xs ys i x h
@@ -103,7 +105,8 @@ get-resized blocks bodies b body h = (k.0, case (get-append bodies (replicate bl
     k : (b < blocks) × (slice_get (bodies ++ replicate blocks zeros) b ≡ Some body)
     k = get-take blocks (bodies ++ replicate blocks zeros) b body h
 
-    case : (slice_get bodies b ≡ Some body) ⊎ ((i : ℕ) × (slice_get (replicate blocks zeros) i ≡ Some body)) → (slice_get bodies b ≡ Some body) ⊎ (body ≡ zeros)
+    case : (slice_get bodies b ≡ Some body) ⊎ ((i : ℕ) × (slice_get (replicate blocks zeros) i ≡ Some body)) → (slice_get bodies b ≡ Some body)
+        ⊎ (body ≡ zeros)
     case (inl a) = inl a
     case (inr n) = inr (get-replicate blocks zeros n.0 body n.1)
 

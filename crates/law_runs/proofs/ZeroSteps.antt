@@ -21,7 +21,8 @@ use Rattle.nq_model.specs.Journal.{Each}
 use Rattle.nq_model.specs.Kept.{File, find_file, with_row, with_files, with_new_file}
 use Rattle.nq_model.specs.Message.{Message, Datagram, Reason}
 use Rattle.nq_model.specs.Server.{Server, ServerStep, says, quiet, drops, keeping, keeping_with, with_table, after_notices}
-use Rattle.nq_model.specs.ServerStep.{attaches, vacates, tells_later, grants, serves, leases, receive, tick, crash, boot, booted, opens, ends_writing, fence, at_time}
+use Rattle.nq_model.specs.ServerStep.{attaches, vacates, tells_later, grants, serves, leases, receive, tick, crash, boot, booted, opens, ends_writing}
+use Rattle.nq_model.specs.ServerStep.{fence, at_time}
 use Rattle.nq_model.specs.Table.{Table, with_rows}
 use Rattle.walk_steps.proofs.Rows.{choice}
 use Rattle.walk_steps.proofs.ServerCases.{found-file, server-hears, server-ticks}

@@ -1,5 +1,6 @@
 -- Blocks that repeat a word: what follows the first word is the block without its last one.
-use Rattle.std.proofs.Common.{◌≡◌, ◌≤◌, ℕ, Bool, true, false, ◌==◌, ◌&&◌, subst, ◌+◌, ◌*◌, ◌<◌, List, [], ◌∷◌, ◌++◌, length, take, drop, zero, suc, refl, sym, ap, ◌∙◌, get_or, ◌/◌, ◌%◌, arith}
+use Rattle.std.proofs.Common.{◌≡◌, ◌≤◌, ℕ, Bool, true, false, ◌==◌, ◌&&◌, subst, ◌+◌, ◌*◌, ◌<◌, List, [], ◌∷◌, ◌++◌, length, take, drop, zero, suc}
+use Rattle.std.proofs.Common.{refl, sym, ap, ◌∙◌, get_or, ◌/◌, ◌%◌, arith}
 use Rattle.std.proofs.lemmas.List.{take_at, drop_at, take_all, take-take, take-append-drop, drop-take, length-drop, get_or-drop, get_or-take, take_more_same}
 use Rattle.std.proofs.lemmas.Bool.Decides.{nat_tests}
 use Rattle.nq_base.specs.Block.{filled, repeated, word, value_of}
@@ -86,7 +87,8 @@ one-more : (bytes : List ℕ) (count : ℕ) → length bytes ≡ 4096 → count 
     → here ≡ (get_or bytes count 0 == get_or bytes (count + 4) 0) → GoesOn bytes (count + 1) (before && here)
 one-more bytes count long below true true goes is = record {
   yes = λ both.
-      take_more_same bytes (drop 4 bytes) count 0 (omega (arith, long)) (omega (arith, long, length-drop 4 bytes)) (goes.yes refl) (equal-test (get_or bytes count 0) (get_or bytes (count + 4) 0) (sym is) ∙ sym (same-behind bytes count));
+      take_more_same bytes (drop 4 bytes) count 0 (omega (arith, long)) (omega (arith, long, length-drop 4 bytes)) (goes.yes refl)
+      (equal-test (get_or bytes count 0) (get_or bytes (count + 4) 0) (sym is) ∙ sym (same-behind bytes count));
   no = λ wrong. absurd cc;
 }
 one-more bytes count long below true false goes is = record {
@@ -98,10 +100,12 @@ one-more bytes count long below false here goes is = record { yes = λ wrong. ab
 -- one byte more
 pub goes-on-more : (bytes : List ℕ) (count : ℕ) (before here now : Bool) → length bytes ≡ 4096 → count < 4092 → GoesOn bytes count before
     → here ≡ (get_or bytes count 0 == get_or bytes (count + 4) 0) → now ≡ (before && here) → GoesOn bytes (count + 1) now
-goes-on-more bytes count before here now long below goes is both = subst (GoesOn bytes (count + 1)) (sym both) (one-more bytes count long below before here goes is)
+goes-on-more bytes count before here now long below goes is both = subst (GoesOn bytes (count + 1)) (sym both) (one-more bytes count long below before
+    here goes is)
 
 -- all of them
-pub all-go-on : (bytes : List ℕ) (count : ℕ) (same : Bool) → length bytes ≡ 4096 → 4092 ≤ count → count ≤ 4092 → GoesOn bytes count same → same ≡ true → take 4092 bytes ≡ drop 4 bytes
+pub all-go-on : (bytes : List ℕ) (count : ℕ) (same : Bool) → length bytes ≡ 4096 → 4092 ≤ count → count ≤ 4092 → GoesOn bytes count same → same ≡ true
+    → take 4092 bytes ≡ drop 4 bytes
 all-go-on bytes count same long enough most goes is =
     let all : count ≡ 4092 = omega arith in
     subst (λ n. take n bytes ≡ take n (drop 4 bytes)) all (goes.yes is) ∙ take_all 4092 (drop 4 bytes) (omega (arith, long, length-drop 4 bytes))

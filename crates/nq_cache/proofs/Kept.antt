@@ -1,5 +1,6 @@
 -- Entries as clean blocks: a key is found where its block is, and at one place only.
-use Rattle.std.proofs.Common.{◌≡◌, ◌≤◌, ◌<◌, ℕ, ◌+◌, ◌-◌, ◌==◌, Bool, true, false, not, ◌&&◌, cond, List, [], ◌∷◌, ◌++◌, length, get_or, take, drop, Option, Some, None, is_some, refl, sym, ap, subst, ◌∙◌, arith, append_assoc, zero, suc, append-nil, add-one}
+use Rattle.std.proofs.Common.{◌≡◌, ◌≤◌, ◌<◌, ℕ, ◌+◌, ◌-◌, ◌==◌, Bool, true, false, not, ◌&&◌, cond, List, [], ◌∷◌, ◌++◌, length, get_or, take, drop}
+use Rattle.std.proofs.Common.{Option, Some, None, is_some, refl, sym, ap, subst, ◌∙◌, arith, append_assoc, zero, suc, append-nil, add-one}
 use Rattle.std.specs.Cmp.{IsEquivalence}
 use Rattle.std.specs.List.{filter, AllByRecursion, IsDistinct, slice_get}
 use Rattle.std.specs.Map.{keys_of, lookup, lookup_entry, remove_entry}
@@ -41,7 +42,11 @@ apart-step : (b : Bool) (k : Clean) (ks rest : List Clean) → b ≡ false → r
 apart-step true k ks rest off h = absurd cc
 apart-step false k ks rest off h = ap (λ xs. k ∷ xs) h
 
-same-clean : (f g b c : ℕ) (body : List ℕ) → f ≡ g → b ≡ c → (let k : Clean = record { file = f; block = b; body = body } in k) ≡ record { file = g; block = c; body = body }
+same-clean : (f g b c : ℕ) (body : List ℕ) → f ≡ g → b ≡ c → (let k : Clean = record { file = f; block = b; body = body } in k) ≡ record {
+  file = g;
+  block = c;
+  body = body;
+}
 same-clean f g b c body p q = rw (p, q) refl
 
 -- the clean block of the key
@@ -74,16 +79,19 @@ module _ (eq : Key → Key → Bool) (laws : IsKeyEquality eq) where
   is-key key k h = parts k.file key.file k.block key.block (sym (laws key k) ∙ h)
 
   module _ (key : Key) where
-    found-step : (b : Bool) (e : Key × List ℕ) (a : Option Clean) (o : Option (Key × List ℕ)) → a ≡ option_map clean_of o → cond b (Some (clean_of e)) a ≡ option_map clean_of (cond b (Some e) o)
+    found-step : (b : Bool) (e : Key × List ℕ) (a : Option Clean) (o : Option (Key × List ℕ)) → a ≡ option_map clean_of o → cond b (Some (clean_of e))
+        a ≡ option_map clean_of (cond b (Some e) o)
     found-step true e a o h = refl
     found-step false e a o h = h
 
     -- the block that the cache has is that of the first entry with its key
     pub clean_at-entries : (es : List (Key × List ℕ)) → clean_at key.file key.block (clean_blocks es) ≡ option_map clean_of (lookup_entry (eq key) es)
     clean_at-entries [] = refl
-    clean_at-entries (e ∷ es) = rw (laws key e.0) (found-step (e.0.file == key.file && e.0.block == key.block) e _ (lookup_entry (eq key) es) (clean_at-entries es))
+    clean_at-entries (e ∷ es) = rw (laws key e.0) (found-step (e.0.file == key.file && e.0.block == key.block) e _ (lookup_entry (eq key) es)
+        (clean_at-entries es))
 
-    looked-step-up : (b : Bool) (e : Key × List ℕ) (v : Option (List ℕ)) (o : Option (Key × List ℕ)) → v ≡ option_map (λ f. f.1) o → cond b (Some e.1) v ≡ option_map (λ f. f.1) (cond b (Some e) o)
+    looked-step-up : (b : Bool) (e : Key × List ℕ) (v : Option (List ℕ)) (o : Option (Key × List ℕ)) → v ≡ option_map (λ f. f.1) o
+        → cond b (Some e.1) v ≡ option_map (λ f. f.1) (cond b (Some e) o)
     looked-step-up true e v o h = refl
     looked-step-up false e v o h = h
 
@@ -109,14 +117,17 @@ module _ (eq : Key → Key → Bool) (laws : IsKeyEquality eq) where
     -- where no entry has its key there is no block to drop
     none-dropped : (es : List (Key × List ℕ)) → NonePasses (eq key) es → drop_clean key.file key.block (clean_blocks es) ≡ clean_blocks es
     none-dropped [] none = refl
-    none-dropped (e ∷ es) none = apart-step (e.0.file == key.file && e.0.block == key.block) (clean_of e) (clean_blocks es) _ (sym (laws key e.0) ∙ none.0) (none-dropped es none.1)
+    none-dropped (e ∷ es) none = apart-step (e.0.file == key.file && e.0.block == key.block) (clean_of e) (clean_blocks es) _ (sym (laws key e.0)
+        ∙ none.0) (none-dropped es none.1)
 
-    dropped-step : (b : Bool) (e : Key × List ℕ) (es rest : List (Key × List ℕ)) (dropped : List Clean) → (b ≡ true → dropped ≡ clean_blocks es) → dropped ≡ clean_blocks rest → cond (not b) (clean_of e ∷ dropped) dropped ≡ clean_blocks (cond b es (e ∷ rest))
+    dropped-step : (b : Bool) (e : Key × List ℕ) (es rest : List (Key × List ℕ)) (dropped : List Clean) → (b ≡ true → dropped ≡ clean_blocks es)
+        → dropped ≡ clean_blocks rest → cond (not b) (clean_of e ∷ dropped) dropped ≡ clean_blocks (cond b es (e ∷ rest))
     dropped-step true e es rest dropped here h = here refl
     dropped-step false e es rest dropped here h = ap (λ xs. clean_of e ∷ xs) h
 
     -- without the first entry of a key there is none of it
-    pub drop_clean-entries : (es : List (Key × List ℕ)) → IsDistinct eq (keys_of es) → drop_clean key.file key.block (clean_blocks es) ≡ clean_blocks (remove_entry (eq key) es)
+    pub drop_clean-entries : (es : List (Key × List ℕ)) → IsDistinct eq (keys_of es) → drop_clean key.file key.block (clean_blocks es) ≡ clean_blocks
+        (remove_entry (eq key) es)
     drop_clean-entries [] d = refl
     drop_clean-entries (e ∷ es) d =
         rw (laws key e.0)
@@ -136,7 +147,10 @@ module _ (eq : Key → Key → Bool) (laws : IsKeyEquality eq) where
       | false ↦ λ on. (on, none-passes es (rw on at h))
     ]) refl
 
-    put-step : (c : LruCache Key (List ℕ)) (body : List ℕ) (o : Option (Key × List ℕ)) → lookup_entry (eq key) c.entries ≡ o → IsDistinct eq (keys_of c.entries) → length c.entries ≤ c.cap - 1 → clean_blocks (option_map_or (λ e. (e.0, body) ∷ remove_entry (eq key) c.entries) o ((key, body) ∷ take (c.cap - 1) c.entries)) ≡ block_of key body ∷ drop_clean key.file key.block (clean_blocks c.entries)
+    put-step : (c : LruCache Key (List ℕ)) (body : List ℕ) (o : Option (Key × List ℕ)) → lookup_entry (eq key) c.entries ≡ o
+        → IsDistinct eq (keys_of c.entries) → length c.entries ≤ c.cap - 1
+        → clean_blocks (option_map_or (λ e. (e.0, body) ∷ remove_entry (eq key) c.entries) o ((key, body) ∷ take (c.cap - 1) c.entries))
+        ≡ block_of key body ∷ drop_clean key.file key.block (clean_blocks c.entries)
     put-step c body None h d few =
         let rest : drop_clean key.file key.block (clean_blocks c.entries) ≡ clean_blocks c.entries = none-dropped c.entries (none-passes c.entries h) in
         let all : take (c.cap - 1) c.entries ≡ c.entries = take_all (c.cap - 1) c.entries few in
@@ -147,18 +161,23 @@ module _ (eq : Key → Key → Bool) (laws : IsKeyEquality eq) where
         rw head (ap (λ xs. block_of key body ∷ xs) (sym (drop_clean-entries c.entries d)))
 
     -- a block that is put is in front, and nowhere else
-    pub put-entries : (c : LruCache Key (List ℕ)) (body : List ℕ) → IsDistinct eq (keys_of c.entries) → length c.entries ≤ c.cap - 1 → clean_blocks (put_entries eq c key body) ≡ block_of key body ∷ drop_clean key.file key.block (clean_blocks c.entries)
+    pub put-entries : (c : LruCache Key (List ℕ)) (body : List ℕ) → IsDistinct eq (keys_of c.entries) → length c.entries ≤ c.cap - 1
+        → clean_blocks (put_entries eq c key body) ≡ block_of key body ∷ drop_clean key.file key.block (clean_blocks c.entries)
     put-entries c body d few = put-step c body (lookup_entry (eq key) c.entries) refl d few
 
-    looked-step : (es : List (Key × List ℕ)) (o : Option (Key × List ℕ)) → drop_clean key.file key.block (clean_blocks es) ≡ clean_blocks (remove_entry (eq key) es) → clean_blocks (option_map_or (λ e. e ∷ remove_entry (eq key) es) o es) ≡ touched key.file key.block (option_map clean_of o) (clean_blocks es)
+    looked-step : (es : List (Key × List ℕ)) (o : Option (Key × List ℕ)) → drop_clean key.file key.block (clean_blocks es) ≡ clean_blocks
+        (remove_entry (eq key) es) → clean_blocks (option_map_or (λ e. e ∷ remove_entry (eq key) es) o es) ≡ touched key.file key.block
+        (option_map clean_of o) (clean_blocks es)
     looked-step es None d = refl
     looked-step es (Some e) d = rw d refl
 
     -- a block that is looked for comes to the front
-    pub promoted-entries : (es : List (Key × List ℕ)) → IsDistinct eq (keys_of es) → clean_blocks (promoted (eq key) es) ≡ looked_up key.file key.block (clean_blocks es)
+    pub promoted-entries : (es : List (Key × List ℕ)) → IsDistinct eq (keys_of es) → clean_blocks (promoted (eq key) es) ≡ looked_up key.file
+        key.block (clean_blocks es)
     promoted-entries es d = rw (clean_at-entries es) (looked-step es (lookup_entry (eq key) es) (drop_clean-entries es d))
 
-    counted-step : (b : Bool) (e : Key × List ℕ) (o : Option (Key × List ℕ)) (es rest : List (Key × List ℕ)) → length rest + length (option_to_list o) ≡ length es → length (cond b es (e ∷ rest)) + length (option_to_list (cond b (Some e) o)) ≡ length es + 1
+    counted-step : (b : Bool) (e : Key × List ℕ) (o : Option (Key × List ℕ)) (es rest : List (Key × List ℕ)) → length rest + length (option_to_list o)
+        ≡ length es → length (cond b es (e ∷ rest)) + length (option_to_list (cond b (Some e) o)) ≡ length es + 1
     counted-step true e o es rest h = refl
     counted-step false e o es rest h = omega arith
 
@@ -170,7 +189,8 @@ module _ (eq : Key → Key → Bool) (laws : IsKeyEquality eq) where
     pub length-removed : (es : List (Key × List ℕ)) → length (remove_entry (eq key) es) ≤ length es
     length-removed es = omega (arith, counted es)
 
-    promoted-count : (es rest : List (Key × List ℕ)) (o : Option (Key × List ℕ)) → length rest + length (option_to_list o) ≡ length es → length (option_map_or (λ e. e ∷ rest) o es) ≡ length es
+    promoted-count : (es rest : List (Key × List ℕ)) (o : Option (Key × List ℕ)) → length rest + length (option_to_list o) ≡ length es
+        → length (option_map_or (λ e. e ∷ rest) o es) ≡ length es
     promoted-count es rest None h = refl
     promoted-count es rest (Some e) h = omega arith
 
@@ -182,7 +202,8 @@ module _ (eq : Key → Key → Bool) (laws : IsKeyEquality eq) where
   all-at-last P [] last h = h.0
   all-at-last P (f ∷ front) last h = all-at-last P front last h.1
 
-  last-found : (front : List (Key × List ℕ)) (last : Key × List ℕ) → IsDistinct eq (keys_of (front ++ last ∷ [])) → (lookup_entry (eq last.0) (front ++ last ∷ []) ≡ Some last) × (remove_entry (eq last.0) (front ++ last ∷ []) ≡ front)
+  last-found : (front : List (Key × List ℕ)) (last : Key × List ℕ) → IsDistinct eq (keys_of (front ++ last ∷ []))
+      → (lookup_entry (eq last.0) (front ++ last ∷ []) ≡ Some last) × (remove_entry (eq last.0) (front ++ last ∷ []) ≡ front)
   last-found [] last d = let on = is_equivalence.refl last.0 in (rw on refl, rw on refl)
   last-found (f ∷ front) last d =
       let apart : eq f.0 last.0 ≡ false = all-at-last (λ y. eq f.0 y ≡ false) front last (IsDistinct-head eq f.0 (keys_of (front ++ last ∷ [])) d) in
@@ -191,7 +212,8 @@ module _ (eq : Key → Key → Bool) (laws : IsKeyEquality eq) where
       (rw off rest.0, rw off (ap (λ xs. f ∷ xs) rest.1))
 
   -- the last entry is promoted
-  pub promoted-last : (front : List (Key × List ℕ)) (last : Key × List ℕ) → IsDistinct eq (keys_of (front ++ last ∷ [])) → promoted (eq last.0) (front ++ last ∷ []) ≡ last ∷ front
+  pub promoted-last : (front : List (Key × List ℕ)) (last : Key × List ℕ) → IsDistinct eq (keys_of (front ++ last ∷ [])) → promoted (eq last.0)
+      (front ++ last ∷ []) ≡ last ∷ front
   promoted-last front last d = let found = last-found front last d in rw (found.0, found.1) refl
 
 -- the last entry, and those before it
@@ -201,8 +223,10 @@ last-entry front last = rw (length_push front last, length-minus) (got front las
 pub before-last : (front : List (Key × List ℕ)) (last : Key × List ℕ) → take (length (front ++ last ∷ []) - 1) (front ++ last ∷ []) ≡ front
 before-last front last = rw (length_push front last, length-minus) (take_at front (last ∷ []) (length front) refl)
 
-last-key : (key : Key) (es front : List (Key × List ℕ)) (last : Key × List ℕ) → es ≡ front ++ last ∷ [] → Some key ≡ option_map (λ e. e.0) (last_entry es) → key ≡ last.0
-last-key key es front last split found = let e : last_entry es ≡ Some last = ap last_entry split ∙ last-entry front last in let f : Some key ≡ Some last.0 = found ∙ ap (option_map (λ e. e.0)) e in cc
+last-key : (key : Key) (es front : List (Key × List ℕ)) (last : Key × List ℕ) → es ≡ front ++ last ∷ [] → Some key ≡ option_map (λ e. e.0)
+    (last_entry es) → key ≡ last.0
+last-key key es front last split found = let e : last_entry es ≡ Some last = ap last_entry split ∙ last-entry front last in let f : Some key
+    ≡ Some last.0 = found ∙ ap (option_map (λ e. e.0)) e in cc
 
 goes-or-stays : (b : Bool) (last : Key × List ℕ) (front : List (Key × List ℕ)) → b ≡ true → front ≡ cond (not b) (last ∷ front) front
 goes-or-stays b last front h = rw h refl
@@ -211,17 +235,23 @@ stays : (b : Bool) (last : Key × List ℕ) (front : List (Key × List ℕ)) →
 stays b last front h = rw h refl
 
 -- the last entry is of the file, and goes
-pub turn-drops : (file : ℕ) (key : Key) (es : List (Key × List ℕ)) → Some key ≡ option_map (λ e. e.0) (last_entry es) → (key.file == file) ≡ true → Turns file es (take (length es - 1) es)
-turn-drops file key es found here = λ front last split. let k : key ≡ last.0 = last-key key es front last split found in ap (λ xs. take (length xs - 1) xs) split ∙ before-last front last ∙ goes-or-stays (last.0.file == file) last front (sym (ap (λ x. x.file == file) k) ∙ here)
+pub turn-drops : (file : ℕ) (key : Key) (es : List (Key × List ℕ)) → Some key ≡ option_map (λ e. e.0) (last_entry es) → (key.file == file) ≡ true
+    → Turns file es (take (length es - 1) es)
+turn-drops file key es found here = λ front last split. let k : key ≡ last.0 = last-key key es front last split found in
+    ap (λ xs. take (length xs - 1) xs) split ∙ before-last front last ∙ goes-or-stays (last.0.file == file) last front
+    (sym (ap (λ x. x.file == file) k) ∙ here)
 
 -- the last entry is of another file, and goes to the front
-pub turn-keeps : (eq : Key → Key → Bool) → IsKeyEquality eq → (file : ℕ) (key : Key) (es : List (Key × List ℕ)) → IsDistinct eq (keys_of es) → Some key ≡ option_map (λ e. e.0) (last_entry es) → (key.file == file) ≡ false → Turns file es (promoted (eq key) es)
+pub turn-keeps : (eq : Key → Key → Bool) → IsKeyEquality eq → (file : ℕ) (key : Key) (es : List (Key × List ℕ)) → IsDistinct eq (keys_of es)
+    → Some key ≡ option_map (λ e. e.0) (last_entry es) → (key.file == file) ≡ false → Turns file es (promoted (eq key) es)
 turn-keeps eq laws file key es d found away = λ front last split.
     let k : key ≡ last.0 = last-key key es front last split found in
     let d' : IsDistinct eq (keys_of (front ++ last ∷ [])) = subst (λ xs. IsDistinct eq (keys_of xs)) split d in
-    ap (λ xs. promoted (eq key) xs) split ∙ ap (λ x. promoted (eq x) (front ++ last ∷ [])) k ∙ promoted-last eq laws front last d' ∙ stays (last.0.file == file) last front (sym (ap (λ x. x.file == file) k) ∙ away)
+    ap (λ xs. promoted (eq key) xs) split ∙ ap (λ x. promoted (eq x) (front ++ last ∷ [])) k ∙ promoted-last eq laws front last d'
+    ∙ stays (last.0.file == file) last front (sym (ap (λ x. x.file == file) k) ∙ away)
 
-others-step : (b : Bool) (e : Key × List ℕ) (es : List (Key × List ℕ)) (rest : List Clean) → clean_blocks es ≡ rest → clean_blocks (cond b (e ∷ es) es) ≡ cond b (clean_of e ∷ rest) rest
+others-step : (b : Bool) (e : Key × List ℕ) (es : List (Key × List ℕ)) (rest : List Clean) → clean_blocks es ≡ rest
+    → clean_blocks (cond b (e ∷ es) es) ≡ cond b (clean_of e ∷ rest) rest
 others-step true e es rest h = ap (λ xs. clean_of e ∷ xs) h
 others-step false e es rest h = h
 
@@ -230,7 +260,8 @@ pub purge-entries : (file : ℕ) (es : List (Key × List ℕ)) → clean_blocks 
 purge-entries file [] = refl
 purge-entries file (e ∷ es) = others-step (is_of_other file e) e (filter (is_of_other file) es) _ (purge-entries file es)
 
-walked-at : (file m : ℕ) (e : Key × List ℕ) (es before after : List (Key × List ℕ)) → m < length es → before ≡ walked file (m + 1) es → Turns file before after → after ≡ walked file m es
+walked-at : (file m : ℕ) (e : Key × List ℕ) (es before after : List (Key × List ℕ)) → m < length es → before ≡ walked file (m + 1) es
+    → Turns file before after → after ≡ walked file m es
 walked-at file m e es before after within was turns =
     let x : Key × List ℕ = get_or es m e in
     let kept : List (Key × List ℕ) = filter (is_of_other file) (drop (m + 1) es) in
@@ -240,7 +271,8 @@ walked-at file m e es before after within was turns =
     turns (kept ++ take m es) x split ∙ turned-step (is_of_other file x) x kept (take m es) ∙ ap (λ xs. filter (is_of_other file) xs ++ take m es) (sym rest)
 
 -- one more entry was looked at
-pub walked-more : (file m : ℕ) (es before after : List (Key × List ℕ)) → m < length es → before ≡ walked file (m + 1) es → Turns file before after → after ≡ walked file m es
+pub walked-more : (file m : ℕ) (es before after : List (Key × List ℕ)) → m < length es → before ≡ walked file (m + 1) es → Turns file before after
+    → after ≡ walked file m es
 walked-more file m [] before after within was turns = absurd (omega arith)
 walked-more file m (e ∷ es) before after within was turns = walked-at file m e (e ∷ es) before after within was turns
 
@@ -257,14 +289,20 @@ fewer-step false e es n h = omega arith
 
 fewer : (file : ℕ) (es : List (Key × List ℕ)) → length (filter (is_of_other file) es) ≤ length es
 fewer file [] = omega arith
-fewer file (e ∷ es) = subst (λ n. length (filter (is_of_other file) (e ∷ es)) ≤ n) (add-one (length es)) (fewer-step (is_of_other file e) e (filter (is_of_other file) es) (length es) (fewer file es))
+fewer file (e ∷ es) = subst (λ n. length (filter (is_of_other file) (e ∷ es)) ≤ n) (add-one (length es)) (fewer-step (is_of_other file e) e
+    (filter (is_of_other file) es) (length es) (fewer file es))
 
 no-rest : (file : ℕ) (es : List (Key × List ℕ)) → walked file (length es - length es) es ≡ filter (is_of_other file) es
 no-rest file es = let z : length es - length es ≡ 0 = omega arith in rw z (append-nil (filter (is_of_other file) es))
 
 -- all entries were looked at
-pub purged : (file : ℕ) (es after : List (Key × List ℕ)) → after ≡ walked file (length es - length es) es → (clean_blocks after ≡ purge file (clean_blocks es)) × (length after ≤ length es)
-purged file es after h = let e = h ∙ no-rest file es in (ap clean_blocks e ∙ purge-entries file es, subst (λ xs. length xs ≤ length es) (sym e) (fewer file es))
+pub purged : (file : ℕ) (es after : List (Key × List ℕ)) → after ≡ walked file (length es - length es) es
+    → (clean_blocks after ≡ purge file (clean_blocks es)) × (length after ≤ length es)
+purged file es after h = let e = h ∙ no-rest file es in (
+  ap clean_blocks e ∙ purge-entries file es,
+  subst (λ xs. length xs ≤ length es) (sym e)
+      (fewer file es),
+)
 
 abbrev AreOthers : ℕ → List Clean → Type 0
 AreOthers file ks = AllByRecursion (λ k. (k.file == file) ≡ false) ks
@@ -281,11 +319,21 @@ drop-others : (file block : ℕ) (ks : List Clean) → AreOthers file ks → dro
 drop-others file block [] h = refl
 drop-others file block (k ∷ ks) h = rw h.0 (ap (λ xs. k ∷ xs) (drop-others file block ks h.1))
 
-drop-behind : (file block : ℕ) (body : List ℕ) (ks : List Clean) → AreOthers file ks → drop_clean file block (ks ++ record { file = file; block = block; body = body } ∷ []) ≡ ks
+drop-behind : (file block : ℕ) (body : List ℕ) (ks : List Clean) → AreOthers file ks → drop_clean file block (ks ++ record {
+  file = file;
+  block =
+      block;
+  body = body;
+} ∷ []) ≡ ks
 drop-behind file block body [] h = rw (both-same file block) refl
 drop-behind file block body (k ∷ ks) h = rw h.0 (ap (λ xs. k ∷ xs) (drop-behind file block body ks h.1))
 
-found-behind : (file block : ℕ) (body : List ℕ) (ks : List Clean) → AreOthers file ks → clean_at file block (ks ++ record { file = file; block = block; body = body } ∷ []) ≡ Some (record { file = file; block = block; body = body })
+found-behind : (file block : ℕ) (body : List ℕ) (ks : List Clean) → AreOthers file ks → clean_at file block (ks ++ record {
+  file = file;
+  block =
+      block;
+  body = body;
+} ∷ []) ≡ Some (record { file = file; block = block; body = body })
 found-behind file block body [] h = rw (both-same file block) refl
 found-behind file block body (k ∷ ks) h = rw h.0 (found-behind file block body ks h.1)
 
@@ -299,11 +347,17 @@ purge-dropped file block (k ∷ ks) = (elim (k.file == file) as (λ a. (k.file =
   | false ↦ λ e. rw e (rw e (ap (λ xs. k ∷ xs) (purge-dropped file block ks)))
 ]) refl
 
-walked-to-first : (file : ℕ) (e : Key × List ℕ) (es : List (Key × List ℕ)) → walked file (length (e ∷ es) - (length (e ∷ es) - 1)) (e ∷ es) ≡ filter (is_of_other file) es ++ e ∷ []
+walked-to-first : (file : ℕ) (e : Key × List ℕ) (es : List (Key × List ℕ)) → walked file (length (e ∷ es) - (length (e ∷ es) - 1)) (e ∷ es)
+    ≡ filter (is_of_other file) es ++ e ∷ []
 walked-to-first file e es = let n : length (e ∷ es) - (length (e ∷ es) - 1) ≡ 1 = omega arith in rw n refl
 
 -- the first block stays, and those of its file behind it go
-pub first_stays : (file block : ℕ) (body : List ℕ) (rest : List Clean) (es after : List (Key × List ℕ)) → clean_blocks es ≡ record { file = file; block = block; body = body } ∷ drop_clean file block rest → after ≡ walked file (length es - (length es - 1)) es → looked_up file block (clean_blocks after) ≡ record { file = file; block = block; body = body } ∷ drop_clean file block (purge file rest)
+pub first_stays : (file block : ℕ) (body : List ℕ) (rest : List Clean) (es after : List (Key × List ℕ)) → clean_blocks es ≡ record {
+  file = file;
+  block = block;
+  body = body;
+} ∷ drop_clean file block rest → after ≡ walked file (length es - (length es - 1)) es → looked_up file block
+    (clean_blocks after) ≡ record { file = file; block = block; body = body } ∷ drop_clean file block (purge file rest)
 first_stays file block body rest [] after split h = absurd cc
 first_stays file block body rest (e ∷ es) after split h =
     let others = purge-leaves file rest in
@@ -314,5 +368,7 @@ first_stays file block body rest (e ∷ es) after split h =
     ∙ ap (λ xs. xs ++ clean_of e ∷ []) (purge-entries file es ∙ ap (purge file) behind ∙ purge-dropped file block rest)
     ∙ ap (λ k. purge file rest ++ k ∷ []) first in
     ap (looked_up file block) left
-    ∙ ap (λ o. touched file block o (purge file rest ++ record { file = file; block = block; body = body } ∷ [])) (found-behind file block body (purge file rest) others)
-    ∙ ap (λ xs. record { file = file; block = block; body = body } ∷ xs) (drop-behind file block body (purge file rest) others ∙ sym (drop-others file block (purge file rest) others))
+    ∙ ap (λ o. touched file block o (purge file rest ++ record { file = file; block = block; body = body } ∷ [])) (found-behind file block body
+    (purge file rest) others)
+    ∙ ap (λ xs. record { file = file; block = block; body = body } ∷ xs) (drop-behind file block body (purge file rest) others
+    ∙ sym (drop-others file block (purge file rest) others))

@@ -27,4 +27,5 @@ walked file left entries = filter (is_of_other file) (drop left entries) ++ take
 -- a block that stands first stays there, and the others of its file go
 abbrev pub StaysFirst : (file block : ℕ) → (before after : List Clean) → Type 0
 StaysFirst file block before after =
-    (body : List ℕ) (rest : List Clean) → before ≡ record { file = file; block = block; body = body } ∷ drop_clean file block rest → after ≡ record { file = file; block = block; body = body } ∷ drop_clean file block (purge file rest)
+    (body : List ℕ) (rest : List Clean) → before ≡ record { file = file; block = block; body = body } ∷ drop_clean file block rest
+    → after ≡ record { file = file; block = block; body = body } ∷ drop_clean file block (purge file rest)

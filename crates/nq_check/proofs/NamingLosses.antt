@@ -1,5 +1,6 @@
 -- What answers name is named anew, and has a mark.
-use Rattle.std.proofs.Common.{◌≡◌, ◌<◌, ◌≤◌, ℕ, zero, suc, ◌+◌, Bool, true, false, not, ◌&&◌, ◌||◌, List, [], ◌∷◌, length, take, drop, reverse, Option, Some, inl, inr, refl, sym, ◌∙◌, ap, subst, arith}
+use Rattle.std.proofs.Common.{◌≡◌, ◌<◌, ◌≤◌, ℕ, zero, suc, ◌+◌, Bool, true, false, not, ◌&&◌, ◌||◌, List, [], ◌∷◌, length, take, drop, reverse}
+use Rattle.std.proofs.Common.{Option, Some, inl, inr, refl, sym, ◌∙◌, ap, subst, arith}
 use Rattle.std.specs.Prelude.{nat_eq, if◌then◌else◌, IsTrue, Result, Ok, Err, IfOk}
 use Rattle.std.specs.List.{slice_get}
 use Rattle.std.proofs.lemmas.Bool.{and_parts, and_from, cases_Bool, eqb-true}
@@ -50,7 +51,8 @@ none_kept old new keeps who span h =
       | inr f ↦ absurd (let more = up (unequal (mark_at old (loss_spot who span.first span.last)) f) in omega arith)
     ]
 
-each_kept : (old new : List (Spot × ℕ)) → KeepsMarks old new → (who : Who) (spans : List Span) → Each (HasNoMark new who) spans → Each (HasNoMark old who) spans
+each_kept : (old new : List (Spot × ℕ)) → KeepsMarks old new → (who : Who) (spans : List Span) → Each (HasNoMark new who) spans
+    → Each (HasNoMark old who) spans
 each_kept old new keeps who [] h = tt
 each_kept old new keeps who (span ∷ spans) h = (none_kept old new keeps who span h.0, each_kept old new keeps who spans h.1)
 

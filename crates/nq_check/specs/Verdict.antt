@@ -19,7 +19,8 @@ fault_at place (Some rule) = Some (record { place = place; rule = rule })
 -- the oldest entry at fault among these; those behind them stand in `after`
 abbrev pub least_fault : (whole after : List Entry) → List Entry → Option Fault
 least_fault whole after [] = None
-least_fault whole after (entry ∷ before) = option_or (least_fault whole (entry ∷ after) before) (fault_at (length before) (first_rule whole after entry before))
+least_fault whole after (entry ∷ before) = option_or (least_fault whole (entry ∷ after) before)
+    (fault_at (length before) (first_rule whole after entry before))
 
 -- the verdict: none where nothing is at fault
 abbrev pub verdict : (journal : List Entry) → Option Fault

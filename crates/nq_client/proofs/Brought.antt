@@ -12,7 +12,8 @@ abbrev after : ClientStep → (number sent : ℕ) → Request → Reply → Opti
 after t number sent request r None = changes t number sent request r
 after t number sent request r (Some value) = answers_call t (Answer.Ok value) None
 
-all : (t : ClientStep) (number sent : ℕ) (request : Request) (r : Reply) → after t number sent request r (brought request r) ≡ done_for_call t number sent request r
+all : (t : ClientStep) (number sent : ℕ) (request : Request) (r : Reply) → after t number sent request r (brought request r) ≡ done_for_call t number
+    sent request r
 all t number sent (Request.Lookup who name) (Reply.Lookup inc file blocks) = refl
 all t number sent (Request.Create who seq name blocks) (Reply.Create inc file) = refl
 all t number sent (Request.GetAttr who file) (Reply.GetAttr inc blocks rev) = refl
@@ -24,9 +25,11 @@ all t number sent (Request.Resize who seq q file blocks) (Reply.Resize inc rev) 
 all t number sent request other = refl
 
 -- a value answers the call
-pub with_value : (t : ClientStep) (number sent : ℕ) (request : Request) (r : Reply) (value : Value) → Some value ≡ brought request r → answers_call t (Answer.Ok value) None ≡ done_for_call t number sent request r
+pub with_value : (t : ClientStep) (number sent : ℕ) (request : Request) (r : Reply) (value : Value) → Some value ≡ brought request r
+    → answers_call t (Answer.Ok value) None ≡ done_for_call t number sent request r
 with_value t number sent request r value e = ap (after t number sent request r) e ∙ all t number sent request r
 
 -- without one the client changes
-pub without : (t : ClientStep) (number sent : ℕ) (request : Request) (r : Reply) → None ≡ brought request r → changes t number sent request r ≡ done_for_call t number sent request r
+pub without : (t : ClientStep) (number sent : ℕ) (request : Request) (r : Reply) → None ≡ brought request r → changes t number sent request r
+    ≡ done_for_call t number sent request r
 without t number sent request r e = ap (after t number sent request r) e ∙ all t number sent request r

@@ -1,12 +1,14 @@
 -- How much a call or a tick takes, and what it keeps.
-use Rattle.std.proofs.Common.{◌≡◌, ◌≤◌, ◌+◌, ℕ, true, false, not, ◌||◌, List, [], ◌∷◌, length, Option, Some, None, nat_le, is_some, refl, sym, subst, ◌∙◌, arith}
+use Rattle.std.proofs.Common.{◌≡◌, ◌≤◌, ◌+◌, ℕ, true, false, not, ◌||◌, List, [], ◌∷◌, length, Option, Some, None, nat_le, is_some, refl, sym, subst}
+use Rattle.std.proofs.Common.{◌∙◌, arith}
 use Rattle.nq_base.specs.declared.Call.{Call}
 use Rattle.nq_base.specs.declared.Loss.{Loss}
 use Rattle.nq_client.specs.Tied.{Tied}
 use Rattle.nq_client.proofs.Requested.{sends, Sent}
 use Rattle.nq_client.proofs.Settled.{choice, settled, Settled, is_given}
 use Rattle.nq_model.specs.Client.{Ticket, Client, ClientStep, begun}
-use Rattle.nq_model.specs.ClientStep.{changed_file, begins_call, is_called, losses_for, call_freely, tell_losses, call_past_losses, says_busy, client_call, at_time, sends_again, tick_asking, client_tick}
+use Rattle.nq_model.specs.ClientStep.{changed_file, begins_call, is_called, losses_for, call_freely, tell_losses, call_past_losses, says_busy}
+use Rattle.nq_model.specs.ClientStep.{client_call, at_time, sends_again, tick_asking, client_tick}
 use Rattle.nq_model.specs.Profile.{patience}
 use Rattle.nq_model.specs.Send.{send_next}
 use Rattle.nq_model.specs.Settle.{answers, settle}
@@ -59,7 +61,9 @@ told c op (Some file) = record {
 }
 
 -- a step that was settled, from a client with so many entries
-after_settled : (entries : ℕ) (c : Client) (t s : ClientStep) → Settled t s → t.client.now ≡ c.now → t.client.calls ≤ c.calls + 1 → t.client.seq ≡ c.seq → t.client.number ≡ c.number → t.client.xid ≡ c.xid → length t.entries + 2 ≤ entries → is_given t.answer ≡ true → t.client.ticket ≡ c.ticket → t.client.push ≡ c.push → Within entries c s
+after_settled : (entries : ℕ) (c : Client) (t s : ClientStep) → Settled t s → t.client.now ≡ c.now → t.client.calls ≤ c.calls + 1 → t.client.seq
+    ≡ c.seq → t.client.number ≡ c.number → t.client.xid ≡ c.xid → length t.entries + 2 ≤ entries → is_given t.answer ≡ true → t.client.ticket
+    ≡ c.ticket → t.client.push ≡ c.push → Within entries c s
 after_settled entries c t s x now calls seq number xid few given ticket push = record {
   now = x.now ∙ now;
   calls = let e = x.calls in omega arith;
@@ -72,7 +76,9 @@ after_settled entries c t s x now calls seq number xid few given ticket push = r
 }
 
 -- and then sent a request
-after_sent : (entries : ℕ) (c : Client) (t s u : ClientStep) → Settled t s → Sent s u → t.client.now ≡ c.now → t.client.calls ≤ c.calls + 1 → t.client.seq ≡ c.seq → t.client.number ≡ c.number → t.client.xid ≡ c.xid → length t.entries + 2 ≤ entries → is_given t.answer ≡ true → t.client.ticket ≡ c.ticket → t.client.push ≡ c.push → Within entries c u
+after_sent : (entries : ℕ) (c : Client) (t s u : ClientStep) → Settled t s → Sent s u → t.client.now ≡ c.now → t.client.calls ≤ c.calls + 1
+    → t.client.seq ≡ c.seq → t.client.number ≡ c.number → t.client.xid ≡ c.xid → length t.entries + 2 ≤ entries → is_given t.answer ≡ true
+    → t.client.ticket ≡ c.ticket → t.client.push ≡ c.push → Within entries c u
 after_sent entries c t s u x y now calls seq number xid few given ticket push = record {
   now = y.now ∙ x.now ∙ now;
   calls = let e = x.calls in let f = y.calls in omega arith;
@@ -89,8 +95,11 @@ unfolding begins_call is_called
 free c op =
     let t = is_called (begins_call c op) op in
     choice (Within 3 c) ((settle (is_called (begins_call c op) op)).cached) _ _
-    (after_settled 3 c (is_called (begins_call c op) op) (settle (is_called (begins_call c op) op)) (settled (is_called (begins_call c op) op)) refl (omega arith) refl refl refl (omega arith) refl refl refl)
-    (after_sent 3 c (is_called (begins_call c op) op) (settle (is_called (begins_call c op) op)) (send_next false (settle (is_called (begins_call c op) op))) (settled (is_called (begins_call c op) op)) (sends false (settle (is_called (begins_call c op) op))) refl (omega arith) refl refl refl (omega arith) refl refl refl)
+    (after_settled 3 c (is_called (begins_call c op) op) (settle (is_called (begins_call c op) op)) (settled (is_called (begins_call c op) op)) refl
+    (omega arith) refl refl refl (omega arith) refl refl refl)
+    (after_sent 3 c (is_called (begins_call c op) op) (settle (is_called (begins_call c op) op))
+    (send_next false (settle (is_called (begins_call c op) op))) (settled (is_called (begins_call c op) op))
+    (sends false (settle (is_called (begins_call c op) op))) refl (omega arith) refl refl refl (omega arith) refl refl refl)
 
 past : (c : Client) (op : Call) (losses : List Loss) → Within 3 c (call_past_losses (begins_call c op) op losses)
 past c op [] = free c op
@@ -128,7 +137,8 @@ idle c = record {
 
 ticked-from : (c : Client) (o : Option Ticket) → c.ticket ≡ o → Within 2 c (tick_asking (begun c) o)
 ticked-from c None e =
-    after_sent 2 c (begun c) (settle (begun c)) (send_next true (settle (begun c))) (settled (begun c)) (sends true (settle (begun c))) refl (omega arith) refl refl refl (omega arith) refl refl refl
+    after_sent 2 c (begun c) (settle (begun c)) (send_next true (settle (begun c))) (settled (begun c)) (sends true (settle (begun c))) refl
+    (omega arith) refl refl refl (omega arith) refl refl refl
 ticked-from c (Some ticket) e =
     choice (Within 2 c) (nat_le (ticket.last + patience) c.now) _ _ (again c ticket e) (idle c)
 

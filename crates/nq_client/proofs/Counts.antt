@@ -8,7 +8,8 @@ use Rattle.nq_model.specs.Client.{Client}
 use Rattle.nq_model.specs.Profile.{most_taken_by_client}
 
 -- the state of a client whose numbers are within what it took in
-pub within : (s : State) (c : Client) (taken : ℕ) → client_of s ≡ c → taken ≤ most_taken_by_client → c.now < 2 ^ 62 → c.calls ≤ taken → c.seq ≤ 2 * taken + 1 → c.number ≤ 2 * taken + 1 → c.xid ≤ 2 * taken + 2 → Tied c.ticket c.push → IsWithin s taken
+pub within : (s : State) (c : Client) (taken : ℕ) → client_of s ≡ c → taken ≤ most_taken_by_client → c.now < 2 ^ 62 → c.calls ≤ taken
+    → c.seq ≤ 2 * taken + 1 → c.number ≤ 2 * taken + 1 → c.xid ≤ 2 * taken + 2 → Tied c.ticket c.push → IsWithin s taken
 within s c taken e few now calls seq number xid tied = record {
   taken_few = few;
   time = subst (λ (x : Client). x.now < 2 ^ 62) (sym e) now;

@@ -5,7 +5,8 @@ use Rattle.nq_cache.specs.Granting.{clean_after_reply}
 use Rattle.nq_client.specs.Granting.{keeps, with_clean}
 use Rattle.nq_client_parts.specs.Takes.{is_broken, taking}
 use Rattle.nq_model.specs.Client.{Clean, ClientStep, Lease, Notice, Revision, UnderWay, is_clean, lease_on, notice_on}
-use Rattle.nq_model.specs.Hear.{breaks, breaks_chain, caches_block, holds, if_broken, loses, reports_to, takes_optional, then_caches, vacates_lease, vacates_noticed, waits_for}
+use Rattle.nq_model.specs.Hear.{breaks, breaks_chain, caches_block, holds, if_broken, loses, reports_to, takes_optional, then_caches, vacates_lease}
+use Rattle.nq_model.specs.Hear.{vacates_noticed, waits_for}
 use Rattle.nq_model.specs.Settle.{answers, names_losses}
 use Rattle.nq_model.specs.Table.{caches, tag_below}
 
@@ -22,17 +23,20 @@ loses_beside : (t : ClientStep) (file : ℕ) (clean : List Clean) → loses (wit
 unfolding loses
 loses_beside t file clean = refl
 
-vacates_beside : (t : ClientStep) (file : ℕ) (clean : List Clean) (o : Option Notice) → vacates_noticed (with_clean t clean) file o ≡ with_clean (vacates_noticed t file o) clean
+vacates_beside : (t : ClientStep) (file : ℕ) (clean : List Clean) (o : Option Notice) → vacates_noticed (with_clean t clean) file o
+    ≡ with_clean (vacates_noticed t file o) clean
 unfolding vacates_lease
 vacates_beside t file clean None = refl
 vacates_beside t file clean (Some n) = refl
 
-reports_beside : (t : ClientStep) (file : ℕ) (clean : List Clean) (o : Option UnderWay) → reports_to (with_clean t clean) file o ≡ with_clean (reports_to t file o) clean
+reports_beside : (t : ClientStep) (file : ℕ) (clean : List Clean) (o : Option UnderWay) → reports_to (with_clean t clean) file o
+    ≡ with_clean (reports_to t file o) clean
 unfolding answers
 reports_beside t file clean None = refl
 reports_beside t file clean (Some u) = by (waits_for file u.written u.call)
   where
-    by : (b : Bool) → (if b then names_losses (with_clean t clean) u.q file else with_clean t clean) ≡ with_clean (if b then names_losses t u.q file else t) clean
+    by : (b : Bool) → (if b then names_losses (with_clean t clean) u.q file else with_clean t clean) ≡ with_clean (if b then names_losses t u.q file
+        else t) clean
     by true = refl
     by false = refl
 
@@ -80,19 +84,25 @@ breaks_keeps t file =
       revisions = c.revisions ∙ b.revisions ∙ a.revisions;
     }
 
-held_with : (t s : ClientStep) (file block : ℕ) (body : List ℕ) (g : Grant) (sent : ℕ) → KeepsCache t s → keeps (with_clean s (clean_after_reply file block body (Some g) t.client.revisions t.client.clean)) file g sent ≡ then_caches (holds s file g sent) file block body (Some g)
+held_with : (t s : ClientStep) (file block : ℕ) (body : List ℕ) (g : Grant) (sent : ℕ) → KeepsCache t s
+    → keeps (with_clean s (clean_after_reply file block body (Some g) t.client.revisions t.client.clean)) file g sent
+    ≡ then_caches (holds s file g sent) file block body (Some g)
 unfolding holds caches_block
 held_with t s file block body g sent k =
     ap (λ (r : List Revision). keeps (with_clean s (clean_after_reply file block body (Some g) r t.client.clean)) file g sent) (sym k.revisions)
     ∙ ap (λ (c : List Clean). keeps (with_clean s (clean_after_reply file block body (Some g) s.client.revisions c)) file g sent) (sym k.clean)
     ∙ by (caches g.mode) refl
   where
-    by : (b : Bool) → caches g.mode ≡ b → keeps (with_clean s (clean_after_reply file block body (Some g) s.client.revisions s.client.clean)) file g sent ≡ then_caches (holds s file g sent) file block body (Some g)
+    by : (b : Bool) → caches g.mode ≡ b → keeps (with_clean s (clean_after_reply file block body (Some g) s.client.revisions s.client.clean)) file g
+        sent ≡ then_caches (holds s file g sent) file block body (Some g)
     by true e = rw e refl
     by false e = rw e refl
 
 -- a grant with a block: it is cached first, then the chain breaks, then the lease is held
-taken_with : (t : ClientStep) (file block : ℕ) (body : List ℕ) (g : Grant) (sent : ℕ) (lost : Bool) → lost ≡ (breaks g (lease_on file t.client.leases) && not (is_clean t.client file)) → keeps (if lost then breaks_chain (with_clean t (clean_after_reply file block body (Some g) t.client.revisions t.client.clean)) file else with_clean t (clean_after_reply file block body (Some g) t.client.revisions t.client.clean)) file g sent ≡ then_caches (holds (if_broken t file g) file g sent) file block body (Some g)
+taken_with : (t : ClientStep) (file block : ℕ) (body : List ℕ) (g : Grant) (sent : ℕ) (lost : Bool) → lost ≡ (breaks g (lease_on file t.client.leases)
+    && not (is_clean t.client file)) → keeps (if lost then breaks_chain (with_clean t (clean_after_reply file block body (Some g) t.client.revisions
+    t.client.clean)) file else with_clean t (clean_after_reply file block body (Some g) t.client.revisions t.client.clean)) file g sent
+    ≡ then_caches (holds (if_broken t file g) file g sent) file block body (Some g)
 taken_with t file block body g sent true e =
     let clean = clean_after_reply file block body (Some g) t.client.revisions t.client.clean in
     ap (λ (x : ClientStep). keeps x file g sent) (breaks_beside t file clean)
@@ -103,11 +113,15 @@ taken_with t file block body g sent false e =
     ∙ ap (λ (b : Bool). then_caches (holds (if b then breaks_chain t file else t) file g sent) file block body (Some g)) e
 
 -- likewise step by step
-pub read_taken : (t u v w : ClientStep) (file block : ℕ) (body : List ℕ) (o : Option Grant) (g : Grant) (sent : ℕ) (lost : Bool) → o ≡ Some g → lost ≡ (breaks g (lease_on file t.client.leases) && not (is_clean t.client file)) → u ≡ with_clean t (clean_after_reply file block body o t.client.revisions t.client.clean) → v ≡ (if lost then breaks_chain u file else u) → w ≡ keeps v file g sent → w ≡ then_caches (takes_optional t file o sent) file block body o
+pub read_taken : (t u v w : ClientStep) (file block : ℕ) (body : List ℕ) (o : Option Grant) (g : Grant) (sent : ℕ) (lost : Bool) → o ≡ Some g
+    → lost ≡ (breaks g (lease_on file t.client.leases) && not (is_clean t.client file)) → u ≡ with_clean t (clean_after_reply file block body o
+    t.client.revisions t.client.clean) → v ≡ (if lost then breaks_chain u file else u) → w ≡ keeps v file g sent
+    → w ≡ then_caches (takes_optional t file o sent) file block body o
 read_taken t u v w file block body o g sent lost some broken cached lost_then held =
     held
     ∙ ap (λ (x : ClientStep). keeps x file g sent) lost_then
     ∙ ap (λ (x : ClientStep). keeps (if lost then breaks_chain x file else x) file g sent) cached
-    ∙ ap (λ (q : Option Grant). keeps (if lost then breaks_chain (with_clean t (clean_after_reply file block body q t.client.revisions t.client.clean)) file else with_clean t (clean_after_reply file block body q t.client.revisions t.client.clean)) file g sent) some
+    ∙ ap (λ (q : Option Grant). keeps (if lost then breaks_chain (with_clean t (clean_after_reply file block body q t.client.revisions
+    t.client.clean)) file else with_clean t (clean_after_reply file block body q t.client.revisions t.client.clean)) file g sent) some
     ∙ taken_with t file block body g sent lost broken
     ∙ sym (ap (λ (q : Option Grant). then_caches (takes_optional t file q sent) file block body q) some)

@@ -1,5 +1,6 @@
 -- What a client sends next is what it needs.
-use Rattle.std.proofs.Common.{◌≡◌, ℕ, Bool, true, false, not, ◌&&◌, ◌||◌, List, [], ◌∷◌, Option, Some, None, nat_le, is_some, IfSome, if◌then◌else◌, refl, sym, ap, subst, ◌∙◌}
+use Rattle.std.proofs.Common.{◌≡◌, ℕ, Bool, true, false, not, ◌&&◌, ◌||◌, List, [], ◌∷◌, Option, Some, None, nat_le, is_some, IfSome, if◌then◌else◌}
+use Rattle.std.proofs.Common.{refl, sym, ap, subst, ◌∙◌}
 use Rattle.std.proofs.lemmas.Bool.{false≢true}
 use Rattle.std.specs.Bool.{then_some}
 use Rattle.std.specs.List.{find, list_any}
@@ -15,12 +16,15 @@ use Rattle.nq_client.specs.Asking.{IsSpelled, change_need, meets, meets_or_renew
 use Rattle.nq_client.specs.Settling.{called_body}
 use Rattle.nq_client.specs.declared.asking.Need.{Need}
 use Rattle.nq_model.specs.Client.{Client, ClientStep, Ticket, UnderWay, first_dirty, for_call, is_clean_in, is_push_of, lease_on}
-use Rattle.nq_model.specs.Send.{after_seq, asks, ending_file, gives_up, is_asking, next_change, next_of_call, next_of_under_way, next_put, noticed_file, pushes, pushes_due, pushes_these, read_want, send_next, sends_request, sends_write, shares_live, then_calls, then_ending, then_pushes, then_renews, want_of}
+use Rattle.nq_model.specs.Send.{after_seq, asks, ending_file, gives_up, is_asking, next_change, next_of_call, next_of_under_way, next_put}
+use Rattle.nq_model.specs.Send.{noticed_file, pushes, pushes_due, pushes_these, read_want, send_next, sends_request, sends_write, shares_live}
+use Rattle.nq_model.specs.Send.{then_calls, then_ending, then_pushes, then_renews, want_of}
 use Rattle.nq_wire.specs.Parts.{IsWanted}
 
 -- ---- a file without delayed writes is not pushed
 
-found-step : (test : Push → Bool) (x : Push) (xs : List Push) (b : Bool) → is_some (find test xs) ≡ list_any test xs → is_some (if b then Some x else find test xs) ≡ (b || list_any test xs)
+found-step : (test : Push → Bool) (x : Push) (xs : List Push) (b : Bool) → is_some (find test xs) ≡ list_any test xs
+    → is_some (if b then Some x else find test xs) ≡ (b || list_any test xs)
 found-step test x xs true h = refl
 found-step test x xs false h = h
 
@@ -56,7 +60,8 @@ record Does (t s : ClientStep) (o : Option Need) : Type 0 where
 idles : (t : ClientStep) → Does t t None
 idles t = record { step = refl; works = tt }
 
-pushed-by : (t : ClientStep) (file : ℕ) (b : Bool) (o : Option Push) → o ≡ first_dirty file t.client.dirty → b ≡ not (is_some o) → Does t (pushes_these t o) (if b then None else Some (Need.Push file))
+pushed-by : (t : ClientStep) (file : ℕ) (b : Bool) (o : Option Push) → o ≡ first_dirty file t.client.dirty → b ≡ not (is_some o)
+    → Does t (pushes_these t o) (if b then None else Some (Need.Push file))
 unfolding sends_request
 pushed-by t file true None f e = record { step = refl; works = tt }
 pushed-by t file true (Some p) f e = absurd (false≢true (sym e))
@@ -81,12 +86,15 @@ unfolding sends_request
 asked t true request = record { step = refl; works = refl }
 asked t false request = idles t
 
-ordered : (t : ClientStep) (may_ask : Bool) (request : Request) → Does t (if may_ask then sends_request (after_seq t) for_call request else t) (then_some may_ask (Need.Order request))
+ordered : (t : ClientStep) (may_ask : Bool) (request : Request) → Does t (if may_ask then sends_request (after_seq t) for_call request else t)
+    (then_some may_ask (Need.Order request))
 unfolding sends_request
 ordered t true request = record { step = refl; works = refl }
 ordered t false request = idles t
 
-written : (t : ClientStep) (through may_ask : Bool) (file block : ℕ) (body : List ℕ) (request : Request) → called_body t.client.call ≡ body → Does t (if may_ask then (if through then sends_write t file block body else sends_request t for_call request) else t) (then_some may_ask (if through then Need.Write file block else Need.Ask request))
+written : (t : ClientStep) (through may_ask : Bool) (file block : ℕ) (body : List ℕ) (request : Request) → called_body t.client.call ≡ body
+    → Does t (if may_ask then (if through then sends_write t file block body else sends_request t for_call request) else t)
+    (then_some may_ask (if through then Need.Write file block else Need.Ask request))
 unfolding sends_request
 written t true true file block body request e = record {
   step = ap (λ (b : List ℕ). sends_write t file block b) (sym e);
@@ -95,7 +103,8 @@ written t true true file block body request e = record {
 written t false true file block body request e = record { step = refl; works = refl }
 written t through false file block body request e = idles t
 
-put : (t : ClientStep) (delayed may_ask : Bool) (file block : ℕ) (body : List ℕ) → called_body t.client.call ≡ body → t.client.push ≡ None → Does t (next_put t delayed may_ask file block body) (put_need file block t.client.dirty t.client.push delayed may_ask)
+put : (t : ClientStep) (delayed may_ask : Bool) (file block : ℕ) (body : List ℕ) → called_body t.client.call ≡ body → t.client.push ≡ None
+    → Does t (next_put t delayed may_ask file block body) (put_need file block t.client.dirty t.client.push delayed may_ask)
 unfolding sends_request
 put t true may_ask file block body e none = pushed t file none
 put t false true file block body e none = record {
@@ -104,17 +113,21 @@ put t false true file block body e none = record {
 }
 put t false false file block body e none = idles t
 
-changed-by : (t : ClientStep) (may_ask clean : Bool) (file : ℕ) (request : Request) → Does t (pushes t file) (if clean then None else Some (Need.Push file)) → Does t (if clean then (if may_ask then sends_request (after_seq (gives_up t file)) for_call request else t) else pushes t file) (if clean then then_some may_ask (Need.Change file request) else Some (Need.Push file))
+changed-by : (t : ClientStep) (may_ask clean : Bool) (file : ℕ) (request : Request) → Does t (pushes t file) (if clean then None
+    else Some (Need.Push file)) → Does t (if clean then (if may_ask then sends_request (after_seq (gives_up t file)) for_call request else t)
+    else pushes t file) (if clean then then_some may_ask (Need.Change file request) else Some (Need.Push file))
 unfolding sends_request
 changed-by t true true file request d = record { step = refl; works = refl }
 changed-by t false true file request d = idles t
 changed-by t may_ask false file request d = d
 
-changed : (t : ClientStep) (may_ask : Bool) (file : ℕ) (request : Request) → t.client.push ≡ None → Does t (next_change t may_ask file request) (change_need file t.client.dirty t.client.push may_ask request)
+changed : (t : ClientStep) (may_ask : Bool) (file : ℕ) (request : Request) → t.client.push ≡ None → Does t (next_change t may_ask file request)
+    (change_need file t.client.dirty t.client.push may_ask request)
 changed t may_ask file request none =
     changed-by t may_ask (is_clean_in file t.client.dirty t.client.push) file request (pushed t file none)
 
-of_call : (t : ClientStep) (u : UnderWay) (may_ask : Bool) (op : Call) → t.client.call ≡ Some u → u.call ≡ op → t.client.push ≡ None → Does t (next_of_call t u may_ask op) (need_by t.client u may_ask op)
+of_call : (t : ClientStep) (u : UnderWay) (may_ask : Bool) (op : Call) → t.client.call ≡ Some u → u.call ≡ op → t.client.push ≡ None
+    → Does t (next_of_call t u may_ask op) (need_by t.client u may_ask op)
 of_call t u may_ask (Create name blocks) e h none =
     ordered t may_ask (Request.Create t.client.who t.client.seq name blocks)
 of_call t u may_ask (Lookup name) e h none = asked t may_ask (Request.Lookup t.client.who name)
@@ -123,7 +136,8 @@ of_call t u may_ask (Read file block) e h none =
     asked t may_ask (Request.Read t.client.who u.q file block (read_want t.client file))
 of_call t u may_ask (Fetch file block) e h none = asked t may_ask (Request.Read t.client.who u.q file block None)
 of_call t u may_ask (Write file block body) e h none =
-    written t (u.through || shares_live t.client.now (lease_on file t.client.leases)) may_ask file block body (Request.GetLease t.client.who file (want_of t.client Mode.Writing)) (called-body t u (Call.Write file block body) e h)
+    written t (u.through || shares_live t.client.now (lease_on file t.client.leases)) may_ask file block body (Request.GetLease t.client.who file
+    (want_of t.client Mode.Writing)) (called-body t u (Call.Write file block body) e h)
 of_call t u may_ask (WriteSync file block body) e h none =
     put t u.written may_ask file block body (called-body t u (Call.WriteSync file block body) e h) none
 of_call t u may_ask (Sync file) e h none = pushed t file none
@@ -132,7 +146,8 @@ of_call t u may_ask (Resize file blocks) e h none =
 of_call t u may_ask (Remove file) e h none =
     changed t may_ask file (Request.Remove t.client.who t.client.seq u.q file) none
 
-of_under_way : (t : ClientStep) (o : Option UnderWay) → t.client.call ≡ o → t.client.push ≡ None → Does t (next_of_under_way t (nat_le t.client.pause t.client.now) o) (need_of t.client o)
+of_under_way : (t : ClientStep) (o : Option UnderWay) → t.client.call ≡ o → t.client.push ≡ None
+    → Does t (next_of_under_way t (nat_le t.client.pause t.client.now) o) (need_of t.client o)
 of_under_way t None e none = idles t
 of_under_way t (Some u) e none = of_call t u (nat_le t.client.pause t.client.now) u.call e refl none
 
@@ -145,12 +160,14 @@ passed false t s h = refl
 unless : (t s : ClientStep) (o : Option Need) → is_asking t ≡ false → Does t s o → Does t (if is_asking t then t else s) o
 unless t s o idle d = record { step = passed (is_asking t) t s idle ∙ d.step; works = d.works }
 
-pushes-first : (t : ClientStep) (o : Option ℕ) → is_asking t ≡ false → t.client.push ≡ None → Does t (then_pushes t o) (push_due t.client.dirty t.client.push o)
+pushes-first : (t : ClientStep) (o : Option ℕ) → is_asking t ≡ false → t.client.push ≡ None → Does t (then_pushes t o)
+    (push_due t.client.dirty t.client.push o)
 pushes-first t o idle none = unless t (pushes_due t o) (push_due t.client.dirty t.client.push o) idle (due t o none)
 
 calls-first : (t : ClientStep) → is_asking t ≡ false → t.client.push ≡ None → Does t (then_calls t) (need_of t.client t.client.call)
 calls-first t idle none =
-    unless t (next_of_under_way t (nat_le t.client.pause t.client.now) t.client.call) (need_of t.client t.client.call) idle (of_under_way t t.client.call refl none)
+    unless t (next_of_under_way t (nat_le t.client.pause t.client.now) t.client.call) (need_of t.client t.client.call) idle
+    (of_under_way t t.client.call refl none)
 
 stays-calls : (in_tick : Bool) (t : ClientStep) → is_asking t ≡ true → then_renews in_tick (then_calls t) ≡ t
 stays-calls in_tick t h =
@@ -166,7 +183,8 @@ last : (in_tick : Bool) (t u : ClientStep) (o : Option Need) → Does t u o → 
 last in_tick t u None d = ap (then_renews in_tick) d.step
 last in_tick t u (Some need) d = ap (then_renews in_tick) d.step ∙ stays-renews in_tick (meets t need) d.works
 
-before : (in_tick : Bool) (rest : ClientStep → ClientStep) (t u : ClientStep) (o p : Option Need) → Does t u o → ((s : ClientStep) → is_asking s ≡ true → rest s ≡ s) → rest t ≡ meets_or_renews in_tick t p → rest u ≡ meets_or_renews in_tick t (option_or o p)
+before : (in_tick : Bool) (rest : ClientStep → ClientStep) (t u : ClientStep) (o p : Option Need) → Does t u o
+    → ((s : ClientStep) → is_asking s ≡ true → rest s ≡ s) → rest t ≡ meets_or_renews in_tick t p → rest u ≡ meets_or_renews in_tick t (option_or o p)
 before in_tick rest t u None p d stays e = ap rest d.step ∙ e
 before in_tick rest t u (Some need) p d stays e = ap rest d.step ∙ stays (meets t need) d.works
 
@@ -175,15 +193,20 @@ none-asked None h = refl
 none-asked (Some ticket) h = absurd cc
 
 -- where no request is under way, what is needed is sent, or a lease is renewed
-pub needed : (in_tick : Bool) (t : ClientStep) → is_asking t ≡ false → (t.client.ticket ≡ None → t.client.push ≡ None) → meets_or_renews in_tick t (next t.client) ≡ send_next in_tick t
+pub needed : (in_tick : Bool) (t : ClientStep) → is_asking t ≡ false → (t.client.ticket ≡ None → t.client.push ≡ None) → meets_or_renews in_tick t
+    (next t.client) ≡ send_next in_tick t
 needed in_tick t idle tied =
     let none : t.client.push ≡ None = tied (none-asked t.client.ticket idle) in
     let call = need_of t.client t.client.call in
     let ending = push_due t.client.dirty t.client.push (ending_file t.client) in
     let noticed = push_due t.client.dirty t.client.push (noticed_file t.client) in
     let called : then_renews in_tick (then_calls t) ≡ meets_or_renews in_tick t call = last in_tick t (then_calls t) call (calls-first t idle none) in
-    let ended : then_renews in_tick (then_calls (then_ending t)) ≡ meets_or_renews in_tick t (option_or ending call) = before in_tick (λ (s : ClientStep). then_renews in_tick (then_calls s)) t (then_ending t) ending call (pushes-first t (ending_file t.client) idle none) (stays-calls in_tick) called in
-    let all : send_next in_tick t ≡ meets_or_renews in_tick t (next t.client) = before in_tick (λ (s : ClientStep). then_renews in_tick (then_calls (then_ending s))) t (then_pushes t (noticed_file t.client)) noticed (option_or ending call) (pushes-first t (noticed_file t.client) idle none) (stays-ending in_tick) ended in
+    let ended : then_renews in_tick (then_calls (then_ending t)) ≡ meets_or_renews in_tick t (option_or ending call) =
+    before in_tick (λ (s : ClientStep). then_renews in_tick (then_calls s)) t (then_ending t) ending call (pushes-first t (ending_file t.client)
+    idle none) (stays-calls in_tick) called in
+    let all : send_next in_tick t ≡ meets_or_renews in_tick t (next t.client) = before in_tick (λ (s : ClientStep). then_renews in_tick
+    (then_calls (then_ending s))) t (then_pushes t (noticed_file t.client)) noticed (option_or ending call)
+    (pushes-first t (noticed_file t.client) idle none) (stays-ending in_tick) ended in
     sym all
 
 -- ---- the request that is needed has a spelling
@@ -200,7 +223,8 @@ read-spelled : (c : Client) (b : Bool) → IfSome (if b then None else Some (wan
 read-spelled c true = tt
 read-spelled c false = tt
 
-write-spelled : (c : Client) (b : Bool) (file block : ℕ) → IsSpelled (if b then Need.Write file block else Need.Ask (Request.GetLease c.who file (want_of c Mode.Writing)))
+write-spelled : (c : Client) (b : Bool) (file block : ℕ) → IsSpelled (if b then Need.Write file block
+    else Need.Ask (Request.GetLease c.who file (want_of c Mode.Writing)))
 write-spelled c true file block = tt
 write-spelled c false file block = tt
 
@@ -208,7 +232,8 @@ put-spelled : (b may_ask : Bool) (file block : ℕ) (dirty : List Push) (push : 
 put-spelled true may_ask file block dirty push = push-spelled (is_clean_in file dirty push) file
 put-spelled false may_ask file block dirty push = some-spelled may_ask (Need.Write file block) tt
 
-change-spelled : (b may_ask : Bool) (file : ℕ) (request : Request) → IsSpelled (Need.Change file request) → IfSome (if b then then_some may_ask (Need.Change file request) else Some (Need.Push file)) IsSpelled
+change-spelled : (b may_ask : Bool) (file : ℕ) (request : Request) → IsSpelled (Need.Change file request)
+    → IfSome (if b then then_some may_ask (Need.Change file request) else Some (Need.Push file)) IsSpelled
 change-spelled true may_ask file request h = some-spelled may_ask (Need.Change file request) h
 change-spelled false may_ask file request h = tt
 

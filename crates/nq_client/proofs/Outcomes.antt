@@ -36,7 +36,8 @@ nothing-sent who None false o p q = silent o
 nothing-sent who (Some v) b o p q = absurd cc
 nothing-sent who None true o p q = absurd cc
 
-begun-as : (c : Client) (m : List Message) (es : List Entry) (a : Option Answer) (k : Bool) → m ≡ [] → es ≡ [] → a ≡ None → k ≡ false → record { client = c; sends = m; entries = es; answer = a; cached = k } ≡ begun c
+begun-as : (c : Client) (m : List Message) (es : List Entry) (a : Option Answer) (k : Bool) → m ≡ [] → es ≡ [] → a ≡ None → k ≡ false
+    → record { client = c; sends = m; entries = es; answer = a; cached = k } ≡ begun c
 begun-as c m es a k p q r t = rw (p, q, r, t) refl
 
 -- between steps a step is begun
@@ -53,14 +54,17 @@ pub within_same : (s s' : State) (taken : ℕ) → client_of s' ≡ client_of s 
 within_same s s' taken e h = within s' (client_of s) taken e h.taken_few h.time h.calls h.seq h.number h.xid h.tied
 
 -- the numbers after a step
-pub within_after : (entries : ℕ) (s' : State) (c : Client) (t : ClientStep) (taken : ℕ) → client_of s' ≡ t.client → Within entries c t → taken < most_taken_by_client → c.now < 2 ^ 62 → c.calls ≤ taken → c.seq ≤ 2 * taken + 1 → c.number ≤ 2 * taken + 1 → c.xid ≤ 2 * taken + 2 → Tied c.ticket c.push → IsWithin s' (taken + 1)
+pub within_after : (entries : ℕ) (s' : State) (c : Client) (t : ClientStep) (taken : ℕ) → client_of s' ≡ t.client → Within entries c t
+    → taken < most_taken_by_client → c.now < 2 ^ 62 → c.calls ≤ taken → c.seq ≤ 2 * taken + 1 → c.number ≤ 2 * taken + 1 → c.xid ≤ 2 * taken + 2
+    → Tied c.ticket c.push → IsWithin s' (taken + 1)
 within_after entries s' c t taken e x few now calls seq number xid tied =
     let n = x.now in
     let a = x.calls in
     let b = x.seq in
     let d = x.number in
     let f = x.xid in
-    within s' t.client (taken + 1) e (omega arith) (subst (λ m. m < 2 ^ 62) (sym x.now) now) (omega arith) (omega arith) (omega arith) (omega arith) (x.tied tied)
+    within s' t.client (taken + 1) e (omega arith) (subst (λ m. m < 2 ^ 62) (sym x.now) now) (omega arith) (omega arith) (omega arith) (omega arith)
+    (x.tied tied)
 
 abbrev is_refused : Answer → Bool
 is_refused Answer.Memory = true
@@ -86,7 +90,8 @@ not-refused a None r e h = false≢true (subst (λ x. is_refused x ≡ true) e r
 not-refused a (Some b) r e h = not-given b (subst (λ x. is_refused x ≡ true) e r) h
 
 -- a call was answered, or is to be
-pub called_as : (a : Answer) (t : ClientStep) (old new : Counted) (out outs : Datagrams) (log logs : EntryList) → Gives t old new out outs log logs → is_given t.answer ≡ true → plain_answer a ≡ or_pending t.answer → Called a t old new out outs log logs
+pub called_as : (a : Answer) (t : ClientStep) (old new : Counted) (out outs : Datagrams) (log logs : EntryList) → Gives t old new out outs log logs
+    → is_given t.answer ≡ true → plain_answer a ≡ or_pending t.answer → Called a t old new out outs log logs
 called_as Answer.Memory t old new out outs log logs g h e = absurd (not-refused Answer.Memory t.answer refl e h)
 called_as Answer.Spent t old new out outs log logs g h e = absurd (not-refused Answer.Spent t.answer refl e h)
 called_as (Answer.Ok value) t old new out outs log logs g h e = (g, e)
@@ -105,7 +110,8 @@ pub not_spent : (a : Answer) (o : Option Answer) → is_given o ≡ true → pla
 not_spent a o h e s = not-refused Answer.Spent o refl (sym (ap plain_answer s) ∙ e) h
 
 -- an outbox and a journal grew, seen from before room was made in them
-pub grows_from : (t : ClientStep) (out out1 outs : Datagrams) (log log1 logs : EntryList) → out1.first ≡ out.first → out1.datagrams ≡ out.datagrams → log1.entries ≡ log.entries → Grows t out1 outs log1 logs → Grows t out outs log logs
+pub grows_from : (t : ClientStep) (out out1 outs : Datagrams) (log log1 logs : EntryList) → out1.first ≡ out.first → out1.datagrams ≡ out.datagrams
+    → log1.entries ≡ log.entries → Grows t out1 outs log1 logs → Grows t out outs log logs
 grows_from t out out1 outs log log1 logs f d l g = record {
   first = g.first ∙ f;
   sends = g.sends ∙ ap (λ ds. ds ++ map to_server t.sends) d;
@@ -114,7 +120,8 @@ grows_from t out out1 outs log log1 logs f d l g = record {
 }
 
 -- a step of the same client
-pub gives_from : (F : Client → ClientStep) (old new : Counted) (c : Client) (out outs : Datagrams) (log logs : EntryList) → c ≡ old.client → new.client ≡ (F c).client → new.taken ≡ old.taken + 1 → Grows (F c) out outs log logs → Gives (F old.client) old new out outs log logs
+pub gives_from : (F : Client → ClientStep) (old new : Counted) (c : Client) (out outs : Datagrams) (log logs : EntryList) → c ≡ old.client
+    → new.client ≡ (F c).client → new.taken ≡ old.taken + 1 → Grows (F c) out outs log logs → Gives (F old.client) old new out outs log logs
 gives_from F old new c out outs log logs e n k g = record {
   client = n ∙ ap (λ x. (F x).client) e;
   taken = k;
@@ -122,17 +129,20 @@ gives_from F old new c out outs log logs e n k g = record {
 }
 
 -- the numbers after a call
-pub call_within : (s0 s1 s2 : State) (op : Call) (taken : ℕ) → client_of s1 ≡ client_of s0 → client_of s2 ≡ (client_call (client_of s1) op).client → IsWithin s0 taken → taken < most_taken_by_client → IsWithin s2 (taken + 1)
+pub call_within : (s0 s1 s2 : State) (op : Call) (taken : ℕ) → client_of s1 ≡ client_of s0 → client_of s2 ≡ (client_call (client_of s1) op).client
+    → IsWithin s0 taken → taken < most_taken_by_client → IsWithin s2 (taken + 1)
 call_within s0 s1 s2 op taken e f w lt =
     let h = within_same s0 s1 taken e w in
     within_after 3 s2 (client_of s1) (client_call (client_of s1) op) taken f (called (client_of s1) op) lt h.time h.calls h.seq h.number h.xid h.tied
 
 -- the numbers after a tick
-pub tick_within : (s0 s1 s2 : State) (now taken : ℕ) → client_of s1 ≡ client_of s0 → client_of s2 ≡ (client_tick (client_of s1) now).client → IsWithin s0 taken → taken < most_taken_by_client → now < 2 ^ 62 → IsWithin s2 (taken + 1)
+pub tick_within : (s0 s1 s2 : State) (now taken : ℕ) → client_of s1 ≡ client_of s0 → client_of s2 ≡ (client_tick (client_of s1) now).client
+    → IsWithin s0 taken → taken < most_taken_by_client → now < 2 ^ 62 → IsWithin s2 (taken + 1)
 unfolding at_time
 tick_within s0 s1 s2 now taken e f w lt early =
     let h = within_same s0 s1 taken e w in
-    within_after 2 s2 (at_time (client_of s1) now) (client_tick (client_of s1) now) taken f (ticked (client_of s1) now) lt early h.calls h.seq h.number h.xid h.tied
+    within_after 2 s2 (at_time (client_of s1) now) (client_tick (client_of s1) now) taken f (ticked (client_of s1) now) lt early h.calls h.seq
+    h.number h.xid h.tied
 
 below : (n m : ℕ) → n ≤ m → (n ≡ m → ⊥) → n < m
 below n m le ne = grind arith
@@ -144,6 +154,8 @@ not_all s taken w ne = let few = w.taken_few in below taken most_taken_by_client
 -- ---- datagrams
 
 -- the numbers after what counts
-pub heard_within : (s0 s2 : State) (number : ℕ) (heard : Heard) (taken : ℕ) → client_of s2 ≡ (on_heard (client_of s0) number heard).client → IsHeeded s0.asked heard → IsWithin s0 taken → taken < most_taken_by_client → IsWithin s2 (taken + 1)
+pub heard_within : (s0 s2 : State) (number : ℕ) (heard : Heard) (taken : ℕ) → client_of s2 ≡ (on_heard (client_of s0) number heard).client
+    → IsHeeded s0.asked heard → IsWithin s0 taken → taken < most_taken_by_client → IsWithin s2 (taken + 1)
 heard_within s0 s2 number heard taken f h w lt =
-    within_after (most_entries (client_of s0)) s2 (client_of s0) (on_heard (client_of s0) number heard) taken f (heard-within (client_of s0) number heard h) lt w.time w.calls w.seq w.number w.xid w.tied
+    within_after (most_entries (client_of s0)) s2 (client_of s0) (on_heard (client_of s0) number heard) taken f (heard-within (client_of s0) number
+    heard h) lt w.time w.calls w.seq w.number w.xid w.tied

@@ -27,7 +27,9 @@ replied-answered t number ticket (Reply.Refused inc status) = refl
 replied-answered t number ticket other = refl
 
 -- a step from which the client goes on
-pub went-on : (entries : ℕ) (c : Client) (s : ClientStep) → s.client.now ≡ c.now → s.client.calls ≡ c.calls → s.client.seq ≡ c.seq → s.client.number ≡ c.number → s.client.xid ≤ c.xid + 1 → length s.entries + 2 ≤ entries → is_given s.answer ≡ true → (Tied c.ticket c.push → Tied s.client.ticket s.client.push) → Within entries c (goes_on s)
+pub went-on : (entries : ℕ) (c : Client) (s : ClientStep) → s.client.now ≡ c.now → s.client.calls ≡ c.calls → s.client.seq ≡ c.seq → s.client.number
+    ≡ c.number → s.client.xid ≤ c.xid + 1 → length s.entries + 2 ≤ entries → is_given s.answer ≡ true
+    → (Tied c.ticket c.push → Tied s.client.ticket s.client.push) → Within entries c (goes_on s)
 went-on entries c s now calls seq number xid few given tied =
     let x : Settled s (settle s) = settled s in
     let y : Sent (settle s) (send_next false (settle s)) = sends false (settle s) in
@@ -45,21 +47,26 @@ went-on entries c s now calls seq number xid few given tied =
 no-ticket : (o : Option Ticket) (s : ClientStep) → s.client.ticket ≡ None → s.client.push ≡ None → Tied s.client.ticket s.client.push
 no-ticket o s t p = subst (λ k. Tied k s.client.push) (sym t) p
 
-replied-within : (c : Client) (number : ℕ) (ticket : Ticket) (r : Reply) → c.ticket ≡ Some ticket → IsTrue (reply_counts r ticket) → Within (length (all_dirty c (file_at_stake ticket.request)) + 4) c (goes_on (answered (spends (begun c)) number ticket r))
+replied-within : (c : Client) (number : ℕ) (ticket : Ticket) (r : Reply) → c.ticket ≡ Some ticket → IsTrue (reply_counts r ticket)
+    → Within (length (all_dirty c (file_at_stake ticket.request)) + 4) c (goes_on (answered (spends (begun c)) number ticket r))
 unfolding spends
 replied-within c number ticket r e h =
     let t = spends (begun c) in
     let s = answered (spends (begun c)) number ticket r in
-    let k : Kept 1 (length (all_dirty c (file_at_stake ticket.request)) + 2) (spends (begun c)) (answered (spends (begun c)) number ticket r) = answered-kept (spends (begun c)) number ticket r in
+    let k : Kept 1 (length (all_dirty c (file_at_stake ticket.request)) + 2) (spends (begun c)) (answered (spends (begun c)) number ticket r) =
+    answered-kept (spends (begun c)) number ticket r in
     went-on (length (all_dirty c (file_at_stake ticket.request)) + 4) c (answered (spends (begun c)) number ticket r) k.now k.calls k.seq k.number k.xid
     (let f = k.entries_few in omega arith)
     (k.given refl)
-    (λ tied. no-ticket None (answered (spends (begun c)) number ticket r) k.ticket (answered-none (spends (begun c)) number ticket r (subst (λ o. Tied o c.push) e tied) h))
+    (λ tied. no-ticket None (answered (spends (begun c)) number ticket r) k.ticket (answered-none (spends (begun c)) number ticket r
+    (subst (λ o. Tied o c.push) e tied) h))
 
-reply-within : (c : Client) (number : ℕ) (r : Reply) (o : Option Ticket) → c.ticket ≡ o → Counts o r → Within (length (all_dirty c (at_stake o)) + 4) c (on_reply c number r o)
+reply-within : (c : Client) (number : ℕ) (r : Reply) (o : Option Ticket) → c.ticket ≡ o → Counts o r → Within (length (all_dirty c (at_stake o)) + 4)
+    c (on_reply c number r o)
 reply-within c number r None e h = absurd h
 reply-within c number r (Some ticket) e h =
-    subst (λ s. Within (length (all_dirty c (file_at_stake ticket.request)) + 4) c (goes_on s)) (sym (replied-answered (begun c) number ticket r)) (replied-within c number ticket r e h)
+    subst (λ s. Within (length (all_dirty c (file_at_stake ticket.request)) + 4) c (goes_on s)) (sym (replied-answered (begun c) number ticket r))
+    (replied-within c number ticket r e h)
 
 -- ---- what a reply leaves for the client to go on with
 
@@ -71,10 +78,12 @@ record IsNear (c : Client) (s : ClientStep) : Type 0 where
   xid : s.client.xid ≤ c.xid + 1
   tied : Tied s.client.ticket s.client.push
 
-near-answered : (c : Client) (number : ℕ) (ticket : Ticket) (r : Reply) → TiedFor ticket.job ticket.request c.push → IsTrue (reply_counts r ticket) → IsNear c (answered (spends (begun c)) number ticket r)
+near-answered : (c : Client) (number : ℕ) (ticket : Ticket) (r : Reply) → TiedFor ticket.job ticket.request c.push → IsTrue (reply_counts r ticket)
+    → IsNear c (answered (spends (begun c)) number ticket r)
 unfolding spends
 near-answered c number ticket r tied h =
-    let k : Kept 1 (length (all_dirty c (file_at_stake ticket.request)) + 2) (spends (begun c)) (answered (spends (begun c)) number ticket r) = answered-kept (spends (begun c)) number ticket r in
+    let k : Kept 1 (length (all_dirty c (file_at_stake ticket.request)) + 2) (spends (begun c)) (answered (spends (begun c)) number ticket r) =
+    answered-kept (spends (begun c)) number ticket r in
     record {
       now = k.now;
       seq = k.seq;
@@ -92,19 +101,23 @@ near-same : (c : Client) (s u : ClientStep) → u ≡ s → IsNear c s → IsNea
 near-same c s u e x = subst (IsNear c) (sym e) x
 
 -- the step of the code after a reply is that of the model
-pub reply-made : (t u : ClientStep) (c : Client) (number : ℕ) (r : Reply) (o : Option Ticket) → t ≡ begun c → Counts o r → ((ticket : Ticket) → o ≡ Some ticket → u ≡ replied t number ticket r) → u ≡ after_reply (begun c) number o r
+pub reply-made : (t u : ClientStep) (c : Client) (number : ℕ) (r : Reply) (o : Option Ticket) → t ≡ begun c → Counts o r
+    → ((ticket : Ticket) → o ≡ Some ticket → u ≡ replied t number ticket r) → u ≡ after_reply (begun c) number o r
 reply-made t u c number r None e h made = absurd h
 reply-made t u c number r (Some ticket) e h made = made ticket refl ∙ ap (λ x. replied x number ticket r) e
 
 -- delayed writes are not under way any more
-pub tied-after : (c : Client) (s : Step) (number : ℕ) (r : Reply) (o : Option Ticket) → step_of s ≡ after_reply (begun c) number o r → Tied o c.push → Counts o r → Tied s.state.asked s.state.dirty.push
+pub tied-after : (c : Client) (s : Step) (number : ℕ) (r : Reply) (o : Option Ticket) → step_of s ≡ after_reply (begun c) number o r → Tied o c.push
+    → Counts o r → Tied s.state.asked s.state.dirty.push
 tied-after c s number r o e tied h =
     (near-same c (after_reply (begun c) number o r) (step_of s) e (near-reply c number r o tied h)).tied
 
 -- the numbers of what follows are left
-pub numbers-after : (a s : Step) (number : ℕ) (r : Reply) (o : Option Ticket) → step_of s ≡ after_reply (begun (client_of a.state)) number o r → Tied o a.state.dirty.push → Counts o r → HasNumbers 3 a.state → HasNumbers 2 s.state
+pub numbers-after : (a s : Step) (number : ℕ) (r : Reply) (o : Option Ticket) → step_of s ≡ after_reply (begun (client_of a.state)) number o r
+    → Tied o a.state.dirty.push → Counts o r → HasNumbers 3 a.state → HasNumbers 2 s.state
 numbers-after a s number r o e tied h left =
-    let x = near-same (client_of a.state) (after_reply (begun (client_of a.state)) number o r) (step_of s) e (near-reply (client_of a.state) number r o tied h) in
+    let x = near-same (client_of a.state) (after_reply (begun (client_of a.state)) number o r) (step_of s) e (near-reply (client_of a.state) number r
+    o tied h) in
     let now : s.state.time ≡ a.state.time = x.now in
     let seq : s.state.seq ≡ a.state.seq = x.seq in
     let writes : s.state.number ≡ a.state.number = x.number in
@@ -167,7 +180,8 @@ notice-within n c file tag =
     went-on (n + 4) c (evicted (cancels (begun c) file) file tag) k.now k.calls k.seq k.number k.xid
     (let e = ap length k.entries in omega arith)
     (ap is_given k.answer)
-    (λ tied. subst (λ o. Tied o (evicted (cancels (begun c) file) file tag).client.push) (sym k.ticket) (subst (λ p. Tied (cancelled file c.ticket) p) (sym k.push) (tied-cancelled file c.ticket c.push tied)))
+    (λ tied. subst (λ o. Tied o (evicted (cancels (begun c) file) file tag).client.push) (sym k.ticket) (subst (λ p. Tied (cancelled file c.ticket) p)
+    (sym k.push) (tied-cancelled file c.ticket c.push tied)))
 
 idle-within : (n : ℕ) (c : Client) → Within (n + 4) c (begun c)
 idle-within n c = record {

@@ -14,7 +14,8 @@ on-file : (t : ClientStep) (o : Option ℕ) → renews_by t (renewal_on t.client
 on-file t None = refl
 on-file t (Some file) = of-lease t (lease_on file t.client.leases)
 
-unless-paused : (t : ClientStep) (b : Bool) → renews_by t (if b then renewal_on t.client (renewed_file t.client) else None) ≡ (if b then renews t (renewed_file t.client) else t)
+unless-paused : (t : ClientStep) (b : Bool) → renews_by t (if b then renewal_on t.client (renewed_file t.client) else None)
+    ≡ (if b then renews t (renewed_file t.client) else t)
 unless-paused t true = on-file t (renewed_file t.client)
 unless-paused t false = refl
 

@@ -1,5 +1,6 @@
 -- What a reply that counts leaves as it was, and how much it takes.
-use Rattle.std.proofs.Common.{◌≡◌, ◌≤◌, ◌+◌, ◌++◌, ◌&&◌, not, ℕ, Bool, true, false, List, length, map, reverse, Option, Some, None, IsTrue, is_some, if◌then◌else◌, refl, ap, ◌∙◌, arith}
+use Rattle.std.proofs.Common.{◌≡◌, ◌≤◌, ◌+◌, ◌++◌, ◌&&◌, not, ℕ, Bool, true, false, List, length, map, reverse, Option, Some, None, IsTrue, is_some}
+use Rattle.std.proofs.Common.{if◌then◌else◌, refl, ap, ◌∙◌, arith}
 use Rattle.std.proofs.lemmas.List.{length-append, length-map, length-reverse}
 use Rattle.nq_base.specs.declared.Answer.{Answer}
 use Rattle.nq_base.specs.declared.Entry.{Entry}
@@ -15,8 +16,14 @@ use Rattle.nq_client.proofs.Settled.{choice, is_given}
 use Rattle.nq_client_parts.specs.Calls.{file_at_stake}
 use Rattle.nq_client.specs.Receiving.{answered}
 use Rattle.nq_client.specs.Tied.{TiedFor, Stores}
-use Rattle.nq_model.specs.Client.{Notice, UnderWay, Job, attaching, for_call, renewing, pushing, Ticket, ClientStep, is_push_of, push_passes, is_clean, lease_on, notice_on, is_revision_before, revision_of, dirty_at}
-use Rattle.nq_model.specs.Hear.{vacates_lease, vacates_noticed, all_dirty, loss_entry, loses, waits_for, reports_to, reports, without_lease, push_refused, breaks, breaks_chain, if_broken, holds, takes_grant, takes_optional, answers_call_of, answers_call, caches_block, purges, knows_revision, grant_caches, then_caches, read_done, marks_through, lease_done, holds_caching, caches_write, write_done, ends_push, caches_push, vacates_if_clean, push_done, answer_of, is_put_off, attached, pauses, done_for_call, done_renewal, done_push, done, refused_push, refused, other_push, is_of_procedure, reply_counts}
+use Rattle.nq_model.specs.Client.{Notice, UnderWay, Job, attaching, for_call, renewing, pushing, Ticket, ClientStep, is_push_of, push_passes}
+use Rattle.nq_model.specs.Client.{is_clean, lease_on, notice_on, is_revision_before, revision_of, dirty_at}
+use Rattle.nq_model.specs.Hear.{vacates_lease, vacates_noticed, all_dirty, loss_entry, loses, waits_for, reports_to, reports, without_lease}
+use Rattle.nq_model.specs.Hear.{push_refused, breaks, breaks_chain, if_broken, holds, takes_grant, takes_optional, answers_call_of, answers_call}
+use Rattle.nq_model.specs.Hear.{caches_block, purges, knows_revision, grant_caches, then_caches, read_done, marks_through, lease_done, holds_caching}
+use Rattle.nq_model.specs.Hear.{caches_write, write_done, ends_push, caches_push, vacates_if_clean, push_done, answer_of, is_put_off, attached}
+use Rattle.nq_model.specs.Hear.{pauses, done_for_call, done_renewal, done_push, done, refused_push, refused, other_push, is_of_procedure}
+use Rattle.nq_model.specs.Hear.{reply_counts}
 use Rattle.nq_model.specs.Settle.{answers, names_losses}
 
 -- a part of a step that takes so many numbers of requests and makes so many entries at most
@@ -103,7 +110,8 @@ named t q file = record {
   push = λ h. h;
 }
 
-answered-call : (t : ClientStep) (answer : Answer) (by : Option ℕ) (o : Option UnderWay) → is_given (Some answer) ≡ true → Kept 0 1 t (answers_call_of t answer by o)
+answered-call : (t : ClientStep) (answer : Answer) (by : Option ℕ) (o : Option UnderWay) → is_given (Some answer) ≡ true
+    → Kept 0 1 t (answers_call_of t answer by o)
 answered-call t answer by None given = none 1 t
 answered-call t answer by (Some u) given = answered-with t u.q answer by given
 
@@ -284,9 +292,12 @@ pub chain-broken : (t : ClientStep) (file : ℕ) → Kept 1 (length (all_dirty t
 chain-broken t file =
     let lost-step = loses t file in
     let vacated-step = vacates_noticed lost-step file (notice_on file t.client.notices) in
-    let both : Kept (0 + 1) (length (all_dirty t.client file) + 0) t vacated-step = after 0 1 (length (all_dirty t.client file)) 0 t lost-step vacated-step (lost t file) (vacated-noticed lost-step file (notice_on file t.client.notices)) in
-    let all = after (0 + 1) 0 (length (all_dirty t.client file) + 0) 1 t vacated-step (reports vacated-step file) both (reported vacated-step file vacated-step.client.call) in
-    more (0 + 1 + 0) 1 (length (all_dirty t.client file) + 0 + 1) (length (all_dirty t.client file) + 1) t (reports vacated-step file) (omega arith) (omega arith) all
+    let both : Kept (0 + 1) (length (all_dirty t.client file) + 0) t vacated-step = after 0 1 (length (all_dirty t.client file)) 0 t lost-step
+    vacated-step (lost t file) (vacated-noticed lost-step file (notice_on file t.client.notices)) in
+    let all = after (0 + 1) 0 (length (all_dirty t.client file) + 0) 1 t vacated-step (reports vacated-step file) both (reported vacated-step file
+    vacated-step.client.call) in
+    more (0 + 1 + 0) 1 (length (all_dirty t.client file) + 0 + 1) (length (all_dirty t.client file) + 1) t (reports vacated-step file) (omega arith)
+    (omega arith) all
 
 pub push-refused : (t : ClientStep) (file : ℕ) → Kept 1 (length (all_dirty t.client file) + 1) t (push_refused t file)
 push-refused t file =
@@ -294,9 +305,12 @@ push-refused t file =
     let unleased-step = without_lease lost-step file in
     let vacated-step = vacates_noticed unleased-step file (notice_on file t.client.notices) in
     let first = after 0 0 (length (all_dirty t.client file)) 0 t lost-step unleased-step (lost t file) (unleased lost-step file) in
-    let both = after (0 + 0) 1 (length (all_dirty t.client file) + 0) 0 t unleased-step vacated-step first (vacated-noticed unleased-step file (notice_on file t.client.notices)) in
-    let all = after (0 + 0 + 1) 0 (length (all_dirty t.client file) + 0 + 0) 1 t vacated-step (reports vacated-step file) both (reported vacated-step file vacated-step.client.call) in
-    more (0 + 0 + 1 + 0) 1 (length (all_dirty t.client file) + 0 + 0 + 1) (length (all_dirty t.client file) + 1) t (reports vacated-step file) (omega arith) (omega arith) all
+    let both = after (0 + 0) 1 (length (all_dirty t.client file) + 0) 0 t unleased-step vacated-step first (vacated-noticed unleased-step file
+    (notice_on file t.client.notices)) in
+    let all = after (0 + 0 + 1) 0 (length (all_dirty t.client file) + 0 + 0) 1 t vacated-step (reports vacated-step file) both
+    (reported vacated-step file vacated-step.client.call) in
+    more (0 + 0 + 1 + 0) 1 (length (all_dirty t.client file) + 0 + 0 + 1) (length (all_dirty t.client file) + 1) t (reports vacated-step file)
+    (omega arith) (omega arith) all
 
 -- ---- grants
 
@@ -319,7 +333,8 @@ taken-optional t file (Some g) sent = taken t file g sent
 block-cached : (t : ClientStep) (file block : ℕ) (body : List ℕ) (o : Option Grant) → Kept 0 0 t (then_caches t file block body o)
 block-cached t file block body o = choice (Kept 0 0 t) (grant_caches o) _ _ (cached t file block body) (same t)
 
-read-done : (t : ClientStep) (file block : ℕ) (body : List ℕ) (o : Option Grant) (sent number : ℕ) → Kept 1 (length (all_dirty t.client file) + 2) t (read_done t file block body o sent number)
+read-done : (t : ClientStep) (file block : ℕ) (body : List ℕ) (o : Option Grant) (sent number : ℕ) → Kept 1 (length (all_dirty t.client file) + 2) t
+    (read_done t file block body o sent number)
 read-done t file block body o sent number =
     let n = length (all_dirty t.client file) + 1 in
     let taken-step = takes_optional t file o sent in
@@ -348,7 +363,8 @@ cached-write t file block body rev =
     (purged t file)
 
 -- what is known is answered
-known-answered : (t : ClientStep) (file rev : ℕ) (answer : Answer) → is_given (Some answer) ≡ true → Kept 0 1 t (answers_call (knows_revision t file rev) answer None)
+known-answered : (t : ClientStep) (file rev : ℕ) (answer : Answer) → is_given (Some answer) ≡ true
+    → Kept 0 1 t (answers_call (knows_revision t file rev) answer None)
 known-answered t file rev answer given =
     let known-step = knows_revision t file rev in
     more (0 + 0) 0 (0 + 1) 1 t (answers_call known-step answer None) (omega arith) (omega arith)
@@ -358,7 +374,8 @@ write-done : (t : ClientStep) (file block : ℕ) (body : List ℕ) (rev : ℕ) �
 write-done t file block body rev =
     let cached-step = caches_write t file block body rev in
     more (0 + 0) 0 (0 + 1) 1 t (write_done t file block body rev) (omega arith) (omega arith)
-    (after 0 0 0 1 t cached-step (write_done t file block body rev) (cached-write t file block body rev) (known-answered cached-step file rev (Answer.Ok Value.Nothing) refl))
+    (after 0 0 0 1 t cached-step (write_done t file block body rev) (cached-write t file block body rev) (known-answered cached-step file rev
+    (Answer.Ok Value.Nothing) refl))
 
 cached-push : (t : ClientStep) (file block : ℕ) (body : List ℕ) → Kept 0 0 t (caches_push t file block body)
 cached-push t file block body = choice (Kept 0 0 t) (is_some (dirty_at file block t.client.dirty)) _ _ (same t) (cached t file block body)
@@ -367,7 +384,8 @@ vacated-clean : (t : ClientStep) (file : ℕ) → Kept 1 0 t (vacates_if_clean t
 vacated-clean t file = choice (Kept 1 0 t) (is_clean t.client file) _ _ (vacated-noticed t file (notice_on file t.client.notices)) (still t)
 
 -- what comes after a push was stored
-after-stored : (t : ClientStep) (file block : ℕ) (body : List ℕ) (rev : ℕ) → Kept 1 0 t (vacates_if_clean (caches_push (knows_revision t file rev) file block body) file)
+after-stored : (t : ClientStep) (file block : ℕ) (body : List ℕ) (rev : ℕ)
+    → Kept 1 0 t (vacates_if_clean (caches_push (knows_revision t file rev) file block body) file)
 after-stored t file block body rev =
     let known-step = knows_revision t file rev in
     let cached-step = caches_push known-step file block body in
@@ -392,7 +410,8 @@ one n t s h x = more 0 1 1 n t s (omega arith) h x
 told : (n : ℕ) (t : ClientStep) (answer : Answer) (by : Option ℕ) → 1 ≤ n → is_given (Some answer) ≡ true → Kept 1 n t (answers_call t answer by)
 told n t answer by h given = one n t (answers_call t answer by) h (answered-call t answer by t.client.call given)
 
-done-for-call : (t : ClientStep) (number sent : ℕ) (request : Request) (r : Reply) → Kept 1 (length (all_dirty t.client (file_at_stake request)) + 2) t (done_for_call t number sent request r)
+done-for-call : (t : ClientStep) (number sent : ℕ) (request : Request) (r : Reply) → Kept 1 (length (all_dirty t.client (file_at_stake request)) + 2)
+    t (done_for_call t number sent request r)
 done-for-call t number sent (Request.Lookup who name) (Reply.Lookup inc file blocks) =
     told (length (all_dirty t.client 0) + 2) t (Answer.Ok (Value.File file)) None (omega arith) refl
 done-for-call t number sent (Request.Create who seq name blocks) (Reply.Create inc file) =
@@ -405,12 +424,14 @@ done-for-call t number sent (Request.GetLease who file want) (Reply.GetLease inc
 done-for-call t number sent (Request.Write who seq file block first last push body) (Reply.Write inc rev) =
     one (length (all_dirty t.client file) + 2) t (write_done t file block body rev) (omega arith) (write-done t file block body rev)
 done-for-call t number sent (Request.Resize who seq q file blocks) (Reply.Resize inc rev) =
-    one (length (all_dirty t.client 0) + 2) t (answers_call (knows_revision t file rev) (Answer.Ok Value.Nothing) None) (omega arith) (known-answered t file rev (Answer.Ok Value.Nothing) refl)
+    one (length (all_dirty t.client 0) + 2) t (answers_call (knows_revision t file rev) (Answer.Ok Value.Nothing) None) (omega arith)
+    (known-answered t file rev (Answer.Ok Value.Nothing) refl)
 done-for-call t number sent (Request.Remove who seq q file) (Reply.Remove inc) =
     told (length (all_dirty t.client 0) + 2) t (Answer.Ok Value.Nothing) None (omega arith) refl
 done-for-call t number sent request other = nothing (length (all_dirty t.client (file_at_stake request)) + 2) t
 
-renewal-done : (t : ClientStep) (sent : ℕ) (request : Request) (r : Reply) → Kept 1 (length (all_dirty t.client (file_at_stake request)) + 2) t (done_renewal t sent request r)
+renewal-done : (t : ClientStep) (sent : ℕ) (request : Request) (r : Reply) → Kept 1 (length (all_dirty t.client (file_at_stake request)) + 2) t
+    (done_renewal t sent request r)
 renewal-done t sent (Request.GetLease who file want) (Reply.GetLease inc grant) =
     let n = length (all_dirty t.client file) in
     more 1 1 (n + 1) (n + 2) t (takes_optional t file grant sent) (omega arith) (omega arith) (taken-optional t file grant sent)
@@ -421,7 +442,8 @@ pushed-done t (Request.Write who seq file block first last push body) (Reply.Wri
     more 1 1 0 (length (all_dirty t.client file) + 2) t (push_done t file block body rev) (omega arith) (omega arith) (push-done t file block body rev)
 pushed-done t request other = nothing (length (all_dirty t.client (file_at_stake request)) + 2) t
 
-done-kept : (t : ClientStep) (number : ℕ) (ticket : Ticket) (job : Job) (r : Reply) → Kept 1 (length (all_dirty t.client (file_at_stake ticket.request)) + 2) t (done t number ticket job r)
+done-kept : (t : ClientStep) (number : ℕ) (ticket : Ticket) (job : Job) (r : Reply)
+    → Kept 1 (length (all_dirty t.client (file_at_stake ticket.request)) + 2) t (done t number ticket job r)
 done-kept t number ticket attaching r =
     more 0 1 0 (length (all_dirty t.client (file_at_stake ticket.request)) + 2) t (attached t) (omega arith) (omega arith) (is-attached t)
 done-kept t number ticket for_call r = done-for-call t number ticket.first ticket.request r
@@ -448,7 +470,8 @@ push-refused-by t (Request.Write who seq file block first last push body) =
     more 1 1 (n + 1) (n + 2) t (push_refused t file) (omega arith) (omega arith) (push-refused t file)
 push-refused-by t other = nothing (length (all_dirty t.client (file_at_stake other)) + 2) t
 
-refused-kept : (t : ClientStep) (status : Refusal) (ticket : Ticket) (job : Job) → Kept 1 (length (all_dirty t.client (file_at_stake ticket.request)) + 2) t (refused t status ticket job)
+refused-kept : (t : ClientStep) (status : Refusal) (ticket : Ticket) (job : Job) → Kept 1 (length (all_dirty t.client (file_at_stake ticket.request))
+    + 2) t (refused t status ticket job)
 refused-kept t status ticket attaching = nothing (length (all_dirty t.client (file_at_stake ticket.request)) + 2) t
 refused-kept t status ticket for_call =
     let n = length (all_dirty t.client (file_at_stake ticket.request)) + 2 in
@@ -459,7 +482,8 @@ refused-kept t status ticket renewing =
 refused-kept t status ticket pushing = push-refused-by t ticket.request
 
 -- a request that was answered
-pub answered-kept : (t : ClientStep) (number : ℕ) (ticket : Ticket) (r : Reply) → Kept 1 (length (all_dirty t.client (file_at_stake ticket.request)) + 2) t (answered t number ticket r)
+pub answered-kept : (t : ClientStep) (number : ℕ) (ticket : Ticket) (r : Reply) → Kept 1 (length (all_dirty t.client (file_at_stake ticket.request))
+    + 2) t (answered t number ticket r)
 answered-kept t number ticket (Reply.Refused inc status) = refused-kept t status ticket ticket.job
 answered-kept t number ticket other = done-kept t number ticket ticket.job other
 
@@ -494,7 +518,8 @@ ends-none t = refl
 stored-none : (t : ClientStep) (file block : ℕ) (body : List ℕ) (rev : ℕ) → (push_done t file block body rev).client.push ≡ None
 stored-none t file block body rev = (after-stored (ends_push t) file block body rev).push (ends-none t)
 
-pushed-none : (t : ClientStep) (request : Request) (r : Reply) → Stores request t.client.push → IsTrue (is_of_procedure r request) → (done_push t request r).client.push ≡ None
+pushed-none : (t : ClientStep) (request : Request) (r : Reply) → Stores request t.client.push → IsTrue (is_of_procedure r request)
+    → (done_push t request r).client.push ≡ None
 pushed-none t (Request.Write who seq file block first last push body) (Reply.Write inc rev) tied counts = stored-none t file block body rev
 pushed-none t (Request.Write who seq file block first last push body) other tied counts = absurd cc
 pushed-none t other r tied counts = absurd tied
@@ -503,19 +528,22 @@ refused-push-none : (t : ClientStep) (request : Request) → Stores request t.cl
 refused-push-none t (Request.Write who seq file block first last push body) tied = refused-none t file tied
 refused-push-none t other tied = absurd tied
 
-done-none : (t : ClientStep) (number : ℕ) (ticket : Ticket) (job : Job) (r : Reply) → TiedFor job ticket.request t.client.push → IsTrue (is_of_procedure r ticket.request) → (done t number ticket job r).client.push ≡ None
+done-none : (t : ClientStep) (number : ℕ) (ticket : Ticket) (job : Job) (r : Reply) → TiedFor job ticket.request t.client.push
+    → IsTrue (is_of_procedure r ticket.request) → (done t number ticket job r).client.push ≡ None
 done-none t number ticket attaching r tied counts = (done-kept t number ticket attaching r).push tied
 done-none t number ticket for_call r tied counts = (done-kept t number ticket for_call r).push tied
 done-none t number ticket renewing r tied counts = (done-kept t number ticket renewing r).push tied
 done-none t number ticket pushing r tied counts = pushed-none t ticket.request r tied counts
 
-was-refused-none : (t : ClientStep) (status : Refusal) (ticket : Ticket) (job : Job) → TiedFor job ticket.request t.client.push → (refused t status ticket job).client.push ≡ None
+was-refused-none : (t : ClientStep) (status : Refusal) (ticket : Ticket) (job : Job) → TiedFor job ticket.request t.client.push
+    → (refused t status ticket job).client.push ≡ None
 was-refused-none t status ticket attaching tied = (refused-kept t status ticket attaching).push tied
 was-refused-none t status ticket for_call tied = (refused-kept t status ticket for_call).push tied
 was-refused-none t status ticket renewing tied = (refused-kept t status ticket renewing).push tied
 was-refused-none t status ticket pushing tied = refused-push-none t ticket.request tied
 
 -- after a reply that counts no delayed writes are under way
-pub answered-none : (t : ClientStep) (number : ℕ) (ticket : Ticket) (r : Reply) → TiedFor ticket.job ticket.request t.client.push → IsTrue (reply_counts r ticket) → (answered t number ticket r).client.push ≡ None
+pub answered-none : (t : ClientStep) (number : ℕ) (ticket : Ticket) (r : Reply) → TiedFor ticket.job ticket.request t.client.push
+    → IsTrue (reply_counts r ticket) → (answered t number ticket r).client.push ≡ None
 answered-none t number ticket (Reply.Refused inc status) tied counts = was-refused-none t status ticket ticket.job tied
 answered-none t number ticket other tied counts = done-none t number ticket ticket.job other tied counts

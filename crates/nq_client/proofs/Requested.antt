@@ -1,5 +1,6 @@
 -- What a step leaves as it was that sends a request, and how much it takes.
-use Rattle.std.proofs.Common.{◌≡◌, ◌≤◌, ◌+◌, ◌==◌, ◌⊎◌, inl, inr, ℕ, Bool, true, false, ◌||◌, List, Option, Some, None, nat_le, is_some, IsTrue, if◌then◌else◌, refl, sym, subst, arith}
+use Rattle.std.proofs.Common.{◌≡◌, ◌≤◌, ◌+◌, ◌==◌, ◌⊎◌, inl, inr, ℕ, Bool, true, false, ◌||◌, List, Option, Some, None, nat_le, is_some, IsTrue}
+use Rattle.std.proofs.Common.{if◌then◌else◌, refl, sym, subst, arith}
 use Rattle.std.proofs.lemmas.Bool.Decides.{nat_tests}
 use Rattle.nq_base.specs.declared.Call.{Call}
 use Rattle.nq_base.specs.declared.Call.TheVariants.{Create, Lookup, Attr, Read, Fetch, Write, WriteSync, Sync, Resize, Remove}
@@ -9,7 +10,10 @@ use Rattle.nq_base.specs.declared.Request.{Request}
 use Rattle.nq_client.specs.Tied.{TiedFor, Tied}
 use Rattle.nq_client.proofs.Settled.{choice}
 use Rattle.nq_model.specs.Client.{Lease, UnderWay, Job, for_call, renewing, pushing, Ticket, ClientStep, lease_on, first_dirty, is_clean}
-use Rattle.nq_model.specs.Send.{sends_request, after_seq, after_number, base_of, takes_push, pushes_these, noticed_file, ending_file, want_of, shares_live, read_want, sends_write, next_write, next_put, gives_up, next_change, asks, next_of_call, next_of_under_way, renews_lease, renews, renewed_file, is_asking, then_renews, then_calls, pushes_due, then_pushes, then_ending, send_next}
+use Rattle.nq_model.specs.Send.{sends_request, after_seq, after_number, base_of, takes_push, pushes_these, noticed_file, ending_file, want_of}
+use Rattle.nq_model.specs.Send.{shares_live, read_want, sends_write, next_write, next_put, gives_up, next_change, asks, next_of_call}
+use Rattle.nq_model.specs.Send.{next_of_under_way, renews_lease, renews, renewed_file, is_asking, then_renews, then_calls, pushes_due, then_pushes}
+use Rattle.nq_model.specs.Send.{then_ending, send_next}
 
 -- no request was under way, and one is now
 record Sends (t s : ClientStep) : Type 0 where
@@ -38,7 +42,8 @@ record IsReady (t s : ClientStep) : Type 0 where
 abbrev Stage : (t s : ClientStep) → Type 0
 Stage t s = (s ≡ t) ⊎ Sends t s
 
-sent : (t s : ClientStep) (job : Job) (request : Request) → is_asking t ≡ false → IsReady t s → (t.client.push ≡ None → TiedFor job request s.client.push) → Sends t (sends_request s job request)
+sent : (t s : ClientStep) (job : Job) (request : Request) → is_asking t ≡ false → IsReady t s
+    → (t.client.push ≡ None → TiedFor job request s.client.push) → Sends t (sends_request s job request)
 unfolding sends_request
 sent t s job request idle ready tied = record {
   idle = idle;
@@ -130,7 +135,8 @@ changes t file request idle = inr (sent t (after_seq (gives_up t file)) for_call
 writes : (t : ClientStep) (file block : ℕ) (body : List ℕ) → is_asking t ≡ false → Stage t (sends_write t file block body)
 unfolding after_number
 writes t file block body idle =
-    inr (sent t (after_number t) for_call (Request.Write t.client.who t.client.seq file block t.client.number t.client.number None body) idle (ready-number t) (λ h. h))
+    inr (sent t (after_number t) for_call (Request.Write t.client.who t.client.seq file block t.client.number t.client.number None body) idle
+    (ready-number t) (λ h. h))
 
 quiet : (t : ClientStep) → Stage t t
 quiet t = inl refl
@@ -139,7 +145,8 @@ pushed : (t : ClientStep) (o : Option Push) → is_asking t ≡ false → Stage 
 unfolding after_seq takes_push
 pushed t None idle = inl refl
 pushed t (Some p) idle =
-    inr (sent t (after_seq (takes_push t p)) pushing (Request.Write t.client.who t.client.seq p.file p.block p.first p.last (Some (base_of t.client p.file)) p.body) idle (ready-push t p) (λ h. own p.file))
+    inr (sent t (after_seq (takes_push t p)) pushing (Request.Write t.client.who t.client.seq p.file p.block p.first p.last
+    (Some (base_of t.client p.file)) p.body) idle (ready-push t p) (λ h. own p.file))
 
 written : (t : ClientStep) (u : UnderWay) (file block : ℕ) (body : List ℕ) → is_asking t ≡ false → Stage t (next_write t u file block body)
 written t u file block body idle =
@@ -223,7 +230,8 @@ pub stays-renews : (in_tick : Bool) (t : ClientStep) → is_asking t ≡ true �
 stays-renews false t h = refl
 stays-renews true t h = skipped (is_asking t) _ _ h
 
-next : (f : ClientStep → ClientStep) → ((u : ClientStep) → is_asking u ≡ true → f u ≡ u) → ((u : ClientStep) → Stage u (f u)) → (t u : ClientStep) → Stage t u → Stage t (f u)
+next : (f : ClientStep → ClientStep) → ((u : ClientStep) → is_asking u ≡ true → f u ≡ u) → ((u : ClientStep) → Stage u (f u)) → (t u : ClientStep)
+    → Stage t u → Stage t (f u)
 next f stays stage t u (inl e) = subst (λ x. (f u ≡ x) ⊎ Sends x (f u)) e (stage u)
 next f stays stage t u (inr s) = inr (subst (Sends t) (sym (stays u s.asking)) s)
 

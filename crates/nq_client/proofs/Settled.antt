@@ -5,7 +5,9 @@ use Rattle.nq_base.specs.declared.Call.{Call}
 use Rattle.nq_base.specs.declared.Call.TheVariants.{Create, Lookup, Attr, Read, Fetch, Write, WriteSync, Sync, Resize, Remove}
 use Rattle.nq_base.specs.declared.Value.{Value}
 use Rattle.nq_model.specs.Client.{Lease, UnderWay, ClientStep, lease_on, notice_on, lets_read, lets_write, is_clean}
-use Rattle.nq_model.specs.Settle.{answers, cached_body, reads_cached, after_read, settle_body, settle_read, after_write, delays, marks_written, after_delay, is_full, settle_write_in, settle_write, settle_sync, settle_put, settle_call, ticket_is_for_call, settle_under_way, settle}
+use Rattle.nq_model.specs.Settle.{answers, cached_body, reads_cached, after_read, settle_body, settle_read, after_write, delays, marks_written}
+use Rattle.nq_model.specs.Settle.{after_delay, is_full, settle_write_in, settle_write, settle_sync, settle_put, settle_call, ticket_is_for_call}
+use Rattle.nq_model.specs.Settle.{settle_under_way, settle}
 
 -- an answer that a step gives: it tells of no want of memory, and that not all was taken in
 abbrev pub is_given : Option Answer → Bool
@@ -115,7 +117,8 @@ delayed t u false file block body = record {
   given = λ h. refl;
 }
 
-write_in-settled : (t : ClientStep) (u : UnderWay) (sync : Bool) (file block : ℕ) (body : List ℕ) (lease : Lease) → Settled t (settle_write_in t u sync file block body lease)
+write_in-settled : (t : ClientStep) (u : UnderWay) (sync : Bool) (file block : ℕ) (body : List ℕ) (lease : Lease)
+    → Settled t (settle_write_in t u sync file block body lease)
 write_in-settled t u sync file block body lease =
     choice (Settled t) (nat_le lease.blocks block) _ _
     (answered t u.q Answer.Range None refl)
@@ -123,7 +126,8 @@ write_in-settled t u sync file block body lease =
     (answered t u.q Answer.DirtyFull None refl)
     (delayed t u sync file block body))
 
-write-settled : (t : ClientStep) (u : UnderWay) (sync : Bool) (file block : ℕ) (body : List ℕ) (o : Option Lease) → Settled t (settle_write t u sync file block body o)
+write-settled : (t : ClientStep) (u : UnderWay) (sync : Bool) (file block : ℕ) (body : List ℕ) (o : Option Lease)
+    → Settled t (settle_write t u sync file block body o)
 write-settled t u sync file block body None = same t
 write-settled t u sync file block body (Some lease) =
     choice (Settled t) (lets_write t.client.now lease && not (is_some (notice_on file t.client.notices)) && not u.through) _ _

@@ -25,8 +25,10 @@ taken_out s e =
     ap (λ (ms : List Message). with_sends (spends (step_of s)) (vacated_message s.state.who s.vacated ++ ms)) (unasked s.asks None s.state.asked e)
 
 -- where the request was given up if it wants a lease on the file it is cancelled
-pub given_up : (s : Step) (file : ℕ) (o : Option Ticket) → o ≡ cancelled file s.state.asked → s.asks ≡ false → step_of (record s { state = record s.state { asked = o } }) ≡ cancels (step_of s) file
+pub given_up : (s : Step) (file : ℕ) (o : Option Ticket) → o ≡ cancelled file s.state.asked → s.asks ≡ false
+    → step_of (record s { state = record s.state { asked = o } }) ≡ cancels (step_of s) file
 unfolding cancels
 given_up s file o is e =
     ap (λ (x : Option Ticket). step_of (record s { state = record s.state { asked = x } })) is
-    ∙ ap (λ (ms : List Message). with_sends (cancels (step_of s) file) (vacated_message s.state.who s.vacated ++ ms)) (unasked s.asks (cancelled file s.state.asked) s.state.asked e)
+    ∙ ap (λ (ms : List Message). with_sends (cancels (step_of s) file) (vacated_message s.state.who s.vacated ++ ms))
+    (unasked s.asks (cancelled file s.state.asked) s.state.asked e)

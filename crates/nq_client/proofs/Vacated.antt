@@ -24,7 +24,8 @@ taken-before t file tag =
     }) (filter-twice (λ (n : Notice). not (n.file == file)) t.client.notices)
 
 -- the lease is given up for the notice of its file
-pub vacated-taken : (t : ClientStep) (file : ℕ) (n : Notice) (notices : List Notice) → Some n ≡ notice_on file t.client.notices → notices ≡ drop_notice file t.client.notices → vacates_lease (with_notices t notices) n.file n.tag ≡ vacates_noticed t file (notice_on file t.client.notices)
+pub vacated-taken : (t : ClientStep) (file : ℕ) (n : Notice) (notices : List Notice) → Some n ≡ notice_on file t.client.notices → notices
+    ≡ drop_notice file t.client.notices → vacates_lease (with_notices t notices) n.file n.tag ≡ vacates_noticed t file (notice_on file t.client.notices)
 vacated-taken t file n notices found left =
     let e : n.file ≡ file = of-file file t.client.notices n (sym found) in
     ap (λ ns. vacates_lease (with_notices t ns) n.file n.tag) left

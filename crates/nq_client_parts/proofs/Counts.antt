@@ -1,5 +1,6 @@
 -- How many delayed writes of a file there are, with the push under way.
-use Rattle.std.proofs.Common.{◌≡◌, ◌≤◌, ℕ, ◌+◌, Bool, true, false, cond, List, [], ◌∷◌, length, filter, Option, Some, None, is_some, if◌then◌else◌, refl, arith, length-append, add-one}
+use Rattle.std.proofs.Common.{◌≡◌, ◌≤◌, ℕ, ◌+◌, Bool, true, false, cond, List, [], ◌∷◌, length, filter, Option, Some, None, is_some, if◌then◌else◌}
+use Rattle.std.proofs.Common.{refl, arith, length-append, add-one}
 use Rattle.nq_base.specs.declared.Push.{Push}
 use Rattle.nq_model.specs.Client.{is_push_of, push_passes}
 use Rattle.nq_model.specs.Hear.{push_of, all_dirty_in}
@@ -14,7 +15,8 @@ pushed-count file None = refl
 pushed-count file (Some p) = one-or-none (is_push_of file p) p
 
 -- those of the list and the push
-pub count-all : (file : ℕ) (dirty : List Push) (push : Option Push) → length (all_dirty_in file dirty push) ≡ length (filter (is_push_of file) dirty) + (if push_passes (is_push_of file) push then 1 else 0)
+pub count-all : (file : ℕ) (dirty : List Push) (push : Option Push) → length (all_dirty_in file dirty push) ≡ length (filter (is_push_of file) dirty)
+    + (if push_passes (is_push_of file) push then 1 else 0)
 count-all file dirty push = let n = length-append (push_of file push) (filter (is_push_of file) dirty) in omega (arith, n, pushed-count file push)
 
 fewer-step : (b : Bool) (p : Push) (ps : List Push) (n : ℕ) → length ps ≤ n → length (cond b (p ∷ ps) ps) ≤ n + 1
@@ -34,9 +36,11 @@ pub all-few : (file : ℕ) (dirty : List Push) (push : Option Push) → length (
 all-few file dirty push = omega (arith, count-all file dirty push, fewer (is_push_of file) dirty, passes-count file push)
 
 -- the push is of the file: there is one more than those of the list
-pub count-with-push : (file : ℕ) (dirty : List Push) (push : Option Push) (listed : ℕ) → listed ≡ length (filter (is_push_of file) dirty) → push_passes (is_push_of file) push ≡ true → listed + 1 ≡ length (all_dirty_in file dirty push)
+pub count-with-push : (file : ℕ) (dirty : List Push) (push : Option Push) (listed : ℕ) → listed ≡ length (filter (is_push_of file) dirty)
+    → push_passes (is_push_of file) push ≡ true → listed + 1 ≡ length (all_dirty_in file dirty push)
 count-with-push file dirty push listed h on = let n = count-all file dirty push in let m = rw on at n in omega (arith, m, h)
 
 -- it is not: there are those of the list
-pub count-without-push : (file : ℕ) (dirty : List Push) (push : Option Push) (listed : ℕ) → listed ≡ length (filter (is_push_of file) dirty) → push_passes (is_push_of file) push ≡ false → listed ≡ length (all_dirty_in file dirty push)
+pub count-without-push : (file : ℕ) (dirty : List Push) (push : Option Push) (listed : ℕ) → listed ≡ length (filter (is_push_of file) dirty)
+    → push_passes (is_push_of file) push ≡ false → listed ≡ length (all_dirty_in file dirty push)
 count-without-push file dirty push listed h off = let n = count-all file dirty push in let m = rw off at n in omega (arith, m, h)

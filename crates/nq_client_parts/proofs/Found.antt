@@ -17,7 +17,8 @@ taken_more xs i x h =
     rw add-one (take-suc xs i x below ∙ ap (λ y. take i xs ++ y ∷ []) (get_or_from_slice_get xs i x x h))
 
 -- one more loss was noted
-pub noted_more : (who : Who) (xs : List Loss) (i : ℕ) (x : Loss) → slice_get xs i ≡ Some x → reverse (map (lost_entry who) (take (i + 1) xs)) ≡ lost_entry who x ∷ reverse (map (lost_entry who) (take i xs))
+pub noted_more : (who : Who) (xs : List Loss) (i : ℕ) (x : Loss) → slice_get xs i ≡ Some x → reverse (map (lost_entry who) (take (i + 1) xs))
+    ≡ lost_entry who x ∷ reverse (map (lost_entry who) (take i xs))
 noted_more who xs i x h =
     ap (λ ys. reverse (map (lost_entry who) ys)) (taken_more xs i x h)
     ∙ ap reverse (map-append (lost_entry who) (take i xs) (x ∷ []))

@@ -1,5 +1,6 @@
 -- The least file of some rows that stand in order of files is that of the first.
-use Rattle.std.proofs.Common.{◌≡◌, ◌<◌, ℕ, Bool, true, false, List, [], ◌∷◌, map, Option, Some, None, if◌then◌else◌, ◌==◌, nat_lt, refl, sym, subst, ◌∙◌, arith}
+use Rattle.std.proofs.Common.{◌≡◌, ◌<◌, ℕ, Bool, true, false, List, [], ◌∷◌, map, Option, Some, None, if◌then◌else◌, ◌==◌, nat_lt, refl, sym, subst}
+use Rattle.std.proofs.Common.{◌∙◌, arith}
 use Rattle.std.specs.List.{filter, find, AllByRecursion}
 use Rattle.std.proofs.lemmas.Bool.Decides.{nat_tests}
 use Rattle.nq_client_parts.specs.ByFile.{Ascends}
@@ -37,7 +38,8 @@ module _ {A B : Type 0} (file_of : B → ℕ) (view : A → B) where
   abbrev pub least_file : (B → Bool) → List A → Option ℕ
   least_file test rows = least (map file_of (filter test (map view rows)))
 
-  above-step : (test : B → Bool) (n : ℕ) (row : A) (rows : List A) (b : Bool) → n < key row → IsAbove n (least_file test rows) → IsAbove n (least (map file_of (if b then view row ∷ filter test (map view rows) else filter test (map view rows))))
+  above-step : (test : B → Bool) (n : ℕ) (row : A) (rows : List A) (b : Bool) → n < key row → IsAbove n (least_file test rows)
+      → IsAbove n (least (map file_of (if b then view row ∷ filter test (map view rows) else filter test (map view rows))))
   above-step test n row rows true lt h = above-with n (key row) (least_file test rows) lt h
   above-step test n row rows false lt h = h
 
@@ -46,7 +48,8 @@ module _ {A B : Type 0} (file_of : B → ℕ) (view : A → B) where
   above-all test n (row ∷ rows) h = above-step test n row rows (test (view row)) h.0 (above-all test n rows h.1)
 
   -- a first row that passes has the least file
-  pub least-first : (test : B → Bool) (row : A) (rows : List A) → Ascends key (row ∷ rows) → test (view row) ≡ true → least_file test (row ∷ rows) ≡ Some (key row)
+  pub least-first : (test : B → Bool) (row : A) (rows : List A) → Ascends key (row ∷ rows) → test (view row) ≡ true → least_file test (row ∷ rows)
+      ≡ Some (key row)
   least-first test row rows a e = rw e (with-above (key row) (least_file test rows) (above-all test (key row) rows a.0))
 
   -- a first row that does not pass counts for nothing
@@ -72,7 +75,10 @@ module _ {A B : Type 0} (file_of : B → ℕ) (view : A → B) where
   same : (m n : ℕ) → m ≡ n → (m == n) ≡ true
   same m n e = grind (arith, nat_tests)
 
-  passes-step : (test : B → Bool) (row : A) (rows : List A) (file : ℕ) (b : Bool) → test (view row) ≡ b → IsAbove (key row) (least_file test rows) → least (map file_of (if b then view row ∷ filter test (map view rows) else filter test (map view rows))) ≡ Some file → (least_file test rows ≡ Some file → passes test (find (λ x. file_of x == file) (map view rows)) ≡ true) → passes test (find (λ x. file_of x == file) (map view (row ∷ rows))) ≡ true
+  passes-step : (test : B → Bool) (row : A) (rows : List A) (file : ℕ) (b : Bool) → test (view row) ≡ b → IsAbove (key row) (least_file test rows)
+      → least (map file_of (if b then view row ∷ filter test (map view rows) else filter test (map view rows))) ≡ Some file
+      → (least_file test rows ≡ Some file → passes test (find (λ x. file_of x == file) (map view rows)) ≡ true)
+      → passes test (find (λ x. file_of x == file) (map view (row ∷ rows))) ≡ true
   passes-step test row rows file true e above h next =
       let is : key row ≡ file = some-same (sym (with-above (key row) (least_file test rows) above) ∙ h) in
       rw (same (key row) file is) e
@@ -84,7 +90,8 @@ module _ {A B : Type 0} (file_of : B → ℕ) (view : A → B) where
       rw (differs (key row) file lt) (next h)
 
   -- the row of the least file of those that pass passes
-  pub least-passes : (test : B → Bool) (rows : List A) (file : ℕ) → Ascends key rows → least_file test rows ≡ Some file → passes test (find (λ x. file_of x == file) (map view rows)) ≡ true
+  pub least-passes : (test : B → Bool) (rows : List A) (file : ℕ) → Ascends key rows → least_file test rows ≡ Some file
+      → passes test (find (λ x. file_of x == file) (map view rows)) ≡ true
   least-passes test [] file a h = absurd cc
   least-passes test (row ∷ rows) file a h =
       passes-step test row rows file (test (view row)) refl (above-all test (key row) rows a.0) h (least-passes test rows file a.1)

@@ -1,13 +1,13 @@
 -- Entries as delayed writes: a block is found where its key is, and at one place only.
-use Rattle.std.proofs.Common.{suc, ◌≡◌, ℕ, ◌+◌, ◌==◌, Bool, true, false, not, ◌&&◌, ◌||◌, cond, List, [], ◌∷◌, ◌++◌, length, filter, map, Option, Some, None, is_some, refl, sym, ap, ◌∙◌, arith, append_assoc, add-one}
+use Rattle.std.proofs.Common.{suc, ◌≡◌, ℕ, ◌+◌, ◌==◌, Bool, true, false, not, ◌&&◌, ◌||◌, cond, List, [], ◌∷◌, ◌++◌, length, filter, map, Option}
+use Rattle.std.proofs.Common.{Some, None, is_some, refl, sym, ap, ◌∙◌, arith, append_assoc, add-one}
 use Rattle.std.specs.Cmp.{IsEquivalence}
-use Rattle.std.specs.List.{list_any, find, IsDistinct, slice_get}
+use Rattle.std.specs.List.{list_any, find, IsDistinct}
 use Rattle.std.specs.Map.{keys_of, lookup, lookup_entry, remove_entry, set_value}
 use Rattle.std.specs.Option.{option_map}
 use Rattle.std.proofs.lemmas.Bool.Decides.{nat_tests}
 use Rattle.std.proofs.lemmas.List.{map_push}
 use Rattle.std.proofs.lemmas.Map.{NonePasses}
-use Rattle.std.proofs.lemmas.Option.{slice_get-map}
 use Rattle.std.proofs.lemmas.Map.Entries.{none_past_head}
 use Rattle.std.proofs.lemmas.Map.Keys.{IsDistinct-tail}
 use Rattle.nq_base.specs.declared.Loss.{Loss}
@@ -29,7 +29,8 @@ any_of_file file (e ∷ es) = any-step (e.0.file == file) e.0 _ _ (any_of_file f
     any-step true k c o h = refl
     any-step false k c o h = h
 
-one-more : {A B : Type 0} (b : Bool) (x : A) (y : B) (xs : List A) (ys : List B) → length xs ≡ length ys → length (cond b (x ∷ xs) xs) ≡ length (cond b (y ∷ ys) ys)
+one-more : {A B : Type 0} (b : Bool) (x : A) (y : B) (xs : List A) (ys : List B) → length xs ≡ length ys → length (cond b (x ∷ xs) xs)
+    ≡ length (cond b (y ∷ ys) ys)
 one-more true x y xs ys h = ap (λ n. suc n) h
 one-more false x y xs ys h = h
 
@@ -38,7 +39,8 @@ pub count_of_file : (file : ℕ) (es : List (Key × Writes)) → length (filter 
 count_of_file file [] = refl
 count_of_file file (e ∷ es) = one-more (e.0.file == file) (push_of e) e.0 _ _ (count_of_file file es)
 
-others-step : (b : Bool) (e : Key × Writes) (es : List (Key × Writes)) (rest : List Push) → delayed es ≡ rest → delayed (cond b (e ∷ es) es) ≡ cond b (push_of e ∷ rest) rest
+others-step : (b : Bool) (e : Key × Writes) (es : List (Key × Writes)) (rest : List Push) → delayed es ≡ rest → delayed (cond b (e ∷ es) es)
+    ≡ cond b (push_of e ∷ rest) rest
 others-step true e es rest h = ap (λ xs. push_of e ∷ xs) h
 others-step false e es rest h = h
 
@@ -47,24 +49,23 @@ pub other_dirty-entries : (file : ℕ) (es : List (Key × Writes)) → delayed (
 other_dirty-entries file [] = refl
 other_dirty-entries file (e ∷ es) = others-step (is_of_other file e) e (filter (is_of_other file) es) _ (other_dirty-entries file es)
 
--- those at a place are those of the entry at this place
-pub delayed-at : (es : List (Key × Writes)) (i : ℕ) → slice_get (delayed es) i ≡ option_map push_of (slice_get es i)
-delayed-at es i = slice_get-map push_of es i
-
 mapped : {A B : Type 0} (f : A → B) (o : Option A) → is_some (option_map f o) ≡ is_some o
 mapped f None = refl
 mapped f (Some x) = refl
 
-found-step : (b : Bool) (e : Key × Writes) (a : Option Push) (o : Option (Key × Writes)) → a ≡ option_map push_of o → cond b (Some (push_of e)) a ≡ option_map push_of (cond b (Some e) o)
+found-step : (b : Bool) (e : Key × Writes) (a : Option Push) (o : Option (Key × Writes)) → a ≡ option_map push_of o → cond b (Some (push_of e)) a
+    ≡ option_map push_of (cond b (Some e) o)
 found-step true e a o h = refl
 found-step false e a o h = h
 
 -- the delayed writes of a block are those of the first entry with its key
 pub dirty_at-entries : (key : Key) (es : List (Key × Writes)) → dirty_at key.file key.block (delayed es) ≡ option_map push_of (lookup_entry (same key) es)
 dirty_at-entries key [] = refl
-dirty_at-entries key (e ∷ es) = rw (same_key key e.0) (found-step (e.0.file == key.file && e.0.block == key.block) e _ (lookup_entry (same key) es) (dirty_at-entries key es))
+dirty_at-entries key (e ∷ es) = rw (same_key key e.0) (found-step (e.0.file == key.file && e.0.block == key.block) e _ (lookup_entry (same key) es)
+    (dirty_at-entries key es))
 
-value-step : (b : Bool) (e : Key × Writes) (v : Option Writes) (o : Option (Key × Writes)) → v ≡ option_map (λ f. f.1) o → cond b (Some e.1) v ≡ option_map (λ f. f.1) (cond b (Some e) o)
+value-step : (b : Bool) (e : Key × Writes) (v : Option Writes) (o : Option (Key × Writes)) → v ≡ option_map (λ f. f.1) o → cond b (Some e.1) v
+    ≡ option_map (λ f. f.1) (cond b (Some e) o)
 value-step true e v o h = refl
 value-step false e v o h = h
 
@@ -74,15 +75,18 @@ value-entry key (e ∷ es) = value-step (same key e.0) e (lookup (same key) es) 
 
 -- they are there exactly where the key is
 pub is_there : (key : Key) (es : List (Key × Writes)) → is_some (dirty_at key.file key.block (delayed es)) ≡ is_some (lookup (same key) es)
-is_there key es = ap is_some (dirty_at-entries key es) ∙ mapped push_of (lookup_entry (same key) es) ∙ sym (ap is_some (value-entry key es) ∙ mapped (λ f. f.1) (lookup_entry (same key) es))
+is_there key es = ap is_some (dirty_at-entries key es) ∙ mapped push_of (lookup_entry (same key) es) ∙ sym (ap is_some (value-entry key es)
+    ∙ mapped (λ f. f.1) (lookup_entry (same key) es))
 
 body-step : (o : Option (Key × Writes)) → option_map (λ p. p.body) (option_map push_of o) ≡ option_map (λ w. w.body) (option_map (λ f. f.1) o)
 body-step None = refl
 body-step (Some e) = refl
 
 -- the body of a block is that of its key
-pub body_at-entries : (key : Key) (es : List (Key × Writes)) → option_map (λ p. p.body) (dirty_at key.file key.block (delayed es)) ≡ option_map (λ w. w.body) (lookup (same key) es)
-body_at-entries key es = ap (option_map (λ p. p.body)) (dirty_at-entries key es) ∙ body-step (lookup_entry (same key) es) ∙ ap (option_map (λ w. w.body)) (sym (value-entry key es))
+pub body_at-entries : (key : Key) (es : List (Key × Writes)) → option_map (λ p. p.body) (dirty_at key.file key.block (delayed es))
+    ≡ option_map (λ w. w.body) (lookup (same key) es)
+body_at-entries key es = ap (option_map (λ p. p.body)) (dirty_at-entries key es) ∙ body-step (lookup_entry (same key) es)
+    ∙ ap (option_map (λ w. w.body)) (sym (value-entry key es))
 
 parts : (a b m n : ℕ) → ((a == b) && (m == n)) ≡ true → (a ≡ b) × (m ≡ n)
 parts a b m n h = grind (arith, nat_tests)
@@ -110,14 +114,17 @@ kept-step false p ps rest off h = ap (λ xs. p ∷ xs) h
 -- where no entry has the key there is nothing to drop
 none-dropped : (key : Key) (es : List (Key × Writes)) → NonePasses (same key) es → drop_dirty key.file key.block (delayed es) ≡ delayed es
 none-dropped key [] none = refl
-none-dropped key (e ∷ es) none = kept-step (e.0.file == key.file && e.0.block == key.block) (push_of e) (delayed es) _ (sym (same_key key e.0) ∙ none.0) (none-dropped key es none.1)
+none-dropped key (e ∷ es) none = kept-step (e.0.file == key.file && e.0.block == key.block) (push_of e) (delayed es) _ (sym (same_key key e.0)
+    ∙ none.0) (none-dropped key es none.1)
 
-dropped-step : (b : Bool) (e : Key × Writes) (es rest : List (Key × Writes)) (dropped : List Push) → (b ≡ true → dropped ≡ delayed es) → dropped ≡ delayed rest → cond (not b) (push_of e ∷ dropped) dropped ≡ delayed (cond b es (e ∷ rest))
+dropped-step : (b : Bool) (e : Key × Writes) (es rest : List (Key × Writes)) (dropped : List Push) → (b ≡ true → dropped ≡ delayed es) → dropped
+    ≡ delayed rest → cond (not b) (push_of e ∷ dropped) dropped ≡ delayed (cond b es (e ∷ rest))
 dropped-step true e es rest dropped here h = here refl
 dropped-step false e es rest dropped here h = ap (λ xs. push_of e ∷ xs) h
 
 -- without the first entry of a key there is none of it
-pub drop_dirty-entries : (key : Key) (es : List (Key × Writes)) → IsDistinct same (keys_of es) → drop_dirty key.file key.block (delayed es) ≡ delayed (remove_entry (same key) es)
+pub drop_dirty-entries : (key : Key) (es : List (Key × Writes)) → IsDistinct same (keys_of es) → drop_dirty key.file key.block (delayed es)
+    ≡ delayed (remove_entry (same key) es)
 drop_dirty-entries key [] d = refl
 drop_dirty-entries key (e ∷ es) d =
     rw (same_key key e.0)
@@ -131,18 +138,22 @@ drop_dirty-entries key (e ∷ es) d =
     (drop_dirty-entries key es (IsDistinct-tail same e.0 (keys_of es) d)))
 
 -- where no entry has the key nothing is written over
-none-written : (key : Key) (number : ℕ) (body : List ℕ) (es : List (Key × Writes)) → NonePasses (same key) es → map (overwritten_at key.file key.block number body) (delayed es) ≡ delayed es
+none-written : (key : Key) (number : ℕ) (body : List ℕ) (es : List (Key × Writes)) → NonePasses (same key) es
+    → map (overwritten_at key.file key.block number body) (delayed es) ≡ delayed es
 none-written key number body [] none = refl
-none-written key number body (e ∷ es) none = let off : (e.0.file == key.file && e.0.block == key.block) ≡ false = sym (same_key key e.0) ∙ none.0 in rw off (ap (λ xs. push_of e ∷ xs) (none-written key number body es none.1))
+none-written key number body (e ∷ es) none = let off : (e.0.file == key.file && e.0.block == key.block) ≡ false = sym (same_key key e.0) ∙ none.0 in
+    rw off (ap (λ xs. push_of e ∷ xs) (none-written key number body es none.1))
 
 -- delayed writes of a block with another last one
 abbrev pub IsRewritten : (number : ℕ) (body : List ℕ) → (before after : Writes) → Type 0
 IsRewritten number body before after = (after.first ≡ before.first) × (after.last ≡ number) × (after.body ≡ body)
 
-rewritten : (number : ℕ) (body : List ℕ) (key : Key) (before after : Writes) → IsRewritten number body before after → push_of (key, after) ≡ record (push_of (key, before)) { last = number; body = body }
+rewritten : (number : ℕ) (body : List ℕ) (key : Key) (before after : Writes) → IsRewritten number body before after → push_of (key, after)
+    ≡ record (push_of (key, before)) { last = number; body = body }
 rewritten number body key before after h = rw (h.0, h.1, h.2) refl
 
-overwritten-step : (number : ℕ) (body : List ℕ) (b : Bool) (e : Key × Writes) (v w : Writes) (o : Option Writes) (es done : List (Key × Writes)) (rest : List Push)
+overwritten-step : (number : ℕ) (body : List ℕ) (b : Bool) (e : Key × Writes) (v w : Writes) (o : Option Writes) (es done : List (Key × Writes))
+    (rest : List Push)
     → cond b (Some e.1) o ≡ Some v → IsRewritten number body v w → (b ≡ true → rest ≡ delayed es) → (o ≡ Some v → rest ≡ delayed done)
     → cond b (record (push_of e) { last = number; body = body }) (push_of e) ∷ rest ≡ delayed (cond b ((e.0, w) ∷ es) (e ∷ done))
 overwritten-step number body true e v w o es done rest found h here there =
@@ -152,7 +163,9 @@ overwritten-step number body true e v w o es done rest found h here there =
 overwritten-step number body false e v w o es done rest found h here there = ap (λ xs. push_of e ∷ xs) (there found)
 
 -- a block that is there gets another last write in its place
-pub overwritten-entries : (key : Key) (number : ℕ) (body : List ℕ) (v w : Writes) (es : List (Key × Writes)) → IsDistinct same (keys_of es) → lookup (same key) es ≡ Some v → IsRewritten number body v w → delayed (set_value (same key) es w) ≡ map (overwritten_at key.file key.block number body) (delayed es)
+pub overwritten-entries : (key : Key) (number : ℕ) (body : List ℕ) (v w : Writes) (es : List (Key × Writes)) → IsDistinct same (keys_of es)
+    → lookup (same key) es ≡ Some v → IsRewritten number body v w → delayed (set_value (same key) es w) ≡ map (overwritten_at key.file key.block
+    number body) (delayed es)
 overwritten-entries key number body v w [] d found h = absurd cc
 overwritten-entries key number body v w (e ∷ es) d found h =
     sym (rw (sym (same_key key e.0))
@@ -162,22 +175,27 @@ overwritten-entries key number body v w (e ∷ es) d found h =
     (λ on. none-written key number body es (none_past_head is_equivalence key e es d on))
     (λ at. sym (overwritten-entries key number body v w es (IsDistinct-tail same e.0 (keys_of es) d) at h))))
 
-written-there : (key : Key) (number : ℕ) (body : List ℕ) (dirty : List Push) (o : Option Push) → is_some o ≡ true → with_write key.file key.block number body dirty o ≡ map (overwritten_at key.file key.block number body) dirty
+written-there : (key : Key) (number : ℕ) (body : List ℕ) (dirty : List Push) (o : Option Push) → is_some o ≡ true → with_write key.file key.block
+    number body dirty o ≡ map (overwritten_at key.file key.block number body) dirty
 written-there key number body dirty None h = absurd cc
 written-there key number body dirty (Some p) h = refl
 
 -- the write of a block that is there
-pub write_in-there : (key : Key) (number : ℕ) (body : List ℕ) (v w : Writes) (es : List (Key × Writes)) → IsDistinct same (keys_of es) → lookup (same key) es ≡ Some v → IsRewritten number body v w → delayed (set_value (same key) es w) ≡ write_in key.file key.block number body (delayed es)
+pub write_in-there : (key : Key) (number : ℕ) (body : List ℕ) (v w : Writes) (es : List (Key × Writes)) → IsDistinct same (keys_of es)
+    → lookup (same key) es ≡ Some v → IsRewritten number body v w → delayed (set_value (same key) es w) ≡ write_in key.file key.block number body (delayed es)
 write_in-there key number body v w es d found h =
     overwritten-entries key number body v w es d found h
     ∙ sym (written-there key number body (delayed es) (dirty_at key.file key.block (delayed es)) (is_there key es ∙ ap is_some found))
 
-written-new : (key : Key) (number : ℕ) (body : List ℕ) (dirty : List Push) (o : Option Push) → is_some o ≡ false → with_write key.file key.block number body dirty o ≡ dirty ++ record { file = key.file; block = key.block; first = number; last = number; body = body } ∷ []
+written-new : (key : Key) (number : ℕ) (body : List ℕ) (dirty : List Push) (o : Option Push) → is_some o ≡ false → with_write key.file key.block
+    number body dirty o ≡ dirty ++ record { file = key.file; block = key.block; first = number; last = number; body = body } ∷ []
 written-new key number body dirty None h = refl
 written-new key number body dirty (Some p) h = absurd cc
 
 -- the write of another block
-pub write_in-new : (key : Key) (number : ℕ) (body : List ℕ) (w : Writes) (es : List (Key × Writes)) → is_some (dirty_at key.file key.block (delayed es)) ≡ false → w.first ≡ number → w.last ≡ number → w.body ≡ body → delayed (es ++ (key, w) ∷ []) ≡ write_in key.file key.block number body (delayed es)
+pub write_in-new : (key : Key) (number : ℕ) (body : List ℕ) (w : Writes) (es : List (Key × Writes))
+    → is_some (dirty_at key.file key.block (delayed es)) ≡ false → w.first ≡ number → w.last ≡ number → w.body ≡ body → delayed (es ++ (key, w) ∷ [])
+    ≡ write_in key.file key.block number body (delayed es)
 write_in-new key number body w es absent f l b =
     map_push push_of es (key, w)
     ∙ rw (f, l, b) (sym (written-new key number body (delayed es) (dirty_at key.file key.block (delayed es)) absent))
@@ -231,12 +249,15 @@ abbrev pub lost_count : ℕ → List (Key × Writes) → ℕ
 lost_count file es = length (filter (is_push_of file) (delayed es))
 
 -- the first entry is of the file: its loss comes first
-pub lost-more : (file : ℕ) (items : List Loss) (e : Key × Writes) (es rest : List (Key × Writes)) → es ≡ e ∷ rest → (e.0.file == file) ≡ true → (items ++ loss_of (push_of e) ∷ []) ++ lost file rest ≡ items ++ lost file es
+pub lost-more : (file : ℕ) (items : List Loss) (e : Key × Writes) (es rest : List (Key × Writes)) → es ≡ e ∷ rest → (e.0.file == file) ≡ true
+    → (items ++ loss_of (push_of e) ∷ []) ++ lost file rest ≡ items ++ lost file es
 lost-more file items e es rest split on = append_assoc items (loss_of (push_of e) ∷ []) (lost file rest) ∙ rw (split, on) refl
 
-pub lost_count-more : (file : ℕ) (e : Key × Writes) (es rest : List (Key × Writes)) → es ≡ e ∷ rest → (e.0.file == file) ≡ true → lost_count file es ≡ lost_count file rest + 1
+pub lost_count-more : (file : ℕ) (e : Key × Writes) (es rest : List (Key × Writes)) → es ≡ e ∷ rest → (e.0.file == file) ≡ true → lost_count file es
+    ≡ lost_count file rest + 1
 lost_count-more file e es rest split on = rw (split, on) (sym (add-one (lost_count file rest)))
 
 -- it is of another file: it makes no loss
-pub lost-less : (file : ℕ) (e : Key × Writes) (es rest : List (Key × Writes)) → es ≡ e ∷ rest → (e.0.file == file) ≡ false → filter (is_push_of file) (delayed rest) ≡ filter (is_push_of file) (delayed es)
+pub lost-less : (file : ℕ) (e : Key × Writes) (es rest : List (Key × Writes)) → es ≡ e ∷ rest → (e.0.file == file) ≡ false → filter (is_push_of file)
+    (delayed rest) ≡ filter (is_push_of file) (delayed es)
 lost-less file e es rest split off = rw (split, off) refl

@@ -15,13 +15,17 @@ first : (a b c d e f : Bool) → (((((a && b) && c) && d) && e) && f) ≡ true �
 first true b c d e f h = refl
 first false b c d e f h = h
 
-caching : (now : ℕ) (notices : List Notice) (dirty : List Push) (push : Option Push) (o : Option Lease) → passes file_of_lease lease_in (is_to_renew_in now notices dirty push) o ≡ true → holds_caching o ≡ true
+caching : (now : ℕ) (notices : List Notice) (dirty : List Push) (push : Option Push) (o : Option Lease) → passes file_of_lease lease_in
+    (is_to_renew_in now notices dirty push) o ≡ true → holds_caching o ≡ true
 caching now notices dirty push None h = h
 caching now notices dirty push (Some l) h =
     first (caches l.mode) (is_live now l) l.used (nat_le l.expiry (now + renewal)) (is_clean_in l.file dirty push) (not (is_some (notice_on l.file notices))) h
 
 -- the lease to renew is a caching one
-pub renewed-caches : (now : ℕ) (rows : List Row) (notices : List Notice) (dirty : List Push) (push : Option Push) (o : Option ℕ) → Ascends file_of_row rows → o ≡ renewed_in now (map lease_in rows) notices dirty push → IfSome o (λ file. holds_caching (lease_on file (map lease_in rows)) ≡ true)
+pub renewed-caches : (now : ℕ) (rows : List Row) (notices : List Notice) (dirty : List Push) (push : Option Push) (o : Option ℕ)
+    → Ascends file_of_row rows → o ≡ renewed_in now (map lease_in rows) notices dirty push
+    → IfSome o (λ file. holds_caching (lease_on file (map lease_in rows)) ≡ true)
 renewed-caches now rows notices dirty push None a h = tt
 renewed-caches now rows notices dirty push (Some file) a h =
-    caching now notices dirty push (lease_on file (map lease_in rows)) (least-passes file_of_lease lease_in (is_to_renew_in now notices dirty push) rows file a (sym h))
+    caching now notices dirty push (lease_on file (map lease_in rows)) (least-passes file_of_lease lease_in (is_to_renew_in now notices dirty push)
+    rows file a (sym h))

@@ -21,7 +21,8 @@ within-some (y ∷ xs) zero x h = omega arith
 within-some (y ∷ xs) (suc place) x h = let below : place < length xs = within-some xs place x h in omega arith
 
 -- what stands in a changed list
-pub of-map : {A : Type 0} (f : A → A) (xs : List A) (place : ℕ) (y : A) → slice_get (map f xs) place ≡ Some y → (x : A) × (slice_get xs place ≡ Some x) × (f x ≡ y)
+pub of-map : {A : Type 0} (f : A → A) (xs : List A) (place : ℕ) (y : A) → slice_get (map f xs) place ≡ Some y → (x : A)
+    × (slice_get xs place ≡ Some x) × (f x ≡ y)
 of-map f [] place y h = absurd (cc)
 of-map f (x ∷ xs) zero y h = (x, refl, cc)
 of-map f (x ∷ xs) (suc place) y h = of-map f xs place y h
@@ -42,7 +43,8 @@ pub record IsTicked (window place at : ℕ) (hosts : List Counts) (now : Counts)
   pub own : at ≡ place → now ≡ after_host_tick window before
   pub other : (at ≡ place → ⊥) → now ≡ before
 
-pub of-ticked : (window place at : ℕ) (hosts : List Counts) (now : Counts) → slice_get (host_ticked window place hosts) at ≡ Some now → IsTicked window place at hosts now
+pub of-ticked : (window place at : ℕ) (hosts : List Counts) (now : Counts) → slice_get (host_ticked window place hosts) at ≡ Some now
+    → IsTicked window place at hosts now
 of-ticked window place at [] now h = absurd (cc)
 of-ticked window zero zero (c ∷ hosts) now h = record { before = c; stood = refl; own = λ e. cc; other = λ ne. absurd (ne refl) }
 of-ticked window zero (suc at) (c ∷ hosts) now h = record { before = now; stood = h; own = λ e. absurd (omega arith); other = λ ne. refl }
@@ -65,12 +67,14 @@ by-none : (host : ℕ) (o : Option ℕ) (higher : Option SkewBroken) → broken_
 by-none host None higher h = (refl, h)
 by-none host (Some ticks) higher h = absurd (cc)
 
-by-some : (host : ℕ) (o : Option ℕ) (higher : Option SkewBroken) (b : SkewBroken) → broken_by host o higher ≡ Some b → ((ticks : ℕ) × (o ≡ Some ticks) × (record { host = host; server = ticks + 4; client = ticks } ≡ b)) ⊎ ((o ≡ None) × (higher ≡ Some b))
+by-some : (host : ℕ) (o : Option ℕ) (higher : Option SkewBroken) (b : SkewBroken) → broken_by host o higher ≡ Some b → ((ticks : ℕ) × (o ≡ Some ticks)
+    × (record { host = host; server = ticks + 4; client = ticks } ≡ b)) ⊎ ((o ≡ None) × (higher ≡ Some b))
 by-some host None higher b h = inr (refl, h)
 by-some host (Some ticks) higher b h = inl (ticks, refl, cc)
 
 -- no host is three ticks behind
-pub none-first : (host : ℕ) (hosts : List Counts) → first_broken host hosts ≡ None → (place : ℕ) (c : Counts) → slice_get hosts place ≡ Some c → c.three_more ≡ None
+pub none-first : (host : ℕ) (hosts : List Counts) → first_broken host hosts ≡ None → (place : ℕ) (c : Counts) → slice_get hosts place ≡ Some c
+    → c.three_more ≡ None
 none-first host [] none place c h = absurd (cc)
 none-first host (d ∷ hosts) none zero c h =
     let here : d.three_more ≡ None = (by-none host d.three_more (first_broken (host + 1) hosts) none).0 in
@@ -88,7 +92,8 @@ pub record IsFirst (host : ℕ) (hosts : List Counts) (b : SkewBroken) : Type 0 
   pub server : b.server ≡ b.client + 4
   pub lower : (other : ℕ) (c : Counts) → other < place → slice_get hosts other ≡ Some c → c.three_more ≡ None
 
-lower-later : (d : Counts) (hosts : List Counts) (place : ℕ) → d.three_more ≡ None → ((other : ℕ) (c : Counts) → other < place → slice_get hosts other ≡ Some c → c.three_more ≡ None) → (other : ℕ) (c : Counts) → other < suc place → slice_get (d ∷ hosts) other ≡ Some c → c.three_more ≡ None
+lower-later : (d : Counts) (hosts : List Counts) (place : ℕ) → d.three_more ≡ None → ((other : ℕ) (c : Counts) → other < place → slice_get hosts other
+    ≡ Some c → c.three_more ≡ None) → (other : ℕ) (c : Counts) → other < suc place → slice_get (d ∷ hosts) other ≡ Some c → c.three_more ≡ None
 lower-later d hosts place here lower zero c below h =
     let same : d ≡ c = cc in subst (λ (x : Counts). x.three_more ≡ None) same here
 lower-later d hosts place here lower (suc other) c below h = lower other c (omega arith) h
@@ -130,15 +135,11 @@ mapped_to f zero xs = xs
 mapped_to f (suc n) [] = []
 mapped_to f (suc n) (x ∷ xs) = f x ∷ mapped_to f n xs
 
-pub mapped_to-next : {A : Type 0} (f : A → A) (n : ℕ) (xs : List A) (d : A) → n < length xs → set (mapped_to f n xs) n (f (get_or (mapped_to f n xs) n d)) ≡ mapped_to f (suc n) xs
+pub mapped_to-next : {A : Type 0} (f : A → A) (n : ℕ) (xs : List A) (d : A) → n < length xs → set (mapped_to f n xs) n
+    (f (get_or (mapped_to f n xs) n d)) ≡ mapped_to f (suc n) xs
 mapped_to-next f n [] d below = absurd (omega arith)
 mapped_to-next f zero (x ∷ xs) d below = refl
 mapped_to-next f (suc n) (x ∷ xs) d below = ap (λ ys. f x ∷ ys) (mapped_to-next f n xs d (omega arith))
-
-pub length-mapped_to : {A : Type 0} (f : A → A) (n : ℕ) (xs : List A) → length (mapped_to f n xs) ≡ length xs
-length-mapped_to f zero xs = refl
-length-mapped_to f (suc n) [] = refl
-length-mapped_to f (suc n) (x ∷ xs) = ap (λ k. suc k) (length-mapped_to f n xs)
 
 pub mapped_to-all : {A : Type 0} (f : A → A) (n : ℕ) (xs : List A) → length xs ≤ n → mapped_to f n xs ≡ map f xs
 mapped_to-all f zero [] all = refl
@@ -150,7 +151,8 @@ pub replicate-end : {A : Type 0} (n : ℕ) (x : A) → replicate n x ++ x ∷ []
 replicate-end zero x = refl
 replicate-end (suc n) x = ap (λ ys. x ∷ ys) (replicate-end n x)
 
-pub set-ticked : (window place : ℕ) (hosts : List Counts) (d : Counts) → place < length hosts → set hosts place (after_host_tick window (get_or hosts place d)) ≡ host_ticked window place hosts
+pub set-ticked : (window place : ℕ) (hosts : List Counts) (d : Counts) → place < length hosts
+    → set hosts place (after_host_tick window (get_or hosts place d)) ≡ host_ticked window place hosts
 set-ticked window place [] d below = absurd (omega arith)
 set-ticked window zero (c ∷ hosts) d below = refl
 set-ticked window (suc place) (c ∷ hosts) d below = ap (λ cs. c ∷ cs) (set-ticked window place hosts d (omega arith))
@@ -158,7 +160,8 @@ set-ticked window (suc place) (c ∷ hosts) d below = ap (λ cs. c ∷ cs) (set-
 -- the counts that a ring has after a tick of the host's clock
 pub ring-ticked : (window : ℕ) (xs : List (Option ℕ)) → length xs ≡ 3
     → counts_of
-    (keep_last 3 (keep_last 3 (keep_last 3 (drop 1 (drop 1 (drop 1 xs)) ++ one_on window (option_flatten (slice_get (drop 1 xs) 0)) ∷ []) ++ one_on window (option_flatten (slice_get (drop 1 (drop 1 xs)) 0)) ∷ []) ++ None ∷ []))
+    (keep_last 3 (keep_last 3 (keep_last 3 (drop 1 (drop 1 (drop 1 xs)) ++ one_on window (option_flatten (slice_get (drop 1 xs) 0)) ∷ [])
+    ++ one_on window (option_flatten (slice_get (drop 1 (drop 1 xs)) 0)) ∷ []) ++ None ∷ []))
     ≡ after_host_tick window (counts_of xs)
 ring-ticked window [] three = absurd (omega arith)
 ring-ticked window (a ∷ []) three = absurd (omega arith)

@@ -35,14 +35,16 @@ lead-of window host events (d ∷ part) ends breaks =
     }
 
 -- the other way round
-with-tick : (window host : ℕ) (events part : List Event) → Leads window host 3 events part → EndsNow (Event.ServerTick ∷ part) (Event.ServerTick ∷ events) × Breaks host window (Event.ServerTick ∷ part)
+with-tick : (window host : ℕ) (events part : List Event) → Leads window host 3 events part → EndsNow (Event.ServerTick ∷ part) (Event.ServerTick
+    ∷ events) × Breaks host window (Event.ServerTick ∷ part)
 with-tick window host events part lead =
     let few = lead.few in
     let ahead = lead.ahead in
     (record { before = lead.ends.before; split = ap (λ es. Event.ServerTick ∷ es) lead.ends.split }, record { few = omega arith; more = omega arith })
 
 -- what breaks the rule for a host shows in its counts
-shows : (s : SkewCounts) (events part : List Event) (host : ℕ) (c : Counts) → Follows s events → slice_get s.hosts host ≡ Some c → EndsNow part (Event.ServerTick ∷ events) → Breaks host s.window part → IsSomeUpTo c.three_more (ticks_of host part)
+shows : (s : SkewCounts) (events part : List Event) (host : ℕ) (c : Counts) → Follows s events → slice_get s.hosts host ≡ Some c
+    → EndsNow part (Event.ServerTick ∷ events) → Breaks host s.window part → IsSomeUpTo c.three_more (ticks_of host part)
 shows s events part host c h stands ends breaks =
     let lead = lead-of s.window host events part ends breaks in
     let up_to = (h.tracks host c stands).three_more.fewest lead.earlier lead.leads in
@@ -51,7 +53,8 @@ shows s events part host c h stands ends breaks =
     record { ticks = up_to.ticks; is = up_to.is; up_to = omega arith }
 
 -- nothing shows where nothing is broken
-none-shows : (s : SkewCounts) (events : List Event) (b : SkewBroken) → Follows s events → first_broken 0 s.hosts ≡ None → IsLowest (length s.hosts) s.window (Event.ServerTick ∷ events) b → ⊥
+none-shows : (s : SkewCounts) (events : List Event) (b : SkewBroken) → Follows s events → first_broken 0 s.hosts ≡ None → IsLowest (length s.hosts)
+    s.window (Event.ServerTick ∷ events) b → ⊥
 none-shows s events b h none low =
     let at = some-within s.hosts b.host low.below in
     let up_to = shows s events low.fewest.part b.host at.0 h at.1 low.fewest.ends low.fewest.breaks in
@@ -65,7 +68,8 @@ same-broken a b host server client =
     ap (λ h. of h a.server a.client) host ∙ ap (λ s. of b.host s a.client) server ∙ ap (λ c. of b.host b.server c) client
 
 -- the host and the counts are those of what is broken
-first-host : (s : SkewCounts) (events : List Event) (b named : SkewBroken) → Follows s events → IsFirst 0 s.hosts b → IsLowest (length s.hosts) s.window (Event.ServerTick ∷ events) named → (named.host ≡ b.host) ⊎ ((named.host < b.host) ⊎ (b.host < named.host)) → named.host ≡ b.host
+first-host : (s : SkewCounts) (events : List Event) (b named : SkewBroken) → Follows s events → IsFirst 0 s.hosts b → IsLowest (length s.hosts)
+    s.window (Event.ServerTick ∷ events) named → (named.host ≡ b.host) ⊎ ((named.host < b.host) ⊎ (b.host < named.host)) → named.host ≡ b.host
 first-host s events b named h first low (inl same) = same
 first-host s events b named h first low (inr (inl lower)) =
     let at = some-within s.hosts named.host low.below in
@@ -81,7 +85,8 @@ first-host s events b named h first low (inr (inr higher)) =
     let broken = with-tick s.window b.host events lead.part lead.leads in
     absurd (low.lowest b.host (Event.ServerTick ∷ lead.part) higher broken.0 broken.1)
 
-named-first : (s : SkewCounts) (events : List Event) (b named : SkewBroken) → Follows s events → IsFirst 0 s.hosts b → IsLowest (length s.hosts) s.window (Event.ServerTick ∷ events) named → named.server ≡ named.client + skew + 1 → named ≡ b
+named-first : (s : SkewCounts) (events : List Event) (b named : SkewBroken) → Follows s events → IsFirst 0 s.hosts b → IsLowest (length s.hosts)
+    s.window (Event.ServerTick ∷ events) named → named.server ≡ named.client + skew + 1 → named ≡ b
 named-first s events b named h first low one_more =
     let host : named.host ≡ b.host = first-host s events b named h first low (cases_order named.host b.host) in
     let place : b.host ≡ first.place = let at = first.at in omega arith in
@@ -107,7 +112,8 @@ named-first s events b named h first low one_more =
     let server_is = first.server in
     same-broken named b host (omega arith) client
 
-named-is : (s : SkewCounts) (events : List Event) (named found : Option SkewBroken) → Follows s events → IsJudged (length s.hosts) s.window events named → first_broken 0 s.hosts ≡ found → named ≡ found
+named-is : (s : SkewCounts) (events : List Event) (named found : Option SkewBroken) → Follows s events → IsJudged (length s.hosts) s.window events
+    named → first_broken 0 s.hosts ≡ found → named ≡ found
 named-is s events None None h judged first = refl
 named-is s events (Some named) None h judged first = absurd (none-shows s events named h first (judged.named named refl))
 named-is s events None (Some b) h judged first =
@@ -118,7 +124,8 @@ named-is s events None (Some b) h judged first =
     let broken = with-tick s.window b.host events lead.part lead.leads in
     let few = broken.1.few in
     let more = broken.1.more in
-    let keeps = judged.within refl [] (Event.ServerTick ∷ lead.part) broken.0.before broken.0.split b.host (within-some s.hosts b.host lowest.counts stands) few in
+    let keeps = judged.within refl [] (Event.ServerTick ∷ lead.part) broken.0.before broken.0.split b.host (within-some s.hosts b.host lowest.counts
+    stands) few in
     absurd (omega arith)
 named-is s events (Some named) (Some b) h judged first =
     ap (λ x. Some x) (named-first s events b named h (some-first 0 s.hosts b first) (judged.named named refl) (judged.one_more named refl))
@@ -136,10 +143,12 @@ found-named s events h =
     refl
 
 -- what is found is nothing exactly where the tick keeps to the rule
-pub none-within : (s : SkewCounts) (events : List Event) → Follows s events → first_broken 0 s.hosts ≡ None → IsWithinSkew (length s.hosts) s.window (Event.ServerTick ∷ events)
+pub none-within : (s : SkewCounts) (events : List Event) → Follows s events → first_broken 0 s.hosts ≡ None → IsWithinSkew (length s.hosts) s.window
+    (Event.ServerTick ∷ events)
 none-within s events h none = (each-tick-is-judged (length s.hosts) s.window events h.within).within (found-named s events h ∙ none)
 
-pub some-broken : (s : SkewCounts) (events : List Event) (b : SkewBroken) → Follows s events → first_broken 0 s.hosts ≡ Some b → IsWithinSkew (length s.hosts) s.window (Event.ServerTick ∷ events) → ⊥
+pub some-broken : (s : SkewCounts) (events : List Event) (b : SkewBroken) → Follows s events → first_broken 0 s.hosts ≡ Some b
+    → IsWithinSkew (length s.hosts) s.window (Event.ServerTick ∷ events) → ⊥
 some-broken s events b h some within =
     let none = (each-tick-is-judged (length s.hosts) s.window events h.within).refused within in
     let found = found-named s events h in
@@ -148,17 +157,21 @@ some-broken s events b h some within =
 -- ---- as the code's goals say it
 
 -- the server's clock may tick
-pub judged-none : (s : SkewCounts) (events : List Event) (found : Option SkewBroken) → found ≡ first_broken 0 s.hosts → found ≡ None → Follows s events → IsWithinSkew (length s.hosts) s.window (Event.ServerTick ∷ events)
+pub judged-none : (s : SkewCounts) (events : List Event) (found : Option SkewBroken) → found ≡ first_broken 0 s.hosts → found ≡ None
+    → Follows s events → IsWithinSkew (length s.hosts) s.window (Event.ServerTick ∷ events)
 judged-none s events found is none h = none-within s events h (sym is ∙ none)
 
 -- it may not
-pub judged-broken : (s : SkewCounts) (events : List Event) (found : Option SkewBroken) (b : SkewBroken) → found ≡ first_broken 0 s.hosts → found ≡ Some b → Follows s events → IsWithinSkew (length s.hosts) s.window (Event.ServerTick ∷ events) → ⊥
+pub judged-broken : (s : SkewCounts) (events : List Event) (found : Option SkewBroken) (b : SkewBroken) → found ≡ first_broken 0 s.hosts
+    → found ≡ Some b → Follows s events → IsWithinSkew (length s.hosts) s.window (Event.ServerTick ∷ events) → ⊥
 judged-broken s events found b is some h = some-broken s events b h (sym is ∙ some)
 
-pub named-broken : (s : SkewCounts) (events : List Event) (found : Option SkewBroken) (b : SkewBroken) → found ≡ first_broken 0 s.hosts → found ≡ Some b → Follows s events → skew_broken (length s.hosts) s.window events ≡ Some b
+pub named-broken : (s : SkewCounts) (events : List Event) (found : Option SkewBroken) (b : SkewBroken) → found ≡ first_broken 0 s.hosts
+    → found ≡ Some b → Follows s events → skew_broken (length s.hosts) s.window events ≡ Some b
 named-broken s events found b is some h = found-named s events h ∙ sym is ∙ some
 
-pub lawful-is : (s : SkewCounts) (events : List Event) (found : Option SkewBroken) (b : Bool) → found ≡ first_broken 0 s.hosts → is_some found ≡ not b → Follows s events → IsTrue b ↔ IsWithinSkew (length s.hosts) s.window (Event.ServerTick ∷ events)
+pub lawful-is : (s : SkewCounts) (events : List Event) (found : Option SkewBroken) (b : Bool) → found ≡ first_broken 0 s.hosts → is_some found ≡ not b
+    → Follows s events → IsTrue b ↔ IsWithinSkew (length s.hosts) s.window (Event.ServerTick ∷ events)
 lawful-is s events None true is test h = (λ e. judged-none s events None is refl h, λ within. refl)
 lawful-is s events None false is test h = absurd (cc)
 lawful-is s events (Some b) true is test h = absurd (cc)

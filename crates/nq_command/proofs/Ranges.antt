@@ -4,7 +4,8 @@ use Rattle.std.specs.Prelude.{IfSome, if◌then◌else◌}
 use Rattle.std.specs.Str.{bytes_eq}
 use Rattle.std.proofs.lemmas.Bool.Decides.{nat_tests}
 use Rattle.nq_base.specs.Steps.{◌>>=◌}
-use Rattle.nq_command.specs.Commands.{AreHosts, IsRanged, IsTerm, alone_of, client_of, command_of, counted_of, kind_of, loop_of, numbered_of, paired_of, ranged_of, serve_of, storm_of}
+use Rattle.nq_command.specs.Commands.{AreHosts, IsRanged, IsTerm, alone_of, client_of, command_of, counted_of, kind_of, loop_of, numbered_of}
+use Rattle.nq_command.specs.Commands.{paired_of, ranged_of, serve_of, storm_of}
 use Rattle.nq_command.specs.declared.commands.Command.{Command}
 use Rattle.nq_script.specs.WordsReading.{number_of, only_if, u64_of}
 
@@ -14,7 +15,8 @@ one_of true one other is so = is
 one_of false one other is so = so
 
 -- what follows from a step
-behind : {A B : Type 0} (P : A → Type 0) (Q : B → Type 0) (step : Option A) (next : A → Option B) → IfSome step P → ((x : A) → P x → IfSome (next x) Q) → IfSome (step >>= next) Q
+behind : {A B : Type 0} (P : A → Type 0) (Q : B → Type 0) (step : Option A) (next : A → Option B) → IfSome step P
+    → ((x : A) → P x → IfSome (next x) Q) → IfSome (step >>= next) Q
 behind P Q None next is all = tt
 behind P Q (Some x) next is all = all x is
 
@@ -33,14 +35,16 @@ number_within : (most : ℕ) (word : List ℕ) → IfSome (number_of most word) 
 unfolding number_of
 number_within most word = behind_any (λ v. v ≤ most) (u64_of word) (λ n. only_if (nat_le n most) n) (λ n. up_to most n (nat_le n most) refl)
 
-from : (least most value : ℕ) (test : Bool) → nat_lt value least ≡ test → value ≤ most → IfSome (if test then None else Some value) (λ n. (least ≤ n) × (n ≤ most))
+from : (least most value : ℕ) (test : Bool) → nat_lt value least ≡ test → value ≤ most → IfSome (if test then None else Some value) (λ n. (least ≤ n)
+    × (n ≤ most))
 from least most value true is small = tt
 from least most value false is small = (grind (arith, nat_tests), small)
 
 ranged_within : (least most : ℕ) (word : List ℕ) → IfSome (ranged_of least most word) (λ n. (least ≤ n) × (n ≤ most))
 unfolding ranged_of
 ranged_within least most word =
-    behind (λ v. v ≤ most) (λ n. (least ≤ n) × (n ≤ most)) (number_of most word) (λ v. if nat_lt v least then None else Some v) (number_within most word) (λ v small. from least most v (nat_lt v least) refl small)
+    behind (λ v. v ≤ most) (λ n. (least ≤ n) × (n ≤ most)) (number_of most word) (λ v. if nat_lt v least then None else Some v)
+    (number_within most word) (λ v small. from least most v (nat_lt v least) refl small)
 
 -- ---- commands
 
@@ -52,17 +56,20 @@ serve_ranged turns longest is =
 loop_ranged : (hosts turns : List ℕ) → IfSome (loop_of hosts turns) IsRanged
 unfolding loop_of
 loop_ranged hosts turns =
-    behind AreHosts IsRanged (ranged_of 1 64 hosts) _ (ranged_within 1 64 hosts) (λ h fits. behind_any IsRanged (ranged_of 1 1000000 turns) (λ n. Some (Command.Loop h n)) (λ n. fits))
+    behind AreHosts IsRanged (ranged_of 1 64 hosts) _ (ranged_within 1 64 hosts) (λ h fits. behind_any IsRanged (ranged_of 1 1000000 turns)
+    (λ n. Some (Command.Loop h n)) (λ n. fits))
 
 storm_ranged : (kind start events : List ℕ) → IfSome (storm_of kind start events) IsRanged
 unfolding storm_of
 storm_ranged kind start events =
-    behind_any IsRanged (kind_of kind) _ (λ k. behind_any IsRanged (number_of 18446744073709551615 start) _ (λ s. behind_any IsRanged (ranged_of 1 100000 events) (λ n. Some (Command.Storm k s n)) (λ n. tt)))
+    behind_any IsRanged (kind_of kind) _ (λ k. behind_any IsRanged (number_of 18446744073709551615 start) _
+    (λ s. behind_any IsRanged (ranged_of 1 100000 events) (λ n. Some (Command.Storm k s n)) (λ n. tt)))
 
 client_ranged : (host inc turns : List ℕ) → IfSome (client_of host inc turns) IsRanged
 unfolding client_of
 client_ranged host inc turns =
-    behind_any IsRanged (ranged_of 0 63 host) _ (λ h. behind_any IsRanged (ranged_of 1 4294967295 inc) _ (λ i. behind_any IsRanged (ranged_of 1 1000000 turns) (λ n. Some (Command.Client h i n)) (λ n. tt)))
+    behind_any IsRanged (ranged_of 0 63 host) _ (λ h. behind_any IsRanged (ranged_of 1 4294967295 inc) _
+    (λ i. behind_any IsRanged (ranged_of 1 1000000 turns) (λ n. Some (Command.Client h i n)) (λ n. tt)))
 
 alone_ranged : (name : List ℕ) → IfSome (alone_of name) IsRanged
 unfolding alone_of
@@ -80,7 +87,8 @@ counted_ranged name turns = one_of (bytes_eq name (codes "serve")) (serve_of tur
 paired_ranged : (name first second : List ℕ) → IfSome (paired_of name first second) IsRanged
 unfolding paired_of
 paired_ranged name first second =
-    one_of (bytes_eq name (codes "serve")) (serve_of first (ranged_of 5 600 second)) _ (serve_ranged first (ranged_of 5 600 second) (ranged_within 5 600 second)) (
+    one_of (bytes_eq name (codes "serve")) (serve_of first (ranged_of 5 600 second)) _ (serve_ranged first (ranged_of 5 600 second)
+    (ranged_within 5 600 second)) (
     one_of (bytes_eq name (codes "loop")) (loop_of first second) None (loop_ranged first second) tt)
 
 numbered_ranged : (name first second third : List ℕ) → IfSome (numbered_of name first second third) IsRanged

@@ -1,7 +1,6 @@
 -- What words say.
 use Rattle.std.specs.Prelude.{◌≡◌, ◌≤◌, ℕ, nat_lt, List, [], ◌∷◌, Option, Some, None, if◌then◌else◌, codes, ⊤}
 use Rattle.std.specs.Str.{bytes_eq}
-use Rattle.nq_base.specs.Steps.{◌>>=◌}
 use Rattle.nq_command.specs.declared.commands.Command.{Command}
 use Rattle.nq_script.specs.WordsReading.{number_of}
 

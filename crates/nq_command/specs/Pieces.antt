@@ -1,5 +1,6 @@
 -- Whole files in blocks.
-use Rattle.std.specs.Prelude.{ℕ, ◌+◌, ◌-◌, ◌*◌, ◌/◌, ◌==◌, ◌&&◌, List, [], ◌++◌, Option, Some, None, zero, suc, length, take, drop, replicate, codes, bytes_eq, nat_le, if◌then◌else◌}
+use Rattle.std.specs.Prelude.{ℕ, ◌+◌, ◌-◌, ◌*◌, ◌/◌, ◌==◌, ◌&&◌, List, [], ◌++◌, Option, Some, None, zero, suc, length, take, drop, replicate, codes}
+use Rattle.std.specs.Prelude.{bytes_eq, nat_le, if◌then◌else◌}
 use Rattle.nq_base.specs.Block.{value_of, word}
 
 -- the most bytes of a file: those of 1024 blocks but the first

@@ -16,7 +16,8 @@ use Rattle.nq_wire.specs.Parts.{grant_bytes, optional}
 use Rattle.nq_wire.specs.Procedure.{number_of}
 use Rattle.nq_wire.specs.Reply.{ok, results, IsReply}
 use Rattle.nq_wire.specs.Status.{status_number}
-use Rattle.nq_wire.specs.Reading.{item, body_at, optional_at, grant_at, found_at, created_at, attributes_at, block_at, written_at, lease_at, resized_at, results_at, refusal_of, answer_at, reply_at, whole, wired, reply_in}
+use Rattle.nq_wire.specs.Reading.{item, body_at, optional_at, grant_at, found_at, created_at, attributes_at, block_at, written_at, lease_at}
+use Rattle.nq_wire.specs.Reading.{resized_at, results_at, refusal_of, answer_at, reply_at, whole, wired, reply_in}
 use Rattle.nq_wire.proofs.Whole.{numbered-number_of, reply_is}
 
 -- a step that went on
@@ -66,11 +67,13 @@ results-inc Remove inc bytes x h = read-inc (reply.Remove inc) bytes x h
 refused-inc : (n inc : ℕ) (rest : List ℕ) (x : Reply × List ℕ) → (refusal_of n >>= λ status. Ok (reply.Refused inc status, rest)) ≡ Ok x → inc_of x.0 ≡ inc
 refused-inc n inc rest x h = let a = then-ok (refusal_of n) (λ status. Ok (reply.Refused inc status, rest)) x h in read-inc (reply.Refused inc a.0) rest x a.2
 
-status-inc : (test : Bool) (p : Procedure) (n inc : ℕ) (rest : List ℕ) (x : Reply × List ℕ) → (if test then results_at p inc rest else (refusal_of n >>= λ status. Ok (reply.Refused inc status, rest))) ≡ Ok x → inc_of x.0 ≡ inc
+status-inc : (test : Bool) (p : Procedure) (n inc : ℕ) (rest : List ℕ) (x : Reply × List ℕ) → (if test then results_at p inc rest
+    else (refusal_of n >>= λ status. Ok (reply.Refused inc status, rest))) ≡ Ok x → inc_of x.0 ≡ inc
 status-inc true p n inc rest x h = results-inc p inc rest x h
 status-inc false p n inc rest x h = refused-inc n inc rest x h
 
-answer-inc : (p : Procedure) (inc : ℕ) (bytes rest : List ℕ) (x : Reply × List ℕ) → word_at bytes ≡ Ok (inc, rest) → answer_at p bytes ≡ Ok x → inc_of x.0 ≡ inc
+answer-inc : (p : Procedure) (inc : ℕ) (bytes rest : List ℕ) (x : Reply × List ℕ) → word_at bytes ≡ Ok (inc, rest) → answer_at p bytes ≡ Ok x
+    → inc_of x.0 ≡ inc
 unfolding answer_at
 answer-inc p inc bytes rest x word h =
     let a =
@@ -83,18 +86,22 @@ answer-inc p inc bytes rest x word h =
     status-inc (a.0.0 == 0) p a.0.0 inc a.0.1 x a.2
 
 -- all of the bytes were read
-ended-whole : (p : Procedure) (bytes : List ℕ) (a : Reply) → wired (whole (reply_at p bytes)) ≡ Ok a → (x : Reply × List ℕ) × (reply_at p bytes ≡ Ok x) × (x.0 ≡ a) × (x.1 ≡ [])
+ended-whole : (p : Procedure) (bytes : List ℕ) (a : Reply) → wired (whole (reply_at p bytes)) ≡ Ok a → (x : Reply × List ℕ)
+    × (reply_at p bytes ≡ Ok x) × (x.0 ≡ a) × (x.1 ≡ [])
 ended-whole p bytes a h =
-    elim (reply_at p bytes) as (λ r. reply_at p bytes ≡ r → wired (whole r) ≡ Ok a → (x : Reply × List ℕ) × (reply_at p bytes ≡ Ok x) × (x.0 ≡ a) × (x.1 ≡ [])) [
+    elim (reply_at p bytes) as (λ r. reply_at p bytes ≡ r → wired (whole r) ≡ Ok a → (x : Reply × List ℕ) × (reply_at p bytes ≡ Ok x) × (x.0 ≡ a)
+    × (x.1 ≡ [])) [
       | Ok x ↦ λ is read. at x is x.1 refl read
       | Err e ↦ λ is read. absurd (cc)
     ]
     refl
     h
   where
-    at : (x : Reply × List ℕ) → reply_at p bytes ≡ Ok x → (rest : List ℕ) → x.1 ≡ rest → wired (if length rest == 0 then Ok x.0 else Err garbage) ≡ Ok a → (y : Reply × List ℕ) × (reply_at p bytes ≡ Ok y) × (y.0 ≡ a) × (y.1 ≡ [])
+    at : (x : Reply × List ℕ) → reply_at p bytes ≡ Ok x → (rest : List ℕ) → x.1 ≡ rest → wired (if length rest == 0 then Ok x.0 else Err garbage)
+        ≡ Ok a → (y : Reply × List ℕ) × (reply_at p bytes ≡ Ok y) × (y.0 ≡ a) × (y.1 ≡ [])
     at x is [] none read = (x, is, cc, none)
-    at x is (b ∷ rest) some read = absurd (let more : (length (b ∷ rest) == 0) ≡ false = ne_eqb (length (b ∷ rest)) 0 (λ e. omega arith) in let bad = rw more at read in cc)
+    at x is (b ∷ rest) some read = absurd (let more : (length (b ∷ rest) == 0) ≡ false = ne_eqb (length (b ∷ rest)) 0 (λ e. omega arith) in let bad =
+        rw more at read in cc)
 
 -- the incarnation stands in front of all results but NULL's
 front : (a : Reply) → IsReply a → ((a ≡ reply.Null) ⊎ ((rest : List ℕ) × (word_at (results a) ≡ Ok (inc_of a, rest))))
@@ -104,7 +111,11 @@ front (reply.Attach inc) fits = inr (_, word_again inc (word 0) fits)
 front (reply.Lookup inc file blocks) fits = inr (_, ap word_at (simp append_assoc) ∙ word_again inc (word 0 ++ (word file ++ word blocks)) fits.0)
 front (reply.Create inc file) fits = inr (_, ap word_at (simp append_assoc) ∙ word_again inc (word 0 ++ word file) fits.0)
 front (reply.GetAttr inc blocks rev) fits = inr (_, ap word_at (simp append_assoc) ∙ word_again inc (word 0 ++ (word blocks ++ hyper rev)) fits.0)
-front (reply.Read inc rev body grant) fits = inr (_, ap word_at (simp append_assoc) ∙ word_again inc (word 0 ++ (hyper rev ++ (opaque body ++ optional grant_bytes grant))) fits.0)
+front (reply.Read inc rev body grant) fits = inr (
+  _,
+  ap word_at (simp append_assoc)
+      ∙ word_again inc (word 0 ++ (hyper rev ++ (opaque body ++ optional grant_bytes grant))) fits.0,
+)
 front (reply.Write inc rev) fits = inr (_, ap word_at (simp append_assoc) ∙ word_again inc (word 0 ++ hyper rev) fits.0)
 front (reply.GetLease inc grant) fits = inr (_, ap word_at (simp append_assoc) ∙ word_again inc (word 0 ++ optional grant_bytes grant) fits.0)
 front (reply.Resize inc rev) fits = inr (_, ap word_at (simp append_assoc) ∙ word_again inc (word 0 ++ hyper rev) fits.0)
@@ -140,7 +151,8 @@ no-null bytes rest inc x begins h ends =
     let short = word_at-short bytes (omega arith) in
     cc
 
-of-front : (p : Procedure) (bytes rest : List ℕ) (inc : ℕ) (x : Reply × List ℕ) → word_at bytes ≡ Ok (inc, rest) → reply_at p bytes ≡ Ok x → x.1 ≡ [] → inc_of x.0 ≡ inc
+of-front : (p : Procedure) (bytes rest : List ℕ) (inc : ℕ) (x : Reply × List ℕ) → word_at bytes ≡ Ok (inc, rest) → reply_at p bytes ≡ Ok x → x.1 ≡ []
+    → inc_of x.0 ≡ inc
 of-front Null bytes rest inc x begins h ends = absurd (no-null bytes rest inc x begins h ends)
 of-front Vacated bytes rest inc x begins h ends = absurd (cc)
 of-front Evicted bytes rest inc x begins h ends = absurd (cc)

@@ -9,7 +9,8 @@ use Rattle.nq_base.specs.declared.Request.{Request}
 use Rattle.nq_base.specs.declared.Request.TheVariants.{Null, Attach, Lookup, Create, GetAttr, Read, Write, GetLease, Vacated, Evicted, Resize, Remove}
 use Rattle.nq_model.specs.Client.{Client, Ticket, begun}
 use Rattle.nq_model.specs.Hear.{hear, hear_reply, hear_call, inc_of, reply_counts, goes_on, replied}
-use Rattle.nq_model.specs.Message.{Message, call, reply, error, RpcError, rpc_mismatch, program_unavailable, program_mismatch, procedure_unavailable, garbage_arguments, too_long, datagram_of}
+use Rattle.nq_model.specs.Message.{Message, call, reply, error, RpcError, rpc_mismatch, program_unavailable, program_mismatch, procedure_unavailable}
+use Rattle.nq_model.specs.Message.{garbage_arguments, too_long, datagram_of}
 use Rattle.nq_xdr.specs.declared.rpc.message.Outcome.TheVariants as outcome
 use Rattle.nq_xdr.specs.RpcReading.{message_at}
 use Rattle.nq_wire.specs.declared.WireFault.{WireFault}
@@ -17,7 +18,8 @@ use Rattle.nq_wire.specs.Procedure.{number_of}
 use Rattle.nq_wire.specs.Reading.{reply_in}
 use Rattle.nq_wire.specs.Reply.{results, IsReply, Answers}
 use Rattle.nq_wire.specs.Request.{procedure_of, IsRequest, HasSpelling}
-use Rattle.nq_datagrams.specs.Incoming.{longest_datagram, asked_as, called_as, read_as, datagram_in, notice_in, call_in, answer_in, awaited_of, reply_to, heard_as, heard_for, hears}
+use Rattle.nq_datagrams.specs.Incoming.{longest_datagram, asked_as, called_as, read_as, datagram_in, notice_in, call_in, answer_in, awaited_of}
+use Rattle.nq_datagrams.specs.Incoming.{reply_to, heard_as, heard_for, hears}
 use Rattle.nq_datagrams.specs.Laws.{IsOfTicket, ServerReadsMessages, ClientReadsMessages}
 use Rattle.nq_datagrams.specs.Messages.{call_message, error_outcome, message_of, FitsMessage, bytes_of}
 use Rattle.nq_datagrams.proofs.Incarnations.{inc-again}
@@ -58,7 +60,8 @@ server-reads-messages m fits =
 
 -- ---- a client
 
-heard-call : (c : Client) (number xid : ℕ) (r : Request) → IsRequest r → HasSpelling r → hears c number (heard_as (awaited_of c.ticket) (Ok (call_message xid r))) ≡ hear_call c r
+heard-call : (c : Client) (number xid : ℕ) (r : Request) → IsRequest r → HasSpelling r → hears c number (heard_as (awaited_of c.ticket)
+    (Ok (call_message xid r))) ≡ hear_call c r
 unfolding call_in
 heard-call c number xid Null fits has = refl
 heard-call c number xid (Attach who) fits has = refl
@@ -92,13 +95,15 @@ ignored c number xid a t other =
     ap (λ test. if test then Some (goes_on (replied (begun c) number t a)) else None) none
 
 -- also where it is read by another procedure
-ignored-read : (c : Client) (number xid : ℕ) (a : Reply) (t : Ticket) (read : Result Reply WireFault) → c.ticket ≡ Some t → (inc_of a ≡ c.who.inc → ⊥) → IsReply a → reply_in (number_of (procedure_of t.request)) (results a) ≡ read → hears c number (answer_in xid read) ≡ None
+ignored-read : (c : Client) (number xid : ℕ) (a : Reply) (t : Ticket) (read : Result Reply WireFault) → c.ticket ≡ Some t → (inc_of a ≡ c.who.inc → ⊥)
+    → IsReply a → reply_in (number_of (procedure_of t.request)) (results a) ≡ read → hears c number (answer_in xid read) ≡ None
 ignored-read c number xid a t (Err e) has other fits is = refl
 ignored-read c number xid a t (Ok b) has other fits is =
     ap (hear_reply c number xid b) has ∙ ignored c number xid b t (λ e. other (sym (inc-again (procedure_of t.request) a b fits is) ∙ e))
 
 -- a reply to the request under way
-heard-own : (c : Client) (number xid : ℕ) (a : Reply) (t : Ticket) → c.ticket ≡ Some t → (inc_of a ≡ c.who.inc → Answers a (procedure_of t.request)) → IsReply a → (inc_of a ≡ c.who.inc) ⊎ (inc_of a ≡ c.who.inc → ⊥)
+heard-own : (c : Client) (number xid : ℕ) (a : Reply) (t : Ticket) → c.ticket ≡ Some t → (inc_of a ≡ c.who.inc → Answers a (procedure_of t.request))
+    → IsReply a → (inc_of a ≡ c.who.inc) ⊎ (inc_of a ≡ c.who.inc → ⊥)
     → hears c number (answer_in xid (reply_in (number_of (procedure_of t.request)) (results a))) ≡ hear_reply c number xid a (Some t)
 heard-own c number xid a t has answers fits (inl own) =
     ap (λ read. hears c number (answer_in xid read)) (reply-again (procedure_of t.request) a (answers own) fits) ∙ ap (hear_reply c number xid a) has
@@ -106,7 +111,8 @@ heard-own c number xid a t has answers fits (inr other) =
     ignored-read c number xid a t (reply_in (number_of (procedure_of t.request)) (results a)) has other fits refl ∙ sym (ignored c number xid a t other)
 
 -- a reply to another request is ignored, as is one where no request is under way
-heard-at : (c : Client) (number xid : ℕ) (a : Reply) (t : Ticket) (test : Bool) → c.ticket ≡ Some t → (xid == t.xid) ≡ test → (xid ≡ t.xid → inc_of a ≡ c.who.inc → Answers a (procedure_of t.request)) → IsReply a
+heard-at : (c : Client) (number xid : ℕ) (a : Reply) (t : Ticket) (test : Bool) → c.ticket ≡ Some t → (xid == t.xid) ≡ test
+    → (xid ≡ t.xid → inc_of a ≡ c.who.inc → Answers a (procedure_of t.request)) → IsReply a
     → hears c number (if test then answer_in xid (reply_in (number_of (procedure_of t.request)) (results a)) else None) ≡ hear_reply c number xid a (Some t)
 heard-at c number xid a t true has e answers fits = heard-own c number xid a t has (answers (eqb-true xid t.xid e)) fits (cases_eq (inc_of a) c.who.inc)
 heard-at c number xid a t false has e answers fits =
@@ -118,7 +124,8 @@ unfolding reply_to
 heard-reply c number xid a None has own fits = refl
 heard-reply c number xid a (Some t) has own fits = heard-at c number xid a t (xid == t.xid) has refl (own t has) fits
 
-heard-again : (c : Client) (number : ℕ) (m : Message) → FitsMessage m → IsOfTicket c m → hears c number (heard_as (awaited_of c.ticket) (Ok (message_of m))) ≡ hear c number m
+heard-again : (c : Client) (number : ℕ) (m : Message) → FitsMessage m → IsOfTicket c m → hears c number (heard_as (awaited_of c.ticket)
+    (Ok (message_of m))) ≡ hear c number m
 heard-again c number (call xid r) fits own = heard-call c number xid r fits.1 fits.2
 heard-again c number (reply xid r) fits own = heard-reply c number xid r c.ticket refl own fits.1
 heard-again c number (error xid e) fits own = heard-error c number xid c.ticket e

@@ -1,5 +1,6 @@
 -- What is written for a message is read again.
-use Rattle.std.proofs.Common.{◌≡◌, ◌<◌, ◌≤◌, ℕ, ◌+◌, ◌^◌, false, nat_lt, List, [], ◌∷◌, ◌++◌, length, Some, Ok, All, refl, sym, ap, ◌∙◌, arith, append_assoc, append-nil, suc}
+use Rattle.std.proofs.Common.{◌≡◌, ◌<◌, ◌≤◌, ℕ, ◌+◌, ◌^◌, false, nat_lt, List, [], ◌∷◌, ◌++◌, length, Some, Ok, All, refl, sym, ap, ◌∙◌, arith}
+use Rattle.std.proofs.Common.{append_assoc, append-nil, suc}
 use Rattle.std.proofs.lemmas.Bool.{eq-eqb}
 use Rattle.std.proofs.lemmas.List.Elements.{All-head, All-tail}
 use Rattle.std.proofs.lemmas.Bool.Decides.{nat_tests}
@@ -15,15 +16,27 @@ use Rattle.nq_xdr.proofs.Opaque.{boolean_again, opaque_again}
 use Rattle.nq_directory.specs.declared.listing.messages.DirTag.{DirTag}
 use Rattle.nq_directory.specs.declared.listing.messages.ReadDir.{ReadDir}
 use Rattle.nq_directory.specs.Laws.{ReadDirsAreRead, EvictedAreRead, VacatedAreRead, AnswersAreRead}
-use Rattle.nq_directory.specs.Messages.{Listing, Answer, page, wait, read_dir, dir_evicted, dir_vacated, later, most_names, head_of, read_dir_arguments, read_dir_bytes, entry_bytes, entries_bytes, front_bytes, results, answer_bytes, dir_tag_arguments, dir_evicted_bytes, dir_vacated_bytes, IsReadDir, IsDirTag, IsEntry, IsListing, IsAnswer}
-use Rattle.nq_directory.specs.Reading.{call_by, call_as, call_in, results_by, results_of, results_in, end_at, prefix_at, entry_at, entries_at, count_at, page_at, read_dir_at, dir_tag_at, page_alone, wait_alone, answer_at, told_at, read_dir_by, read_dir_in, dir_tag_by, dir_evicted_in, dir_vacated_in, told_by, told_in}
+use Rattle.nq_directory.specs.Messages.{Listing, Answer, page, wait, read_dir, dir_evicted, dir_vacated, later, most_names, head_of}
+use Rattle.nq_directory.specs.Messages.{read_dir_arguments, read_dir_bytes, entry_bytes, entries_bytes, front_bytes, results, answer_bytes}
+use Rattle.nq_directory.specs.Messages.{dir_tag_arguments, dir_evicted_bytes, dir_vacated_bytes, IsReadDir, IsDirTag, IsEntry, IsListing, IsAnswer}
+use Rattle.nq_directory.specs.Reading.{call_by, call_as, call_in, results_by, results_of, results_in, end_at, prefix_at, entry_at, entries_at}
+use Rattle.nq_directory.specs.Reading.{count_at, page_at, read_dir_at, dir_tag_at, page_alone, wait_alone, answer_at, told_at, read_dir_by}
+use Rattle.nq_directory.specs.Reading.{read_dir_in, dir_tag_by, dir_evicted_in, dir_vacated_in, told_by, told_in}
 
 -- ---- calls and replies
 
-call-again : (xid procedure : ℕ) (args : List ℕ) → xid < 2 ^ 32 → procedure < 2 ^ 32 → call_in procedure (spelling (call_with (head_of xid procedure) args) null null) ≡ Some (xid, args)
+call-again : (xid procedure : ℕ) (args : List ℕ) → xid < 2 ^ 32 → procedure < 2 ^ 32
+    → call_in procedure (spelling (call_with (head_of xid procedure) args) null null) ≡ Some (xid, args)
 unfolding call_in call_as
 call-again xid procedure args fits small =
-    ap (call_by procedure) (message_again (call_with (head_of xid procedure) args) null null (record { xid = fits; rpcvers = omega arith; prog = omega arith; vers = omega arith; procedure = small }) null_fits null_fits)
+    ap (call_by procedure) (message_again (call_with (head_of xid procedure) args) null null (record {
+      xid = fits;
+      rpcvers = omega arith;
+      prog =
+          omega arith;
+      vers = omega arith;
+      procedure = small;
+    }) null_fits null_fits)
     ∙ rw (eq-eqb procedure procedure refl) refl
 
 results-again : (xid : ℕ) (results : List ℕ) → xid < 2 ^ 32 → results_in xid (spelling (reply_with xid results) null null) ≡ Some results
@@ -81,7 +94,15 @@ read-dir-again r fits =
     let parts : head r.who ++ opaque r.prefix ++ word r.after ++ word r.term ≡ head r.who ++ b = simp append_assoc in
     let last : word r.term ≡ word r.term ++ [] = word-last r.term in
     ap (read_dir_at r.xid) parts
-    ∙ rw (head_again r.who b fits.who, prefix-again r.prefix c fits.prefix, word_again r.after (word r.term) fits.after, last, word_again r.term [] fits.term, end-again) refl
+    ∙ rw (
+      head_again r.who b fits.who,
+      prefix-again r.prefix c fits.prefix,
+      word_again r.after (word r.term) fits.after,
+      last,
+      word_again r.term []
+          fits.term,
+      end-again,
+    ) refl
 
 pub read-dirs-are-read : ReadDirsAreRead
 unfolding read_dir_bytes read_dir_in
@@ -115,16 +136,25 @@ vacated-are-read t fits =
 
 -- ---- the reply to READDIRLOOK
 
-page-again : (l : Listing) → IsListing l → page_at (word (length l.names) ++ entries_bytes l.names ++ boolean l.more ++ optional grant_bytes l.grant) ≡ Ok (l, [])
+page-again : (l : Listing) → IsListing l → page_at (word (length l.names) ++ entries_bytes l.names ++ boolean l.more ++ optional grant_bytes l.grant)
+    ≡ Ok (l, [])
 unfolding page_at
 page-again l fits =
     let d = optional grant_bytes l.grant in
     let c = boolean l.more ++ d in
     let b = entries_bytes l.names ++ c in
     let last : optional grant_bytes l.grant ≡ optional grant_bytes l.grant ++ [] = sym (append-nil (optional grant_bytes l.grant)) in
-    let parts : word (length l.names) ++ entries_bytes l.names ++ boolean l.more ++ optional grant_bytes l.grant ≡ word (length l.names) ++ b = simp append_assoc in
+    let parts : word (length l.names) ++ entries_bytes l.names ++ boolean l.more ++ optional grant_bytes l.grant ≡ word (length l.names) ++ b =
+    simp append_assoc in
     ap page_at parts
-    ∙ rw (count-again (length l.names) b fits.few, entries-again [] l.names c fits.names, boolean_again l.more d, last, grant_if_there l.grant [] fits.grant) refl
+    ∙ rw (
+      count-again (length l.names) b fits.few,
+      entries-again [] l.names c fits.names,
+      boolean_again l.more d,
+      last,
+      grant_if_there l.grant []
+          fits.grant,
+    ) refl
 
 answer-again : (inc : ℕ) (answer : Answer) → inc < 2 ^ 32 → IsAnswer answer → told_at (results inc answer) ≡ Ok (inc, answer)
 unfolding results front_bytes told_at answer_at page_alone wait_alone

@@ -1,5 +1,6 @@
 -- A name found by its front.
-use Rattle.std.proofs.Common.{◌≡◌, ◌≢◌, ℕ, ◌+◌, ◌≤◌, ◌<◌, Bool, true, false, List, [], ◌∷◌, Option, Some, None, suc, refl, sym, ap, subst, ◌∙◌, inl, inr, arith}
+use Rattle.std.proofs.Common.{◌≡◌, ◌≢◌, ℕ, ◌+◌, ◌≤◌, ◌<◌, Bool, true, false, List, [], ◌∷◌, Option, Some, None, suc, refl, sym, ap, subst, ◌∙◌, inl}
+use Rattle.std.proofs.Common.{inr, arith}
 use Rattle.std.specs.List.{find, prefix_len, slice_get}
 use Rattle.std.specs.List.Sorted.{IsNonDecreasing}
 use Rattle.std.specs.Prelude.{nat_lt}
@@ -32,7 +33,8 @@ other skip x n apart = elim (decided (same_bytes x.name n)) [
   | inr e ↦ e
 ]
 
-none-over : (skip : ℕ) (n : List ℕ) (x : FileName) (xs : List FileName) → IsNonDecreasing (fronts_of skip (x ∷ xs)) → front skip n < front skip x.name → find (is_named n) xs ≡ None
+none-over : (skip : ℕ) (n : List ℕ) (x : FileName) (xs : List FileName) → IsNonDecreasing (fronts_of skip (x ∷ xs)) → front skip n < front skip x.name
+    → find (is_named n) xs ≡ None
 none-over skip n x [] rise lt = refl
 none-over skip n x (y ∷ ys) rise lt =
     let up = first-le (front skip x.name) (front skip y.name) (fronts_of skip ys) rise in
@@ -58,7 +60,8 @@ at-front : (skip : ℕ) (n : List ℕ) (xs : List FileName) → IsNonDecreasing 
     → (slice_get (fronts_of skip xs) (suc (below skip n xs)) ≡ Some (front skip n) → ⊥)
     → find (is_named n) xs ≡ taken n (slice_get xs (below skip n xs))
 at-front skip n [] rise next = refl
-at-front skip n (x ∷ xs) rise next = by (nat_lt (front skip x.name) (front skip n)) refl next (at-front skip n xs (rest-rise (front skip x.name) (fronts_of skip xs) rise))
+at-front skip n (x ∷ xs) rise next = by (nat_lt (front skip x.name) (front skip n)) refl next
+    (at-front skip n xs (rest-rise (front skip x.name) (fronts_of skip xs) rise))
   where
     by : (b : Bool) → nat_lt (front skip x.name) (front skip n) ≡ b
         → (slice_get (fronts_of skip (x ∷ xs)) (suc (below skip n (x ∷ xs))) ≡ Some (front skip n) → ⊥)
@@ -77,13 +80,15 @@ at-front skip n (x ∷ xs) rise next = by (nat_lt (front skip x.name) (front ski
         ])
 
 -- the file of a name is that of the entry at the place of its front, if this has the name and the next front is another
-pub found-front : (skip : ℕ) (n : List ℕ) (names : List FileName) (fronts : List ℕ) (q place : ℕ) (r : Option ℕ) → IsNonDecreasing fronts → fronts ≡ fronts_of skip names → q ≡ front skip n
+pub found-front : (skip : ℕ) (n : List ℕ) (names : List FileName) (fronts : List ℕ) (q place : ℕ) (r : Option ℕ) → IsNonDecreasing fronts → fronts
+    ≡ fronts_of skip names → q ≡ front skip n
     → place ≡ prefix_len (λ k. nat_lt k q) fronts → (slice_get fronts (place + 1) ≡ Some q → ⊥) → r ≡ file_if n (slice_get names place) → r ≡ named n names
 found-front skip n names fronts q place r rise is spelled at next says =
     let count = λ (k : ℕ) (l : List ℕ). prefix_len (λ x. nat_lt x k) l in
     let here : place ≡ below skip n names = at ∙ ap (λ k. count k fronts) spelled ∙ ap (count (front skip n)) is in
     let next' = λ (e : slice_get (fronts_of skip names) (suc (below skip n names)) ≡ Some (front skip n)).
-    next (ap (λ l. slice_get l (place + 1)) is ∙ ap (slice_get (fronts_of skip names)) (behind place ∙ ap (λ p. suc p) here) ∙ e ∙ ap (λ k. Some k) (sym spelled)) in
+    next (ap (λ l. slice_get l (place + 1)) is ∙ ap (slice_get (fronts_of skip names)) (behind place ∙ ap (λ p. suc p) here) ∙ e
+    ∙ ap (λ k. Some k) (sym spelled)) in
     says ∙ ap (λ p. file_if n (slice_get names p)) here
     ∙ sym (ap (λ e. file_of e) (at-front skip n names (subst IsNonDecreasing is rise) next') ∙ file-taken n (slice_get names (below skip n names)))
   where

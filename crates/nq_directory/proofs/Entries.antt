@@ -1,5 +1,6 @@
 -- The entries of a page, one after another.
-use Rattle.std.proofs.Common.{◌≡◌, ◌<◌, ◌≤◌, ℕ, ◌+◌, List, [], ◌∷◌, ◌++◌, length, Ok, Err, refl, sym, ap, ◌∙◌, arith, append_assoc, append-nil, zero, suc, drop, get_or, drop-cons}
+use Rattle.std.proofs.Common.{◌≡◌, ◌<◌, ◌≤◌, ℕ, ◌+◌, List, [], ◌∷◌, ◌++◌, length, Ok, Err, refl, sym, ap, ◌∙◌, arith, append_assoc, append-nil, zero}
+use Rattle.std.proofs.Common.{suc, drop, get_or, drop-cons}
 use Rattle.std.proofs.lemmas.List.{drop_all}
 use Rattle.nq_directory.specs.declared.names.FileName.{FileName}
 use Rattle.nq_wire.specs.declared.Garbage.{Garbage}
@@ -7,7 +8,8 @@ use Rattle.nq_directory.specs.Messages.{entry_bytes, entries_bytes}
 use Rattle.nq_directory.specs.Reading.{entry_at, entries_at}
 
 -- one is read, and so many are left
-pub entries_more : (done : List FileName) (n m : ℕ) (bytes : List ℕ) (e : FileName) (rest : List ℕ) → n ≡ m + 1 → entry_at bytes ≡ Ok (e, rest) → entries_at done n bytes ≡ entries_at (done ++ e ∷ []) m rest
+pub entries_more : (done : List FileName) (n m : ℕ) (bytes : List ℕ) (e : FileName) (rest : List ℕ) → n ≡ m + 1 → entry_at bytes ≡ Ok (e, rest)
+    → entries_at done n bytes ≡ entries_at (done ++ e ∷ []) m rest
 entries_more done n m bytes e rest is read =
     let next : n ≡ suc m = omega arith in ap (λ k. entries_at done k bytes) next ∙ rw read refl
 
@@ -21,7 +23,8 @@ pub entries_done : (done : List FileName) (n : ℕ) (bytes : List ℕ) → n ≡
 entries_done done n bytes is = ap (λ k. entries_at done k bytes) is
 
 -- one more is written
-pub written_more : (old written more : List ℕ) (es : List FileName) (i : ℕ) (e : FileName) → i < length es → e ≡ get_or es i e → written ++ entries_bytes (drop i es) ≡ old → more ≡ written ++ entry_bytes e → more ++ entries_bytes (drop (i + 1) es) ≡ old
+pub written_more : (old written more : List ℕ) (es : List FileName) (i : ℕ) (e : FileName) → i < length es → e ≡ get_or es i e → written
+    ++ entries_bytes (drop i es) ≡ old → more ≡ written ++ entry_bytes e → more ++ entries_bytes (drop (i + 1) es) ≡ old
 written_more old written more es i e lt is before adds =
     let next : i + 1 ≡ suc i = omega arith in
     let front : drop i es ≡ e ∷ drop (suc i) es = drop-cons es i e lt ∙ ap (λ x. x ∷ drop (suc i) es) (sym is) in

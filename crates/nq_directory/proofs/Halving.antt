@@ -17,7 +17,8 @@ pub record IsAmong (xs : List ℕ) (q base size : ℕ) : Type 0 where
   pub before : 0 < base → get_or xs base 0 < q
   pub behind : base + size < length xs → q ≤ get_or xs (base + size) 0
 
-by-half : (b : Bool) (xs : List ℕ) (q base size half moved base' size' : ℕ) → IsNonDecreasing xs → IsAmong xs q base size → 1 < size → half ≡ size / 2 → nat_lt (get_or xs (base + half) 0) q ≡ b
+by-half : (b : Bool) (xs : List ℕ) (q base size half moved base' size' : ℕ) → IsNonDecreasing xs → IsAmong xs q base size → 1 < size → half ≡ size / 2
+    → nat_lt (get_or xs (base + half) 0) q ≡ b
     → moved ≡ (if b then half else 0) → base' ≡ base + moved → size' ≡ size - half → IsAmong xs q base' size'
 by-half true xs q base size half moved base' size' o a more is e m b s =
     let some = a.some in

@@ -1,5 +1,6 @@
 -- Names in order, and where each stands.
-use Rattle.std.proofs.Common.{◌≡◌, ◌⊎◌, ℕ, ◌+◌, ◌≤◌, ◌<◌, Bool, true, false, List, [], ◌∷◌, Option, Some, None, if◌then◌else◌, suc, zero, get_or, drop, drop-cons, length, refl, sym, ap, ◌∙◌, inl, inr, arith, Ordering, Less, Equal, Greater}
+use Rattle.std.proofs.Common.{◌≡◌, ◌⊎◌, ℕ, ◌+◌, ◌≤◌, ◌<◌, Bool, true, false, List, [], ◌∷◌, Option, Some, None, if◌then◌else◌, suc, zero, get_or}
+use Rattle.std.proofs.Common.{drop, drop-cons, length, refl, sym, ap, ◌∙◌, inl, inr, arith, Ordering, Less, Equal, Greater}
 use Rattle.std.specs.List.{find, prefix_len, insert, slice_get}
 use Rattle.std.specs.List.Sorted.{IsPartitionedBy, IsPartitionPoint}
 use Rattle.std.specs.Fn.{Called, ComputesKey}
@@ -91,7 +92,8 @@ not-before-both a b h = elim (decided (name_before b a)) [
 -- ---- the place of a name
 
 -- behind a name that neither is another nor stands before it, none does
-none-behind : (x : FileName) (n : List ℕ) (xs : List FileName) → name_before x.name n ≡ false → same_bytes x.name n ≡ false → NoneBefore x.name xs → find (is_named n) xs ≡ None
+none-behind : (x : FileName) (n : List ℕ) (xs : List FileName) → name_before x.name n ≡ false → same_bytes x.name n ≡ false → NoneBefore x.name xs
+    → find (is_named n) xs ≡ None
 none-behind x n [] h k o = refl
 none-behind x n (y ∷ xs) h k o =
     let off : same_bytes y.name n ≡ false = other y o.0 in
@@ -135,12 +137,14 @@ file-taken n (Some e) = step (same_bytes e.name n)
     step false = refl
 
 -- the file of a name is that of the entry at its place, if this has the name
-pub found-at : (n : List ℕ) (xs : List FileName) (place : ℕ) (e : Option FileName) → AreInOrder xs → place ≡ prefix_len (is_before n) xs → e ≡ slice_get xs place → file_if n e ≡ named n xs
+pub found-at : (n : List ℕ) (xs : List FileName) (place : ℕ) (e : Option FileName) → AreInOrder xs → place ≡ prefix_len (is_before n) xs
+    → e ≡ slice_get xs place → file_if n e ≡ named n xs
 found-at n xs place e o is at =
     let here : e ≡ slice_get xs (prefix_len (is_before n) xs) = at ∙ ap (slice_get xs) is in
     ap (file_if n) here ∙ sym (file-taken n (slice_get xs (prefix_len (is_before n) xs))) ∙ ap file_of (sym (find-at n xs o))
 
-none-further : (x : FileName) (xs : List FileName) (k : ℕ) (d : FileName) → NoneBefore x.name xs → k < length xs → name_before (get_or xs k d).name x.name ≡ false
+none-further : (x : FileName) (xs : List FileName) (k : ℕ) (d : FileName) → NoneBefore x.name xs → k < length xs → name_before (get_or xs k d).name
+    x.name ≡ false
 none-further x [] k d o lt = absurd (omega arith)
 none-further x (y ∷ xs) zero d o lt = o.0
 none-further x (y ∷ xs) (suc k) d o lt = none-further x xs k d o.1 (omega arith)
@@ -154,7 +158,10 @@ parted n (x ∷ xs) o (suc i) zero d le lt k = absurd (omega arith)
 parted n (x ∷ xs) o (suc i) (suc j) d le lt k = parted n xs o.1 i j d (omega arith) (omega arith) k
 
 -- what halving gives
-pub place-from-clause : (n : List ℕ) → {F : Type 0} {g : Mut F (Bor FileName × Unit {0}) Bool} {f : F} (xs : List FileName) (place : ℕ) → AreInOrder xs → place ≤ length xs → ((q : FileName → Bool) → ComputesKey g q f → IsPartitionedBy q xs → IsPartitionPoint (λ y. q y ≡ true) (λ y. q y ≡ false) xs place) → ((a : Bor FileName × Unit {0}) (r : Bool) (f' : F) → Called g f a r f' → (r ≡ is_before n a.0.now) × (f' ≡ f)) → place ≡ prefix_len (is_before n) xs
+pub place-from-clause : (n : List ℕ) → {F : Type 0} {g : Mut F (Bor FileName × Unit {0}) Bool} {f : F} (xs : List FileName) (place : ℕ)
+    → AreInOrder xs → place ≤ length xs → ((q : FileName → Bool) → ComputesKey g q f → IsPartitionedBy q xs → IsPartitionPoint (λ y. q y ≡ true)
+    (λ y. q y ≡ false) xs place) → ((a : Bor FileName × Unit {0}) (r : Bool) (f' : F) → Called g f a r f' → (r ≡ is_before n a.0.now) × (f' ≡ f))
+    → place ≡ prefix_len (is_before n) xs
 place-from-clause n [] place o within clause says = omega arith
 place-from-clause n (d ∷ xs) place o within clause says =
     let point = IsPartitionPoint-from_clause (is_before n) (d ∷ xs) place clause (parted n (d ∷ xs) o) says in
@@ -197,7 +204,8 @@ put-in-order e (x ∷ xs) o = elim (decided (name_before x.name e.name)) [
 
 -- ---- names that are put in one after another
 
-pub put-next : (more : List FileName) (i : ℕ) (e : FileName) (names : List FileName) → i < length more → e ≡ get_or more i e → put_names (drop i more) names ≡ put_names (drop (i + 1) more) (put_name e names)
+pub put-next : (more : List FileName) (i : ℕ) (e : FileName) (names : List FileName) → i < length more → e ≡ get_or more i e → put_names (drop i more)
+    names ≡ put_names (drop (i + 1) more) (put_name e names)
 put-next more i e names lt is =
     let next : suc i ≡ i + 1 = omega arith in
     ap (λ l. put_names l names) (drop-cons more i e lt ∙ ap (λ x. x ∷ drop (suc i) more) (sym is))

@@ -8,13 +8,15 @@ use Rattle.nq_directory.specs.Names.{AreInOrder, is_before, put_name}
 use Rattle.nq_directory.specs.declared.names.FileName.{FileName}
 use Rattle.nq_directory.proofs.Order.{put-at}
 
-fronts-insert : (skip : ℕ) (xs : List FileName) (place : ℕ) (e : FileName) → insert (fronts_of skip xs) place (front skip e.name) ≡ fronts_of skip (insert xs place e)
+fronts-insert : (skip : ℕ) (xs : List FileName) (place : ℕ) (e : FileName) → insert (fronts_of skip xs) place (front skip e.name) ≡ fronts_of skip
+    (insert xs place e)
 fronts-insert skip [] zero e = refl
 fronts-insert skip [] (suc place) e = refl
 fronts-insert skip (x ∷ xs) zero e = refl
 fronts-insert skip (x ∷ xs) (suc place) e = ap (λ l. front skip x.name ∷ l) (fronts-insert skip xs place e)
 
-pub fronted : (skip : ℕ) (e : FileName) (fronts fronts' : List ℕ) (xs xs' : List FileName) (place q : ℕ) → AreFronted skip fronts xs → q ≡ front skip e.name → place ≡ prefix_len (is_before e.name) xs
+pub fronted : (skip : ℕ) (e : FileName) (fronts fronts' : List ℕ) (xs xs' : List FileName) (place q : ℕ) → AreFronted skip fronts xs
+    → q ≡ front skip e.name → place ≡ prefix_len (is_before e.name) xs
     → fronts' ≡ insert fronts place q → xs' ≡ put_name e xs → AreInOrder xs' → AreFronted skip fronts' xs'
 fronted skip e fronts fronts' xs xs' place q old is at new put order = record {
   order = order;
@@ -25,7 +27,8 @@ fronted skip e fronts fronts' xs xs' place q old is at new put order = record {
       ∙ ap (fronts_of skip) (sym (put-at e xs) ∙ sym put);
 }
 
-pub fits : (skip : ℕ) (e : FileName) (fronts : List ℕ) (xs : List FileName) (place : ℕ) → AreFronted skip fronts xs → place ≡ prefix_len (is_before e.name) xs → place ≤ length fronts
+pub fits : (skip : ℕ) (e : FileName) (fronts : List ℕ) (xs : List FileName) (place : ℕ) → AreFronted skip fronts xs
+    → place ≡ prefix_len (is_before e.name) xs → place ≤ length fronts
 fits skip e fronts xs place old at =
     let within = prefix_len-le-length (is_before e.name) xs in
     let same : length fronts ≡ length xs = ap length old.spelled ∙ length-map xs (λ x. front skip x.name) in

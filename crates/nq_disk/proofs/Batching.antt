@@ -1,5 +1,6 @@
 -- A batch, staged: what its record says, and what the disk opens to then.
-use Rattle.std.proofs.Common.{◌≡◌, ℕ, zero, suc, ◌+◌, ◌-◌, ◌<◌, ◌≤◌, List, [], ◌∷◌, ◌++◌, length, get_or, take, drop, Ok, sym, ap, subst, ◌∙◌, inl, inr, arith, length-drop}
+use Rattle.std.proofs.Common.{◌≡◌, ℕ, zero, suc, ◌+◌, ◌-◌, ◌<◌, ◌≤◌, List, [], ◌∷◌, ◌++◌, length, get_or, take, drop, Ok, sym, ap, subst, ◌∙◌, inl}
+use Rattle.std.proofs.Common.{inr, arith, length-drop}
 use Rattle.std.proofs.lemmas.Bool.{cases_lt}
 use Rattle.std.proofs.lemmas.List.{length-take-le, get_or-take, get_or-drop, get_or_past, take-append-drop}
 use Rattle.nq_disk.specs.Bytes.{written}
@@ -81,11 +82,14 @@ module _ (area : Area) (is_area : IsArea area) (body : List ℕ) (fits : length 
       let r = is_area.room in
       blanked-same area.place area.size area.bound (staged area body old) old (omega arith) s
       (λ k out. elim out [
-        | inl lt ↦ written-outside area.place open_byte (written (area.place + 1) body old) k (inl lt) ∙ written-outside (area.place + 1) body old k (inl (omega arith))
-        | inr le ↦ written-outside area.place open_byte (written (area.place + 1) body old) k (inr (omega arith)) ∙ written-outside (area.place + 1) body old k (inr (omega arith))
+        | inl lt ↦ written-outside area.place open_byte (written (area.place + 1) body old) k (inl lt) ∙ written-outside (area.place + 1) body old k
+            (inl (omega arith))
+        | inr le ↦ written-outside area.place open_byte (written (area.place + 1) body old) k (inr (omega arith)) ∙ written-outside (area.place + 1)
+            body old k (inr (omega arith))
       ])
 
-module _ (area : Area) (is_area : IsArea area) (rs : List Range) (spell : AreSpellable rs) (old : List ℕ) (closed : IsClosed area old) (fit : IsFit area (length old) rs) where
+module _ (area : Area) (is_area : IsArea area) (rs : List Range) (spell : AreSpellable rs) (old : List ℕ) (closed : IsClosed area old)
+    (fit : IsFit area (length old) rs) where
   -- a batch that fits is a record without a wrong field
   pub staged-open : IsOpen area (staged area (body_of rs) old)
   staged-open =

@@ -52,7 +52,8 @@ module _ (area : Area) (is_area : IsArea area) where
         at-zero : (i : ℕ) → i ≡ 0 → get_or shut_byte i 0 ≡ 0
         at-zero i is = ap (λ (j : ℕ). get_or shut_byte j 0) is
 
-    pub when-closed : (told : Option (List ℕ)) (may_leave : List ℕ → Type 0) → Settling rs old (applied rs old) → told ≡ Some (written area.place (0 ∷ []) (applied rs old)) → IsAllThatIsLeft told may_leave → Settled area (found area old) told may_leave
+    pub when-closed : (told : Option (List ℕ)) (may_leave : List ℕ → Type 0) → Settling rs old (applied rs old)
+        → told ≡ Some (written area.place (0 ∷ []) (applied rs old)) → IsAllThatIsLeft told may_leave → Settled area (found area old) told may_leave
     when-closed told may_leave so tells alone = record {
       now = written area.place (0 ∷ []) (applied rs old);
       tells = tells;
@@ -64,7 +65,11 @@ module _ (area : Area) (is_area : IsArea area) where
   -- a record, while it is written behind a closed gate, and while the gate is opened
   module _ (body : List ℕ) (fits : length body + 1 ≤ area.size) where
     pub while-staging : (old image : List ℕ) → IsClosed area old → Torn (area.place + 1) (length body) old image → OpensAs area old image
-    while-staging old image closed torn = (torn.no_shorter, body-torn area.place area.size area.bound (length body) old image fits closed.long closed.shut torn)
+    while-staging old image closed torn = (
+      torn.no_shorter,
+      body-torn area.place area.size area.bound (length body) old image fits closed.long
+          closed.shut torn,
+    )
 
     abbrev behind : List ℕ → List ℕ
     behind old = written (area.place + 1) body old
@@ -79,7 +84,8 @@ module _ (area : Area) (is_area : IsArea area) where
     behind-longer : (old : List ℕ) → IsClosed area old → length old ≤ length (behind old)
     behind-longer old closed = (while-staging old (behind old) closed (torn-written (area.place + 1) body old)).0
 
-    pub while-opening : (old image : List ℕ) → IsClosed area old → Torn area.place 1 (behind old) image → OpensAs area old image ⊎ OpensAs area (staged area body old) image
+    pub while-opening : (old image : List ℕ) → IsClosed area old → Torn area.place 1 (behind old) image → OpensAs area old image
+        ⊎ OpensAs area (staged area body old) image
     while-opening old image closed torn =
         let then_closed = behind-closed old closed in
         let room = is_area.room in

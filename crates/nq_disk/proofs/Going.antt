@@ -37,7 +37,8 @@ pub sync-leaves : (disk new : StoredDisk) → new ≡ after_syncing (Ok tt) disk
 sync-leaves disk new is image left =
     let here = subst (λ (d : StoredDisk). Left disk d image) is left in by-events here.undone here.between here.image_then
   where
-    by-events : (n : ℕ) → n + length disk.events ≤ length (synced ∷ disk.events) → Image disk.first (drop n (synced ∷ disk.events)) image → Image disk.first disk.events image
+    by-events : (n : ℕ) → n + length disk.events ≤ length (synced ∷ disk.events) → Image disk.first (drop n (synced ∷ disk.events)) image
+        → Image disk.first disk.events image
     by-events zero le at-end = subst (Image disk.first disk.events) (sym at-end) (reads-image disk.first disk.events)
     by-events (suc zero) le before = before
     by-events (suc (suc n)) le before = absurd (omega arith)

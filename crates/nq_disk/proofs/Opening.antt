@@ -1,5 +1,6 @@
 -- What an open gives of what a stop may leave.
-use Rattle.std.proofs.Common.{◌≡◌, ◌≢◌, ◌⊎◌, ℕ, ◌+◌, ◌-◌, ◌<◌, ◌≤◌, List, [], ◌∷◌, length, get_or, take, drop, Ok, sym, ap, subst, ◌∙◌, inl, inr, arith, length-drop}
+use Rattle.std.proofs.Common.{◌≡◌, ◌≢◌, ◌⊎◌, ℕ, ◌+◌, ◌-◌, ◌<◌, ◌≤◌, List, [], ◌∷◌, length, get_or, take, drop, Ok, sym, ap, subst, ◌∙◌, inl, inr}
+use Rattle.std.proofs.Common.{arith, length-drop}
 use Rattle.std.specs.Prelude.{replicate}
 use Rattle.std.proofs.lemmas.Bool.{cases_lt, cases_eq}
 use Rattle.std.proofs.lemmas.Bool.Decides.{nat_tests}
@@ -22,7 +23,8 @@ module _ (place size bound : ℕ) where
 
   pub blanked-outside : (disk : List ℕ) (k : ℕ) → Outside k place size → get_or (blanked place size disk) k 0 ≡ get_or disk k 0
   unfolding blanked
-  blanked-outside disk k out = written-outside place (replicate size 0) disk k (subst (λ (n : ℕ). Outside k place n) (sym (length-replicate {A = ℕ} size 0)) out)
+  blanked-outside disk k out = written-outside place (replicate size 0) disk k (subst (λ (n : ℕ). Outside k place n)
+      (sym (length-replicate {A = ℕ} size 0)) out)
 
   pub blanked-within : (disk : List ℕ) (k : ℕ) → place ≤ k → k < place + size → get_or (blanked place size disk) k 0 ≡ 0
   unfolding blanked
@@ -30,7 +32,8 @@ module _ (place size bound : ℕ) where
       written-within place (replicate size 0) disk k le (omega (arith, length-replicate {A = ℕ} size 0)) ∙ get_or-replicate size (k - place) 0 0 (omega arith)
 
   -- disks that agree outside of the record are one disk when it is blanked
-  pub blanked-same : (a b : List ℕ) → Long a → length a ≡ length b → ((k : ℕ) → Outside k place size → get_or a k 0 ≡ get_or b k 0) → blanked place size a ≡ blanked place size b
+  pub blanked-same : (a b : List ℕ) → Long a → length a ≡ length b → ((k : ℕ) → Outside k place size → get_or a k 0 ≡ get_or b k 0)
+      → blanked place size a ≡ blanked place size b
   blanked-same a b long len same =
       same-bytes (blanked place size a) (blanked place size b) (length-blanked a long ∙ len ∙ sym (length-blanked b (omega arith)))
       (λ k. elim (in-or-out k place size) [
@@ -39,7 +42,8 @@ module _ (place size bound : ℕ) where
       ])
 
   -- and what agrees in the record has one record
-  pub record-same : (a b : List ℕ) → Long a → Long b → ((k : ℕ) → place ≤ k → k < place + size → get_or a k 0 ≡ get_or b k 0) → record_at place size a ≡ record_at place size b
+  pub record-same : (a b : List ℕ) → Long a → Long b → ((k : ℕ) → place ≤ k → k < place + size → get_or a k 0 ≡ get_or b k 0) → record_at place size a
+      ≡ record_at place size b
   record-same a b long-a long-b same =
       same-bytes (record_at place size a) (record_at place size b) (size-of a long-a ∙ sym (size-of b long-b))
       (λ k. elim (cases_lt k size) [
@@ -61,12 +65,14 @@ module _ (place size bound : ℕ) where
   unfolding opened
   opened-closed disk shut = grind (arith, nat_tests)
 
-  pub opened-open : (disk : List ℕ) → get_or disk place 0 ≡ 1 → opened place size bound disk ≡ replayed place size disk (wrong_field place size bound (length disk) (record_at place size disk))
+  pub opened-open : (disk : List ℕ) → get_or disk place 0 ≡ 1 → opened place size bound disk ≡ replayed place size disk (wrong_field place size bound
+      (length disk) (record_at place size disk))
   unfolding opened
   opened-open disk gate = grind (arith, nat_tests)
 
   -- the body of a record, torn: the gate is closed still, and the disk opens as before
-  pub body-torn : (n : ℕ) (old new : List ℕ) → n + 1 ≤ size → Long old → get_or old place 0 ≢ 1 → Torn (place + 1) n old new → opened place size bound new ≡ opened place size bound old
+  pub body-torn : (n : ℕ) (old new : List ℕ) → n + 1 ≤ size → Long old → get_or old place 0 ≢ 1 → Torn (place + 1) n old new → opened place size bound
+      new ≡ opened place size bound old
   body-torn n old new fits long shut torn =
       let gate : get_or new place 0 ≡ get_or old place 0 = torn.outside place (omega arith) (inl (omega arith)) in
       let a = torn.no_shorter in
@@ -83,7 +89,8 @@ module _ (place size bound : ℕ) where
       ]
 
   -- the gate, torn: it is open, and the disk is as with an open gate, or the disk is as with a closed one
-  pub gate-torn : (old new : List ℕ) → 0 < size → Long old → Torn place 1 old new → (new ≡ written place (1 ∷ []) old) ⊎ ((get_or new place 0 ≢ 1) × (blanked place size new ≡ blanked place size old))
+  pub gate-torn : (old new : List ℕ) → 0 < size → Long old → Torn place 1 old new → (new ≡ written place (1 ∷ []) old) ⊎ ((get_or new place 0 ≢ 1)
+      × (blanked place size new ≡ blanked place size old))
   gate-torn old new some long torn =
       let a = torn.no_shorter in
       let b = torn.no_longer in
@@ -91,9 +98,16 @@ module _ (place size bound : ℕ) where
       elim (cases_eq (get_or new place 0) 1) [
         | inl open_gate ↦ inl (same-bytes new (written place (1 ∷ []) old) (len ∙ sym (long-written len)) (λ k. elim (in-or-out k place 1) [
           | inl out ↦ elsewhere k out len ∙ sym (written-outside place (1 ∷ []) old k out)
-          | inr i ↦ ap (λ (j : ℕ). get_or new j 0) (only k i.0 i.1) ∙ open_gate ∙ sym (written-within place (1 ∷ []) old k i.0 i.1 ∙ ap (λ (j : ℕ). get_or (1 ∷ []) j 0) (first k i.0 i.1))
+          | inr i ↦ ap (λ (j : ℕ). get_or new j 0) (only k i.0 i.1) ∙ open_gate ∙ sym (written-within place (1 ∷ []) old k i.0 i.1
+              ∙ ap (λ (j : ℕ). get_or (1 ∷ []) j 0) (first k i.0 i.1))
         ]))
-        | inr shut ↦ inr (shut, blanked-same new old (omega arith) len (λ k out. elsewhere k (elim out [ inl before ↦ inl before | inr after ↦ inr (omega arith) ]) len))
+        | inr shut ↦ inr (
+          shut,
+          blanked-same new old (omega arith) len (λ k out. elsewhere k (elim out [
+            | inl before ↦ inl before
+            | inr after ↦ inr (omega arith)
+          ]) len),
+        )
       ]
     where
       elsewhere : (k : ℕ) → Outside k place 1 → length new ≡ length old → get_or new k 0 ≡ get_or old k 0

@@ -7,11 +7,13 @@ use Rattle.nq_disk.specs.declared.redo.area.Area.{Area}
 use Rattle.nq_disk.proofs.RedoGoing.{through}
 
 -- two steps that leave no more
-pub no-more : (may may_then first second both : List ℕ → Type 0) → ((image : List ℕ) → both image → first image ⊎ second image) → ((image : List ℕ) → may_then image → first image) → LeavesNoMore may first → LeavesNoMore may_then second → LeavesNoMore may both
+pub no-more : (may may_then first second both : List ℕ → Type 0) → ((image : List ℕ) → both image → first image ⊎ second image)
+    → ((image : List ℕ) → may_then image → first image) → LeavesNoMore may first → LeavesNoMore may_then second → LeavesNoMore may both
 no-more may may_then first second both parts ends one two image left =
     through may (first image) (second image) image (parts image left) (one image) (λ l. one image (ends image (two image l)))
 
-pub read-whole : (area : Area) (old into : List ℕ) (count : ℕ) → length into ≡ area.size → area.place + area.size ≤ length old → ReadsFront count area.place old into → into ≡ record_of area old
+pub read-whole : (area : Area) (old into : List ℕ) (count : ℕ) → length into ≡ area.size → area.place + area.size ≤ length old
+    → ReadsFront count area.place old into → into ≡ record_of area old
 read-whole area old into count whole long reads =
     let number = reads.number in
     let all : count ≡ area.size = omega arith in

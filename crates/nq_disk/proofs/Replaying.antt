@@ -11,7 +11,8 @@ use Rattle.nq_disk.proofs.Opening.{opened-open}
 pub opens-itself : (area : Area) (old image : List ℕ) → image ≡ old → OpensAs area old image
 opens-itself area old image is = (omega (arith, ap length is), ap (found area) is)
 
-module _ (area : Area) (is_area : IsArea area) (old record_read : List ℕ) (long : area.place + area.size ≤ length old) (is : record_read ≡ record_of area old) where
+module _ (area : Area) (is_area : IsArea area) (old record_read : List ℕ) (long : area.place + area.size ≤ length old) (is : record_read
+    ≡ record_of area old) where
   pub gate-read : get_or record_read 0 0 ≡ get_or old area.place 0
   gate-read =
       let room = is_area.room in
@@ -27,7 +28,8 @@ module _ (area : Area) (is_area : IsArea area) (old record_read : List ℕ) (lon
   ranges-read = ap ranges_of is
 
   -- its gate is closed
-  pub closed-read : (told : Option (List ℕ)) (may_leave : List ℕ → Type 0) → get_or record_read 0 0 ≢ 1 → told ≡ Some old → Only old may_leave → Settled area (found area old) told may_leave
+  pub closed-read : (told : Option (List ℕ)) (may_leave : List ℕ → Type 0) → get_or record_read 0 0 ≢ 1 → told ≡ Some old → Only old may_leave
+      → Settled area (found area old) told may_leave
   closed-read told may_leave shut tells alone = record {
     now = old;
     tells = tells;
@@ -36,17 +38,20 @@ module _ (area : Area) (is_area : IsArea area) (old record_read : List ℕ) (lon
     alone = alone;
   }
 
-  wrong-read : (len : ℕ) (answer : Option ℕ) → len ≡ length old → answer ≡ wrong_field area.place area.size area.bound len record_read → wrong_field area.place area.size area.bound (length old) (record_of area old) ≡ answer
+  wrong-read : (len : ℕ) (answer : Option ℕ) → len ≡ length old → answer ≡ wrong_field area.place area.size area.bound len record_read
+      → wrong_field area.place area.size area.bound (length old) (record_of area old) ≡ answer
   wrong-read len answer same asked =
       sym (asked
       ∙ ap (λ (n : ℕ). wrong_field area.place area.size area.bound n record_read) same
       ∙ ap (wrong_field area.place area.size area.bound (length old)) is)
 
   -- it is open, and a field is wrong
-  pub bad-read : (len place : ℕ) → get_or record_read 0 0 ≡ 1 → len ≡ length old → Some place ≡ wrong_field area.place area.size area.bound len record_read → found area old ≡ Err place
+  pub bad-read : (len place : ℕ) → get_or record_read 0 0 ≡ 1 → len ≡ length old → Some place ≡ wrong_field area.place area.size area.bound len
+      record_read → found area old ≡ Err place
   bad-read len place gate same asked =
       opened-open area.place area.size area.bound old (sym gate-read ∙ gate) ∙ ap (replayed area.place area.size old) (wrong-read len (Some place) same asked)
 
   -- it is open, and no field is wrong
-  pub open-read : (len : ℕ) → get_or record_read 0 0 ≡ 1 → len ≡ length old → None ≡ wrong_field area.place area.size area.bound len record_read → IsOpen area old
+  pub open-read : (len : ℕ) → get_or record_read 0 0 ≡ 1 → len ≡ length old → None ≡ wrong_field area.place area.size area.bound len record_read
+      → IsOpen area old
   open-read len gate same asked = record { long = long; gate = sym gate-read ∙ gate; right = wrong-read len None same asked }

@@ -15,17 +15,22 @@ module _ (area : Area) (is_area : IsArea area) where
   some = let r = is_area.room in omega arith
 
   -- ranges outside of the record are written, and the record is blanked, in any order
-  pub blanked-applied : (ranges : List Range) (disk : List ℕ) → ArePlaced (length disk) area.place area.size ranges → Long area.place area.size area.bound disk → blanked area.place area.size (applied ranges disk) ≡ applied ranges (blanked area.place area.size disk)
+  pub blanked-applied : (ranges : List Range) (disk : List ℕ) → ArePlaced (length disk) area.place area.size ranges → Long area.place area.size
+      area.bound disk → blanked area.place area.size (applied ranges disk) ≡ applied ranges (blanked area.place area.size disk)
   blanked-applied ranges disk placed long =
-      let more : length (applied ranges disk) ≡ furthest ranges (length disk) = length-applied ranges (length disk) area.place area.size disk placed (omega arith) in
+      let more : length (applied ranges disk) ≡ furthest ranges (length disk) = length-applied ranges (length disk) area.place area.size disk placed
+      (omega arith) in
       let long-then : Long area.place area.size area.bound (applied ranges disk) = let f = furthest-is ranges (length disk) in omega arith in
       let one = length-blanked area.place area.size area.bound disk long in
       let other = length-applied ranges (length disk) area.place area.size (blanked area.place area.size disk) placed (omega arith) in
       same-bytes (blanked area.place area.size (applied ranges disk)) (applied ranges (blanked area.place area.size disk))
       (length-blanked area.place area.size area.bound (applied ranges disk) long-then ∙ more ∙ ap (furthest ranges) (sym one) ∙ sym other)
       (λ k. elim (in-or-out k area.place area.size) [
-        | inl out ↦ blanked-outside area.place area.size area.bound (applied ranges disk) k out ∙ applied-agree ranges disk (blanked area.place area.size disk) k (λ o. sym (blanked-outside area.place area.size area.bound disk k out))
-        | inr i ↦ blanked-within area.place area.size area.bound (applied ranges disk) k i.0 i.1 ∙ sym (applied-outside ranges (blanked area.place area.size disk) k (record-outside ranges (length disk) area.place area.size k placed i.0 i.1) ∙ blanked-within area.place area.size area.bound disk k i.0 i.1)
+        | inl out ↦ blanked-outside area.place area.size area.bound (applied ranges disk) k out ∙ applied-agree ranges disk
+            (blanked area.place area.size disk) k (λ o. sym (blanked-outside area.place area.size area.bound disk k out))
+        | inr i ↦ blanked-within area.place area.size area.bound (applied ranges disk) k i.0 i.1
+            ∙ sym (applied-outside ranges (blanked area.place area.size disk) k (record-outside ranges (length disk) area.place area.size k placed i.0
+            i.1) ∙ blanked-within area.place area.size area.bound disk k i.0 i.1)
       ])
 
   -- the ranges of its record
@@ -34,7 +39,8 @@ module _ (area : Area) (is_area : IsArea area) where
 
   pub placed-in : (disk : List ℕ) → IsOpen area disk → ArePlaced (length disk) area.place area.size (ranges disk)
   unfolding ranges
-  placed-in disk open_now = (right-record area.place area.size area.bound (length disk) (length disk) (record_at area.place area.size disk) (omega arith) open_now.right).1
+  placed-in disk open_now = (right-record area.place area.size area.bound (length disk) (length disk) (record_at area.place area.size disk)
+      (omega arith) open_now.right).1
 
   -- it opens with its ranges written
   pub opened-right : (disk : List ℕ) → IsOpen area disk → found area disk ≡ Ok (applied (ranges disk) (blanked area.place area.size disk))
@@ -59,7 +65,8 @@ module _ (area : Area) (is_area : IsArea area) where
     settled-open = record {
       long = long-settled;
       gate = in-record area.place (omega arith) (omega (arith, some)) ∙ open_now.gate;
-      right = ap (wrong_field area.place area.size area.bound (length new)) same-record ∙ (right-record area.place area.size area.bound (length old) (length new) (record_at area.place area.size old) so.no_shorter open_now.right).0;
+      right = ap (wrong_field area.place area.size area.bound (length new)) same-record ∙ (right-record area.place area.size area.bound (length old)
+          (length new) (record_at area.place area.size old) so.no_shorter open_now.right).0;
     }
 
     same-ranges : ranges new ≡ ranges old
@@ -67,7 +74,8 @@ module _ (area : Area) (is_area : IsArea area) where
     same-ranges = ap ranges_of same-record
 
     same-end : furthest (ranges old) (length new) ≡ furthest (ranges old) (length old)
-    same-end = let a = furthest-is (ranges old) (length new) in let b = furthest-is (ranges old) (length old) in let c = so.no_shorter in let d = so.no_longer in omega arith
+    same-end = let a = furthest-is (ranges old) (length new) in let b = furthest-is (ranges old) (length old) in let c = so.no_shorter in let d =
+        so.no_longer in omega arith
 
     same-written : applied (ranges old) (blanked area.place area.size new) ≡ applied (ranges old) (blanked area.place area.size old)
     same-written =
@@ -78,7 +86,8 @@ module _ (area : Area) (is_area : IsArea area) where
         (length-applied (ranges old) (length old) area.place area.size (blanked area.place area.size new) (placed-in old open_now) (omega arith)
         ∙ ap (furthest (ranges old)) new_long ∙ same-end ∙ ap (furthest (ranges old)) (sym old_long)
         ∙ sym (length-applied (ranges old) (length old) area.place area.size (blanked area.place area.size old) (placed-in old open_now) (omega arith)))
-        (λ k. applied-agree (ranges old) (blanked area.place area.size new) (blanked area.place area.size old) k (λ o. elim (in-or-out k area.place area.size) [
+        (λ k. applied-agree (ranges old) (blanked area.place area.size new) (blanked area.place area.size old) k
+        (λ o. elim (in-or-out k area.place area.size) [
           | inl out ↦ blanked-outside area.place area.size area.bound new k out ∙ agrees k o ∙ sym (blanked-outside area.place area.size area.bound old k out)
           | inr i ↦ blanked-within area.place area.size area.bound new k i.0 i.1 ∙ sym (blanked-within area.place area.size area.bound old k i.0 i.1)
         ]))
@@ -92,9 +101,14 @@ module _ (area : Area) (is_area : IsArea area) where
 
   -- a disk whose first byte of the record is 1 stays as it is where a 1 is written there
   written-again : (disk : List ℕ) → Long area.place area.size area.bound disk → get_or disk area.place 0 ≡ 1 → written area.place (1 ∷ []) disk ≡ disk
-  written-again disk long gate = same-bytes (written area.place (1 ∷ []) disk) disk (omega (arith, length-written area.place (1 ∷ []) disk (inl (omega arith)))) (λ k. elim (in-or-out k area.place 1) [
+  written-again disk long gate = same-bytes (written area.place (1 ∷ []) disk) disk (omega (
+    arith,
+    length-written area.place (1 ∷ []) disk
+        (inl (omega arith)),
+  )) (λ k. elim (in-or-out k area.place 1) [
     | inl out ↦ written-outside area.place (1 ∷ []) disk k out
-    | inr i ↦ written-within area.place (1 ∷ []) disk k i.0 i.1 ∙ ap (λ (j : ℕ). get_or (1 ∷ []) j 0) (first k i.0 i.1) ∙ sym gate ∙ ap (λ (j : ℕ). get_or disk j 0) (sym (only k i.0 i.1))
+    | inr i ↦ written-within area.place (1 ∷ []) disk k i.0 i.1 ∙ ap (λ (j : ℕ). get_or (1 ∷ []) j 0) (first k i.0 i.1) ∙ sym gate
+        ∙ ap (λ (j : ℕ). get_or disk j 0) (sym (only k i.0 i.1))
   ])
     where
       only : (k : ℕ) → area.place ≤ k → k < area.place + 1 → k ≡ area.place
@@ -104,11 +118,13 @@ module _ (area : Area) (is_area : IsArea area) where
       first k le lt = omega arith
 
   -- and while the gate is closed behind them
-  pub opened-closing : (old new : List ℕ) → IsOpen area old → Settling (ranges old) old (applied (ranges old) old) → Torn area.place 1 (applied (ranges old) old) new → found area new ≡ found area old
+  pub opened-closing : (old new : List ℕ) → IsOpen area old → Settling (ranges old) old (applied (ranges old) old)
+      → Torn area.place 1 (applied (ranges old) old) new → found area new ≡ found area old
   opened-closing old new open_now so torn =
       let then_open = settled-open old (applied (ranges old) old) open_now so in
       elim (gate-torn area.place area.size area.bound (applied (ranges old) old) new some then_open.long torn) [
-        | inl is ↦ ap (found area) (is ∙ written-again (applied (ranges old) old) then_open.long then_open.gate) ∙ opened-settled old (applied (ranges old) old) open_now so
+        | inl is ↦ ap (found area) (is ∙ written-again (applied (ranges old) old) then_open.long then_open.gate) ∙ opened-settled old
+            (applied (ranges old) old) open_now so
         | inr shut ↦
             opened-closed area.place area.size area.bound new shut.0
             ∙ ap Ok (shut.1 ∙ blanked-applied (ranges old) old (placed-in old open_now) open_now.long)

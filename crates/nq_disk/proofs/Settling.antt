@@ -16,7 +16,8 @@ in-or-out k place n = elim (cases_lt k place) [
 ]
 
 -- ranges written over disks that agree at a place outside of them leave disks that agree there
-pub applied-agree : (ranges : List Range) (a b : List ℕ) (k : ℕ) → (OutsideAll k ranges → get_or a k 0 ≡ get_or b k 0) → get_or (applied ranges a) k 0 ≡ get_or (applied ranges b) k 0
+pub applied-agree : (ranges : List Range) (a b : List ℕ) (k : ℕ) → (OutsideAll k ranges → get_or a k 0 ≡ get_or b k 0) → get_or (applied ranges a) k 0
+    ≡ get_or (applied ranges b) k 0
 applied-agree [] a b k same = same tt
 applied-agree (range ∷ ranges) a b k same = applied-agree ranges (written range.place range.bytes a) (written range.place range.bytes b) k step
   where
@@ -36,7 +37,8 @@ pub furthest-is : (ranges : List Range) (len : ℕ) → furthest ranges len ≡ 
 furthest-is [] len = omega arith
 furthest-is (range ∷ ranges) len = omega (arith, furthest-is ranges len)
 
-pub length-applied : (ranges : List Range) (len place n : ℕ) (disk : List ℕ) → ArePlaced len place n ranges → len ≤ length disk → length (applied ranges disk) ≡ furthest ranges (length disk)
+pub length-applied : (ranges : List Range) (len place n : ℕ) (disk : List ℕ) → ArePlaced len place n ranges → len ≤ length disk
+    → length (applied ranges disk) ≡ furthest ranges (length disk)
 length-applied [] len place n disk placed le = refl
 length-applied (range ∷ ranges) len place n disk placed le =
     let begins : range.place ≤ length disk = let p = placed.0 in omega arith in
@@ -61,7 +63,8 @@ pub settling-none : (ranges : List Range) (disk : List ℕ) → Settling ranges 
 settling-none ranges disk = record { no_shorter = omega arith; no_longer = omega (arith, furthest-is ranges (length disk)); outside = λ k lt out. refl }
 
 -- one of the ranges torn
-pub settling-torn : (ranges : List Range) (range : Range) (old mid new : List ℕ) → Among ranges range → Settling ranges old mid → Torn range.place (length range.bytes) mid new → Settling ranges old new
+pub settling-torn : (ranges : List Range) (range : Range) (old mid new : List ℕ) → Among ranges range → Settling ranges old mid
+    → Torn range.place (length range.bytes) mid new → Settling ranges old new
 settling-torn ranges range old mid new here so torn =
     let a = so.no_shorter in
     let b = so.no_longer in
@@ -88,19 +91,19 @@ past-all (range ∷ ranges) len place n k placed le out =
     ]
 
 -- so a disk that settles agrees with the old one outside of the ranges
-pub settling-agrees : (ranges : List Range) (place n : ℕ) (old new : List ℕ) → ArePlaced (length old) place n ranges → Settling ranges old new → (k : ℕ) → OutsideAll k ranges → get_or new k 0 ≡ get_or old k 0
+pub settling-agrees : (ranges : List Range) (place n : ℕ) (old new : List ℕ) → ArePlaced (length old) place n ranges → Settling ranges old new
+    → (k : ℕ) → OutsideAll k ranges → get_or new k 0 ≡ get_or old k 0
 settling-agrees ranges place n old new placed so k out = elim (cases_lt k (length old)) [
   | inl lt ↦ so.outside k lt out
-  | inr le ↦ get_or_past new k 0 (let a = past-all ranges (length old) place n k placed le out in let b = so.no_longer in omega arith) ∙ sym (get_or_past old k 0 le)
+  | inr le ↦ get_or_past new k 0 (let a = past-all ranges (length old) place n k placed le out in let b = so.no_longer in omega arith)
+      ∙ sym (get_or_past old k 0 le)
 ]
 
 -- the bytes of the record are outside of all ranges
 pub record-outside : (ranges : List Range) (len place n k : ℕ) → ArePlaced len place n ranges → place ≤ k → k < place + n → OutsideAll k ranges
 record-outside [] len place n k placed le lt = tt
-record-outside (range ∷ ranges) len place n k placed le lt =
-    (elim (placed.1) [ inl before ↦ inr (omega arith) | inr after ↦ inl (omega arith) ], record-outside ranges (max len (range.place + length range.bytes)) place n k placed.2 le lt)
-
--- ranges are placed on a longer disk too
-pub placed-longer : (ranges : List Range) (len more place n : ℕ) → ArePlaced len place n ranges → len ≤ more → ArePlaced more place n ranges
-placed-longer [] len more place n placed le = tt
-placed-longer (range ∷ ranges) len more place n placed le = let p = placed.0 in let end = range.place + length range.bytes in (omega arith, placed.1, placed-longer ranges (max len end) (max more end) place n placed.2 (omega arith))
+record-outside (range ∷ ranges) len place n k placed le lt = (
+  elim (placed.1) [ inl before ↦ inr (omega arith) | inr after ↦ inl (omega arith) ],
+  record-outside ranges
+      (max len (range.place + length range.bytes)) place n k placed.2 le lt,
+)

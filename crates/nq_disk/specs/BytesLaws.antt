@@ -1,8 +1,10 @@
 -- What a write leaves, byte by byte.
-use Rattle.std.proofs.Common.{◌≡◌, ◌⊎◌, ℕ, ◌+◌, ◌-◌, ◌<◌, ◌≤◌, max, List, [], ◌∷◌, ◌++◌, length, get_or, take, drop, refl, sym, ap, ◌∙◌, inl, inr, ⊎_elim, arith, length-append, length-drop}
+use Rattle.std.proofs.Common.{◌≡◌, ◌⊎◌, ℕ, ◌+◌, ◌-◌, ◌<◌, ◌≤◌, max, List, [], ◌∷◌, ◌++◌, length, get_or, take, drop, refl, sym, ap, ◌∙◌, inl, inr}
+use Rattle.std.proofs.Common.{⊎_elim, arith, length-append, length-drop}
 use Rattle.std.specs.Prelude.{replicate}
 use Rattle.std.proofs.lemmas.Bool.{cases_lt}
-use Rattle.std.proofs.lemmas.List.{length-take-le, length-replicate, get_or-take, get_or-drop, get_or_append_left, get_or-append_right, get_or-replicate, get_or_past}
+use Rattle.std.proofs.lemmas.List.{length-take-le, length-replicate, get_or-take, get_or-drop, get_or_append_left, get_or-append_right}
+use Rattle.std.proofs.lemmas.List.{get_or-replicate, get_or_past}
 use Rattle.nq_disk.specs.Bytes.{padded, written, Torn}
 
 at-equal : (n i z : ℕ) → get_or (replicate n z) i z ≡ z
@@ -22,7 +24,8 @@ module _ (place : ℕ) (bytes disk : List ℕ) where
   pub at-padded : (k : ℕ) → get_or (padded place disk) k 0 ≡ get_or disk k 0
   at-padded k = elim (cases_lt k (length disk)) [
     | inl lt ↦ get_or_append_left disk (replicate (place - length disk) 0) 0 k lt
-    | inr le ↦ get_or-append_right disk (replicate (place - length disk) 0) (length disk) k 0 refl le ∙ at-equal (place - length disk) (k - length disk) 0 ∙ sym (get_or_past disk k 0 le)
+    | inr le ↦ get_or-append_right disk (replicate (place - length disk) 0) (length disk) k 0 refl le ∙ at-equal (place - length disk)
+        (k - length disk) 0 ∙ sym (get_or_past disk k 0 le)
   ]
 
   -- the three parts of what a write leaves
@@ -53,23 +56,33 @@ module _ (place : ℕ) (bytes disk : List ℕ) where
 
   length-three : length in-three ≡ max (length disk) (place + length bytes)
   length-three =
-      omega (arith, length-front, length-append (take place (padded place disk)) (bytes ++ drop (place + length bytes) disk), length-append bytes (drop (place + length bytes) disk), length-drop (place + length bytes) disk)
+      omega (
+        arith,
+        length-front,
+        length-append (take place (padded place disk)) (bytes ++ drop (place + length bytes) disk),
+        length-append bytes
+            (drop (place + length bytes) disk),
+        length-drop (place + length bytes) disk,
+      )
 
 -- how long a disk is after a write that leaves no gap, or writes something
-pub length-written : (place : ℕ) (bytes disk : List ℕ) → (place ≤ length disk) ⊎ (0 < length bytes) → length (written place bytes disk) ≡ max (length disk) (place + length bytes)
+pub length-written : (place : ℕ) (bytes disk : List ℕ) → (place ≤ length disk) ⊎ (0 < length bytes) → length (written place bytes disk)
+    ≡ max (length disk) (place + length bytes)
 unfolding written
 length-written place [] disk (inl le) = omega arith
 length-written place [] disk (inr none) = absurd (omega arith)
 length-written place (byte ∷ bytes) disk either = length-three place (byte ∷ bytes) disk
 
 -- within the range the bytes written stand
-pub written-within : (place : ℕ) (bytes disk : List ℕ) (k : ℕ) → place ≤ k → k < place + length bytes → get_or (written place bytes disk) k 0 ≡ get_or bytes (k - place) 0
+pub written-within : (place : ℕ) (bytes disk : List ℕ) (k : ℕ) → place ≤ k → k < place + length bytes → get_or (written place bytes disk) k 0
+    ≡ get_or bytes (k - place) 0
 unfolding written
 written-within place [] disk k le lt = absurd (omega arith)
 written-within place (byte ∷ bytes) disk k le lt = three-within place (byte ∷ bytes) disk k le lt
 
 -- below the range and above it nothing changes
-pub written-outside : (place : ℕ) (bytes disk : List ℕ) (k : ℕ) → (k < place) ⊎ (place + length bytes ≤ k) → get_or (written place bytes disk) k 0 ≡ get_or disk k 0
+pub written-outside : (place : ℕ) (bytes disk : List ℕ) (k : ℕ) → (k < place) ⊎ (place + length bytes ≤ k) → get_or (written place bytes disk) k 0
+    ≡ get_or disk k 0
 unfolding written
 written-outside place [] disk k either = refl
 written-outside place (byte ∷ bytes) disk k (inl lt) = three-before place (byte ∷ bytes) disk k lt
@@ -84,7 +97,8 @@ torn-written place (byte ∷ bytes) disk =
     record {
       no_shorter = omega arith;
       no_longer = omega arith;
-      outside = λ k lt either. ⊎_elim (λ before. three-before place (byte ∷ bytes) disk k before) (λ after. three-after place (byte ∷ bytes) disk k after) either;
+      outside = λ k lt either. ⊎_elim (λ before. three-before place (byte ∷ bytes) disk k before) (λ after. three-after place (byte ∷ bytes) disk k
+          after) either;
     }
 
 -- a disk may be left as it is

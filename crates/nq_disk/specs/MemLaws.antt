@@ -1,5 +1,6 @@
 -- The laws of a disk, of one in memory.
-use Rattle.std.proofs.Common.{◌≡◌, ◌⊎◌, ℕ, ◌+◌, ◌-◌, List, [], ◌∷◌, ◌++◌, length, drop, Some, None, refl, sym, ap, subst, ◌∙◌, inl, inr, arith, length-append, append_assoc}
+use Rattle.std.proofs.Common.{◌≡◌, ◌⊎◌, ℕ, ◌+◌, ◌-◌, List, [], ◌∷◌, ◌++◌, length, drop, Some, None, refl, sym, ap, subst, ◌∙◌, inl, inr, arith}
+use Rattle.std.proofs.Common.{length-append, append_assoc}
 use Rattle.std.proofs.lemmas.Bool.{cases_lt}
 use Rattle.std.proofs.lemmas.List.{drop_at, drop-drop}
 use Rattle.nq_disk.specs.BytesLaws.{torn-same, torn-written}
@@ -41,24 +42,28 @@ left-now disk image left = let between = left.between in image-at disk.first dis
 then-drop : (first last : StoredDisk) (goes : GoesOn first last) (n : ℕ) → drop (length goes.more + n) last.events ≡ drop n first.events
 then-drop first last goes n =
     sym (drop-drop n (length goes.more) last.events)
-    ∙ ap (λ (e : List Event). drop n e) (ap (λ (e : List Event). drop (length goes.more) e) goes.events ∙ drop_at goes.more first.events (length goes.more) refl)
+    ∙ ap (λ (e : List Event). drop n e) (ap (λ (e : List Event). drop (length goes.more) e) goes.events ∙ drop_at goes.more first.events
+    (length goes.more) refl)
 
 length-then : (first last : StoredDisk) (goes : GoesOn first last) → length last.events ≡ length goes.more + length first.events
 length-then first last goes = ap length goes.events ∙ length-append goes.more first.events
 
 -- an image of an earlier moment, by the events of a later disk
-as-earlier : (first last : StoredDisk) (goes : GoesOn first last) (n : ℕ) (image : List ℕ) → Image first.first (drop n first.events) image → Image last.first (drop (length goes.more + n) last.events) image
+as-earlier : (first last : StoredDisk) (goes : GoesOn first last) (n : ℕ) (image : List ℕ) → Image first.first (drop n first.events) image
+    → Image last.first (drop (length goes.more + n) last.events) image
 as-earlier first last goes n image here =
     subst (λ (b : List ℕ). Image b (drop (length goes.more + n) last.events) image) (sym goes.same)
     (subst (λ (e : List Event). Image first.first e image) (sym (then-drop first last goes n)) here)
 
 -- and back
-as-later : (first last : StoredDisk) (goes : GoesOn first last) (n : ℕ) (image : List ℕ) → Image last.first (drop (length goes.more + n) last.events) image → Image first.first (drop n first.events) image
+as-later : (first last : StoredDisk) (goes : GoesOn first last) (n : ℕ) (image : List ℕ) → Image last.first (drop (length goes.more + n) last.events)
+    image → Image first.first (drop n first.events) image
 as-later first last goes n image here =
     subst (λ (b : List ℕ). Image b (drop n first.events) image) goes.same
     (subst (λ (e : List Event). Image last.first e image) (then-drop first last goes n) here)
 
-pub left-ends : (first last : StoredDisk) (image : List ℕ) → GoesOn first last → Image first.first first.events image ⊎ Image last.first last.events image → Left first last image
+pub left-ends : (first last : StoredDisk) (image : List ℕ) → GoesOn first last → Image first.first first.events image ⊎ Image last.first last.events
+    image → Left first last image
 left-ends first last image goes (inl here) = record {
   undone = length goes.more + 0;
   between = omega (arith, length-then first last goes);
@@ -66,7 +71,8 @@ left-ends first last image goes (inl here) = record {
 }
 left-ends first last image goes (inr here) = record { undone = 0; between = let long = length-then first last goes in omega arith; image_then = here }
 
-pub left-parts : (first middle last : StoredDisk) (image : List ℕ) → GoesOn first middle → GoesOn middle last → Left first last image → Left first middle image ⊎ Left middle last image
+pub left-parts : (first middle last : StoredDisk) (image : List ℕ) → GoesOn first middle → GoesOn middle last → Left first last image
+    → Left first middle image ⊎ Left middle last image
 left-parts first middle last image one two left =
     let between = left.between in
     let long = length-then middle last two in
@@ -74,12 +80,14 @@ left-parts first middle last image one two left =
       | inl lt ↦ inl (record {
         undone = left.undone - length two.more;
         between = omega arith;
-        image_then = as-later middle last two (left.undone - length two.more) image (image-at last.first last.events left.undone (length two.more + (left.undone - length two.more)) image (omega arith) left.image_then);
+        image_then = as-later middle last two (left.undone - length two.more) image (image-at last.first last.events left.undone (length two.more
+            + (left.undone - length two.more)) image (omega arith) left.image_then);
       })
       | inr le ↦ inr (record { undone = left.undone; between = omega arith; image_then = left.image_then })
     ]
 
-pub left-joins : (first middle last : StoredDisk) (image : List ℕ) → GoesOn first middle → GoesOn middle last → Left first middle image ⊎ Left middle last image → Left first last image
+pub left-joins : (first middle last : StoredDisk) (image : List ℕ) → GoesOn first middle → GoesOn middle last → Left first middle image
+    ⊎ Left middle last image → Left first last image
 left-joins first middle last image one two (inl left) =
     let between = left.between in
     let long = length-then middle last two in

@@ -1,5 +1,6 @@
 -- The redo record on a disk: what it says, which field of it is wrong, and what an open gives.
-use Rattle.std.specs.Prelude.{ℕ, zero, suc, not, ◌+◌, ◌&&◌, ◌||◌, ◌==◌, Bool, List, [], ◌∷◌, Option, Some, None, Result, Ok, Err, length, max, take, drop, replicate, slice_index, nat_lt, if◌then◌else◌}
+use Rattle.std.specs.Prelude.{ℕ, zero, suc, not, ◌+◌, ◌&&◌, ◌||◌, ◌==◌, Bool, List, [], ◌∷◌, Option, Some, None, Result, Ok, Err, length, max, take}
+use Rattle.std.specs.Prelude.{drop, replicate, slice_index, nat_lt, if◌then◌else◌}
 use Rattle.std.specs.List.{list_all}
 use Rattle.std.specs.Int.{w32, w64, from_be_bytes}
 use Rattle.nq_disk.specs.Bytes.{written}
@@ -30,7 +31,8 @@ abbrev pub front_within : (place n : ℕ) → List ℕ → Option Front
 front_within place n rest = if nat_lt (length rest) n then None else Some (front_of place (take n rest) (drop n rest))
 
 abbrev pub front_range : List ℕ → Option Front
-front_range (a ∷ b ∷ c ∷ d ∷ e ∷ f ∷ g ∷ h ∷ i ∷ j ∷ k ∷ l ∷ rest) = front_within (from_be_bytes w64 (a ∷ b ∷ c ∷ d ∷ e ∷ f ∷ g ∷ h ∷ [])) (from_be_bytes w32 (i ∷ j ∷ k ∷ l ∷ [])) rest
+front_range (a ∷ b ∷ c ∷ d ∷ e ∷ f ∷ g ∷ h ∷ i ∷ j ∷ k ∷ l ∷ rest) = front_within (from_be_bytes w64 (a ∷ b ∷ c ∷ d ∷ e ∷ f ∷ g ∷ h ∷ []))
+    (from_be_bytes w32 (i ∷ j ∷ k ∷ l ∷ [])) rest
 front_range short = None
 
 -- a range, and more of them behind it

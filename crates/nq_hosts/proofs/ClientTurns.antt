@@ -1,5 +1,5 @@
 -- The stages of a client's turn.
-use Rattle.std.proofs.Common.{◌≡◌, ℕ, List, Option, Some, None, Result, Ok, Err, refl, sym}
+use Rattle.std.proofs.Common.{◌≡◌, ℕ, Option, Some, None, Result, Ok, Err, refl, sym}
 use Rattle.nq_base.specs.declared.Answer.{Answer}
 use Rattle.nq_client.specs.declared.Heard.{Heard}
 use Rattle.nq_hosts.specs.ClientTurn.{Given, GoesOn, Moment, Receives, Stages, Takes, TakesFrom, given_by, goes_on, tick_due}
@@ -47,7 +47,8 @@ stopped why reading clock clock' link at after read takes = record {
 }
 
 -- the turn went on after its tick
-pub went_on : (ended : Result (Option Answer) Stop) (ticked : Option Answer) (reading : ℕ) (clock clock' : ClockTold) (link link' : LinkTold) (at between after : Moment)
+pub went_on : (ended : Result (Option Answer) Stop) (ticked : Option Answer) (reading : ℕ) (clock clock' : ClockTold) (link link' : LinkTold)
+    (at between after : Moment)
     → ReadsOnce reading clock clock' → Takes (tick_due at.client.client.now reading) (Ok ticked) at between
     → GoesOn (Ok ticked) ended link link' between after
     → Stages ended clock clock' link link' at after

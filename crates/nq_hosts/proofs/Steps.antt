@@ -1,5 +1,6 @@
 -- Lines that are stepped over.
-use Rattle.std.proofs.Common.{◌≡◌, ◌≢◌, true, false, Result, Ok, Err, ℕ, ◌+◌, ◌≤◌, List, [], ◌∷◌, ◌++◌, Some, None, length, refl, ap, sym, subst, ◌∙◌, arith, append_assoc, length-append}
+use Rattle.std.proofs.Common.{◌≡◌, ◌≢◌, true, false, Result, Ok, Err, ℕ, ◌+◌, ◌≤◌, List, [], ◌∷◌, ◌++◌, Some, None, length, refl, ap, sym, subst, ◌∙◌}
+use Rattle.std.proofs.Common.{arith, append_assoc, length-append}
 use Rattle.std.specs.Prelude.{is_ok}
 use Rattle.nq_base.specs.declared.Call.{Call}
 use Rattle.nq_hosts.specs.Lines.{IsCall, SoFar, StepsOver}
@@ -44,7 +45,8 @@ pub no-call : (text : List ℕ) → cut_at 10 text ≡ None → (line after : Li
 no-call text none line after here call = no-line text line after none here call.0
 
 -- a line that is read as a call spells it
-pub spelled : (line : List ℕ) (read : Result Call ScriptFault) → is_ok read ≡ true → Answers read (λ call. SpellsCall 1 call line) (λ number. number ≡ 1) → (call : Call) × SpellsCall 1 call line
+pub spelled : (line : List ℕ) (read : Result Call ScriptFault) → is_ok read ≡ true → Answers read (λ call. SpellsCall 1 call line) (λ number. number
+    ≡ 1) → (call : Call) × SpellsCall 1 call line
 spelled line (Ok call) is found = (call, found)
 spelled line (Err why) is found = absurd cc
 

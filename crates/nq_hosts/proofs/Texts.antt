@@ -1,5 +1,6 @@
 -- How far the calls of a text were run.
-use Rattle.std.proofs.Common.{◌≡◌, ℕ, ◌+◌, ◌<◌, ◌≤◌, List, [], ◌∷◌, ◌++◌, Some, None, Ok, Err, length, refl, ap, sym, subst, ◌∙◌, arith, append_assoc, append-nil, length-append}
+use Rattle.std.proofs.Common.{◌≡◌, ℕ, ◌+◌, ◌<◌, ◌≤◌, List, [], ◌∷◌, ◌++◌, Some, None, Ok, Err, length, refl, ap, sym, subst, ◌∙◌, arith, append_assoc}
+use Rattle.std.proofs.Common.{append-nil, length-append}
 use Rattle.std.proofs.lemmas.Option.{none-some}
 use Rattle.std.specs.List.{AllByRecursion}
 use Rattle.nq_hosts.specs.Lines.{AreCalls, IsCall}
@@ -31,7 +32,8 @@ pub record Next (later : List (List ℕ)) (line after : List ℕ) : Type 0 where
   pub left : after ≡ text_of others
   pub call : IsCall line
 
-next_of : (later : List (List ℕ)) (rest line after : List ℕ) → AllByRecursion IsCall later → rest ≡ text_of later → cut 10 rest ≡ Some (line, after) → Next later line after
+next_of : (later : List (List ℕ)) (rest line after : List ℕ) → AllByRecursion IsCall later → rest ≡ text_of later → cut 10 rest ≡ Some (line, after)
+    → Next later line after
 unfolding cut
 next_of [] rest line after each left cuts = absurd (none-some (line, after) (sym (ap (cut 10) left) ∙ cuts))
 next_of (first ∷ others) rest line after each left cut =
@@ -49,7 +51,8 @@ next turns text rest line after number at now p cut =
     next_of p.later rest line after (each-back IsCall p.before p.later (subst (AllByRecursion IsCall) p.parts p.are.each)) p.left cut
 
 -- the calls of lines and of one more
-answered_more : (turns : ℕ) (lines : List (List ℕ)) (line : List ℕ) (at now after : Between) → AnswersAll turns lines at now → RunsLine turns line (Ok tt) now after
+answered_more : (turns : ℕ) (lines : List (List ℕ)) (line : List ℕ) (at now after : Between) → AnswersAll turns lines at now
+    → RunsLine turns line (Ok tt) now after
     → AnswersAll turns (lines ++ line ∷ []) at after
 answered_more turns [] line at now after so runs = (after, subst (λ b. RunsLine turns line (Ok tt) b after) so runs, refl)
 answered_more turns (first ∷ lines) line at now after so runs =

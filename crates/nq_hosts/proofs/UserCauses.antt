@@ -1,5 +1,6 @@
 -- Why a run of calls ends as it does.
-use Rattle.std.proofs.Common.{◌≡◌, ◌∙◌, ◌⊎◌, ◌+◌, ℕ, zero, suc, Bool, true, false, List, [], ◌∷◌, ◌++◌, Option, Some, None, Result, Ok, Err, inl, inr, length, refl, sym, ap, subst, arith, append_assoc, length-append}
+use Rattle.std.proofs.Common.{◌≡◌, ◌∙◌, ℕ, zero, suc, Bool, true, false, List, [], ◌∷◌, ◌++◌, Option, Some, None, Result, Ok, Err, inl, inr, length}
+use Rattle.std.proofs.Common.{refl, sym, ap, subst, arith, append_assoc, length-append}
 use Rattle.std.proofs.lemmas.Option.{same_Some}
 use Rattle.std.specs.List.{AllByRecursion}
 use Rattle.nq_hosts.specs.Answers.{answers_text}
@@ -10,7 +11,7 @@ use Rattle.nq_base.specs.declared.Call.{Call}
 use Rattle.nq_base.specs.declared.Entry.{Entry}
 use Rattle.nq_base.specs.declared.Who.{Who}
 use Rattle.nq_base.specs.Entries.{EntryList}
-use Rattle.nq_hosts.specs.Lines.{AreCalls, FirstFault, IsCall, Tells}
+use Rattle.nq_hosts.specs.Lines.{AreCalls, IsCall, Tells}
 use Rattle.nq_client.specs.Counted.{Counted}
 use Rattle.nq_base.specs.declared.ending.ending.Ending.{Ending}
 use Rattle.nq_base.specs.declared.ending.halt.Halt.{Halt}
@@ -25,12 +26,12 @@ use Rattle.nq_script.specs.Text.{text_of}
 use Rattle.nq_script.proofs.Cuts.{cut-again}
 use Rattle.nq_script.specs.WordsReading.{cut as cut_at}
 use Rattle.nq_hosts.specs.Calling as calling
-use Rattle.nq_hosts.specs.Calling.{FollowsUp, Makes, RunsCall, SendsOut, Waits, refusal_of}
+use Rattle.nq_hosts.specs.Calling.{FollowsUp, RunsCall, SendsOut, Waits, refusal_of}
 use Rattle.nq_hosts.specs.Running as running
 use Rattle.nq_hosts.specs.Running.{AnswersAll, AttendsFrom, Begins, Runs, RunsLine, RunsText}
 use Rattle.nq_hosts.specs.UserTurning as turning
 use Rattle.nq_hosts.specs.UserTurning.{Between, EndsWithin, Goes, TakesTurn, TakesTurns, Turns, turn_of}
-use Rattle.nq_hosts.specs.Using.{EndsBy, RunsAndTells, UsesText}
+use Rattle.nq_hosts.specs.Using.{EndsBy, UsesText}
 use Rattle.nq_hosts.specs.declared.user.aims.Aim.{Aim}
 
 -- the count of the link's faults rises where it stopped for the link, and stays otherwise; no keeper ever stops it
@@ -105,7 +106,8 @@ sent-counts letters (Err Halt.Memory) link link' s = absurd s
 sent-counts letters (Err Halt.Spent) link link' s = absurd s
 sent-counts letters (Err Halt.NoAnswer) link link' s = absurd s
 
-follow-counts : (answer : Answer) (letters : Letters) (result : Result Unit Halt) (link link' : LinkTold) → FollowsUp (refusal_of answer) letters result link link'
+follow-counts : (answer : Answer) (letters : Letters) (result : Result Unit Halt) (link link' : LinkTold) → FollowsUp (refusal_of answer) letters
+    result link link'
     → Counts result link.faults link'.faults
 follow-counts Answer.Memory letters result link link' f = rw (f.0, f.1) refl
 follow-counts Answer.Spent letters result link link' f = rw (f.0, f.1) refl
@@ -172,7 +174,8 @@ begun-counts who time (Err Halt.NoAnswer) link link' b = absurd b
 behind-counts : (turns : ℕ) (begun : Result Counted Halt) (text : List ℕ) (result : Result Unit Stop) (log log' : EntryList) (clock clock' : ClockTold)
     (link link' : LinkTold) (before : ℕ) → running.GoesOn turns begun text result log log' clock clock' link link' → Counts begun before link.faults
     → CallCounts result before link'.faults
-behind-counts turns (Err why) text result log log' clock clock' link link' before g counts = rw (g.0, g.3) (same-why Counted Unit why before link.faults counts)
+behind-counts turns (Err why) text result log log' clock clock' link link' before g counts = rw (g.0, g.3) (same-why Counted Unit why before
+    link.faults counts)
 behind-counts turns (Ok client) text result log log' clock clock' link link' before g counts =
     rw g.links (subst (λ n. CallCounts result n g.last.link.faults) counts
     (attend-counts turns text result (record { client = client; log = log; next = 0; clock = clock; link = link }) g.last g.attends))
@@ -195,8 +198,10 @@ stop-by : (why : Halt) (line : ℕ) (entries : List Entry) (result : Ending) (he
 stop-by Halt.Link line entries result held now s s' w w' link link' t counts = rw t.0 counts
 stop-by Halt.Keep line entries result held now s s' w w' link link' t counts = absurd counts
 stop-by Halt.Memory line entries result held now s s' w w' link link' t counts = rw t.0 tt
-stop-by Halt.Spent line entries result held now s s' w w' link link' t counts = so-by Ending.Limit (answers_text entries ++ events_line line) result held now s s' w w' link link' t tt
-stop-by Halt.NoAnswer line entries result held now s s' w w' link link' t counts = so-by Ending.NoAnswer (answers_text entries ++ noanswer_line line) result held now s s' w w' link link' t tt
+stop-by Halt.Spent line entries result held now s s' w w' link link' t counts = so-by Ending.Limit (answers_text entries ++ events_line line) result
+    held now s s' w w' link link' t tt
+stop-by Halt.NoAnswer line entries result held now s s' w w' link link' t counts = so-by Ending.NoAnswer (answers_text entries ++ noanswer_line line)
+    result held now s s' w w' link link' t tt
 
 end-by : (ended : Result Unit Stop) (entries : List Entry) (result : Ending) (held now : Option (List ℕ)) (s s' w w' link link' : ℕ)
     → TellsEnd ended entries result held now w w' → CallCounts ended link link' → EndsBy result s s' w w' link link'
@@ -253,8 +258,10 @@ stop-not-script : (why : Halt) (line : ℕ) (entries : List Entry) (result : End
 stop-not-script Halt.Link line entries result held now w w' t is = let other = sym t.0 ∙ is in absurd (cc)
 stop-not-script Halt.Keep line entries result held now w w' t is = let other = sym t.0 ∙ is in absurd (cc)
 stop-not-script Halt.Memory line entries result held now w w' t is = let other = sym t.0 ∙ is in absurd (cc)
-stop-not-script Halt.Spent line entries result held now w w' t is = so-not-script Ending.Limit (answers_text entries ++ events_line line) result held now w w' t (λ same. absurd (cc)) is
-stop-not-script Halt.NoAnswer line entries result held now w w' t is = so-not-script Ending.NoAnswer (answers_text entries ++ noanswer_line line) result held now w w' t (λ same. absurd (cc)) is
+stop-not-script Halt.Spent line entries result held now w w' t is = so-not-script Ending.Limit (answers_text entries ++ events_line line) result held
+    now w w' t (λ same. absurd (cc)) is
+stop-not-script Halt.NoAnswer line entries result held now w w' t is = so-not-script Ending.NoAnswer (answers_text entries ++ noanswer_line line)
+    result held now w w' t (λ same. absurd (cc)) is
 
 end-not-script : (ended : Result Unit Stop) (entries : List Entry) (result : Ending) (held now : Option (List ℕ)) (w w' : ℕ)
     → TellsEnd ended entries result held now w w' → result ≡ Ending.Script → ⊥

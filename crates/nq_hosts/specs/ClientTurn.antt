@@ -152,10 +152,12 @@ TurnLink ClientTurn.Link before now = Rose before now
 TurnLink other before now = now ≡ before
 
 -- a turn with this answer: its stages, with an outbox that is empty at first
-pub record AttendsTurn (turn : ClientTurn) (next next' : ℕ) (clock clock' : ClockTold) (link link' : LinkTold) (client client' : Counted) (log log' : EntryList) : Type 0 where
+pub record AttendsTurn (turn : ClientTurn) (next next' : ℕ) (clock clock' : ClockTold) (link link' : LinkTold) (client client' : Counted)
+    (log log' : EntryList) : Type 0 where
   pub out : Datagrams
   pub out' : Datagrams
   pub empty : out.datagrams ≡ []
   pub ended : Result (Option Answer) Stop
   pub answer : turn ≡ turn_of ended
-  pub stages : Stages ended clock clock' link link' (record { client = client; out = out; log = log; next = next }) (record { client = client'; out = out'; log = log'; next = next' })
+  pub stages : Stages ended clock clock' link link' (record { client = client; out = out; log = log; next = next })
+      (record { client = client'; out = out'; log = log'; next = next' })

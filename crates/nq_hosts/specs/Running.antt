@@ -1,5 +1,5 @@
 -- Running the calls of a text, line by line, with a client that is started, attached, and stopped in the end.
-use Rattle.std.specs.Prelude.{◌≡◌, ◌+◌, ℕ, List, [], ◌∷◌, ◌++◌, length, map, Option, Result, Ok, Err}
+use Rattle.std.specs.Prelude.{◌≡◌, ◌+◌, ℕ, List, [], ◌∷◌, ◌++◌, length, map, Result, Ok, Err}
 use Rattle.nq_hosts.specs.declared.answers.ending.Stop.{Stop}
 use Rattle.nq_base.specs.declared.Call.{Call}
 use Rattle.nq_base.specs.declared.Who.{Who}
@@ -75,7 +75,8 @@ Begins who time (Err Halt.Memory) link link' = link' ≡ link
 Begins who time (Err why) link link' = SendsOut (map to_server (starts who term_wanted time).sends) (Err why) link link'
 
 -- what comes after the start: nothing, or the client is attached and the calls of the text are run
-pub record RunsFrom (turns : ℕ) (client : Counted) (text : List ℕ) (result : Result Unit Stop) (log log' : EntryList) (clock clock' : ClockTold) (link link' : LinkTold) : Type 0 where
+pub record RunsFrom (turns : ℕ) (client : Counted) (text : List ℕ) (result : Result Unit Stop) (log log' : EntryList) (clock clock' : ClockTold)
+    (link link' : LinkTold) : Type 0 where
   pub last : Between
   pub attends : Attends turns text result (record { client = client; log = log; next = 0; clock = clock; link = link }) last
   pub logs : log' ≡ last.log
@@ -83,14 +84,16 @@ pub record RunsFrom (turns : ℕ) (client : Counted) (text : List ℕ) (result :
   pub links : link' ≡ last.link
 
 -- likewise, by what the start gave
-abbrev pub GoesOn : (turns : ℕ) → (begun : Result Counted Halt) → (text : List ℕ) → Result Unit Stop → (log log' : EntryList) → (clock clock' : ClockTold) → (link link' : LinkTold) → Type 0
+abbrev pub GoesOn : (turns : ℕ) → (begun : Result Counted Halt) → (text : List ℕ) → Result Unit Stop → (log log' : EntryList)
+    → (clock clock' : ClockTold) → (link link' : LinkTold) → Type 0
 GoesOn turns (Err why) text result log log' clock clock' link link' =
     (result ≡ Err (record { why = why; line = 0 })) × (log' ≡ log) × (clock' ≡ clock) × (link' ≡ link)
 GoesOn turns (Ok client) text result log log' clock clock' link link' =
     RunsFrom turns client text result log log' clock clock' link link'
 
 -- the clock was read once, a client was started at that time, attached, and the calls of the text were run
-pub record Runs (turns : ℕ) (who : Who) (text : List ℕ) (result : Result Unit Stop) (log log' : EntryList) (clock clock' : ClockTold) (link link' : LinkTold) : Type 0 where
+pub record Runs (turns : ℕ) (who : Who) (text : List ℕ) (result : Result Unit Stop) (log log' : EntryList) (clock clock' : ClockTold)
+    (link link' : LinkTold) : Type 0 where
   pub time : ℕ
   pub clock_read : ClockTold
   pub read : ReadsOnce time clock clock_read

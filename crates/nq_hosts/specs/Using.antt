@@ -15,7 +15,8 @@ use Rattle.nq_link.specs.Links.{LinkTold}
 use Rattle.nq_hosts.specs.Running.{Runs}
 
 -- the calls of a text were run with a journal that was empty at first, and what came of them was told
-pub record RunsAndTells (turns : ℕ) (who : Who) (text : List ℕ) (result : Ending) (held now : Option (List ℕ)) (w w' : ℕ) (clock clock' : ClockTold) (link link' : LinkTold) : Type 0 where
+pub record RunsAndTells (turns : ℕ) (who : Who) (text : List ℕ) (result : Ending) (held now : Option (List ℕ)) (w w' : ℕ) (clock clock' : ClockTold)
+    (link link' : LinkTold) : Type 0 where
   pub log : EntryList
   pub log' : EntryList
   pub empty : log.entries ≡ []
@@ -24,14 +25,16 @@ pub record RunsAndTells (turns : ℕ) (who : Who) (text : List ℕ) (result : En
   pub tells : TellsEnd ended log'.entries result held now w w'
 
 -- what comes of a text with this fault: its line is told and nothing else is done, or its calls are run
-abbrev pub UsesText : Option ℕ → (turns : ℕ) → Who → (text : List ℕ) → Ending → (held now : Option (List ℕ)) → (w w' : ℕ) → (clock clock' : ClockTold) → (link link' : LinkTold) → Type 0
+abbrev pub UsesText : Option ℕ → (turns : ℕ) → Who → (text : List ℕ) → Ending → (held now : Option (List ℕ)) → (w w' : ℕ) → (clock clock' : ClockTold)
+    → (link link' : LinkTold) → Type 0
 UsesText (Some number) turns who text result held now w w' clock clock' link link' =
     TellsSo Ending.Script (script_line number) result held now w w' × (clock' ≡ clock) × (link' ≡ link)
 UsesText None turns who text result held now w w' clock clock' link link' =
     RunsAndTells turns who text result held now w w' clock clock' link link'
 
 -- what comes of the input that was read so
-abbrev pub UsesInput : Whole → (turns : ℕ) → Who → Ending → (held now : Option (List ℕ)) → (w w' : ℕ) → (clock clock' : ClockTold) → (link link' : LinkTold) → Type 0
+abbrev pub UsesInput : Whole → (turns : ℕ) → Who → Ending → (held now : Option (List ℕ)) → (w w' : ℕ) → (clock clock' : ClockTold)
+    → (link link' : LinkTold) → Type 0
 UsesInput (Whole.All text) turns who result held now w w' clock clock' link link' =
     (fault : Option ℕ) × Tells fault text.items × UsesText fault turns who text.items result held now w w' clock clock' link link'
 UsesInput (Whole.Over front) turns who result held now w w' clock clock' link link' =
@@ -42,7 +45,8 @@ UsesInput Whole.Memory turns who result held now w w' clock clock' link link' =
     (result ≡ Ending.Memory) × IsSilent held now w w' × (clock' ≡ clock) × (link' ≡ link)
 
 -- the input was read to its end, or to the limit, and this came of it
-pub record Uses (turns : ℕ) (who : Who) (limit : ℕ) (result : Ending) (left rest : Option (List ℕ)) (s s' : ℕ) (held now : Option (List ℕ)) (w w' : ℕ) (clock clock' : ClockTold) (link link' : LinkTold) : Type 0 where
+pub record Uses (turns : ℕ) (who : Who) (limit : ℕ) (result : Ending) (left rest : Option (List ℕ)) (s s' : ℕ) (held now : Option (List ℕ)) (w w' : ℕ)
+    (clock clock' : ClockTold) (link link' : LinkTold) : Type 0 where
   pub whole : Whole
   pub reads : ReadsWhole whole limit left rest
   pub counts : CountsWhole whole s s'

@@ -1,5 +1,6 @@
 -- Bytes that agree where something stands: the same stands in both.
-use Rattle.std.proofs.Common.{◌≡◌, ◌≤◌, ◌<◌, ◌+◌, ◌-◌, ◌*◌, inl, inr, ℕ, suc, Bool, true, false, List, [], ◌∷◌, ◌++◌, Option, Some, None, Ok, drop, map, length, get_or, if◌then◌else◌, refl, sym, ap, subst, ◌∙◌, arith}
+use Rattle.std.proofs.Common.{◌≡◌, ◌≤◌, ◌<◌, ◌+◌, ◌-◌, ◌*◌, inl, inr, ℕ, suc, Bool, true, false, List, [], ◌∷◌, ◌++◌, Option, Some, None, Ok, drop}
+use Rattle.std.proofs.Common.{map, length, get_or, if◌then◌else◌, refl, sym, ap, subst, ◌∙◌, arith}
 use Rattle.std.specs.List.{All}
 use Rattle.std.specs.Prelude.{min, nat_eq, nat_le, nat_lt, slice_index_or}
 use Rattle.std.specs.Cmp.Lexicographic.{pointwise}
@@ -15,7 +16,8 @@ use Rattle.nq_image.specs.Image.{no_marks}
 use Rattle.nq_image.specs.Kept.{body_in}
 use Rattle.nq_image.specs.Layout.{are_zeros, block_place, piece, whole_blocks}
 use Rattle.nq_image.specs.Rows.{rows_checks, slots_of}
-use Rattle.nq_image.specs.Standing.{Agree, HaveSameBlocks, PlacedFile, Standing, Stands, blocks_in, file_at, found_of, kept_at, put_file, row_slot, rows_of_image, with_rows}
+use Rattle.nq_image.specs.Standing.{Agree, HaveSameBlocks, PlacedFile, Standing, Stands, blocks_in, file_at, found_of, kept_at, put_file, row_slot}
+use Rattle.nq_image.specs.Standing.{rows_of_image, with_rows}
 use Rattle.nq_image.specs.Tables.{held, held_from, ids_checks, ids_of, slot_checks, slot_marks, slot_table, tables_blocks, tables_checks, tables_marks}
 use Rattle.nq_image.specs.declared.rows.Slot.{Slot}
 use Rattle.nq_image.specs.declared.rows.Version.{Version}
@@ -62,7 +64,8 @@ same-rest place count old new same k lt =
     let P : ℕ → Type 0 = λ p. piece p 4096 new ≡ piece p 4096 old in
     subst P e (same (suc k) (omega arith))
 
-pub tables-same : (tables place : ℕ) (slots : List (Option Slot)) (marks : List Bool) (old new : List ℕ) → length old ≤ length new → SameFrom place (length slots) old new → Hold (tables_checks tables place slots marks old) → AreTablesSame tables place slots marks old new
+pub tables-same : (tables place : ℕ) (slots : List (Option Slot)) (marks : List Bool) (old new : List ℕ) → length old ≤ length new
+    → SameFrom place (length slots) old new → Hold (tables_checks tables place slots marks old) → AreTablesSame tables place slots marks old new
 unfolding tables_checks tables_blocks tables_marks
 tables-same tables place [] marks old new longer same hold = record { holds = tt; blocks = refl; marks_same = refl }
 tables-same tables place (slot ∷ slots) marks old new longer same hold =
@@ -78,7 +81,8 @@ tables-same tables place (slot ∷ slots) marks old new longer same hold =
         le-longer (place + 4096) (length old) (length new) longer hold.0,
         subst P (sym own) (hold-append front (tables_checks tables (place + 4096) slots after new) (hold-front front behind hold.1) rest.holds),
       );
-      blocks = ap (λ (t : List ℕ). slot_table slot t ++ tables_blocks (place + 4096) slots new) own ∙ ap (λ (l : List ℕ). slot_table slot table ++ l) rest.blocks;
+      blocks = ap (λ (t : List ℕ). slot_table slot t ++ tables_blocks (place + 4096) slots new) own ∙ ap (λ (l : List ℕ). slot_table slot table ++ l)
+          rest.blocks;
       marks_same = ap (λ (t : List ℕ). tables_marks (place + 4096) slots (slot_marks slot marks t) new) own ∙ rest.marks_same;
     }
 
@@ -124,7 +128,8 @@ pub record HaveSameTables (tables : ℕ) (old new : List ℕ) : Type 0 where
   pub each : SameFrom (block_place tables) 256 old new
   pub ids : piece (block_place tables + 1048576) 4096 new ≡ piece (block_place tables + 1048576) 4096 old
 
-pub tables-by : (tables : ℕ) (old new : List ℕ) → length old ≤ length new → ((n : ℕ) → n < 257 → body_in new (tables + n) ≡ body_in old (tables + n)) → HaveSameTables tables old new
+pub tables-by : (tables : ℕ) (old new : List ℕ) → length old ≤ length new → ((n : ℕ) → n < 257 → body_in new (tables + n) ≡ body_in old (tables + n))
+    → HaveSameTables tables old new
 tables-by tables old new longer same = record {
   no_shorter = longer;
   each = at;
@@ -161,7 +166,8 @@ begins-same old new longer same b =
 
 -- ---- the law of free bytes
 
-agree-parts : (s : Standing) (old new : List ℕ) → length (map row_slot s.rows) ≡ 256 → rows_of_image new ≡ rows_of_image old → HaveSameTables s.tables old new → HasParts old (found_of s) → HasParts new (found_of s)
+agree-parts : (s : Standing) (old new : List ℕ) → length (map row_slot s.rows) ≡ 256 → rows_of_image new ≡ rows_of_image old → HaveSameTables s.tables
+    old new → HasParts old (found_of s) → HasParts new (found_of s)
 agree-parts s old new all same_rows blocks p =
     let longer = blocks.no_shorter in
     let place = block_place s.tables in
@@ -202,12 +208,14 @@ agree-parts s old new all same_rows blocks p =
 pub all-rows : (s : Standing) (bytes : List ℕ) → HasParts bytes (found_of s) → length (map row_slot s.rows) ≡ 256
 all-rows s bytes p = ap length (sym p.rows_are) ∙ length-slots 256 (piece 2112 24576 bytes)
 
-pub stands-by-tables : (s : Standing) (old new : List ℕ) → Stands old s → rows_of_image new ≡ rows_of_image old → HaveSameTables s.tables old new → Stands new s
+pub stands-by-tables : (s : Standing) (old new : List ℕ) → Stands old s → rows_of_image new ≡ rows_of_image old → HaveSameTables s.tables old new
+    → Stands new s
 stands-by-tables s old new stands same_rows tables =
     let image = parts-of old (found_of s) stands.found in
     let first = piece-by-first 28672 0 8 new old (omega arith) same_rows in
     record {
-      found = image-of-parts new (found_of s) (begins-same old new tables.no_shorter first image.begins) (agree-parts s old new (all-rows s old image.parts) same_rows tables image.parts);
+      found = image-of-parts new (found_of s) (begins-same old new tables.no_shorter first image.begins)
+          (agree-parts s old new (all-rows s old image.parts) same_rows tables image.parts);
       numbered = stands.numbered;
     }
 
@@ -219,7 +227,8 @@ agree-stands s old new stands agree = stands-by-tables s old new stands agree.ro
 pub all-put : (P : PlacedFile → Type 0) (x : PlacedFile) (files : List PlacedFile) → P x → All P files → All P (put_file x files)
 all-put P x [] own all = All-cons P x [] own (All-nil P)
 all-put P x (f ∷ files) own all =
-    either (nat_lt x.id f.id) (All-cons P x (f ∷ files) own all) (All-cons P f (put_file x files) (All-head P f files all) (all-put P x files own (All-tail P f files all)))
+    either (nat_lt x.id f.id) (All-cons P x (f ∷ files) own all) (All-cons P f (put_file x files) (All-head P f files all)
+    (all-put P x files own (All-tail P f files all)))
   where
     either : (b : Bool) → All P (x ∷ f ∷ files) → All P (f ∷ put_file x files) → All P (if b then x ∷ f ∷ files else f ∷ put_file x files)
     either true a c = a
@@ -234,12 +243,14 @@ all-rest P [] ys all = all
 all-rest P (x ∷ xs) ys all = all-rest P xs ys (All-tail P x (xs ++ ys) all)
 
 -- what holds of the blocks of all rows holds of those of each file
-pub each-block : (P : ℕ → Type 0) (files : List PlacedFile) (rows : List (Option PlacedFile)) → All (λ f. All P f.blocks) files → All P (blocks_in rows) → All (λ f. All P f.blocks) (with_rows files rows)
+pub each-block : (P : ℕ → Type 0) (files : List PlacedFile) (rows : List (Option PlacedFile)) → All (λ f. All P f.blocks) files
+    → All P (blocks_in rows) → All (λ f. All P f.blocks) (with_rows files rows)
 unfolding blocks_in with_rows
 each-block P files [] done all = done
 each-block P files (None ∷ rows) done all = each-block P files rows done all
 each-block P files (Some file ∷ rows) done all =
-    each-block P (put_file file files) rows (all-put (λ f. All P f.blocks) file files (all-front P file.blocks (blocks_in rows) all) done) (all-rest P file.blocks (blocks_in rows) all)
+    each-block P (put_file file files) rows (all-put (λ f. All P f.blocks) file files (all-front P file.blocks (blocks_in rows) all) done)
+    (all-rest P file.blocks (blocks_in rows) all)
 
 pub map-same : {X Y : Type 0} (f g : X → Y) (xs : List X) → All (λ x. f x ≡ g x) xs → map f xs ≡ map g xs
 map-same f g [] all = refl
@@ -252,14 +263,24 @@ same-file old new file all =
     let made : List (List ℕ) → File = λ bodies. record { id = file.id; name = file.name; rev = file.rev; bodies = bodies } in
     ap made (map-same (body_in new) (body_in old) file.blocks all)
 
-pub same-files : (old new : List ℕ) (rows : List (Option PlacedFile)) → All (λ block. body_in new block ≡ body_in old block) (blocks_in rows) → map (file_at new) (with_rows [] rows) ≡ map (file_at old) (with_rows [] rows)
+pub same-files : (old new : List ℕ) (rows : List (Option PlacedFile)) → All (λ block. body_in new block ≡ body_in old block) (blocks_in rows)
+    → map (file_at new) (with_rows [] rows) ≡ map (file_at old) (with_rows [] rows)
 same-files old new rows all =
     let Same : ℕ → Type 0 = λ block. body_in new block ≡ body_in old block in
     let each = each-block Same [] rows (All-nil (λ f. All Same f.blocks)) all in
-    map-same (file_at new) (file_at old) (with_rows [] rows) (All-weaker (λ f. All Same f.blocks) (λ f. file_at new f ≡ file_at old f) (λ f own. same-file old new f own) (with_rows [] rows) each)
+    map-same (file_at new) (file_at old) (with_rows [] rows) (All-weaker (λ f. All Same f.blocks) (λ f. file_at new f ≡ file_at old f)
+    (λ f own. same-file old new f own) (with_rows [] rows) each)
 
 pub agree-kept : (s : Standing) (old new : List ℕ) → HaveSameBlocks s old new → kept_at new s ≡ kept_at old s
 unfolding kept_at
 agree-kept s old new same =
-    let made : List File → Kept = λ files. record { files = files; hosts = s.hosts; boot = s.heads.boot; opened = s.heads.opened; longest = s.heads.longest; next = s.heads.next } in
+    let made : List File → Kept = λ files. record {
+      files = files;
+      hosts = s.hosts;
+      boot = s.heads.boot;
+      opened = s.heads.opened;
+      longest =
+          s.heads.longest;
+      next = s.heads.next;
+    } in
     ap made (same-files old new s.rows same.bodies)

@@ -1,5 +1,6 @@
 -- The blocks of files, each given once.
-use Rattle.std.proofs.Common.{◌≡◌, ◌≢◌, ◌≤◌, ◌<◌, ◌+◌, ◌-◌, ◌*◌, ◌&&◌, inl, inr, ℕ, zero, suc, Bool, true, false, List, [], ◌∷◌, ◌++◌, Option, Some, None, take, drop, map, length, get_or, refl, sym, ap, subst, ◌∙◌, arith}
+use Rattle.std.proofs.Common.{◌≡◌, ◌≢◌, ◌≤◌, ◌<◌, ◌+◌, ◌-◌, ◌*◌, ◌&&◌, inl, inr, ℕ, zero, suc, Bool, true, false, List, [], ◌∷◌, ◌++◌, Option, Some}
+use Rattle.std.proofs.Common.{None, take, drop, map, length, get_or, refl, sym, ap, subst, ◌∙◌, arith}
 use Rattle.std.specs.List.{All}
 use Rattle.std.specs.Prelude.{nat_le, not, slice_set}
 use Rattle.std.specs.Int.{w32, to_be_bytes}
@@ -10,7 +11,8 @@ use Rattle.std.proofs.lemmas.Nat.{from_be_bytes-to_be_bytes_4}
 use Rattle.nq_image.specs.Check.{check}
 use Rattle.nq_image.specs.Layout.{piece, word_in}
 use Rattle.nq_image.specs.Standing.{AreDistinct, IsFileBlock, IsNoneOf, PlacedFile, blocks_in, marks_with, row_blocks, row_slot}
-use Rattle.nq_image.specs.Tables.{is_entry, is_marked, is_of_tables, marked, marks_behind, slot_checks, slot_marks, slot_table, table_checks, table_of, tables_blocks, tables_checks, tables_marks}
+use Rattle.nq_image.specs.Tables.{is_entry, is_marked, is_of_tables, marked, marks_behind, slot_checks, slot_marks, slot_table, table_checks}
+use Rattle.nq_image.specs.Tables.{table_of, tables_blocks, tables_checks, tables_marks}
 use Rattle.nq_image.specs.Writing.{entries_of, table_of_blocks, zeros_of}
 use Rattle.nq_image.proofs.Agreeing.{SameFrom, all-front, all-rest, hold-behind, hold-front, le-longer, same-first, same-rest}
 use Rattle.nq_image.proofs.Giving.{IsGiven}
@@ -24,7 +26,8 @@ abbrev pub AllGiven : (tables : ℕ) (marks : List Bool) → List ℕ → Type 0
 AllGiven tables marks [] = Unit {0}
 AllGiven tables marks (block ∷ blocks) = IsFileBlock tables block × (is_marked marks block ≡ false) × AllGiven tables (slice_set marks block true) blocks
 
-pub given-append : (tables : ℕ) (marks : List Bool) (xs ys : List ℕ) → AllGiven tables marks xs → AllGiven tables (marks_with marks xs) ys → AllGiven tables marks (xs ++ ys)
+pub given-append : (tables : ℕ) (marks : List Bool) (xs ys : List ℕ) → AllGiven tables marks xs → AllGiven tables (marks_with marks xs) ys
+    → AllGiven tables marks (xs ++ ys)
 unfolding marks_with
 given-append tables marks [] ys front behind = behind
 given-append tables marks (x ∷ xs) ys front behind = (front.0, front.1, given-append tables (slice_set marks x true) xs ys front.2 behind)
@@ -45,7 +48,8 @@ length-with marks (block ∷ blocks) = length-with (slice_set marks block true) 
 
 -- ---- each given once
 
-not-set : (marks : List Bool) (block other : ℕ) → block < length marks → is_marked (slice_set marks block true) other ≡ false → (other ≢ block) × (is_marked marks other ≡ false)
+not-set : (marks : List Bool) (block other : ℕ) → block < length marks → is_marked (slice_set marks block true) other ≡ false → (other ≢ block)
+    × (is_marked marks other ≡ false)
 not-set marks block other lt free = elim (cases_eq other block) [
   | inl e ↦
       let given = get_or-set_same marks block true false lt in
@@ -69,7 +73,8 @@ once tables marks (block ∷ blocks) long given =
     record {
       there = All-cons (IsFileBlock tables) block blocks given.0 more.there;
       free = All-cons (λ b. is_marked marks b ≡ false) block blocks given.1
-          (All-weaker (λ b. is_marked (slice_set marks block true) b ≡ false) (λ b. is_marked marks b ≡ false) (λ other free. (both other free).1) blocks more.free);
+          (All-weaker (λ b. is_marked (slice_set marks block true) b ≡ false) (λ b. is_marked marks b ≡ false) (λ other free. (both other free).1)
+          blocks more.free);
       distinct = (
         All-weaker (λ b. is_marked (slice_set marks block true) b ≡ false) (λ b. b ≢ block) (λ other free. (both other free).0) blocks more.free,
         more.distinct,
@@ -83,10 +88,15 @@ pub given-if-once : (tables : ℕ) (marks : List Bool) (blocks : List ℕ) → A
 given-if-once tables marks [] each = tt
 given-if-once tables marks (block ∷ blocks) each =
     let Free : ℕ → Type 0 = λ b. is_marked marks b ≡ false in
-    let rest = both-of Free (λ b. b ≢ block) (λ b. is_marked (slice_set marks block true) b ≡ false) blocks (λ other free ne. get_or-set_other marks block other true false ne ∙ free) (All-tail Free block blocks each.free) each.distinct.0 in (
+    let rest = both-of Free (λ b. b ≢ block) (λ b. is_marked (slice_set marks block true) b ≡ false) blocks (λ other free ne. get_or-set_other marks
+    block other true false ne ∙ free) (All-tail Free block blocks each.free) each.distinct.0 in (
       All-head (IsFileBlock tables) block blocks each.there,
       All-head Free block blocks each.free,
-      given-if-once tables (slice_set marks block true) blocks (record { there = All-tail (IsFileBlock tables) block blocks each.there; free = rest; distinct = each.distinct.1 }),
+      given-if-once tables (slice_set marks block true) blocks (record {
+        there = All-tail (IsFileBlock tables) block blocks each.there;
+        free = rest;
+        distinct = each.distinct.1;
+      }),
     )
 
 -- ---- lists with no block twice
@@ -120,7 +130,8 @@ apart-back (x ∷ xs) ys all =
     (apart-back xs ys (All-weaker (IsNoneOf (x ∷ xs)) (IsNoneOf xs) (λ o none. All-tail (λ other. other ≢ o) x xs none) ys all))
 
 -- other blocks in the middle
-pub distinct-swap : (xs one two ys : List ℕ) → AreDistinct two → All (IsNoneOf (xs ++ ys)) two → AreDistinct (xs ++ (one ++ ys)) → AreDistinct (xs ++ (two ++ ys))
+pub distinct-swap : (xs one two ys : List ℕ) → AreDistinct two → All (IsNoneOf (xs ++ ys)) two → AreDistinct (xs ++ (one ++ ys))
+    → AreDistinct (xs ++ (two ++ ys))
 distinct-swap xs one two ys own apart d =
     let behind = distinct-behind xs (one ++ ys) d in
     let from_one = distinct-apart xs (one ++ ys) d in
@@ -137,7 +148,8 @@ all-swap P xs one two ys own all =
 
 -- ---- what has a mark
 
-pub each-given : (P : ℕ → Type 0) (marks : List Bool) (blocks : List ℕ) → All P blocks → (block : ℕ) → (IsGiven marks block → P block) → IsGiven (marks_with marks blocks) block → P block
+pub each-given : (P : ℕ → Type 0) (marks : List Bool) (blocks : List ℕ) → All P blocks → (block : ℕ) → (IsGiven marks block → P block)
+    → IsGiven (marks_with marks blocks) block → P block
 unfolding marks_with
 each-given P marks [] all block before given = before given
 each-given P marks (x ∷ blocks) all block before given =
@@ -146,7 +158,8 @@ each-given P marks (x ∷ blocks) all block before given =
       | inr ne ↦ before (sym (get_or-set_other marks x block true false ne) ∙ now)
     ]) given
 
-given-stays : (marks : List Bool) (blocks : List ℕ) (block : ℕ) → All (λ b. b < length marks) blocks → IsGiven marks block → IsGiven (marks_with marks blocks) block
+given-stays : (marks : List Bool) (blocks : List ℕ) (block : ℕ) → All (λ b. b < length marks) blocks → IsGiven marks block
+    → IsGiven (marks_with marks blocks) block
 unfolding marks_with
 given-stays marks [] block all given = given
 given-stays marks (x ∷ blocks) block all given =
@@ -166,7 +179,8 @@ all-given marks (x ∷ blocks) all =
     let lt = All-head (λ b. b < length marks) x blocks all in
     let set_marks = slice_set marks x true in
     let rest = subst Short (sym (length-set marks x true)) (All-tail (λ b. b < length marks) x blocks all) in
-    All-cons (IsGiven (marks_with set_marks blocks)) x blocks (given-stays set_marks blocks x rest (get_or-set_same marks x true false lt)) (all-given set_marks blocks rest)
+    All-cons (IsGiven (marks_with set_marks blocks)) x blocks (given-stays set_marks blocks x rest (get_or-set_same marks x true false lt))
+    (all-given set_marks blocks rest)
 
 -- ---- one table
 
@@ -177,7 +191,8 @@ each-four true true false d h = cc
 each-four true false c d h = cc
 each-four false b c d h = cc
 
-entry-given : (tables : ℕ) (marks : List Bool) (entry : ℕ) → is_entry tables marks entry ≡ true → IsFileBlock tables (entry - 1) × (is_marked marks (entry - 1) ≡ false)
+entry-given : (tables : ℕ) (marks : List Bool) (entry : ℕ) → is_entry tables marks entry ≡ true → IsFileBlock tables (entry - 1)
+    × (is_marked marks (entry - 1) ≡ false)
 unfolding is_entry
 entry-given tables marks entry h =
     let four = each-four (nat_le 1 entry) (nat_le entry 16641) (not (is_of_tables tables (entry - 1))) (not (is_marked marks (entry - 1))) h in
@@ -185,21 +200,24 @@ entry-given tables marks entry h =
     let b = test-le entry 16641 four.1 in
     (record { below = omega (arith, a, b); apart = not-true (is_of_tables tables (entry - 1)) four.2 }, not-true (is_marked marks (entry - 1)) four.3)
 
-entry-behind : (tables : ℕ) (marks other : List Bool) (entry : ℕ) → is_marked other (entry - 1) ≡ false → is_entry tables marks entry ≡ true → is_entry tables other entry ≡ true
+entry-behind : (tables : ℕ) (marks other : List Bool) (entry : ℕ) → is_marked other (entry - 1) ≡ false → is_entry tables marks entry ≡ true
+    → is_entry tables other entry ≡ true
 unfolding is_entry
 entry-behind tables marks other entry free h =
     let four = each-four (nat_le 1 entry) (nat_le entry 16641) (not (is_of_tables tables (entry - 1))) (not (is_marked marks (entry - 1))) h in
     and-two (nat_le 1 entry && nat_le entry 16641 && not (is_of_tables tables (entry - 1))) (not (is_marked other (entry - 1)))
     (and-three (nat_le 1 entry) (nat_le entry 16641) (not (is_of_tables tables (entry - 1))) four.0 four.1 four.2) (ap not free)
 
-pub table-given : (count tables place : ℕ) (marks : List Bool) (rest : List ℕ) → Hold (table_checks count tables place marks rest) → AllGiven tables marks (table_of count rest)
+pub table-given : (count tables place : ℕ) (marks : List Bool) (rest : List ℕ) → Hold (table_checks count tables place marks rest)
+    → AllGiven tables marks (table_of count rest)
 unfolding table_checks table_of
 table-given zero tables place marks rest h = tt
 table-given (suc count) tables place marks rest h =
     let own = entry-given tables marks (word_in 0 rest) h.0 in
     (own.0, own.1, table-given count tables (place + 4) (marked marks (word_in 0 rest)) (drop 4 rest) h.1)
 
-pub table-behind : (count tables place : ℕ) (marks other : List Bool) (rest : List ℕ) → AllGiven tables other (table_of count rest) → Hold (table_checks count tables place marks rest) → Hold (table_checks count tables place other rest)
+pub table-behind : (count tables place : ℕ) (marks other : List Bool) (rest : List ℕ) → AllGiven tables other (table_of count rest)
+    → Hold (table_checks count tables place marks rest) → Hold (table_checks count tables place other rest)
 unfolding table_checks table_of
 table-behind zero tables place marks other rest given h = h
 table-behind (suc count) tables place marks other rest given h = (
@@ -218,7 +236,8 @@ pub record IsTableWritten (tables place : ℕ) (marks : List Bool) (blocks rest 
   pub holds : Hold (table_checks (length blocks) tables place marks rest)
   pub blocks_are : table_of (length blocks) rest ≡ blocks
 
-entry-written : (tables block word : ℕ) (marks : List Bool) → word ≡ block + 1 → IsFileBlock tables block → is_marked marks block ≡ false → is_entry tables marks word ≡ true
+entry-written : (tables block word : ℕ) (marks : List Bool) → word ≡ block + 1 → IsFileBlock tables block → is_marked marks block ≡ false
+    → is_entry tables marks word ≡ true
 unfolding is_entry
 entry-written tables block word marks is own free =
     let less : word - 1 ≡ block = omega (arith, is) in
@@ -234,7 +253,8 @@ word-of : (block : ℕ) (rest : List ℕ) → block < 16641 → word_in 0 (to_be
 unfolding word_in
 word-of block rest lt = from_be_bytes-to_be_bytes_4 (block + 1) (omega arith)
 
-entries-written : (blocks : List ℕ) (tables place zeros : ℕ) (marks : List Bool) → AllGiven tables marks blocks → IsTableWritten tables place marks blocks (entries_of blocks ++ zeros_of zeros)
+entries-written : (blocks : List ℕ) (tables place zeros : ℕ) (marks : List Bool) → AllGiven tables marks blocks → IsTableWritten tables place marks
+    blocks (entries_of blocks ++ zeros_of zeros)
 unfolding entries_of table_checks table_of
 entries-written [] tables place zeros marks given = record { holds = (zeros-are zeros, tt); blocks_are = refl }
 entries-written (block ∷ blocks) tables place zeros marks given =
@@ -247,10 +267,12 @@ entries-written (block ∷ blocks) tables place zeros marks given =
     let Q : ℕ → Type 0 = λ b. Hold (table_checks count tables (place + 4) (slice_set marks b true) rest) in
     record {
       holds = subst P (sym word) (entry-written tables block (block + 1) marks refl given.0 given.1, subst Q (sym less) more.holds);
-      blocks_are = ap (λ (w : ℕ). (w - 1) ∷ table_of count rest) word ∙ ap (λ (b : ℕ). b ∷ table_of count rest) less ∙ ap (λ (l : List ℕ). block ∷ l) more.blocks_are;
+      blocks_are = ap (λ (w : ℕ). (w - 1) ∷ table_of count rest) word ∙ ap (λ (b : ℕ). b ∷ table_of count rest) less ∙ ap (λ (l : List ℕ). block ∷ l)
+          more.blocks_are;
     }
 
-pub table-written : (blocks : List ℕ) (tables place : ℕ) (marks : List Bool) → AllGiven tables marks blocks → IsTableWritten tables place marks blocks (table_of_blocks blocks)
+pub table-written : (blocks : List ℕ) (tables place : ℕ) (marks : List Bool) → AllGiven tables marks blocks → IsTableWritten tables place marks blocks
+    (table_of_blocks blocks)
 unfolding table_of_blocks
 table-written blocks tables place marks given = entries-written blocks tables place (4096 - 4 * length blocks) marks given
 
@@ -273,22 +295,28 @@ append-parts xs xs' ys ys' long same = (
 )
 
 -- the blocks of the first row and those of the others
-first-blocks : (place : ℕ) (row : Option PlacedFile) (rows : List (Option PlacedFile)) (bytes : List ℕ) → tables_blocks place (map row_slot (row ∷ rows)) bytes ≡ blocks_in (row ∷ rows) → (slot_table (row_slot row) (piece place 4096 bytes) ≡ row_blocks row) × (tables_blocks (place + 4096) (map row_slot rows) bytes ≡ blocks_in rows)
+first-blocks : (place : ℕ) (row : Option PlacedFile) (rows : List (Option PlacedFile)) (bytes : List ℕ)
+    → tables_blocks place (map row_slot (row ∷ rows)) bytes ≡ blocks_in (row ∷ rows) → (slot_table (row_slot row) (piece place 4096 bytes)
+    ≡ row_blocks row) × (tables_blocks (place + 4096) (map row_slot rows) bytes ≡ blocks_in rows)
 unfolding tables_blocks blocks_in
 first-blocks place row rows bytes same =
-    append-parts (slot_table (row_slot row) (piece place 4096 bytes)) (tables_blocks (place + 4096) (map row_slot rows) bytes) (row_blocks row) (blocks_in rows) (length-own row (piece place 4096 bytes)) same
+    append-parts (slot_table (row_slot row) (piece place 4096 bytes)) (tables_blocks (place + 4096) (map row_slot rows) bytes) (row_blocks row)
+    (blocks_in rows) (length-own row (piece place 4096 bytes)) same
 
-slot-given : (tables place : ℕ) (row : Option PlacedFile) (marks : List Bool) (table : List ℕ) → Hold (slot_checks tables place (row_slot row) marks table) → AllGiven tables marks (slot_table (row_slot row) table)
+slot-given : (tables place : ℕ) (row : Option PlacedFile) (marks : List Bool) (table : List ℕ) → Hold (slot_checks tables place (row_slot row) marks
+    table) → AllGiven tables marks (slot_table (row_slot row) table)
 unfolding slot_checks slot_table
 slot-given tables place None marks table h = tt
 slot-given tables place (Some file) marks table h = table-given (length file.blocks) tables place marks table h
 
-slot-behind : (tables place : ℕ) (row : Option PlacedFile) (marks other : List Bool) (table : List ℕ) → AllGiven tables other (slot_table (row_slot row) table) → Hold (slot_checks tables place (row_slot row) marks table) → Hold (slot_checks tables place (row_slot row) other table)
+slot-behind : (tables place : ℕ) (row : Option PlacedFile) (marks other : List Bool) (table : List ℕ) → AllGiven tables other
+    (slot_table (row_slot row) table) → Hold (slot_checks tables place (row_slot row) marks table) → Hold (slot_checks tables place (row_slot row) other table)
 unfolding slot_checks slot_table
 slot-behind tables place None marks other table given h = tt
 slot-behind tables place (Some file) marks other table given h = table-behind (length file.blocks) tables place marks other table given h
 
-slot-marks-are : (row : Option PlacedFile) (marks : List Bool) (table : List ℕ) → slot_marks (row_slot row) marks table ≡ marks_with marks (slot_table (row_slot row) table)
+slot-marks-are : (row : Option PlacedFile) (marks : List Bool) (table : List ℕ) → slot_marks (row_slot row) marks table ≡ marks_with marks
+    (slot_table (row_slot row) table)
 unfolding slot_marks slot_table marks_with
 slot-marks-are None marks table = refl
 slot-marks-are (Some file) marks table = marks-are (length file.blocks) marks table
@@ -302,7 +330,8 @@ no-more : (marks : List Bool) → marks ≡ marks_with marks []
 unfolding marks_with
 no-more marks = refl
 
-pub tables-marks-are : (place : ℕ) (rows : List (Option PlacedFile)) (marks : List Bool) (bytes : List ℕ) → tables_marks place (map row_slot rows) marks bytes ≡ marks_with marks (tables_blocks place (map row_slot rows) bytes)
+pub tables-marks-are : (place : ℕ) (rows : List (Option PlacedFile)) (marks : List Bool) (bytes : List ℕ) → tables_marks place (map row_slot rows)
+    marks bytes ≡ marks_with marks (tables_blocks place (map row_slot rows) bytes)
 unfolding tables_marks tables_blocks
 tables-marks-are place [] marks bytes = no-more marks
 tables-marks-are place (row ∷ rows) marks bytes =
@@ -313,7 +342,8 @@ tables-marks-are place (row ∷ rows) marks bytes =
     ∙ tables-marks-are (place + 4096) rows (marks_with marks own) bytes
     ∙ with-append marks own behind
 
-pub tables-given : (tables place : ℕ) (rows : List (Option PlacedFile)) (marks : List Bool) (bytes : List ℕ) → Hold (tables_checks tables place (map row_slot rows) marks bytes) → AllGiven tables marks (tables_blocks place (map row_slot rows) bytes)
+pub tables-given : (tables place : ℕ) (rows : List (Option PlacedFile)) (marks : List Bool) (bytes : List ℕ)
+    → Hold (tables_checks tables place (map row_slot rows) marks bytes) → AllGiven tables marks (tables_blocks place (map row_slot rows) bytes)
 unfolding tables_checks tables_blocks
 tables-given tables place [] marks bytes h = tt
 tables-given tables place (row ∷ rows) marks bytes h =
@@ -322,8 +352,10 @@ tables-given tables place (row ∷ rows) marks bytes h =
     let front = slot_checks tables place (row_slot row) marks table in
     let behind = tables_checks tables (place + 4096) (map row_slot rows) (slot_marks (row_slot row) marks table) bytes in
     let Marks : List Bool → Type 0 = λ m. AllGiven tables m (tables_blocks (place + 4096) (map row_slot rows) bytes) in
-    given-append tables marks own (tables_blocks (place + 4096) (map row_slot rows) bytes) (slot-given tables place row marks table (hold-front front behind h.1))
-    (subst Marks (slot-marks-are row marks table) (tables-given tables (place + 4096) rows (slot_marks (row_slot row) marks table) bytes (hold-behind front behind h.1)))
+    given-append tables marks own (tables_blocks (place + 4096) (map row_slot rows) bytes) (slot-given tables place row marks table
+    (hold-front front behind h.1))
+    (subst Marks (slot-marks-are row marks table) (tables-given tables (place + 4096) rows (slot_marks (row_slot row) marks table) bytes
+    (hold-behind front behind h.1)))
 
 -- what is known of the tables of rows
 pub record AreTablesAllotted (tables place : ℕ) (rows : List (Option PlacedFile)) (marks : List Bool) (bytes : List ℕ) : Type 0 where
@@ -331,16 +363,21 @@ pub record AreTablesAllotted (tables place : ℕ) (rows : List (Option PlacedFil
   pub blocks : tables_blocks place (map row_slot rows) bytes ≡ blocks_in rows
 
 -- a row in front of others
-row-before : (tables place : ℕ) (row : Option PlacedFile) (rows : List (Option PlacedFile)) (marks : List Bool) (bytes table : List ℕ) → piece place 4096 bytes ≡ table → nat_le (place + 4096) (length bytes) ≡ true → Hold (slot_checks tables place (row_slot row) marks table) → slot_table (row_slot row) table ≡ row_blocks row → AreTablesAllotted tables (place + 4096) rows (marks_with marks (row_blocks row)) bytes → AreTablesAllotted tables place (row ∷ rows) marks bytes
+row-before : (tables place : ℕ) (row : Option PlacedFile) (rows : List (Option PlacedFile)) (marks : List Bool) (bytes table : List ℕ)
+    → piece place 4096 bytes ≡ table → nat_le (place + 4096) (length bytes) ≡ true → Hold (slot_checks tables place (row_slot row) marks table)
+    → slot_table (row_slot row) table ≡ row_blocks row → AreTablesAllotted tables (place + 4096) rows (marks_with marks (row_blocks row)) bytes
+    → AreTablesAllotted tables place (row ∷ rows) marks bytes
 unfolding tables_checks tables_blocks blocks_in
 row-before tables place row rows marks bytes table is whole own blocks more =
-    let P : List ℕ → Type 0 = λ t. Hold (slot_checks tables place (row_slot row) marks t ++ tables_checks tables (place + 4096) (map row_slot rows) (slot_marks (row_slot row) marks t) bytes) in
+    let P : List ℕ → Type 0 = λ t. Hold (slot_checks tables place (row_slot row) marks t ++ tables_checks tables (place + 4096) (map row_slot rows)
+    (slot_marks (row_slot row) marks t) bytes) in
     let Q : List Bool → Type 0 = λ m. Hold (tables_checks tables (place + 4096) (map row_slot rows) m bytes) in
     let after = slot-marks-are row marks table ∙ ap (λ (l : List ℕ). marks_with marks l) blocks in
     record {
       holds = (
         whole,
-        subst P (sym is) (hold-append (slot_checks tables place (row_slot row) marks table) (tables_checks tables (place + 4096) (map row_slot rows) (slot_marks (row_slot row) marks table) bytes) own (subst Q (sym after) more.holds)),
+        subst P (sym is) (hold-append (slot_checks tables place (row_slot row) marks table) (tables_checks tables (place + 4096) (map row_slot rows)
+            (slot_marks (row_slot row) marks table) bytes) own (subst Q (sym after) more.holds)),
       );
       blocks = ap (λ (t : List ℕ). slot_table (row_slot row) t ++ tables_blocks (place + 4096) (map row_slot rows) bytes) is
           ∙ ap (λ (l : List ℕ). l ++ tables_blocks (place + 4096) (map row_slot rows) bytes) blocks
@@ -358,7 +395,8 @@ record AreTablesParted (tables place : ℕ) (row : Option PlacedFile) (rows : Li
   behind : AreTablesAllotted tables (place + 4096) rows (slot_marks (row_slot row) marks (piece place 4096 bytes)) bytes
   blocks : slot_table (row_slot row) (piece place 4096 bytes) ≡ row_blocks row
 
-parted : (tables place : ℕ) (row : Option PlacedFile) (rows : List (Option PlacedFile)) (marks : List Bool) (bytes : List ℕ) → AreTablesAllotted tables place (row ∷ rows) marks bytes → AreTablesParted tables place row rows marks bytes
+parted : (tables place : ℕ) (row : Option PlacedFile) (rows : List (Option PlacedFile)) (marks : List Bool) (bytes : List ℕ)
+    → AreTablesAllotted tables place (row ∷ rows) marks bytes → AreTablesParted tables place row rows marks bytes
 unfolding tables_checks
 parted tables place row rows marks bytes all =
     let table = piece place 4096 bytes in
@@ -372,31 +410,44 @@ parted tables place row rows marks bytes all =
       blocks = first.0;
     }
 
-given-parts : (tables : ℕ) (marks : List Bool) (row : Option PlacedFile) (rows : List (Option PlacedFile)) → AllGiven tables marks (blocks_in (row ∷ rows)) → AllGiven tables marks (row_blocks row) × AllGiven tables (marks_with marks (row_blocks row)) (blocks_in rows)
+given-parts : (tables : ℕ) (marks : List Bool) (row : Option PlacedFile) (rows : List (Option PlacedFile)) → AllGiven tables marks
+    (blocks_in (row ∷ rows)) → AllGiven tables marks (row_blocks row) × AllGiven tables (marks_with marks (row_blocks row)) (blocks_in rows)
 unfolding blocks_in
-given-parts tables marks row rows given = (given-front tables marks (row_blocks row) (blocks_in rows) given, given-behind tables marks (row_blocks row) (blocks_in rows) given)
+given-parts tables marks row rows given = (
+  given-front tables marks (row_blocks row) (blocks_in rows) given,
+  given-behind tables marks
+      (row_blocks row) (blocks_in rows) given,
+)
 
 -- the same tables, behind other marks
-same-before : (tables place : ℕ) (row : Option PlacedFile) (rows : List (Option PlacedFile)) (marks other : List Bool) (old new : List ℕ) → length old ≤ length new → piece place 4096 new ≡ piece place 4096 old → nat_le (place + 4096) (length old) ≡ true → Hold (slot_checks tables place (row_slot row) marks (piece place 4096 old)) → slot_table (row_slot row) (piece place 4096 old) ≡ row_blocks row → AllGiven tables other (row_blocks row) → AreTablesAllotted tables (place + 4096) rows (marks_with other (row_blocks row)) new → AreTablesAllotted tables place (row ∷ rows) other new
+same-before : (tables place : ℕ) (row : Option PlacedFile) (rows : List (Option PlacedFile)) (marks other : List Bool) (old new : List ℕ) → length old
+    ≤ length new → piece place 4096 new ≡ piece place 4096 old → nat_le (place + 4096) (length old) ≡ true
+    → Hold (slot_checks tables place (row_slot row) marks (piece place 4096 old)) → slot_table (row_slot row) (piece place 4096 old) ≡ row_blocks row
+    → AllGiven tables other (row_blocks row) → AreTablesAllotted tables (place + 4096) rows (marks_with other (row_blocks row)) new
+    → AreTablesAllotted tables place (row ∷ rows) other new
 same-before tables place row rows marks other old new longer same whole own blocks given more =
     let Given : List ℕ → Type 0 = λ l. AllGiven tables other l in
     row-before tables place row rows other new (piece place 4096 old) same (le-longer (place + 4096) (length old) (length new) longer whole)
     (slot-behind tables place row marks other (piece place 4096 old) (subst Given (sym blocks) given) own) blocks more
 
-pub tables-behind : (tables place : ℕ) (rows : List (Option PlacedFile)) (marks other : List Bool) (old new : List ℕ) → length old ≤ length new → SameFrom place (length rows) old new → AllGiven tables other (blocks_in rows) → AreTablesAllotted tables place rows marks old → AreTablesAllotted tables place rows other new
+pub tables-behind : (tables place : ℕ) (rows : List (Option PlacedFile)) (marks other : List Bool) (old new : List ℕ) → length old ≤ length new
+    → SameFrom place (length rows) old new → AllGiven tables other (blocks_in rows) → AreTablesAllotted tables place rows marks old
+    → AreTablesAllotted tables place rows other new
 tables-behind tables place [] marks other old new longer same given all = none-allotted tables place other new
 tables-behind tables place (row ∷ rows) marks other old new longer same given all =
     let p = parted tables place row rows marks old all in
     let g = given-parts tables other row rows given in
     same-before tables place row rows marks other old new longer (same-first place (length rows) old new same) p.whole p.own p.blocks g.0
-    (tables-behind tables (place + 4096) rows (slot_marks (row_slot row) marks (piece place 4096 old)) (marks_with other (row_blocks row)) old new longer (same-rest place (length rows) old new same) g.1 p.behind)
+    (tables-behind tables (place + 4096) rows (slot_marks (row_slot row) marks (piece place 4096 old)) (marks_with other (row_blocks row)) old new
+    longer (same-rest place (length rows) old new same) g.1 p.behind)
 
 -- the table of a row, of which any is right where the row is unused
 abbrev pub IsTableOf : Option PlacedFile → List ℕ → Type 0
 IsTableOf None table = Unit {0}
 IsTableOf (Some file) table = table ≡ table_of_blocks file.blocks
 
-slot-written : (tables place : ℕ) (row : Option PlacedFile) (marks : List Bool) (table : List ℕ) → IsTableOf row table → AllGiven tables marks (row_blocks row) → Hold (slot_checks tables place (row_slot row) marks table) × (slot_table (row_slot row) table ≡ row_blocks row)
+slot-written : (tables place : ℕ) (row : Option PlacedFile) (marks : List Bool) (table : List ℕ) → IsTableOf row table → AllGiven tables marks
+    (row_blocks row) → Hold (slot_checks tables place (row_slot row) marks table) × (slot_table (row_slot row) table ≡ row_blocks row)
 unfolding slot_checks slot_table
 slot-written tables place None marks table is given = (tt, refl)
 slot-written tables place (Some file) marks table is given =
@@ -407,14 +458,18 @@ slot-written tables place (Some file) marks table is given =
 -- the table of one row becomes right for another that stands in its place, behind whatever marks leave its blocks free
 abbrev pub TableBecomes : (tables place : ℕ) (one two : Option PlacedFile) (old new : List ℕ) → Type 0
 TableBecomes tables place one two old new =
-    (marks other : List Bool) → AllGiven tables other (row_blocks two) → Hold (slot_checks tables place (row_slot one) marks (piece place 4096 old)) → slot_table (row_slot one) (piece place 4096 old) ≡ row_blocks one → Hold (slot_checks tables place (row_slot two) other (piece place 4096 new)) × (slot_table (row_slot two) (piece place 4096 new) ≡ row_blocks two)
+    (marks other : List Bool) → AllGiven tables other (row_blocks two) → Hold (slot_checks tables place (row_slot one) marks (piece place 4096 old))
+    → slot_table (row_slot one) (piece place 4096 old) ≡ row_blocks one → Hold (slot_checks tables place (row_slot two) other
+    (piece place 4096 new)) × (slot_table (row_slot two) (piece place 4096 new) ≡ row_blocks two)
 
 -- as it is written
-pub becomes-written : (tables place : ℕ) (one two : Option PlacedFile) (old new : List ℕ) → IsTableOf two (piece place 4096 new) → TableBecomes tables place one two old new
+pub becomes-written : (tables place : ℕ) (one two : Option PlacedFile) (old new : List ℕ) → IsTableOf two (piece place 4096 new)
+    → TableBecomes tables place one two old new
 becomes-written tables place one two old new is marks other given h same = slot-written tables place two other (piece place 4096 new) is given
 
 -- as it was, for a file with the same blocks
-pub becomes-same : (tables place : ℕ) (one two : PlacedFile) (old new : List ℕ) → two.blocks ≡ one.blocks → piece place 4096 new ≡ piece place 4096 old → TableBecomes tables place (Some one) (Some two) old new
+pub becomes-same : (tables place : ℕ) (one two : PlacedFile) (old new : List ℕ) → two.blocks ≡ one.blocks → piece place 4096 new ≡ piece place 4096
+    old → TableBecomes tables place (Some one) (Some two) old new
 unfolding slot_checks slot_table
 becomes-same tables place one two old new blocks is marks other given h same =
     let table = piece place 4096 old in
@@ -433,7 +488,10 @@ pub record AreOthersSame (tables place before behind : ℕ) (one two : Option Pl
   pub own : TableBecomes tables (place + 4096 * before) one two old new
   pub rest : SameFrom (place + 4096 * before + 4096) behind old new
 
-pub tables-over : (front rest : List (Option PlacedFile)) (one two : Option PlacedFile) (tables place : ℕ) (marks other : List Bool) (old new : List ℕ) → AreOthersSame tables place (length front) (length rest) one two old new → AllGiven tables other (blocks_in (front ++ two ∷ rest)) → AreTablesAllotted tables place (front ++ one ∷ rest) marks old → AreTablesAllotted tables place (front ++ two ∷ rest) other new
+pub tables-over : (front rest : List (Option PlacedFile)) (one two : Option PlacedFile) (tables place : ℕ) (marks other : List Bool)
+    (old new : List ℕ) → AreOthersSame tables place (length front) (length rest) one two old new → AllGiven tables other
+    (blocks_in (front ++ two ∷ rest)) → AreTablesAllotted tables place (front ++ one ∷ rest) marks old → AreTablesAllotted tables place (front ++ two
+    ∷ rest) other new
 tables-over [] rest one two tables place marks other old new same given all =
     let p = parted tables place one rest marks old all in
     let g = given-parts tables other two rest given in
@@ -441,14 +499,23 @@ tables-over [] rest one two tables place marks other old new same given all =
     let Own : ℕ → Type 0 = λ p. TableBecomes tables p one two old new in
     let From : ℕ → Type 0 = λ p. SameFrom (p + 4096) (length rest) old new in
     let own = (subst Own e same.own) marks other g.0 p.own p.blocks in
-    row-before tables place two rest other new (piece place 4096 new) refl (le-longer (place + 4096) (length old) (length new) same.no_shorter p.whole) own.0 own.1
-    (tables-behind tables (place + 4096) rest (slot_marks (row_slot one) marks (piece place 4096 old)) (marks_with other (row_blocks two)) old new same.no_shorter (subst From e same.rest) g.1 p.behind)
+    row-before tables place two rest other new (piece place 4096 new) refl (le-longer (place + 4096) (length old) (length new) same.no_shorter
+    p.whole) own.0 own.1
+    (tables-behind tables (place + 4096) rest (slot_marks (row_slot one) marks (piece place 4096 old)) (marks_with other (row_blocks two)) old new
+    same.no_shorter (subst From e same.rest) g.1 p.behind)
 tables-over (row ∷ front) rest one two tables place marks other old new same given all =
     let p = parted tables place row (front ++ one ∷ rest) marks old all in
     let g = given-parts tables other row (front ++ two ∷ rest) given in
     let e : place + 4096 * length (row ∷ front) ≡ place + 4096 + 4096 * length front = omega arith in
     let Own : ℕ → Type 0 = λ p. TableBecomes tables p one two old new in
     let From : ℕ → Type 0 = λ p. SameFrom (p + 4096) (length rest) old new in
-    same-before tables place row (front ++ two ∷ rest) marks other old new same.no_shorter (same-first place (length front) old new same.front) p.whole p.own p.blocks g.0
+    same-before tables place row (front ++ two ∷ rest) marks other old new same.no_shorter (same-first place (length front) old new same.front)
+    p.whole p.own p.blocks g.0
     (tables-over front rest one two tables (place + 4096) (slot_marks (row_slot row) marks (piece place 4096 old)) (marks_with other (row_blocks row)) old new
-    (record { no_shorter = same.no_shorter; front = same-rest place (length front) old new same.front; own = subst Own e same.own; rest = subst From e same.rest }) g.1 p.behind)
+    (record {
+      no_shorter = same.no_shorter;
+      front = same-rest place (length front) old new same.front;
+      own = subst Own e same.own;
+      rest =
+          subst From e same.rest;
+    }) g.1 p.behind)

@@ -1,5 +1,6 @@
 -- Other numbers of the server, and another row of a host.
-use Rattle.std.proofs.Common.{◌≡◌, ◌≤◌, ◌<◌, ◌+◌, ◌-◌, ◌*◌, ◌&&◌, ◌==◌, ◌⊎◌, inl, inr, ℕ, zero, suc, Bool, true, false, List, [], ◌∷◌, ◌++◌, Option, Some, None, take, drop, map, set, length, refl, sym, ap, subst, ◌∙◌, arith, length-drop}
+use Rattle.std.proofs.Common.{◌≡◌, ◌≤◌, ◌<◌, ◌+◌, ◌-◌, ◌*◌, ◌&&◌, ◌==◌, ◌⊎◌, inl, inr, ℕ, zero, suc, Bool, true, false, List, [], ◌∷◌, ◌++◌, Option}
+use Rattle.std.proofs.Common.{Some, None, take, drop, map, set, length, refl, sym, ap, subst, ◌∙◌, arith, length-drop}
 use Rattle.std.specs.List.{list_any}
 use Rattle.std.specs.Prelude.{nat_le, nat_lt, not, slice_set}
 use Rattle.std.specs.Int.{w32, from_be_bytes}
@@ -29,7 +30,8 @@ use Rattle.nq_image.proofs.ReadBack.{Hold, and-three, and-two, ge-true, hold-app
 -- ---- one part of the numbers and rows is overwritten
 
 -- what is known of bytes that agree but for one part
-module _ (at : ℕ) (part : List ℕ) (old new : List ℕ) (long : 40960 ≤ length old) (fits : at + length part ≤ 28672) (rows : rows_of_image new ≡ overwritten at part (rows_of_image old)) where
+module _ (at : ℕ) (part : List ℕ) (old new : List ℕ) (long : 40960 ≤ length old) (fits : at + length part ≤ 28672) (rows : rows_of_image new
+    ≡ overwritten at part (rows_of_image old)) where
   abbrev first : List ℕ
   first = piece 0 28672 old
 
@@ -45,7 +47,8 @@ module _ (at : ℕ) (part : List ℕ) (old new : List ℕ) (long : 40960 ≤ len
       ∙ piece-of-first 28672 from size old within
 
   -- a piece around it has it overwritten
-  pub around : (from size : ℕ) → from + size ≤ 28672 → from ≤ at → at + length part ≤ from + size → piece from size new ≡ overwritten (at - from) part (piece from size old)
+  pub around : (from size : ℕ) → from + size ≤ 28672 → from ≤ at → at + length part ≤ from + size → piece from size new ≡ overwritten (at - from) part
+      (piece from size old)
   around from size within begins ends =
       sym (piece-of-first 28672 from size new within)
       ∙ ap (λ (b : List ℕ). piece from size b) rows
@@ -109,7 +112,8 @@ module _ (next : ℕ) (heads : Heads) (within : AreHeadsWithin next heads) where
       longest = ap (λ (b : List ℕ). from_be_bytes w32 b) (from-there 8) ∙ longest-read (drop 24 front);
       next = ap (λ (b : List ℕ). from_be_bytes w32 b) (from-there 12) ∙ next-read (drop 24 front);
       tables = ap (λ (b : List ℕ). from_be_bytes w32 b) (from-there 16 ∙ past);
-      zeros = ap (λ (b : List ℕ). take 36 b) (from-there 20 ∙ sym (drop-drop 4 16 (part ++ drop 24 front)) ∙ ap (λ (b : List ℕ). drop 4 b) past ∙ drop-drop 4 24 front);
+      zeros = ap (λ (b : List ℕ). take 36 b) (from-there 20 ∙ sym (drop-drop 4 16 (part ++ drop 24 front)) ∙ ap (λ (b : List ℕ). drop 4 b) past
+          ∙ drop-drop 4 24 front);
     }
 
     front-checked : 1 ≤ heads.next → Hold (front_checks front) → Hold (front_checks new)
@@ -121,9 +125,11 @@ module _ (next : ℕ) (heads : Heads) (within : AreHeadsWithin next heads) where
           (
             le-both (word_in 12 new) (word_in 8 new) heads.opened heads.boot n.opened n.boot within.opened,
             (
-              and-two (nat_le 5 (word_in 16 new)) (nat_le (word_in 16 new) 600) (ge-true (word_in 16 new) heads.longest 5 n.longest within.long) (le-true (word_in 16 new) heads.longest 600 n.longest within.short),
+              and-two (nat_le 5 (word_in 16 new)) (nat_le (word_in 16 new) 600) (ge-true (word_in 16 new) heads.longest 5 n.longest within.long)
+                  (le-true (word_in 16 new) heads.longest 600 n.longest within.short),
               (
-                and-two (nat_le 1 (word_in 20 new)) (nat_le (word_in 20 new) 2147483648) (ge-true (word_in 20 new) heads.next 1 n.next some) (le-true (word_in 20 new) heads.next 2147483648 n.next within.few_ids),
+                and-two (nat_le 1 (word_in 20 new)) (nat_le (word_in 20 new) 2147483648) (ge-true (word_in 20 new) heads.next 1 n.next some)
+                    (le-true (word_in 20 new) heads.next 2147483648 n.next within.few_ids),
                 (
                   subst Near (sym n.tables) hold.1.1.1.1.0,
                   (subst Zeros (sym n.zeros) hold.1.1.1.1.1.0, tt),
@@ -155,7 +161,8 @@ id-later next later known (Some slot) id le h =
     let lt = test-lt id next three.1 in
     and-three (nat_le 1 id) (nat_lt id later) (not (list_any (λ k. k == id) known)) three.0 (lt-true id id later refl (omega arith)) three.2
 
-ids-later : (next later place : ℕ) (known : List ℕ) (slots : List (Option Slot)) (rest : List ℕ) → next ≤ later → Hold (ids_checks next place known slots rest) → Hold (ids_checks later place known slots rest)
+ids-later : (next later place : ℕ) (known : List ℕ) (slots : List (Option Slot)) (rest : List ℕ) → next ≤ later
+    → Hold (ids_checks next place known slots rest) → Hold (ids_checks later place known slots rest)
 unfolding ids_checks
 ids-later next later place known [] rest le h = h
 ids-later next later place known (slot ∷ slots) rest le h = (
@@ -178,7 +185,8 @@ tables-of : (front : List ℕ) (f : Front) → front_of front ≡ f → word_in 
 unfolding front_of
 tables-of front f is = ap (λ (x : Front). x.tables) is
 
-heads-parts : (s : Standing) (heads : Heads) (old new : List ℕ) → 40960 ≤ length old → AreHeadsWithin s.heads.next heads → AgreeBut 8 (heads_bytes heads) s old new → HasParts old (found_of s) → HasParts new (found_of (with_heads s heads))
+heads-parts : (s : Standing) (heads : Heads) (old new : List ℕ) → 40960 ≤ length old → AreHeadsWithin s.heads.next heads
+    → AgreeBut 8 (heads_bytes heads) s old new → HasParts old (found_of s) → HasParts new (found_of (with_heads s heads))
 heads-parts s heads old new long within agree p =
     let blocks = same-tables s old new agree.blocks in
     let longer = blocks.no_shorter in
@@ -205,7 +213,8 @@ heads-parts s heads old new long within agree p =
     let later = within.ids in
     record {
       front = front-checked s.heads.next heads within (piece 0 64 old) (piece 0 64 new) start front (omega arith) p.front;
-      front_is = front-read s.heads.next heads within (piece 0 64 old) (piece 0 64 new) start front s.tables (tables-of (piece 0 64 old) (front_for s.heads s.tables) p.front_is);
+      front_is = front-read s.heads.next heads within (piece 0 64 old) (piece 0 64 new) start front s.tables (tables-of (piece 0 64 old)
+          (front_for s.heads s.tables) p.front_is);
       hosts = subst Hosts (sym hosts) p.hosts;
       hosts_are = subst HostsAre (sym hosts) p.hosts_are;
       rows = subst Rows (sym rows) p.rows;
@@ -220,25 +229,29 @@ heads-parts s heads old new long within agree p =
       held_all = held-longer (length old) (length new) (found_of s).tables.marks longer p.held_all;
     }
 
-pub heads-stand : (s : Standing) (heads : Heads) (old new : List ℕ) → Stands old s → AreHeadsWithin s.heads.next heads → AgreeBut 8 (heads_bytes heads) s old new → Stands new (with_heads s heads)
+pub heads-stand : (s : Standing) (heads : Heads) (old new : List ℕ) → Stands old s → AreHeadsWithin s.heads.next heads
+    → AgreeBut 8 (heads_bytes heads) s old new → Stands new (with_heads s heads)
 heads-stand s heads old new stands within agree =
     let image = parts-of old (found_of s) stands.found in
     let long = image.begins.long in
     let size = length-heads s.heads.next heads within in
     let first = beside 8 (heads_bytes heads) old new long (omega (arith, size)) agree.rows 0 8 (omega arith) (inl (omega arith)) in
     record {
-      found = image-of-parts new (found_of (with_heads s heads)) (begins-same old new agree.blocks.no_shorter first image.begins) (heads-parts s heads old new long within agree image.parts);
+      found = image-of-parts new (found_of (with_heads s heads)) (begins-same old new agree.blocks.no_shorter first image.begins)
+          (heads-parts s heads old new long within agree image.parts);
       numbered = stands.numbered;
     }
 
-pub heads-kept : (s : Standing) (heads : Heads) (old new : List ℕ) → AgreeBut 8 (heads_bytes heads) s old new → kept_at new (with_heads s heads) ≡ kept_as (kept_at old s).files (kept_at old s).hosts heads
+pub heads-kept : (s : Standing) (heads : Heads) (old new : List ℕ) → AgreeBut 8 (heads_bytes heads) s old new → kept_at new (with_heads s heads)
+    ≡ kept_as (kept_at old s).files (kept_at old s).hosts heads
 unfolding kept_at kept_as
 heads-kept s heads old new agree =
     ap (λ (files : List File). kept_as files s.hosts heads) (same-files old new s.rows agree.blocks.bodies)
 
 -- ---- the row of a host
 
-pub hosts-over : (count host at place : ℕ) (row : HostRow) (bytes : List ℕ) → at ≡ 32 * host → host < count → length bytes ≡ 32 * count → IsHostWithin row → Hold (hosts_checks count place bytes) → Hold (hosts_checks count place (overwritten at (host_bytes row) bytes))
+pub hosts-over : (count host at place : ℕ) (row : HostRow) (bytes : List ℕ) → at ≡ 32 * host → host < count → length bytes ≡ 32 * count
+    → IsHostWithin row → Hold (hosts_checks count place bytes) → Hold (hosts_checks count place (overwritten at (host_bytes row) bytes))
 unfolding hosts_checks
 hosts-over zero host at place row bytes is lt long within hold = absurd (omega arith)
 hosts-over (suc count) zero at place row bytes is lt long within hold =
@@ -259,9 +272,11 @@ hosts-over (suc count) (suc host) at place row bytes is lt long within hold =
     subst-two P (take 32 new) (take 32 bytes) (drop 32 new) (overwritten (at - 32) part (drop 32 bytes))
     (take-over 32 at part bytes (omega (arith, is)) fits) (drop-over 32 at part bytes (omega (arith, is)) fits)
     (hold-append own (hosts_checks count (place + 32) (overwritten (at - 32) part (drop 32 bytes))) (hold-front own behind hold)
-    (hosts-over count host (at - 32) (place + 32) row (drop 32 bytes) (omega (arith, is)) (omega (arith, lt)) (omega (arith, long, length-drop 32 bytes)) within (hold-behind own behind hold)))
+    (hosts-over count host (at - 32) (place + 32) row (drop 32 bytes) (omega (arith, is)) (omega (arith, lt))
+    (omega (arith, long, length-drop 32 bytes)) within (hold-behind own behind hold)))
 
-pub hosts-over-are : (count host at : ℕ) (row : HostRow) (bytes : List ℕ) → at ≡ 32 * host → host < count → length bytes ≡ 32 * count → IsHostWithin row → hosts_of count (overwritten at (host_bytes row) bytes) ≡ set (hosts_of count bytes) host row
+pub hosts-over-are : (count host at : ℕ) (row : HostRow) (bytes : List ℕ) → at ≡ 32 * host → host < count → length bytes ≡ 32 * count
+    → IsHostWithin row → hosts_of count (overwritten at (host_bytes row) bytes) ≡ set (hosts_of count bytes) host row
 unfolding hosts_of
 hosts-over-are zero host at row bytes is lt long within = absurd (omega arith)
 hosts-over-are (suc count) zero at row bytes is lt long within =
@@ -274,9 +289,11 @@ hosts-over-are (suc count) (suc host) at row bytes is lt long within =
     let fits : at + length part ≤ length bytes = omega (arith, is, lt, long, length-host row) in
     ap (λ (t : List ℕ). host_of t ∷ hosts_of count (drop 32 (overwritten at part bytes))) (take-over 32 at part bytes (omega (arith, is)) fits)
     ∙ ap (λ (d : List ℕ). host_of (take 32 bytes) ∷ hosts_of count d) (drop-over 32 at part bytes (omega (arith, is)) fits)
-    ∙ ap (λ (l : List HostRow). host_of (take 32 bytes) ∷ l) (hosts-over-are count host (at - 32) row (drop 32 bytes) (omega (arith, is)) (omega (arith, lt)) (omega (arith, long, length-drop 32 bytes)) within)
+    ∙ ap (λ (l : List HostRow). host_of (take 32 bytes) ∷ l) (hosts-over-are count host (at - 32) row (drop 32 bytes) (omega (arith, is))
+    (omega (arith, lt)) (omega (arith, long, length-drop 32 bytes)) within)
 
-host-parts : (s : Standing) (host : ℕ) (row : HostRow) (old new : List ℕ) → host < 64 → 40960 ≤ length old → IsHostWithin row → AgreeBut (64 + 32 * host) (host_bytes row) s old new → HasParts old (found_of s) → HasParts new (found_of (with_host s host row))
+host-parts : (s : Standing) (host : ℕ) (row : HostRow) (old new : List ℕ) → host < 64 → 40960 ≤ length old → IsHostWithin row
+    → AgreeBut (64 + 32 * host) (host_bytes row) s old new → HasParts old (found_of s) → HasParts new (found_of (with_host s host row))
 host-parts s host row old new lt long within agree p =
     let at = 64 + 32 * host in
     let part = host_bytes row in
@@ -322,19 +339,29 @@ host-parts s host row old new lt long within agree p =
       held_all = held-longer (length old) (length new) (found_of s).tables.marks longer p.held_all;
     }
 
-pub host-stands : (s : Standing) (host : ℕ) (row : HostRow) (old new : List ℕ) → host < 64 → Stands old s → IsHostWithin row → AgreeBut (64 + 32 * host) (host_bytes row) s old new → Stands new (with_host s host row)
+pub host-stands : (s : Standing) (host : ℕ) (row : HostRow) (old new : List ℕ) → host < 64 → Stands old s → IsHostWithin row
+    → AgreeBut (64 + 32 * host) (host_bytes row) s old new → Stands new (with_host s host row)
 host-stands s host row old new lt stands within agree =
     let image = parts-of old (found_of s) stands.found in
     let long = image.begins.long in
     let size = length-host row in
     let first = beside (64 + 32 * host) (host_bytes row) old new long (omega (arith, lt, size)) agree.rows 0 8 (omega arith) (inl (omega arith)) in
     record {
-      found = image-of-parts new (found_of (with_host s host row)) (begins-same old new agree.blocks.no_shorter first image.begins) (host-parts s host row old new lt long within agree image.parts);
+      found = image-of-parts new (found_of (with_host s host row)) (begins-same old new agree.blocks.no_shorter first image.begins)
+          (host-parts s host row old new lt long within agree image.parts);
       numbered = stands.numbered;
     }
 
-pub host-kept : (s : Standing) (host : ℕ) (row : HostRow) (old new : List ℕ) → AgreeBut (64 + 32 * host) (host_bytes row) s old new → kept_at new (with_host s host row) ≡ with_row (kept_at old s) host row
+pub host-kept : (s : Standing) (host : ℕ) (row : HostRow) (old new : List ℕ) → AgreeBut (64 + 32 * host) (host_bytes row) s old new
+    → kept_at new (with_host s host row) ≡ with_row (kept_at old s) host row
 unfolding kept_at with_row
 host-kept s host row old new agree =
-    let made : List File → Kept = λ files. record { files = files; hosts = slice_set s.hosts host row; boot = s.heads.boot; opened = s.heads.opened; longest = s.heads.longest; next = s.heads.next } in
+    let made : List File → Kept = λ files. record {
+      files = files;
+      hosts = slice_set s.hosts host row;
+      boot = s.heads.boot;
+      opened = s.heads.opened;
+      longest = s.heads.longest;
+      next = s.heads.next;
+    } in
     ap made (same-files old new s.rows agree.blocks.bodies)

@@ -2,11 +2,13 @@
 use Rattle.std.proofs.Common.{◌≡◌, ℕ, Bool, true, false, List, [], ◌∷◌, ◌++◌, Result, Ok, Err, if◌then◌else◌, refl}
 use Rattle.nq_image.specs.Check.{Check, tested}
 
-one-passes : {A B : Type 0} (holds : Bool) (p : ℕ) (front : Result A ℕ) (both behind : Result B ℕ) (y : A) → (front ≡ Ok y → both ≡ behind) → (if holds then front else Err p) ≡ Ok y → (if holds then both else Err p) ≡ behind
+one-passes : {A B : Type 0} (holds : Bool) (p : ℕ) (front : Result A ℕ) (both behind : Result B ℕ) (y : A) → (front ≡ Ok y → both ≡ behind)
+    → (if holds then front else Err p) ≡ Ok y → (if holds then both else Err p) ≡ behind
 one-passes true p front both behind y more h = more h
 one-passes false p front both behind y more h = cc
 
-one-fails : {A B : Type 0} (holds : Bool) (p q : ℕ) (front : Result A ℕ) (both : Result B ℕ) → (front ≡ Err q → both ≡ Err q) → (if holds then front else Err p) ≡ Err q → (if holds then both else Err p) ≡ Err q
+one-fails : {A B : Type 0} (holds : Bool) (p q : ℕ) (front : Result A ℕ) (both : Result B ℕ) → (front ≡ Err q → both ≡ Err q)
+    → (if holds then front else Err p) ≡ Err q → (if holds then both else Err p) ≡ Err q
 one-fails true p q front both more h = more h
 one-fails false p q front both more h = cc
 
@@ -26,7 +28,8 @@ by-test : {A : Type 0} (holds : Bool) (p : ℕ) (rest : Result A ℕ) (x z : A) 
 by-test true p rest x z more h = more h
 by-test false p rest x z more h = cc
 
-other : {A B : Type 0} (holds : Bool) (p : ℕ) (one : Result A ℕ) (two : Result B ℕ) (x : A) (y : B) → (one ≡ Ok x → two ≡ Ok y) → (if holds then one else Err p) ≡ Ok x → (if holds then two else Err p) ≡ Ok y
+other : {A B : Type 0} (holds : Bool) (p : ℕ) (one : Result A ℕ) (two : Result B ℕ) (x : A) (y : B) → (one ≡ Ok x → two ≡ Ok y)
+    → (if holds then one else Err p) ≡ Ok x → (if holds then two else Err p) ≡ Ok y
 other true p one two x y more h = more h
 other false p one two x y more h = cc
 

@@ -29,7 +29,8 @@ fresh-host = refl
 fresh-hosts : (count : ℕ) → hosts_bytes (replicate count fresh_row) ≡ zeros_of (32 * count)
 unfolding hosts_bytes
 fresh-hosts zero = no-zeros
-fresh-hosts (suc count) = joined 32 (32 * count) (32 * suc count) (host_bytes fresh_row) (hosts_bytes (replicate count fresh_row)) fresh-host (fresh-hosts count) (omega arith)
+fresh-hosts (suc count) = joined 32 (32 * count) (32 * suc count) (host_bytes fresh_row) (hosts_bytes (replicate count fresh_row)) fresh-host
+    (fresh-hosts count) (omega arith)
 
 no-rows : (count : ℕ) → rows_bytes count [] ≡ zeros_of (96 * count)
 unfolding rows_bytes
@@ -39,7 +40,8 @@ no-rows (suc count) = joined 96 (96 * count) (96 * suc count) (zeros_of 96) (row
 no-tables : (count block : ℕ) → tables_bytes count block [] ≡ zeros_of (4096 * count)
 unfolding tables_bytes
 no-tables zero block = no-zeros
-no-tables (suc count) block = joined 4096 (4096 * count) (4096 * suc count) (zeros_of 4096) (tables_bytes count block []) refl (no-tables count block) (omega arith)
+no-tables (suc count) block = joined 4096 (4096 * count) (4096 * suc count) (zeros_of 4096) (tables_bytes count block []) refl (no-tables count block)
+    (omega arith)
 
 four : replicate 4 0 ≡ zeros_of 4
 unfolding zeros_of

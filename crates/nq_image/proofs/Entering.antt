@@ -4,7 +4,8 @@ use Rattle.std.specs.Int.{w32, to_be_bytes}
 use Rattle.std.proofs.lemmas.List.{append-nil, append_assoc, drop_all, drop_more}
 use Rattle.nq_image.specs.Writing.{entries_of}
 
-pub entry-passes : (i : ℕ) (bytes blocks : List ℕ) → i < length blocks → bytes ++ entries_of (drop i blocks) ≡ entries_of blocks → (bytes ++ to_be_bytes w32 (get_or blocks i 0 + 1)) ++ entries_of (drop (i + 1) blocks) ≡ entries_of blocks
+pub entry-passes : (i : ℕ) (bytes blocks : List ℕ) → i < length blocks → bytes ++ entries_of (drop i blocks) ≡ entries_of blocks
+    → (bytes ++ to_be_bytes w32 (get_or blocks i 0 + 1)) ++ entries_of (drop (i + 1) blocks) ≡ entries_of blocks
 unfolding entries_of
 entry-passes i bytes blocks lt same =
     let own = to_be_bytes w32 (get_or blocks i 0 + 1) in

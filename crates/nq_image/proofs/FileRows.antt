@@ -1,5 +1,6 @@
 -- Rows of files are read back.
-use Rattle.std.proofs.Common.{◌≡◌, ◌≢◌, ◌≤◌, ◌<◌, ◌^◌, ◌+◌, ◌-◌, ◌*◌, ◌==◌, ◌||◌, ℕ, zero, suc, Bool, true, false, List, [], ◌∷◌, ◌++◌, Option, Some, None, take, drop, length, if◌then◌else◌, refl, sym, ap, subst, ◌∙◌, arith, length-append}
+use Rattle.std.proofs.Common.{◌≡◌, ◌≢◌, ◌≤◌, ◌<◌, ◌^◌, ◌+◌, ◌-◌, ◌*◌, ◌==◌, ◌||◌, ℕ, zero, suc, Bool, true, false, List, [], ◌∷◌, ◌++◌, Option, Some}
+use Rattle.std.proofs.Common.{None, take, drop, length, if◌then◌else◌, refl, sym, ap, subst, ◌∙◌, arith, length-append}
 use Rattle.std.specs.List.{All, sum_by}
 use Rattle.std.specs.Prelude.{nat_le, nat_eq, not}
 use Rattle.std.specs.Int.{w32, w64, from_be_bytes}
@@ -17,11 +18,13 @@ use Rattle.nq_model.specs.Change.{AreApart, IsFileWithin}
 use Rattle.nq_model.specs.Kept.{File, blocks_in_all, blocks_of as length_of, find_name}
 use Rattle.nq_model.specs.Profile.{same_bytes}
 use Rattle.nq_image.specs.Layout.{piece, word_in, hyper_in, are_zeros}
-use Rattle.nq_image.specs.Rows.{behind_name, blocks_of, has_name, is_named, name_holds, name_in, row_checks, rows_checks, slot_of, slots_of, used_checks, used_slot}
+use Rattle.nq_image.specs.Rows.{behind_name, blocks_of, has_name, is_named, name_holds, name_in, row_checks, rows_checks, slot_of, slots_of}
+use Rattle.nq_image.specs.Rows.{used_checks, used_slot}
 use Rattle.nq_image.specs.Writing.{numbers_bytes, row_bytes, rows_bytes, zeros_of}
 use Rattle.nq_image.specs.declared.rows.Slot.{Slot}
 use Rattle.nq_image.specs.declared.rows.Version.{Version}
-use Rattle.nq_image.proofs.ReadBack.{Hold, and-three, and-two, ge-true, hold-append, hold-if, hold-if-not, le-true, length-zeros, lt-true, not-zeros, subst-two, zeros-are}
+use Rattle.nq_image.proofs.ReadBack.{Hold, and-three, and-two, ge-true, hold-append, hold-if, hold-if-not, le-true, length-zeros, lt-true, not-zeros}
+use Rattle.nq_image.proofs.ReadBack.{subst-two, zeros-are}
 
 -- ---- one row
 
@@ -105,7 +108,8 @@ module _ (name : List ℕ) (blocks rev : ℕ) (named : IsName name) (short : blo
       ap (λ (b : Bool). if b then None else Some (used_slot row)) used
       ∙ ap (λ (s : Slot). Some s) (same-slot (name_in row) (word_in 68 row) (hyper_in 76 row) name-is blocks-are rev-is)
 
-  module _ (place : ℕ) (before : List (Option Slot)) (own : is_named name before ≡ false) (not_empty : 1 ≤ blocks) (few : sum_by blocks_of before + blocks ≤ 16384) where
+  module _ (place : ℕ) (before : List (Option Slot)) (own : is_named name before ≡ false) (not_empty : 1 ≤ blocks) (few : sum_by blocks_of before
+      + blocks ≤ 16384) where
     name-held : name_holds before row ≡ true
     unfolding name_holds
     name-held =
@@ -117,14 +121,16 @@ module _ (name : List ℕ) (blocks rev : ℕ) (named : IsName name) (short : blo
     used-hold : Hold (used_checks Version.Two place before row)
     unfolding used_checks
     used-hold = (
-      and-two (nat_le 1 (word_in 0 row)) (nat_le (word_in 0 row) 64) (ge-true (word_in 0 row) (length name) 1 length-of-name named.0) (le-true (word_in 0 row) (length name) 64 length-of-name named.1),
+      and-two (nat_le 1 (word_in 0 row)) (nat_le (word_in 0 row) 64) (ge-true (word_in 0 row) (length name) 1 length-of-name named.0)
+          (le-true (word_in 0 row) (length name) 64 length-of-name named.1),
       (
         name-held,
         (
           and-three (nat_le 1 (word_in 68 row)) (nat_le (word_in 68 row) 1024) (nat_le (sum_by blocks_of before + word_in 68 row) 16384)
               (ge-true (word_in 68 row) blocks 1 blocks-are not_empty)
               (le-true (word_in 68 row) blocks 1024 blocks-are short)
-              (le-true (sum_by blocks_of before + word_in 68 row) (sum_by blocks_of before + blocks) 16384 (ap (λ (b : ℕ). sum_by blocks_of before + b) blocks-are) few),
+              (le-true (sum_by blocks_of before + word_in 68 row) (sum_by blocks_of before + blocks) 16384
+              (ap (λ (b : ℕ). sum_by blocks_of before + b) blocks-are) few),
           (
             refl,
             (
@@ -177,11 +183,13 @@ or-false false b e f = f
 
 still-new : (before : List (Option Slot)) (slot : Slot) (f : File) → IsNew before f → f.name ≢ slot.name → IsNew (before ++ Some slot ∷ []) f
 still-new before slot f new other =
-    let other_name : pointwise nat_eq slot.name f.name ≡ false = false-unless (pointwise nat_eq slot.name f.name) (λ granted. other (sym ((bytes_eq-Decides slot.name f.name).0 granted))) in
+    let other_name : pointwise nat_eq slot.name f.name ≡ false = false-unless (pointwise nat_eq slot.name f.name)
+    (λ granted. other (sym ((bytes_eq-Decides slot.name f.name).0 granted))) in
     list_any-append (has_name f.name) before (Some slot ∷ [])
     ∙ or-false (is_named f.name before) (is_named f.name (Some slot ∷ [])) new (or-false (pointwise nat_eq slot.name f.name) false other_name refl)
 
-all-new : (before : List (Option Slot)) (slot : Slot) (files : List File) → All (IsNew before) files → All (λ f. f.name ≢ slot.name) files → All (IsNew (before ++ Some slot ∷ [])) files
+all-new : (before : List (Option Slot)) (slot : Slot) (files : List File) → All (IsNew before) files → All (λ f. f.name ≢ slot.name) files
+    → All (IsNew (before ++ Some slot ∷ [])) files
 all-new before slot [] new other = All-nil (IsNew (before ++ Some slot ∷ []))
 all-new before slot (f ∷ files) new other =
     All-cons (IsNew (before ++ Some slot ∷ [])) f files
@@ -210,16 +218,21 @@ unfolding slot_of
 unused-is = ap (λ (b : Bool). if b then None else Some (used_slot (zeros_of 96))) (zeros-are 96)
 
 -- a row in front of others
-first-holds : (count place : ℕ) (before : List (Option Slot)) (row rows : List ℕ) (slot : Option Slot) → length row ≡ 96 → slot_of row ≡ slot → Hold (row_checks Version.Two place before row) → Hold (rows_checks Version.Two count (place + 96) (before ++ slot ∷ []) rows) → Hold (rows_checks Version.Two (suc count) place before (row ++ rows))
+first-holds : (count place : ℕ) (before : List (Option Slot)) (row rows : List ℕ) (slot : Option Slot) → length row ≡ 96 → slot_of row ≡ slot
+    → Hold (row_checks Version.Two place before row) → Hold (rows_checks Version.Two count (place + 96) (before ++ slot ∷ []) rows)
+    → Hold (rows_checks Version.Two (suc count) place before (row ++ rows))
 unfolding rows_checks
 first-holds count place before row rows slot long is own more =
     let bytes = row ++ rows in
-    let P : List ℕ → List ℕ → Type 0 = λ t d. Hold (row_checks Version.Two place before t ++ rows_checks Version.Two count (place + 96) (before ++ slot_of t ∷ []) d) in
+    let P : List ℕ → List ℕ → Type 0 = λ t d. Hold (row_checks Version.Two place before t ++ rows_checks Version.Two count (place + 96)
+    (before ++ slot_of t ∷ []) d) in
     let Q : Option Slot → Type 0 = λ s. Hold (rows_checks Version.Two count (place + 96) (before ++ s ∷ []) rows) in
     subst-two P (take 96 bytes) row (drop 96 bytes) rows (take_at row rows 96 long) (drop_at row rows 96 long)
-    (hold-append (row_checks Version.Two place before row) (rows_checks Version.Two count (place + 96) (before ++ slot_of row ∷ []) rows) own (subst Q (sym is) more))
+    (hold-append (row_checks Version.Two place before row) (rows_checks Version.Two count (place + 96) (before ++ slot_of row ∷ []) rows) own
+    (subst Q (sym is) more))
 
-first-is : (count : ℕ) (row rows : List ℕ) (slot : Option Slot) (slots : List (Option Slot)) → length row ≡ 96 → slot_of row ≡ slot → slots_of count rows ≡ slots → slots_of (suc count) (row ++ rows) ≡ slot ∷ slots
+first-is : (count : ℕ) (row rows : List ℕ) (slot : Option Slot) (slots : List (Option Slot)) → length row ≡ 96 → slot_of row ≡ slot
+    → slots_of count rows ≡ slots → slots_of (suc count) (row ++ rows) ≡ slot ∷ slots
 unfolding slots_of
 first-is count row rows slot slots long is more =
     let bytes = row ++ rows in
@@ -235,12 +248,15 @@ no-slots : slots_of zero [] ≡ []
 unfolding slots_of
 no-slots = refl
 
-pub rows-hold : (count place next : ℕ) (before : List (Option Slot)) (files : List File) → All (IsFileWithin next) files → AreApart files → All (IsNew before) files → sum_by blocks_of before + blocks_in_all files ≤ 16384 → Hold (rows_checks Version.Two count place before (rows_bytes count files))
+pub rows-hold : (count place next : ℕ) (before : List (Option Slot)) (files : List File) → All (IsFileWithin next) files → AreApart files
+    → All (IsNew before) files → sum_by blocks_of before + blocks_in_all files ≤ 16384 → Hold (rows_checks Version.Two count place before
+    (rows_bytes count files))
 unfolding rows_bytes
 rows-hold zero place next before files within apart new few = none-hold place before
 rows-hold (suc count) place next before [] within apart new few =
     first-holds count place before (zeros_of 96) (rows_bytes count []) None (length-zeros 96) unused-is (unused-holds place before)
-    (rows-hold count (place + 96) next (before ++ None ∷ []) [] within apart (All-nil (IsNew (before ++ None ∷ []))) (omega (arith, few, sum_by-append blocks_of before (None ∷ []))))
+    (rows-hold count (place + 96) next (before ++ None ∷ []) [] within apart (All-nil (IsNew (before ++ None ∷ [])))
+    (omega (arith, few, sum_by-append blocks_of before (None ∷ []))))
 rows-hold (suc count) place next before (file ∷ files) within apart new few =
     let own = All-head (IsFileWithin next) file files within in
     let sums = sum_by-cons length_of file files in
@@ -248,7 +264,8 @@ rows-hold (suc count) place next before (file ∷ files) within apart new few =
     first-holds count place before (row_bytes file.name (length_of file) file.rev) (rows_bytes count files) (Some slot)
     (length-row file.name (length_of file) file.rev own.name own.short own.rev)
     (slot-is file.name (length_of file) file.rev own.name own.short own.rev)
-    (row-holds file.name (length_of file) file.rev own.name own.short own.rev place before (All-head (IsNew before) file files new) own.not_empty (omega (arith, few, sums)))
+    (row-holds file.name (length_of file) file.rev own.name own.short own.rev place before (All-head (IsNew before) file files new) own.not_empty
+    (omega (arith, few, sums)))
     (rows-hold count (place + 96) next (before ++ Some slot ∷ []) files (All-tail (IsFileWithin next) file files within) apart.2
     (all-new before slot files (All-tail (IsNew before) file files new) (others file.name files apart.1))
     (omega (arith, few, sums, sum_by-append blocks_of before (Some slot ∷ []))))
@@ -273,4 +290,10 @@ length-rows (suc count) next [] within =
 length-rows (suc count) next (file ∷ files) within =
     let own = All-head (IsFileWithin next) file files within in
     let row = row_bytes file.name (length_of file) file.rev in
-    omega (arith, length-row file.name (length_of file) file.rev own.name own.short own.rev, length-rows count next files (All-tail (IsFileWithin next) file files within), length-append row (rows_bytes count files))
+    omega (
+      arith,
+      length-row file.name (length_of file) file.rev own.name own.short own.rev,
+      length-rows count next files
+          (All-tail (IsFileWithin next) file files within),
+      length-append row (rows_bytes count files),
+    )

@@ -1,5 +1,6 @@
 -- What stands in an image is what the image opens as.
-use Rattle.std.proofs.Common.{◌≡◌, ◌+◌, ℕ, Bool, true, false, List, [], ◌∷◌, ◌++◌, Option, Some, None, Result, Ok, take, drop, map, length, if◌then◌else◌, refl, sym, ap, ◌∙◌, arith, length-append}
+use Rattle.std.proofs.Common.{◌≡◌, ◌+◌, ℕ, Bool, true, false, List, [], ◌∷◌, ◌++◌, Option, Some, None, Result, Ok, take, drop, map, length}
+use Rattle.std.proofs.Common.{if◌then◌else◌, refl, sym, ap, ◌∙◌, arith, length-append}
 use Rattle.std.specs.List.{insert}
 use Rattle.std.specs.Prelude.{nat_lt}
 use Rattle.std.proofs.lemmas.List.{append_assoc, drop_at, take_at}
@@ -18,27 +19,33 @@ put_kept id x [] = x ∷ []
 put_kept id x (f ∷ files) = if nat_lt id f.id then x ∷ f ∷ files else f ∷ put_kept id x files
 
 module _ (bytes all : List ℕ) where
-  map-if-found : (b : Bool) (one two : List FoundFile) → map (file_in bytes all) (if b then one else two) ≡ (if b then map (file_in bytes all) one else map (file_in bytes all) two)
+  map-if-found : (b : Bool) (one two : List FoundFile) → map (file_in bytes all) (if b then one else two) ≡ (if b then map (file_in bytes all) one
+      else map (file_in bytes all) two)
   map-if-found true one two = refl
   map-if-found false one two = refl
 
-  found-puts : (id : ℕ) (x : FoundFile) (files : List FoundFile) → map (file_in bytes all) (put id x files) ≡ put_kept id (file_in bytes all x) (map (file_in bytes all) files)
+  found-puts : (id : ℕ) (x : FoundFile) (files : List FoundFile) → map (file_in bytes all) (put id x files) ≡ put_kept id (file_in bytes all x)
+      (map (file_in bytes all) files)
   unfolding put_kept
   found-puts id x [] = refl
   found-puts id x (f ∷ files) =
       map-if-found (nat_lt id f.row.id) (x ∷ f ∷ files) (f ∷ put id x files)
-      ∙ ap (λ (l : List File). if nat_lt id f.row.id then file_in bytes all x ∷ file_in bytes all f ∷ map (file_in bytes all) files else file_in bytes all f ∷ l) (found-puts id x files)
+      ∙ ap (λ (l : List File). if nat_lt id f.row.id then file_in bytes all x ∷ file_in bytes all f ∷ map (file_in bytes all) files
+      else file_in bytes all f ∷ l) (found-puts id x files)
 
-  map-if-placed : (b : Bool) (one two : List PlacedFile) → map (file_at bytes) (if b then one else two) ≡ (if b then map (file_at bytes) one else map (file_at bytes) two)
+  map-if-placed : (b : Bool) (one two : List PlacedFile) → map (file_at bytes) (if b then one else two) ≡ (if b then map (file_at bytes) one
+      else map (file_at bytes) two)
   map-if-placed true one two = refl
   map-if-placed false one two = refl
 
-  placed-puts : (x : PlacedFile) (files : List PlacedFile) → map (file_at bytes) (put_file x files) ≡ put_kept x.id (file_at bytes x) (map (file_at bytes) files)
+  placed-puts : (x : PlacedFile) (files : List PlacedFile) → map (file_at bytes) (put_file x files) ≡ put_kept x.id (file_at bytes x)
+      (map (file_at bytes) files)
   unfolding put_kept file_at
   placed-puts x [] = refl
   placed-puts x (f ∷ files) =
       map-if-placed (nat_lt x.id f.id) (x ∷ f ∷ files) (f ∷ put_file x files)
-      ∙ ap (λ (l : List File). if nat_lt x.id f.id then file_at bytes x ∷ file_at bytes f ∷ map (file_at bytes) files else file_at bytes f ∷ l) (placed-puts x files)
+      ∙ ap (λ (l : List File). if nat_lt x.id f.id then file_at bytes x ∷ file_at bytes f ∷ map (file_at bytes) files else file_at bytes f ∷ l)
+      (placed-puts x files)
 
   -- ---- a file and its blocks among those of all
 
@@ -48,7 +55,8 @@ module _ (bytes all : List ℕ) where
   abbrev slot-for : PlacedFile → Slot
   slot-for file = record { name = file.name; blocks = length file.blocks; rev = file.rev }
 
-  same-file : (start : ℕ) (file : PlacedFile) (before behind : List ℕ) → all ≡ before ++ (file.blocks ++ behind) → length before ≡ start → file_in bytes all (found_file file.id start (slot-for file)) ≡ file_at bytes file
+  same-file : (start : ℕ) (file : PlacedFile) (before behind : List ℕ) → all ≡ before ++ (file.blocks ++ behind) → length before ≡ start
+      → file_in bytes all (found_file file.id start (slot-for file)) ≡ file_at bytes file
   unfolding found_file file_at
   same-file start file before behind is at =
       ap (λ (l : List ℕ). with-bodies file (take (length file.blocks) (drop start l))) is
@@ -57,7 +65,9 @@ module _ (bytes all : List ℕ) where
 
   -- ---- all rows
 
-  gathers : (rows : List (Option PlacedFile)) (found : List FoundFile) (files : List PlacedFile) (start : ℕ) (before : List ℕ) → map (file_in bytes all) found ≡ map (file_at bytes) files → all ≡ before ++ blocks_in rows → length before ≡ start → map (file_in bytes all) (files_of found start (map row_slot rows) (map row_id rows)) ≡ map (file_at bytes) (with_rows files rows)
+  gathers : (rows : List (Option PlacedFile)) (found : List FoundFile) (files : List PlacedFile) (start : ℕ) (before : List ℕ)
+      → map (file_in bytes all) found ≡ map (file_at bytes) files → all ≡ before ++ blocks_in rows → length before ≡ start → map (file_in bytes all)
+      (files_of found start (map row_slot rows) (map row_id rows)) ≡ map (file_at bytes) (with_rows files rows)
   unfolding files_of with_rows blocks_in
   gathers [] found files start before same is at = same
   gathers (None ∷ rows) found files start before same is at =
@@ -73,7 +83,8 @@ module _ (bytes all : List ℕ) where
       ∙ ap (λ (f : File). put_kept file.id f (map (file_in bytes all) found)) own
       ∙ ap (λ (l : List File). put_kept file.id (file_at bytes file) l) same
       ∙ sym (placed-puts file files) in
-      gathers rows (insert found (place_of file.id found) x) (put_file file files) (start + length file.blocks) (before ++ file.blocks) both (is ∙ sym (append_assoc before file.blocks (blocks_in rows))) (omega (arith, at, length-append before file.blocks))
+      gathers rows (insert found (place_of file.id found) x) (put_file file files) (start + length file.blocks) (before ++ file.blocks) both
+      (is ∙ sym (append_assoc before file.blocks (blocks_in rows))) (omega (arith, at, length-append before file.blocks))
 
 kept-with : List File → Standing → Kept
 kept-with files s = record { files = files; hosts = s.hosts; boot = s.heads.boot; opened = s.heads.opened; longest = s.heads.longest; next = s.heads.next }

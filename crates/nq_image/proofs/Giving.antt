@@ -1,5 +1,6 @@
 -- The blocks of the files of an image: each is given once, and the disk holds each whole.
-use Rattle.std.proofs.Common.{◌≡◌, ◌≤◌, ◌<◌, ◌+◌, ◌-◌, inl, inr, ℕ, zero, suc, Bool, true, false, ◌&&◌, List, [], ◌∷◌, ◌++◌, Option, Some, None, Ok, drop, length, get_or, if◌then◌else◌, refl, sym, ap, subst, ◌∙◌, arith, length-append}
+use Rattle.std.proofs.Common.{◌≡◌, ◌≤◌, ◌<◌, ◌+◌, ◌-◌, inl, inr, ℕ, zero, suc, Bool, true, false, ◌&&◌, List, [], ◌∷◌, ◌++◌, Option, Some, None, Ok}
+use Rattle.std.proofs.Common.{drop, length, get_or, if◌then◌else◌, refl, sym, ap, subst, ◌∙◌, arith, length-append}
 use Rattle.std.specs.List.{All, position, prefix_len, sum_by}
 use Rattle.std.specs.Prelude.{min, nat_lt, nat_le, not, slice_set}
 use Rattle.std.proofs.Math.Nat.{div-add-mod'}
@@ -12,7 +13,8 @@ use Rattle.nq_image.specs.Check.{check}
 use Rattle.nq_image.specs.Kept.{numbers_from}
 use Rattle.nq_image.specs.Layout.{block_place, piece, word_in, whole_blocks}
 use Rattle.nq_image.specs.Rows.{blocks_of}
-use Rattle.nq_image.specs.Tables.{held, held_from, is_entry, is_marked, is_of_tables, marked, marked_from, marks_behind, slot_checks, slot_marks, slot_table, table_checks, table_of, tables_blocks, tables_checks, tables_marks}
+use Rattle.nq_image.specs.Tables.{held, held_from, is_entry, is_marked, is_of_tables, marked, marked_from, marks_behind, slot_checks, slot_marks}
+use Rattle.nq_image.specs.Tables.{slot_table, table_checks, table_of, tables_blocks, tables_checks, tables_marks}
 use Rattle.nq_image.specs.declared.rows.Slot.{Slot}
 use Rattle.nq_image.proofs.Holding.{Right, not-true, right-behind, right-front, test-le}
 
@@ -51,7 +53,8 @@ entry-within tables marks entry size h =
 length-marked : (marks : List Bool) (i : ℕ) → length (slice_set marks i true) ≡ length marks
 length-marked marks i = length-set marks i true
 
-pub table-keeps : (count tables place : ℕ) (marks : List Bool) (rest : List ℕ) (block : ℕ) → length marks ≡ 16641 → All Right (table_checks count tables place marks rest) → IsGiven marks block → IsGiven (marks_behind count marks rest) block
+pub table-keeps : (count tables place : ℕ) (marks : List Bool) (rest : List ℕ) (block : ℕ) → length marks ≡ 16641
+    → All Right (table_checks count tables place marks rest) → IsGiven marks block → IsGiven (marks_behind count marks rest) block
 unfolding table_checks marks_behind
 table-keeps zero tables place marks rest block size h given = given
 table-keeps (suc count) tables place marks rest block size h given =
@@ -59,9 +62,11 @@ table-keeps (suc count) tables place marks rest block size h given =
     let first = check place (is_entry tables marks entry) in
     let behind = table_checks count tables (place + 4) (marked marks entry) (drop 4 rest) in
     let lt = entry-within tables marks entry size (All-head Right first behind h) in
-    table-keeps count tables (place + 4) (marked marks entry) (drop 4 rest) block (length-marked marks (entry - 1) ∙ size) (All-tail Right first behind h) (set-keeps marks (entry - 1) block lt given)
+    table-keeps count tables (place + 4) (marked marks entry) (drop 4 rest) block (length-marked marks (entry - 1) ∙ size)
+    (All-tail Right first behind h) (set-keeps marks (entry - 1) block lt given)
 
-pub table-gives : (count tables place : ℕ) (marks : List Bool) (rest : List ℕ) → length marks ≡ 16641 → All Right (table_checks count tables place marks rest) → All (IsGiven (marks_behind count marks rest)) (table_of count rest)
+pub table-gives : (count tables place : ℕ) (marks : List Bool) (rest : List ℕ) → length marks ≡ 16641
+    → All Right (table_checks count tables place marks rest) → All (IsGiven (marks_behind count marks rest)) (table_of count rest)
 unfolding table_checks marks_behind table_of
 table-gives zero tables place marks rest size h = All-nil (IsGiven marks)
 table-gives (suc count) tables place marks rest size h =
@@ -94,12 +99,14 @@ unfolding slot_marks
 slot-length None marks table = refl
 slot-length (Some slot) marks table = length-behind slot.blocks marks table
 
-slot-keeps : (tables place : ℕ) (slot : Option Slot) (marks : List Bool) (table : List ℕ) (block : ℕ) → length marks ≡ 16641 → All Right (slot_checks tables place slot marks table) → IsGiven marks block → IsGiven (slot_marks slot marks table) block
+slot-keeps : (tables place : ℕ) (slot : Option Slot) (marks : List Bool) (table : List ℕ) (block : ℕ) → length marks ≡ 16641
+    → All Right (slot_checks tables place slot marks table) → IsGiven marks block → IsGiven (slot_marks slot marks table) block
 unfolding slot_checks slot_marks
 slot-keeps tables place None marks table block size h given = given
 slot-keeps tables place (Some slot) marks table block size h given = table-keeps slot.blocks tables place marks table block size h given
 
-slot-gives : (tables place : ℕ) (slot : Option Slot) (marks : List Bool) (table : List ℕ) → length marks ≡ 16641 → All Right (slot_checks tables place slot marks table) → All (IsGiven (slot_marks slot marks table)) (slot_table slot table)
+slot-gives : (tables place : ℕ) (slot : Option Slot) (marks : List Bool) (table : List ℕ) → length marks ≡ 16641
+    → All Right (slot_checks tables place slot marks table) → All (IsGiven (slot_marks slot marks table)) (slot_table slot table)
 unfolding slot_checks slot_marks slot_table
 slot-gives tables place None marks table size h = All-nil (IsGiven marks)
 slot-gives tables place (Some slot) marks table size h = table-gives slot.blocks tables place marks table size h
@@ -109,7 +116,9 @@ unfolding slot_table
 slot-blocks None table = refl
 slot-blocks (Some slot) table = length-table slot.blocks table
 
-own-checks : (tables place : ℕ) (slot : Option Slot) (slots : List (Option Slot)) (marks : List Bool) (bytes : List ℕ) → All Right (tables_checks tables place (slot ∷ slots) marks bytes) → All Right (slot_checks tables place slot marks (piece place 4096 bytes)) × All Right (tables_checks tables (place + 4096) slots (slot_marks slot marks (piece place 4096 bytes)) bytes)
+own-checks : (tables place : ℕ) (slot : Option Slot) (slots : List (Option Slot)) (marks : List Bool) (bytes : List ℕ)
+    → All Right (tables_checks tables place (slot ∷ slots) marks bytes) → All Right (slot_checks tables place slot marks (piece place 4096 bytes))
+    × All Right (tables_checks tables (place + 4096) slots (slot_marks slot marks (piece place 4096 bytes)) bytes)
 unfolding tables_checks
 own-checks tables place slot slots marks bytes h =
     let first = check place (nat_le (place + 4096) (length bytes)) in
@@ -118,21 +127,25 @@ own-checks tables place slot slots marks bytes h =
     let both = All-tail Right first (front ++ behind) h in
     (right-front front behind both, right-behind front behind both)
 
-pub tables-length : (place : ℕ) (slots : List (Option Slot)) (marks : List Bool) (bytes : List ℕ) → length (tables_marks place slots marks bytes) ≡ length marks
+pub tables-length : (place : ℕ) (slots : List (Option Slot)) (marks : List Bool) (bytes : List ℕ) → length (tables_marks place slots marks bytes)
+    ≡ length marks
 unfolding tables_marks
 tables-length place [] marks bytes = refl
 tables-length place (slot ∷ slots) marks bytes =
     tables-length (place + 4096) slots (slot_marks slot marks (piece place 4096 bytes)) bytes ∙ slot-length slot marks (piece place 4096 bytes)
 
-tables-keep : (tables place : ℕ) (slots : List (Option Slot)) (marks : List Bool) (bytes : List ℕ) (block : ℕ) → length marks ≡ 16641 → All Right (tables_checks tables place slots marks bytes) → IsGiven marks block → IsGiven (tables_marks place slots marks bytes) block
+tables-keep : (tables place : ℕ) (slots : List (Option Slot)) (marks : List Bool) (bytes : List ℕ) (block : ℕ) → length marks ≡ 16641
+    → All Right (tables_checks tables place slots marks bytes) → IsGiven marks block → IsGiven (tables_marks place slots marks bytes) block
 unfolding tables_marks
 tables-keep tables place [] marks bytes block size h given = given
 tables-keep tables place (slot ∷ slots) marks bytes block size h given =
     let table = piece place 4096 bytes in
     let own = own-checks tables place slot slots marks bytes h in
-    tables-keep tables (place + 4096) slots (slot_marks slot marks table) bytes block (slot-length slot marks table ∙ size) own.1 (slot-keeps tables place slot marks table block size own.0 given)
+    tables-keep tables (place + 4096) slots (slot_marks slot marks table) bytes block (slot-length slot marks table ∙ size) own.1
+    (slot-keeps tables place slot marks table block size own.0 given)
 
-pub tables-give : (tables place : ℕ) (slots : List (Option Slot)) (marks : List Bool) (bytes : List ℕ) → length marks ≡ 16641 → All Right (tables_checks tables place slots marks bytes) → All (IsGiven (tables_marks place slots marks bytes)) (tables_blocks place slots bytes)
+pub tables-give : (tables place : ℕ) (slots : List (Option Slot)) (marks : List Bool) (bytes : List ℕ) → length marks ≡ 16641
+    → All Right (tables_checks tables place slots marks bytes) → All (IsGiven (tables_marks place slots marks bytes)) (tables_blocks place slots bytes)
 unfolding tables_marks tables_blocks
 tables-give tables place [] marks bytes size h = All-nil (IsGiven marks)
 tables-give tables place (slot ∷ slots) marks bytes size h =
@@ -142,7 +155,8 @@ tables-give tables place (slot ∷ slots) marks bytes size h =
     let long = slot-length slot marks table ∙ size in
     let last = tables_marks (place + 4096) slots then_marks bytes in
     All-append (IsGiven last) (slot_table slot table) (tables_blocks (place + 4096) slots bytes)
-    (All-weaker (IsGiven then_marks) (IsGiven last) (λ block given. tables-keep tables (place + 4096) slots then_marks bytes block long own.1 given) (slot_table slot table) (slot-gives tables place slot marks table size own.0))
+    (All-weaker (IsGiven then_marks) (IsGiven last) (λ block given. tables-keep tables (place + 4096) slots then_marks bytes block long own.1 given)
+    (slot_table slot table) (slot-gives tables place slot marks table size own.0))
     (tables-give tables (place + 4096) slots then_marks bytes long own.1)
 
 pub tables-length-blocks : (place : ℕ) (slots : List (Option Slot)) (bytes : List ℕ) → length (tables_blocks place slots bytes) ≡ sum_by blocks_of slots
@@ -169,11 +183,13 @@ none-marked marks k none =
       | inr le ↦ get_or_past marks k false le
     ]
 
-not-marked : (block : ℕ) (marks : List Bool) (i : ℕ) (found : Option ℕ) → marked_from block marks ≡ found → held_from block found ≡ Ok tt → block ≤ i → IsGiven marks i → ⊥
+not-marked : (block : ℕ) (marks : List Bool) (i : ℕ) (found : Option ℕ) → marked_from block marks ≡ found → held_from block found ≡ Ok tt → block ≤ i
+    → IsGiven marks i → ⊥
 not-marked block marks i None is h le given =
     let e : block + (i - block) ≡ i = omega arith in
     let none = none-marked (drop block marks) (i - block) is in
-    let same : get_or (drop block marks) (i - block) false ≡ get_or marks i false = get_or-drop block marks (i - block) false ∙ ap (λ (j : ℕ). get_or marks j false) e in
+    let same : get_or (drop block marks) (i - block) false ≡ get_or marks i false = get_or-drop block marks (i - block) false
+    ∙ ap (λ (j : ℕ). get_or marks j false) e in
     let wrong : true ≡ false = sym given ∙ sym same ∙ none in
     cc
 not-marked block marks i (Some behind) is h le given = cc

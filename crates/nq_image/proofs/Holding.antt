@@ -1,5 +1,6 @@
 -- What holds of the rows of an image in which no field is wrong.
-use Rattle.std.proofs.Common.{◌≡◌, ◌≤◌, ◌<◌, ◌^◌, ◌+◌, ◌==◌, inl, inr, ℕ, zero, suc, Bool, true, false, ◌&&◌, List, [], ◌∷◌, ◌++◌, Option, Some, None, Result, Ok, Err, take, drop, length, get_or, if◌then◌else◌, refl, arith}
+use Rattle.std.proofs.Common.{◌≡◌, ◌≤◌, ◌<◌, ◌^◌, ◌+◌, ◌==◌, inl, inr, ℕ, zero, suc, Bool, true, false, ◌&&◌, List, [], ◌∷◌, ◌++◌, Option, Some, None}
+use Rattle.std.proofs.Common.{Result, Ok, Err, take, drop, length, get_or, if◌then◌else◌, refl, arith}
 use Rattle.std.specs.List.{All, list_any, sum_by}
 use Rattle.std.specs.Prelude.{nat_lt, nat_le, not, slice_index_or}
 use Rattle.std.proofs.lemmas.Bool.{cases_lt}
@@ -13,7 +14,8 @@ use Rattle.nq_image.specs.Bounds.{AreBytes}
 use Rattle.nq_image.specs.Check.{Check, check, tested}
 use Rattle.nq_image.specs.Hosts.{host_checks, host_of, hosts_checks, hosts_of}
 use Rattle.nq_image.specs.Layout.{word_in, hyper_in, are_zeros}
-use Rattle.nq_image.specs.Rows.{behind_name, blocks_of, is_named, is_shut, least_not_zeros, name_holds, name_in, row_checks, rows_checks, slot_of, slots_of, used_checks, used_slot}
+use Rattle.nq_image.specs.Rows.{behind_name, blocks_of, is_named, is_shut, least_not_zeros, name_holds, name_in, row_checks, rows_checks, slot_of}
+use Rattle.nq_image.specs.Rows.{slots_of, used_checks, used_slot}
 use Rattle.nq_image.specs.Tables.{ids_checks, ids_of, is_id}
 use Rattle.nq_image.specs.declared.rows.Slot.{Slot}
 use Rattle.nq_image.specs.declared.rows.Version.{Version}
@@ -122,11 +124,13 @@ abbrev pub AreRowsRight : Version → (before slots : List (Option Slot)) → Ty
 AreRowsRight version before [] = Unit {0}
 AreRowsRight version before (slot ∷ slots) = IsRowRight version before slot × AreRowsRight version (before ++ slot ∷ []) slots
 
-used-right : (version : Version) (place : ℕ) (before : List (Option Slot)) (row : List ℕ) → is_shut version before ≡ false → All Right (used_checks version place before row) → IsSlotRight version before (used_slot row)
+used-right : (version : Version) (place : ℕ) (before : List (Option Slot)) (row : List ℕ) → is_shut version before ≡ false
+    → All Right (used_checks version place before row) → IsSlotRight version before (used_slot row)
 unfolding used_checks used_slot name_holds
 used-right version place before row not_shut h =
     let name = each-three (is_name (name_in row)) (are_zeros (behind_name row)) (not (is_named (name_in row) before)) (h 1 (check 0 true) (omega arith)) in
-    let count = each-three (nat_le 1 (word_in 68 row)) (nat_le (word_in 68 row) 1024) (nat_le (sum_by blocks_of before + word_in 68 row) 16384) (h 2 (check 0 true) (omega arith)) in
+    let count = each-three (nat_le 1 (word_in 68 row)) (nat_le (word_in 68 row) 1024) (nat_le (sum_by blocks_of before + word_in 68 row) 16384)
+    (h 2 (check 0 true) (omega arith)) in
     record {
       not_shut = not_shut;
       name = (name_decides (name_in row)).0 name.0;
@@ -137,16 +141,20 @@ used-right version place before row not_shut h =
       rev = test-lt (hyper_in 76 row) 2305843009213693952 (h 4 (check 0 true) (omega arith));
     }
 
-row-by : (zeros shut : Bool) (version : Version) (place : ℕ) (before : List (Option Slot)) (row : List ℕ) → is_shut version before ≡ shut → All Right (if zeros then [] else if shut then check (least_not_zeros place row) false ∷ [] else used_checks version place before row) → IsRowRight version before (if zeros then None else Some (used_slot row))
+row-by : (zeros shut : Bool) (version : Version) (place : ℕ) (before : List (Option Slot)) (row : List ℕ) → is_shut version before ≡ shut
+    → All Right (if zeros then [] else if shut then check (least_not_zeros place row) false ∷ [] else used_checks version place before row)
+    → IsRowRight version before (if zeros then None else Some (used_slot row))
 row-by true shut version place before row is h = tt
 row-by false true version place before row is h = let wrong : false ≡ true = h 0 (check 0 true) (omega arith) in cc
 row-by false false version place before row is h = used-right version place before row is h
 
-row-right : (version : Version) (place : ℕ) (before : List (Option Slot)) (row : List ℕ) → All Right (row_checks version place before row) → IsRowRight version before (slot_of row)
+row-right : (version : Version) (place : ℕ) (before : List (Option Slot)) (row : List ℕ) → All Right (row_checks version place before row)
+    → IsRowRight version before (slot_of row)
 unfolding row_checks slot_of
 row-right version place before row h = row-by (are_zeros row) (is_shut version before) version place before row refl h
 
-pub rows-right : (version : Version) (count place : ℕ) (before : List (Option Slot)) (rows : List ℕ) → All Right (rows_checks version count place before rows) → AreRowsRight version before (slots_of count rows)
+pub rows-right : (version : Version) (count place : ℕ) (before : List (Option Slot)) (rows : List ℕ)
+    → All Right (rows_checks version count place before rows) → AreRowsRight version before (slots_of count rows)
 unfolding rows_checks slots_of
 rows-right version zero place before rows h = tt
 rows-right version (suc count) place before rows h =
@@ -180,7 +188,8 @@ id-right next known (Some slot) id h =
     let three = each-three (nat_le 1 id) (nat_lt id next) (not (list_any (λ k. k == id) known)) h in
     (test-le 1 id three.0, test-lt id next three.1, not-true (list_any (λ k. k == id) known) three.2)
 
-pub ids-right : (next place : ℕ) (known : List ℕ) (slots : List (Option Slot)) (rest : List ℕ) → All Right (ids_checks next place known slots rest) → AreIdsRight next known slots (ids_of slots rest)
+pub ids-right : (next place : ℕ) (known : List ℕ) (slots : List (Option Slot)) (rest : List ℕ) → All Right (ids_checks next place known slots rest)
+    → AreIdsRight next known slots (ids_of slots rest)
 unfolding ids_checks ids_of
 ids-right next place known [] rest h = tt
 ids-right next place known (slot ∷ slots) rest h =

@@ -1,5 +1,6 @@
 -- The image of a kept state opens as that state.
-use Rattle.std.proofs.Common.{◌≡◌, ◌≤◌, ◌<◌, ◌+◌, ◌&&◌, inl, inr, ℕ, Bool, true, false, List, [], ◌∷◌, ◌++◌, Option, Some, None, Result, Ok, Err, map, length, if◌then◌else◌, refl, sym, ap, subst, ◌∙◌, arith, length-append}
+use Rattle.std.proofs.Common.{◌≡◌, ◌≤◌, ◌<◌, ◌+◌, ◌&&◌, inl, inr, ℕ, Bool, true, false, List, [], ◌∷◌, ◌++◌, Option, Some, None, Result, Ok, Err, map}
+use Rattle.std.proofs.Common.{length, if◌then◌else◌, refl, sym, ap, subst, ◌∙◌, arith, length-append}
 use Rattle.std.specs.List.{All}
 use Rattle.std.specs.Prelude.{nat_le, slice_index_or}
 use Rattle.std.proofs.lemmas.Bool.{cases_lt}
@@ -26,7 +27,8 @@ use Rattle.nq_image.specs.declared.rows.Version.{Version}
 use Rattle.nq_image.proofs.Bodying.{files-are, found-are, found_for, length-all-bodies}
 use Rattle.nq_image.proofs.FileRows.{IsNew, length-rows, rows-hold, slots-are, slots_for}
 use Rattle.nq_image.proofs.Giving.{tables-length}
-use Rattle.nq_image.proofs.ReadBack.{Hold, and-two, ge-true, hold-tested, hosts-are, hosts-hold, le-both, le-true, length-hosts_bytes, length-zeros, lt-true, piece-there, zeros-are}
+use Rattle.nq_image.proofs.ReadBack.{Hold, and-two, ge-true, hold-tested, hosts-are, hosts-hold, le-both, le-true, length-hosts_bytes, length-zeros}
+use Rattle.nq_image.proofs.ReadBack.{lt-true, piece-there, zeros-are}
 use Rattle.nq_image.proofs.Tabling.{AreFree, all-held, ids-are, ids-hold, ids_for, length-ids, length-tables, tables-back}
 
 pub then-goes : {A B : Type 0} (r : Result A ℕ) (x : A) (f : A → Result B ℕ) → r ≡ Ok x → (r >>= f) ≡ f x
@@ -78,9 +80,11 @@ module _ (tables : ℕ) (kept : Kept) (near : tables ≤ 16384) (w : IsWithinBou
     (
       le-both (word_in 12 front) (word_in 8 front) kept.opened kept.boot opened-is boot-is w.opened,
       (
-        and-two (nat_le 5 (word_in 16 front)) (nat_le (word_in 16 front) 600) (ge-true (word_in 16 front) kept.longest 5 longest-is w.long) (le-true (word_in 16 front) kept.longest 600 longest-is w.short),
+        and-two (nat_le 5 (word_in 16 front)) (nat_le (word_in 16 front) 600) (ge-true (word_in 16 front) kept.longest 5 longest-is w.long)
+            (le-true (word_in 16 front) kept.longest 600 longest-is w.short),
         (
-          and-two (nat_le 1 (word_in 20 front)) (nat_le (word_in 20 front) 2147483648) (ge-true (word_in 20 front) kept.next 1 next-is w.ids) (le-true (word_in 20 front) kept.next 2147483648 next-is w.few_ids),
+          and-two (nat_le 1 (word_in 20 front)) (nat_le (word_in 20 front) 2147483648) (ge-true (word_in 20 front) kept.next 1 next-is w.ids)
+              (le-true (word_in 20 front) kept.next 2147483648 next-is w.few_ids),
           (
             le-true (word_in 24 front) tables 16384 tables-is near,
             (zeros-is, tt),
@@ -119,7 +123,10 @@ module _ (tables : ℕ) (kept : Kept) (near : tables ≤ 16384) (w : IsWithinBou
 abbrev rows-with : List HostRow → List (Option Slot) → FoundRows
 rows-with hosts slots = record { hosts = hosts; slots = slots }
 
-pub rows-are : (bytes host_bytes file_bytes gap : List ℕ) (hosts : List HostRow) (slots : List (Option Slot)) → piece 64 2048 bytes ≡ host_bytes → piece 2112 24576 bytes ≡ file_bytes → piece 26688 1984 bytes ≡ gap → Hold (hosts_checks 64 64 host_bytes) → hosts_of 64 host_bytes ≡ hosts → Hold (rows_checks Version.Two 256 2112 [] file_bytes) → slots_of 256 file_bytes ≡ slots → are_zeros gap ≡ true → rows_in Version.Two bytes ≡ Ok (rows-with hosts slots)
+pub rows-are : (bytes host_bytes file_bytes gap : List ℕ) (hosts : List HostRow) (slots : List (Option Slot)) → piece 64 2048 bytes ≡ host_bytes
+    → piece 2112 24576 bytes ≡ file_bytes → piece 26688 1984 bytes ≡ gap → Hold (hosts_checks 64 64 host_bytes) → hosts_of 64 host_bytes ≡ hosts
+    → Hold (rows_checks Version.Two 256 2112 [] file_bytes) → slots_of 256 file_bytes ≡ slots → are_zeros gap ≡ true → rows_in Version.Two bytes
+    ≡ Ok (rows-with hosts slots)
 unfolding rows_in
 rows-are bytes host_bytes file_bytes gap hosts slots one two three hold-hosts same-hosts hold-rows same-rows zeros =
     let hosts_at : List ℕ → Result (List HostRow) ℕ = λ p. tested (hosts_checks 64 64 p) (hosts_of 64 p) in
@@ -134,26 +141,33 @@ rows-are bytes host_bytes file_bytes gap hosts slots one two three hold-hosts sa
 abbrev tables-with : (ids blocks : List ℕ) → List Bool → FoundTables
 tables-with ids blocks marks = record { ids = ids; blocks = blocks; marks = marks }
 
-pub ids-there : (place next : ℕ) (slots : List (Option Slot)) (bytes table ids : List ℕ) → place + 4096 ≤ length bytes → piece place 4096 bytes ≡ table → Hold (ids_checks next place [] slots table) → ids_of slots table ≡ ids → ids_in place next slots bytes ≡ Ok ids
+pub ids-there : (place next : ℕ) (slots : List (Option Slot)) (bytes table ids : List ℕ) → place + 4096 ≤ length bytes → piece place 4096 bytes
+    ≡ table → Hold (ids_checks next place [] slots table) → ids_of slots table ≡ ids → ids_in place next slots bytes ≡ Ok ids
 ids-there place next slots bytes table ids long is hold same =
     let at : List ℕ → Result (List ℕ) ℕ = λ p. tested (ids_checks next place [] slots p) (ids_of slots p) in
     goes-if (nat_le (place + 4096) (length bytes)) (at (piece place 4096 bytes)) (Err place) (le-true (place + 4096) (place + 4096) (length bytes) refl long)
     ∙ ap at is ∙ tested-as (ids_checks next place [] slots table) (ids_of slots table) ids hold same
 
-pub tables-are : (front : Front) (slots : List (Option Slot)) (marks : List Bool) (bytes blocks ids : List ℕ) → Hold (tables_checks front.tables (block_place front.tables) slots marks bytes) → tables_blocks (block_place front.tables) slots bytes ≡ blocks → ids_in (block_place front.tables + 1048576) front.next slots bytes ≡ Ok ids → held (length bytes) (tables_marks (block_place front.tables) slots marks bytes) ≡ Ok tt → tables_in front slots marks bytes ≡ Ok (tables-with ids blocks (tables_marks (block_place front.tables) slots marks bytes))
+pub tables-are : (front : Front) (slots : List (Option Slot)) (marks : List Bool) (bytes blocks ids : List ℕ)
+    → Hold (tables_checks front.tables (block_place front.tables) slots marks bytes) → tables_blocks (block_place front.tables) slots bytes ≡ blocks
+    → ids_in (block_place front.tables + 1048576) front.next slots bytes ≡ Ok ids → held (length bytes) (tables_marks (block_place front.tables) slots
+    marks bytes) ≡ Ok tt → tables_in front slots marks bytes ≡ Ok (tables-with ids blocks (tables_marks (block_place front.tables) slots marks bytes))
 unfolding tables_in
 tables-are front slots marks bytes blocks ids hold same ids_is held_is =
     let place = block_place front.tables in
     let behind = tables_marks place slots marks bytes in
     let one = tested-as (tables_checks front.tables place slots marks bytes) (tables_blocks place slots bytes) blocks hold same in
-    then-goes (tested (tables_checks front.tables place slots marks bytes) (tables_blocks place slots bytes)) blocks (λ b. ids_in (place + 1048576) front.next slots bytes >>= λ i. held (length bytes) behind >>= λ holds. Ok (tables-with i b behind)) one
+    then-goes (tested (tables_checks front.tables place slots marks bytes) (tables_blocks place slots bytes)) blocks (λ b. ids_in (place + 1048576)
+    front.next slots bytes >>= λ i. held (length bytes) behind >>= λ holds. Ok (tables-with i b behind)) one
     ∙ then-goes (ids_in (place + 1048576) front.next slots bytes) ids (λ i. held (length bytes) behind >>= λ holds. Ok (tables-with i blocks behind)) ids_is
     ∙ then-goes (held (length bytes) behind) tt (λ holds. Ok (tables-with ids blocks behind)) held_is
 
 abbrev two-with : Front → FoundRows → FoundTables → FoundTwo
 two-with front rows tables = record { front = front; rows = rows; tables = tables }
 
-pub two-are : (marks : List Bool) (bytes first : List ℕ) (front : Front) (rows : FoundRows) (tables : FoundTables) → piece 0 64 bytes ≡ first → Hold (front_checks first) → front_of first ≡ front → rows_in Version.Two bytes ≡ Ok rows → tables_in front rows.slots marks bytes ≡ Ok tables → image_two marks bytes ≡ Ok (two-with front rows tables)
+pub two-are : (marks : List Bool) (bytes first : List ℕ) (front : Front) (rows : FoundRows) (tables : FoundTables) → piece 0 64 bytes ≡ first
+    → Hold (front_checks first) → front_of first ≡ front → rows_in Version.Two bytes ≡ Ok rows → tables_in front rows.slots marks bytes ≡ Ok tables
+    → image_two marks bytes ≡ Ok (two-with front rows tables)
 unfolding image_two
 two-are marks bytes first front rows tables is hold same rows_are tables_are =
     let at : List ℕ → Result Front ℕ = λ p. tested (front_checks p) (front_of p) in
@@ -162,7 +176,9 @@ two-are marks bytes first front rows tables is hold same rows_are tables_are =
     ∙ then-goes (rows_in Version.Two bytes) rows (λ r. tables_in front r.slots marks bytes >>= λ t. Ok (two-with front r t)) rows_are
     ∙ then-goes (tables_in front rows.slots marks bytes) tables (λ t. Ok (two-with front rows t)) tables_are
 
-opens-as : (bytes : List ℕ) (found : FoundTwo) (kept : Kept) → 40960 ≤ length bytes → has_image_name bytes ≡ true → version_of (slice_index_or bytes 7 0) ≡ Some Version.Two → image_two (no_marks 16641) bytes ≡ Ok found → kept_in bytes (kept_two found) ≡ kept → opened bytes ≡ Some (Ok kept)
+opens-as : (bytes : List ℕ) (found : FoundTwo) (kept : Kept) → 40960 ≤ length bytes → has_image_name bytes ≡ true
+    → version_of (slice_index_or bytes 7 0) ≡ Some Version.Two → image_two (no_marks 16641) bytes ≡ Ok found → kept_in bytes (kept_two found) ≡ kept
+    → opened bytes ≡ Some (Ok kept)
 unfolding opened image_in
 opens-as bytes found kept long name version is same =
     let both = and-two (nat_le 40960 (length bytes)) (has_image_name bytes) (ge-true (length bytes) (length bytes) 40960 refl long) name in
@@ -269,7 +285,14 @@ module _ (kept : Kept) (w : IsWithinBounds kept) (rest bytes : List ℕ) where
     length-before-gap = omega (arith, length-append (first ++ hosts) rows, length-before-rows, length-file-rows)
 
     length-before-bodies : length before_bodies ≡ 40960
-    length-before-bodies = omega (arith, length-append ((first ++ hosts) ++ rows) gap, length-append before_area area, length-before-gap, length-zeros 1984, length-zeros 12288)
+    length-before-bodies = omega (
+      arith,
+      length-append ((first ++ hosts) ++ rows) gap,
+      length-append before_area area,
+      length-before-gap,
+      length-zeros 1984,
+      length-zeros 12288,
+    )
 
     length-before-tables : length before_tables ≡ block_place total
     length-before-tables = omega (arith, length-append before_bodies bodies, length-before-bodies, length-all-bodies kept.next kept.files w.files)
@@ -281,7 +304,14 @@ module _ (kept : Kept) (w : IsWithinBounds kept) (rest bytes : List ℕ) where
     length-last = omega (arith, length-append ids last, length-ids 256 kept.files, length-zeros 3072)
 
     length-bytes : length bytes ≡ block_place total + 1048576 + 4096 + length rest
-    length-bytes = omega (arith, ap length from-ids, length-append before_ids ((ids ++ last) ++ rest), length-append (ids ++ last) rest, length-before-ids, length-last)
+    length-bytes = omega (
+      arith,
+      ap length from-ids,
+      length-append before_ids ((ids ++ last) ++ rest),
+      length-append (ids ++ last) rest,
+      length-before-ids,
+      length-last,
+    )
 
     all-rows : rows_in Version.Two bytes ≡ Ok (rows-with kept.hosts slots)
     all-rows =
@@ -289,8 +319,10 @@ module _ (kept : Kept) (w : IsWithinBounds kept) (rest bytes : List ℕ) where
         let Same : ℕ → Type 0 = λ n. hosts_of n hosts ≡ kept.hosts in
         rows-are bytes hosts rows gap kept.hosts slots
         (piece-there 64 2048 first hosts (rows ++ (gap ++ (area ++ (bodies ++ (tables ++ ((ids ++ last) ++ rest)))))) bytes is length-first length-hosts)
-        (piece-there 2112 24576 (first ++ hosts) rows (gap ++ (area ++ (bodies ++ (tables ++ ((ids ++ last) ++ rest))))) bytes from-rows length-before-rows length-file-rows)
-        (piece-there 26688 1984 ((first ++ hosts) ++ rows) gap (area ++ (bodies ++ (tables ++ ((ids ++ last) ++ rest)))) bytes from-gap length-before-gap (length-zeros 1984))
+        (piece-there 2112 24576 (first ++ hosts) rows (gap ++ (area ++ (bodies ++ (tables ++ ((ids ++ last) ++ rest))))) bytes from-rows
+        length-before-rows length-file-rows)
+        (piece-there 26688 1984 ((first ++ hosts) ++ rows) gap (area ++ (bodies ++ (tables ++ ((ids ++ last) ++ rest)))) bytes from-gap
+        length-before-gap (length-zeros 1984))
         (subst Hosts w.all_hosts (hosts-hold 64 kept.hosts w.hosts))
         (subst Same w.all_hosts (hosts-are kept.hosts w.hosts))
         (rows-hold 256 2112 kept.next [] kept.files w.files w.apart (none-named kept.files) (let few = w.few_blocks in omega (arith, few)))
@@ -315,13 +347,15 @@ module _ (kept : Kept) (w : IsWithinBounds kept) (rest bytes : List ℕ) where
 
     all-tables : tables_in (numbers total kept w.few_blocks w) slots (no_marks 16641) bytes ≡ Ok (tables-with ids-found blocks-found marks-found)
     all-tables =
-        let back = tables-back total w.few_blocks 256 (block_place total) 0 kept.next kept.files (no_marks 16641) before_tables ((ids ++ last) ++ rest) bytes from-tables length-before-tables w.few_files w.files (omega arith) marks-free in
+        let back = tables-back total w.few_blocks 256 (block_place total) 0 kept.next kept.files (no_marks 16641) before_tables ((ids ++ last)
+        ++ rest) bytes from-tables length-before-tables w.few_files w.files (omega arith) marks-free in
         tables-are (numbers total kept w.few_blocks w) slots (no_marks 16641) bytes blocks-found ids-found back.holds back.blocks
         (ids-there (block_place total + 1048576) kept.next slots bytes (ids ++ last) ids-found (omega (arith, length-bytes))
         (piece-there (block_place total + 1048576) 4096 before_ids (ids ++ last) rest bytes from-ids length-before-ids length-last)
         (ids-hold 256 kept.next (block_place total + 1048576) 3072 [] kept.files w.few_ids w.files w.apart (none-before kept.files))
         (ids-are 256 kept.next 3072 kept.files w.few_ids w.files))
-        (all-held (length bytes) total marks-found (free-all back.free) (tables-length (block_place total) slots (no_marks 16641) bytes ∙ length-marks 16641) w.few_blocks (omega (arith, length-bytes)))
+        (all-held (length bytes) total marks-found (free-all back.free) (tables-length (block_place total) slots (no_marks 16641) bytes
+        ∙ length-marks 16641) w.few_blocks (omega (arith, length-bytes)))
       where
         none-before : (files : List File) → All (λ f. All (λ k. k < f.id) []) files
         none-before [] = All-nil (λ f. All (λ k. k < f.id) [])
@@ -347,20 +381,23 @@ module _ (kept : Kept) (w : IsWithinBounds kept) (rest bytes : List ℕ) where
       where
         none-done : (files : List File) → All (λ f. All (λ (d : FoundFile). d.row.id < f.id) []) files
         none-done [] = All-nil (λ f. All (λ (d : FoundFile). d.row.id < f.id) [])
-        none-done (f ∷ files) = All-cons (λ f. All (λ (d : FoundFile). d.row.id < f.id) []) f files (All-nil (λ (d : FoundFile). d.row.id < f.id)) (none-done files)
+        none-done (f ∷ files) = All-cons (λ f. All (λ (d : FoundFile). d.row.id < f.id) []) f files (All-nil (λ (d : FoundFile). d.row.id < f.id))
+            (none-done files)
 
     same-kept : kept_in bytes (kept_two found) ≡ kept
     unfolding kept_in kept_two
     same-kept =
         ap (λ (l : List FoundFile). kept-with (map (file_in bytes blocks-found) l)) all-files
-        ∙ ap kept-with (found-are 0 total kept.next kept.files before_bodies (tables ++ ((ids ++ last) ++ rest)) bytes from-bodies length-before-bodies (omega arith) w.files)
+        ∙ ap kept-with (found-are 0 total kept.next kept.files before_bodies (tables ++ ((ids ++ last) ++ rest)) bytes from-bodies
+        length-before-bodies (omega arith) w.files)
 
     pub parts-open : opened bytes ≡ Some (Ok kept)
     parts-open =
         let Named : List ℕ → Type 0 = λ b. has_image_name b ≡ true in
         let Two : List ℕ → Type 0 = λ b. version_of (slice_index_or b 7 0) ≡ Some Version.Two in
         let behind = hosts ++ (rows ++ (gap ++ (area ++ (bodies ++ (tables ++ ((ids ++ last) ++ rest)))))) in
-        opens-as bytes found kept (omega (arith, length-bytes)) (subst Named (sym is) (named total kept w.few_blocks w behind)) (subst Two (sym is) (version-is total kept w.few_blocks w behind)) whole same-kept
+        opens-as bytes found kept (omega (arith, length-bytes)) (subst Named (sym is) (named total kept w.few_blocks w behind))
+        (subst Two (sym is) (version-is total kept w.few_blocks w behind)) whole same-kept
 
 module _ (kept : Kept) (rest : List ℕ) where
   abbrev of-ids : List ℕ
@@ -387,7 +424,8 @@ module _ (kept : Kept) (rest : List ℕ) where
   before : (front behind behind_all : List ℕ) → behind ++ rest ≡ behind_all → (front ++ behind) ++ rest ≡ front ++ behind_all
   before front behind behind_all same = append_assoc front behind rest ∙ ap (λ (b : List ℕ). front ++ b) same
 
-  flat : image_of kept ++ rest ≡ front_bytes (blocks_in_all kept.files) kept ++ (hosts_bytes kept.hosts ++ (rows_bytes 256 kept.files ++ (zeros_of 1984 ++ (zeros_of 12288 ++ (bodies_of kept.files ++ (tables_bytes 256 0 kept.files ++ (of-ids ++ rest)))))))
+  flat : image_of kept ++ rest ≡ front_bytes (blocks_in_all kept.files) kept ++ (hosts_bytes kept.hosts ++ (rows_bytes 256 kept.files
+      ++ (zeros_of 1984 ++ (zeros_of 12288 ++ (bodies_of kept.files ++ (tables_bytes 256 0 kept.files ++ (of-ids ++ rest)))))))
   unfolding image_of
   flat =
       before (front_bytes (blocks_in_all kept.files) kept) of-hosts _

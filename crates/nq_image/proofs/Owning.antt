@@ -1,5 +1,6 @@
 -- What stands in an image stands apart: each name, each id and each block once.
-use Rattle.std.proofs.Common.{◌≡◌, ◌≢◌, ◌≤◌, ◌<◌, ◌^◌, ◌+◌, ◌==◌, ◌&&◌, ◌||◌, ℕ, zero, suc, Bool, true, false, List, [], ◌∷◌, ◌++◌, Option, Some, None, take, drop, map, length, if◌then◌else◌, refl, sym, ap, subst, ◌∙◌, arith, length-append}
+use Rattle.std.proofs.Common.{◌≡◌, ◌≢◌, ◌≤◌, ◌<◌, ◌^◌, ◌+◌, ◌==◌, ◌&&◌, ◌||◌, ℕ, zero, suc, Bool, true, false, List, [], ◌∷◌, ◌++◌, Option, Some}
+use Rattle.std.proofs.Common.{None, take, drop, map, length, if◌then◌else◌, refl, sym, ap, subst, ◌∙◌, arith, length-append}
 use Rattle.std.specs.List.{All, list_any, sum_by}
 use Rattle.std.specs.Prelude.{nat_le, nat_eq, not, slice_index_or}
 use Rattle.std.specs.Cmp.Lexicographic.{pointwise}
@@ -15,9 +16,12 @@ use Rattle.nq_model.specs.Kept.{drop_file, with_files}
 use Rattle.nq_image.specs.Heads.{front_checks, front_of}
 use Rattle.nq_image.specs.Image.{no_marks}
 use Rattle.nq_image.specs.Layout.{are_zeros, block_place, hyper_in, piece, word_in}
-use Rattle.nq_image.specs.Rows.{behind_name, blocks_of, has_name, is_named, name_holds, name_in, row_checks, rows_checks, slot_of, slots_of, used_checks, used_slot}
+use Rattle.nq_image.specs.Rows.{behind_name, blocks_of, has_name, is_named, name_holds, name_in, row_checks, rows_checks, slot_of, slots_of}
+use Rattle.nq_image.specs.Rows.{used_checks, used_slot}
 use Rattle.nq_image.specs.Kept.{body_in}
-use Rattle.nq_image.specs.Standing.{CanStand, HasBodies, IsApartFrom, IsBodyWritten, IsFileBlock, IsFileWritten, IsNoneOf, IsRowCleared, PlacedFile, Standing, Stands, blocks_in, files_in, found_of, front_for, kept_at, others, row_at, row_for, row_id, row_slot, with_placed}
+use Rattle.nq_image.specs.Standing.{CanStand, HasBodies, IsApartFrom, IsBodyWritten, IsFileBlock, IsFileWritten, IsNoneOf, IsRowCleared, PlacedFile}
+use Rattle.nq_image.specs.Standing.{Standing, Stands, blocks_in, files_in, found_of, front_for, kept_at, others, row_at, row_for, row_id, row_slot}
+use Rattle.nq_image.specs.Standing.{with_placed}
 use Rattle.nq_image.specs.declared.heads.Front.{Front}
 use Rattle.nq_image.specs.declared.rows.Slot.{Slot}
 use Rattle.nq_image.specs.declared.rows.Version.{Version}
@@ -43,10 +47,16 @@ used-fine : (place : ℕ) (before : List (Option Slot)) (row : List ℕ) → Hol
 unfolding used_checks used_slot name_holds
 used-fine place before row h =
     let name = each-three (is_name (name_in row)) (are_zeros (behind_name row)) (not (is_named (name_in row) before)) h.1.0 in
-    let count = each-three (nat_le 1 (word_in 68 row)) (nat_le (word_in 68 row) 1024) (nat_le (sum_by blocks_of before + word_in 68 row) 16384) h.1.1.0 in
-    ((name_decides (name_in row)).0 name.0, test-le 1 (word_in 68 row) count.0, test-le (word_in 68 row) 1024 count.1, test-lt (hyper_in 76 row) 2305843009213693952 h.1.1.1.1.0)
+    let count = each-three (nat_le 1 (word_in 68 row)) (nat_le (word_in 68 row) 1024) (nat_le (sum_by blocks_of before + word_in 68 row) 16384) h.1.1.0 in (
+      (name_decides (name_in row)).0 name.0,
+      test-le 1 (word_in 68 row) count.0,
+      test-le (word_in 68 row) 1024 count.1,
+      test-lt (hyper_in 76 row)
+          2305843009213693952 h.1.1.1.1.0,
+    )
 
-row-fine-by : (zeros : Bool) (place : ℕ) (before : List (Option Slot)) (row : List ℕ) → Hold (if zeros then [] else used_checks Version.Two place before row) → IsFine (if zeros then None else Some (used_slot row))
+row-fine-by : (zeros : Bool) (place : ℕ) (before : List (Option Slot)) (row : List ℕ) → Hold (if zeros then [] else used_checks Version.Two place
+    before row) → IsFine (if zeros then None else Some (used_slot row))
 row-fine-by true place before row h = tt
 row-fine-by false place before row h = used-fine place before row h
 
@@ -54,14 +64,16 @@ row-fine : (place : ℕ) (before : List (Option Slot)) (row : List ℕ) → Hold
 unfolding row_checks slot_of
 row-fine place before row h = row-fine-by (are_zeros row) place before row h
 
-rows-fine : (count place : ℕ) (before : List (Option Slot)) (rows : List ℕ) → Hold (rows_checks Version.Two count place before rows) → All IsFine (slots_of count rows)
+rows-fine : (count place : ℕ) (before : List (Option Slot)) (rows : List ℕ) → Hold (rows_checks Version.Two count place before rows)
+    → All IsFine (slots_of count rows)
 unfolding rows_checks slots_of
 rows-fine zero place before rows h = All-nil IsFine
 rows-fine (suc count) place before rows h =
     let front = row_checks Version.Two place before (take 96 rows) in
     let more = before ++ slot_of (take 96 rows) ∷ [] in
     let behind = rows_checks Version.Two count (place + 96) more (drop 96 rows) in
-    All-cons IsFine (slot_of (take 96 rows)) (slots_of count (drop 96 rows)) (row-fine place before (take 96 rows) (hold-front front behind h)) (rows-fine count (place + 96) more (drop 96 rows) (hold-behind front behind h))
+    All-cons IsFine (slot_of (take 96 rows)) (slots_of count (drop 96 rows)) (row-fine place before (take 96 rows) (hold-front front behind h))
+    (rows-fine count (place + 96) more (drop 96 rows) (hold-behind front behind h))
 
 -- ---- names of their own
 
@@ -91,7 +103,8 @@ behind-apart : (own : Slot) (front mid rest : List (Option Slot)) → AllNew (fr
 behind-apart own front mid [] new = All-nil (IsNamedApart own.name)
 behind-apart own front mid (slot ∷ rest) new =
     let New : List (Option Slot) → Type 0 = λ l. AllNew l rest in
-    All-cons (IsNamedApart own.name) slot rest (first own front mid slot new.0) (behind-apart own front (mid ++ slot ∷ []) rest (subst New (append_assoc front (Some own ∷ mid) (slot ∷ [])) new.1))
+    All-cons (IsNamedApart own.name) slot rest (first own front mid slot new.0) (behind-apart own front (mid ++ slot ∷ []) rest
+    (subst New (append_assoc front (Some own ∷ mid) (slot ∷ [])) new.1))
   where
     first : (own : Slot) (front mid : List (Option Slot)) (slot : Option Slot) → IsNewTo (front ++ Some own ∷ mid) slot → IsNamedApart own.name slot
     first own front mid None new = tt
@@ -101,7 +114,8 @@ behind-apart own front mid (slot ∷ rest) new =
         let here = or-parts (pointwise nat_eq own.name x.name) (is_named x.name mid) parts.1 in
         λ e. differs own.name x.name here.0 (sym e)
 
-names-apart : (done front rest : List (Option Slot)) (own : Slot) → AllNew done (front ++ Some own ∷ rest) → All (IsNamedApart own.name) (done ++ front) × All (IsNamedApart own.name) rest
+names-apart : (done front rest : List (Option Slot)) (own : Slot) → AllNew done (front ++ Some own ∷ rest) → All (IsNamedApart own.name)
+    (done ++ front) × All (IsNamedApart own.name) rest
 names-apart done [] rest own new =
     let Done : List (Option Slot) → Type 0 = λ l. All (IsNamedApart own.name) l in
     (subst Done (sym (append-nil done)) (none-named own.name done new.0.0), behind-apart own done [] rest new.1)
@@ -129,7 +143,8 @@ ids-behind : (next own : ℕ) (front mid : List ℕ) (rest : List (Option Placed
 ids-behind next own front mid [] new = All-nil (IsIdApart own)
 ids-behind next own front mid (row ∷ rest) new =
     let New : List ℕ → Type 0 = λ l. AllNewIds next l rest in
-    All-cons (IsIdApart own) row rest (first next own front mid row new.0) (ids-behind next own front (mid ++ row_id row ∷ []) rest (subst New (append_assoc front (own ∷ mid) (row_id row ∷ [])) new.1))
+    All-cons (IsIdApart own) row rest (first next own front mid row new.0) (ids-behind next own front (mid ++ row_id row ∷ []) rest
+    (subst New (append_assoc front (own ∷ mid) (row_id row ∷ [])) new.1))
   where
     first : (next own : ℕ) (front mid : List ℕ) (row : Option PlacedFile) → IsNewId next (front ++ own ∷ mid) row → IsIdApart own row
     first next own front mid None new = tt
@@ -140,7 +155,8 @@ ids-behind next own front mid (row ∷ rest) new =
 ids-before : (id : ℕ) (rows : List (Option PlacedFile)) → All (λ k. k ≢ id) (map row_id rows) → All (IsIdApart id) rows
 ids-before id [] all = All-nil (IsIdApart id)
 ids-before id (row ∷ rows) all =
-    All-cons (IsIdApart id) row rows (first id row (All-head (λ k. k ≢ id) (row_id row) (map row_id rows) all)) (ids-before id rows (All-tail (λ k. k ≢ id) (row_id row) (map row_id rows) all))
+    All-cons (IsIdApart id) row rows (first id row (All-head (λ k. k ≢ id) (row_id row) (map row_id rows) all))
+    (ids-before id rows (All-tail (λ k. k ≢ id) (row_id row) (map row_id rows) all))
   where
     first : (id : ℕ) (row : Option PlacedFile) → row_id row ≢ id → IsIdApart id row
     first id None ne = tt
@@ -152,7 +168,8 @@ record IdsApart (next id : ℕ) (known : List ℕ) (front rest : List (Option Pl
   before : All (λ k. k ≢ id) (known ++ map row_id front)
   behind : All (IsIdApart id) rest
 
-ids-apart : (next : ℕ) (known : List ℕ) (front rest : List (Option PlacedFile)) (file : PlacedFile) → AllNewIds next known (front ++ Some file ∷ rest) → IdsApart next file.id known front rest
+ids-apart : (next : ℕ) (known : List ℕ) (front rest : List (Option PlacedFile)) (file : PlacedFile) → AllNewIds next known (front ++ Some file ∷ rest)
+    → IdsApart next file.id known front rest
 ids-apart next known [] rest file new =
     let Known : List ℕ → Type 0 = λ l. All (λ k. k ≢ file.id) l in
     record {
@@ -184,7 +201,8 @@ last-id front f hold is =
     second true b h = h
     second false b h = cc
 
-both-apart : (file : PlacedFile) (rows : List (Option PlacedFile)) → All (IsNamedApart file.name) (map row_slot rows) → All (IsIdApart file.id) rows → All (IsApartFrom file) rows
+both-apart : (file : PlacedFile) (rows : List (Option PlacedFile)) → All (IsNamedApart file.name) (map row_slot rows) → All (IsIdApart file.id) rows
+    → All (IsApartFrom file) rows
 both-apart file [] names ids = All-nil (IsApartFrom file)
 both-apart file (row ∷ rows) names ids =
     All-cons (IsApartFrom file) row rows
@@ -223,9 +241,11 @@ standing-apart bytes s file stands lt is =
     let Once : List ℕ → Type 0 = λ l. AreGivenOnce s.tables (no_marks 16641) l in
     let blocks = ap blocks_in around ∙ blocks-around front rest (Some file) in
     let once = subst Once blocks (all-once s bytes p) in
-    let there = all-front (IsFileBlock s.tables) file.blocks (blocks_in rest) (all-rest (IsFileBlock s.tables) (blocks_in front) (file.blocks ++ blocks_in rest) once.there) in
+    let there = all-front (IsFileBlock s.tables) file.blocks (blocks_in rest) (all-rest (IsFileBlock s.tables) (blocks_in front) (file.blocks
+    ++ blocks_in rest) once.there) in
     let behind = distinct-behind (blocks_in front) (file.blocks ++ blocks_in rest) once.distinct in
-    let from_front = All-weaker (IsNoneOf (file.blocks ++ blocks_in rest)) (IsNoneOf file.blocks) (λ b none. all-front (λ o. o ≢ b) file.blocks (blocks_in rest) none) (blocks_in front) (distinct-apart (blocks_in front) (file.blocks ++ blocks_in rest) once.distinct) in
+    let from_front = All-weaker (IsNoneOf (file.blocks ++ blocks_in rest)) (IsNoneOf file.blocks) (λ b none. all-front (λ o. o ≢ b) file.blocks
+    (blocks_in rest) none) (blocks_in front) (distinct-apart (blocks_in front) (file.blocks ++ blocks_in rest) once.distinct) in
     let none_front = apart-back file.blocks (blocks_in front) from_front in
     let none_rest = distinct-apart file.blocks (blocks_in rest) behind in
     let Others : List ℕ → Type 0 = λ l. All (IsNoneOf l) file.blocks in
@@ -241,7 +261,16 @@ standing-apart bytes s file stands lt is =
       rev = own_fine.3;
       some = own_fine.1;
       short = own_fine.2;
-      few = omega (arith, few, sum-blocks s.rows, ap length blocks, length-append (blocks_in front) (file.blocks ++ blocks_in rest), length-append file.blocks (blocks_in rest), ap length (blocks-append front rest), length-append (blocks_in front) (blocks_in rest));
+      few = omega (
+        arith,
+        few,
+        sum-blocks s.rows,
+        ap length blocks,
+        length-append (blocks_in front) (file.blocks ++ blocks_in rest),
+        length-append file.blocks (blocks_in rest),
+        ap length (blocks-append front rest),
+        length-append (blocks_in front) (blocks_in rest),
+      );
       apart = All-append (IsApartFrom file) front rest apart_front apart_rest;
       distinct = distinct-front file.blocks (blocks_in rest) behind;
       there = there;
@@ -259,17 +288,22 @@ standing-apart bytes s file stands lt is =
 pub rows-of : (bytes : List ℕ) (s : Standing) → Stands bytes s → length s.rows ≡ 256
 rows-of bytes s stands = let image = parts-of bytes (found_of s) stands.found in sym (length-map s.rows row_slot) ∙ all-rows s bytes image.parts
 
-pub new-file-kept : (s : Standing) (file : PlacedFile) (old new : List ℕ) → Stands old s → CanStand s file → row_at s file.slot ≡ None → All (λ f. f.id < file.id) (files_in s) → HasBodies s file old new → IsFileWritten s file old new → kept_at new (with_placed s file.slot (Some file)) ≡ with_files (kept_at old s) (with_file (row_for file) (kept_at old s).files)
+pub new-file-kept : (s : Standing) (file : PlacedFile) (old new : List ℕ) → Stands old s → CanStand s file → row_at s file.slot ≡ None
+    → All (λ f. f.id < file.id) (files_in s) → HasBodies s file old new → IsFileWritten s file old new
+    → kept_at new (with_placed s file.slot (Some file)) ≡ with_files (kept_at old s) (with_file (row_for file) (kept_at old s).files)
 new-file-kept s file old new stands can is last bodies w =
     let lt = can.row in
     new-kept s file old new (omega (arith, lt, rows-of old s stands)) is can.apart last bodies w.bodies
 
-pub same-file-kept : (s : Standing) (was file : PlacedFile) (old new : List ℕ) → Stands old s → CanStand s file → row_at s file.slot ≡ Some was → was.id ≡ file.id → HasBodies s file old new → All (λ block. body_in new block ≡ body_in old block) (blocks_in (others file.slot s.rows)) → kept_at new (with_placed s file.slot (Some file)) ≡ with_files (kept_at old s) (with_file (row_for file) (kept_at old s).files)
+pub same-file-kept : (s : Standing) (was file : PlacedFile) (old new : List ℕ) → Stands old s → CanStand s file → row_at s file.slot ≡ Some was
+    → was.id ≡ file.id → HasBodies s file old new → All (λ block. body_in new block ≡ body_in old block) (blocks_in (others file.slot s.rows))
+    → kept_at new (with_placed s file.slot (Some file)) ≡ with_files (kept_at old s) (with_file (row_for file) (kept_at old s).files)
 same-file-kept s was file old new stands can is same bodies rest =
     let lt = can.row in
     same-kept s was file old new (omega (arith, lt, rows-of old s stands)) is same can.apart bodies rest
 
-pub removed-kept : (s : Standing) (was : PlacedFile) (old new : List ℕ) → Stands old s → was.slot < 256 → row_at s was.slot ≡ Some was → IsRowCleared s was.slot old new → kept_at new (with_placed s was.slot None) ≡ with_files (kept_at old s) (drop_file was.id (kept_at old s).files)
+pub removed-kept : (s : Standing) (was : PlacedFile) (old new : List ℕ) → Stands old s → was.slot < 256 → row_at s was.slot ≡ Some was
+    → IsRowCleared s was.slot old new → kept_at new (with_placed s was.slot None) ≡ with_files (kept_at old s) (drop_file was.id (kept_at old s).files)
 removed-kept s was old new stands lt is w =
     let can = standing-apart old s was stands lt is in
     cleared-kept s was.slot was old new (omega (arith, lt, rows-of old s stands)) is can.apart w.bodies
@@ -278,7 +312,9 @@ pub body-stands : (s : Standing) (block : ℕ) (body old new : List ℕ) → Sta
 body-stands s block body old new stands w =
     stands-by-tables s old new stands w.rows (tables-by s.tables old new w.no_shorter w.tables)
 
-pub body-written-kept : (s : Standing) (file : PlacedFile) (k block : ℕ) (body old new : List ℕ) → Stands old s → file.slot < 256 → row_at s file.slot ≡ Some file → k < length file.blocks → slice_index_or file.blocks k 0 ≡ block → IsBodyWritten s block body old new → kept_at new s ≡ with_files (kept_at old s) (with_block (record { file = file.id; block = k; body = body }) (kept_at old s).files)
+pub body-written-kept : (s : Standing) (file : PlacedFile) (k block : ℕ) (body old new : List ℕ) → Stands old s → file.slot < 256 → row_at s file.slot
+    ≡ Some file → k < length file.blocks → slice_index_or file.blocks k 0 ≡ block → IsBodyWritten s block body old new → kept_at new s
+    ≡ with_files (kept_at old s) (with_block (record { file = file.id; block = k; body = body }) (kept_at old s).files)
 body-written-kept s file k block body old new stands lt is below at w =
     let can = standing-apart old s file stands lt is in
     let within : file.slot < length s.rows = omega (arith, lt, rows-of old s stands) in

@@ -1,5 +1,6 @@
 -- An image in which a kept state stands, part by part.
-use Rattle.std.proofs.Common.{◌≡◌, ◌≤◌, ◌+◌, ◌&&◌, ℕ, Bool, true, false, List, [], ◌∷◌, Option, Some, None, Result, Ok, Err, length, if◌then◌else◌, refl, ap, subst, ◌∙◌}
+use Rattle.std.proofs.Common.{◌≡◌, ◌≤◌, ◌+◌, ◌&&◌, ℕ, Bool, true, false, List, [], ◌∷◌, Option, Some, None, Result, Ok, Err, length, if◌then◌else◌}
+use Rattle.std.proofs.Common.{refl, ap, subst, ◌∙◌}
 use Rattle.std.specs.Prelude.{nat_le, slice_index_or}
 use Rattle.nq_base.specs.declared.HostRow.{HostRow}
 use Rattle.nq_image.specs.Check.{Check, tested}
@@ -24,7 +25,8 @@ pub hold-from : {A : Type 0} (checks : List Check) (x z : A) → tested checks x
 hold-from [] x z h = tt
 hold-from (c ∷ checks) x z h = step c.holds c.place (tested checks x) z (λ more. hold-from checks x z more) h
   where
-    step : {A : Type 0} (holds : Bool) (p : ℕ) (rest : Result A ℕ) (z : A) → (rest ≡ Ok z → Hold checks) → (if holds then rest else Err p) ≡ Ok z → (holds ≡ true) × Hold checks
+    step : {A : Type 0} (holds : Bool) (p : ℕ) (rest : Result A ℕ) (z : A) → (rest ≡ Ok z → Hold checks) → (if holds then rest else Err p) ≡ Ok z
+        → (holds ≡ true) × Hold checks
     step true p rest z more h = (refl, more h)
     step false p rest z more h = cc
 
@@ -41,7 +43,8 @@ pub record HasParts (bytes : List ℕ) (found : FoundTwo) : Type 0 where
   pub blocks_are : tables_blocks (block_place found.front.tables) found.rows.slots bytes ≡ found.tables.blocks
   pub marks_are : tables_marks (block_place found.front.tables) found.rows.slots (no_marks 16641) bytes ≡ found.tables.marks
   pub ids_whole : block_place found.front.tables + 1048576 + 4096 ≤ length bytes
-  pub ids : Hold (ids_checks found.front.next (block_place found.front.tables + 1048576) [] found.rows.slots (piece (block_place found.front.tables + 1048576) 4096 bytes))
+  pub ids : Hold (ids_checks found.front.next (block_place found.front.tables + 1048576) [] found.rows.slots
+      (piece (block_place found.front.tables + 1048576) 4096 bytes))
   pub ids_are : ids_of found.rows.slots (piece (block_place found.front.tables + 1048576) 4096 bytes) ≡ found.tables.ids
   pub held_all : held (length bytes) found.tables.marks ≡ Ok tt
 
@@ -98,7 +101,9 @@ pub record HasIdParts (place next : ℕ) (slots : List (Option Slot)) (bytes ids
   pub right : Hold (ids_checks next place [] slots (piece place 4096 bytes))
   pub are : ids_of slots (piece place 4096 bytes) ≡ ids
 
-id-parts : (place next : ℕ) (slots : List (Option Slot)) (bytes ids : List ℕ) (b : Bool) → nat_le (place + 4096) (length bytes) ≡ b → (if b then tested (ids_checks next place [] slots (piece place 4096 bytes)) (ids_of slots (piece place 4096 bytes)) else Err place) ≡ Ok ids → HasIdParts place next slots bytes ids
+id-parts : (place next : ℕ) (slots : List (Option Slot)) (bytes ids : List ℕ) (b : Bool) → nat_le (place + 4096) (length bytes) ≡ b
+    → (if b then tested (ids_checks next place [] slots (piece place 4096 bytes)) (ids_of slots (piece place 4096 bytes)) else Err place) ≡ Ok ids
+    → HasIdParts place next slots bytes ids
 id-parts place next slots bytes ids true is h = record {
   whole = whole-by (place + 4096) (length bytes) is;
   right = hold-from (ids_checks next place [] slots (piece place 4096 bytes)) (ids_of slots (piece place 4096 bytes)) ids h;
@@ -112,7 +117,8 @@ id-parts place next slots bytes ids false is h = cc
 held-ok : (r : Result Unit ℕ) (x : Unit {0}) → r ≡ Ok x → r ≡ Ok tt
 held-ok r x h = h
 
-table-parts : (front : Front) (slots : List (Option Slot)) (bytes : List ℕ) (found : FoundTables) → tables_in front slots (no_marks 16641) bytes ≡ Ok found → HasTableParts bytes front slots found
+table-parts : (front : Front) (slots : List (Option Slot)) (bytes : List ℕ) (found : FoundTables) → tables_in front slots (no_marks 16641) bytes
+    ≡ Ok found → HasTableParts bytes front slots found
 unfolding tables_in
 table-parts front slots bytes found h =
     let place = block_place front.tables in
@@ -121,7 +127,8 @@ table-parts front slots bytes found h =
     let blocks = tables_blocks place slots bytes in
     let last = tables_marks place slots marks bytes in
     let made : List ℕ → List ℕ → FoundTables = λ own ids. record { ids = ids; blocks = own; marks = last } in
-    let one = then-ok (tested checks blocks) (λ own. ids_in (place + 1048576) front.next slots bytes >>= λ ids. held (length bytes) last >>= λ holds. Ok (made own ids)) found h in
+    let one = then-ok (tested checks blocks) (λ own. ids_in (place + 1048576) front.next slots bytes >>= λ ids. held (length bytes) last >>= λ holds.
+    Ok (made own ids)) found h in
     let two = then-ok (ids_in (place + 1048576) front.next slots bytes) (λ ids. held (length bytes) last >>= λ holds. Ok (made one.0 ids)) found one.2 in
     let three = then-ok (held (length bytes) last) (λ holds. Ok (made one.0 two.0)) found two.2 in
     let own = id-parts (place + 1048576) front.next slots bytes two.0 (nat_le (place + 1048576 + 4096) (length bytes)) refl two.1 in
@@ -144,7 +151,8 @@ unfolding image_two
 two-parts bytes found h =
     let marks = no_marks 16641 in
     let start = piece 0 64 bytes in
-    let one = then-ok (tested (front_checks start) (front_of start)) (λ front. rows_in Version.Two bytes >>= λ rows. tables_in front rows.slots marks bytes >>= λ tables. Ok (two-made front rows tables)) found h in
+    let one = then-ok (tested (front_checks start) (front_of start)) (λ front. rows_in Version.Two bytes >>= λ rows. tables_in front rows.slots marks
+    bytes >>= λ tables. Ok (two-made front rows tables)) found h in
     let two = then-ok (rows_in Version.Two bytes) (λ rows. tables_in one.0 rows.slots marks bytes >>= λ tables. Ok (two-made one.0 rows tables)) found one.2 in
     let three = then-ok (tables_in one.0 two.0.slots marks bytes) (λ tables. Ok (two-made one.0 two.0 tables)) found two.2 in
     let rows = row-parts bytes two.0 two.1 in
@@ -171,7 +179,8 @@ pub record IsImageOfTwo (bytes : List ℕ) (found : FoundTwo) : Type 0 where
   pub begins : BeginsAsTwo bytes
   pub parts : HasParts bytes found
 
-by-version : (bytes : List ℕ) (found : FoundTwo) (version : Option Version) → in_versions version bytes ≡ Some (Ok (of_two found)) → (version ≡ Some Version.Two) × HasParts bytes found
+by-version : (bytes : List ℕ) (found : FoundTwo) (version : Option Version) → in_versions version bytes ≡ Some (Ok (of_two found))
+    → (version ≡ Some Version.Two) × HasParts bytes found
 by-version bytes found None h = cc
 by-version bytes found (Some Version.One) h = absurd (not-one (image_one bytes) (some-is (image_one bytes >>= λ f. Ok (of_one f)) (Ok (of_two found)) h))
   where
@@ -187,7 +196,8 @@ by-version bytes found (Some Version.Two) h = (refl, two-parts bytes found (by-t
     by-two (Ok x) h = let same : x ≡ found = cc in ap Ok same
     by-two (Err p) h = cc
 
-by-name : (b : Bool) (bytes : List ℕ) (found : FoundTwo) (version : Option Version) → (if b then in_versions version bytes else None) ≡ Some (Ok (of_two found)) → (b ≡ true) × (version ≡ Some Version.Two) × HasParts bytes found
+by-name : (b : Bool) (bytes : List ℕ) (found : FoundTwo) (version : Option Version) → (if b then in_versions version bytes else None)
+    ≡ Some (Ok (of_two found)) → (b ≡ true) × (version ≡ Some Version.Two) × HasParts bytes found
 by-name true bytes found version h = let rest = by-version bytes found version h in (refl, rest.0, rest.1)
 by-name false bytes found version h = cc
 
@@ -213,7 +223,8 @@ join-two bytes found p =
     let slots = found.rows.slots in
     let marks = no_marks 16641 in
     let place = block_place front.tables in
-    let rows = rows-are bytes (piece 64 2048 bytes) (piece 2112 24576 bytes) (piece 26688 1984 bytes) found.rows.hosts slots refl refl refl p.hosts p.hosts_are p.rows p.rows_are p.gap in
+    let rows = rows-are bytes (piece 64 2048 bytes) (piece 2112 24576 bytes) (piece 26688 1984 bytes) found.rows.hosts slots refl refl refl p.hosts
+    p.hosts_are p.rows p.rows_are p.gap in
     let ids = ids-there (place + 1048576) front.next slots bytes (piece (place + 1048576) 4096 bytes) found.tables.ids p.ids_whole refl p.ids p.ids_are in
     let all_held = ap (λ (m : List Bool). held (length bytes) m) p.marks_are ∙ p.held_all in
     let Ends : List Bool → Type 0 = λ m. tables_in front slots marks bytes ≡ Ok (record { ids = found.tables.ids; blocks = found.tables.blocks; marks = m }) in

@@ -1,5 +1,6 @@
 -- Fields in the order of their places.
-use Rattle.std.proofs.Common.{◌≡◌, ◌≤◌, ◌+◌, ◌*◌, ◌==◌, inl, inr, ℕ, zero, suc, Bool, true, false, List, [], ◌∷◌, ◌++◌, Option, Some, None, Err, take, drop, length, if◌then◌else◌, refl, subst, arith}
+use Rattle.std.proofs.Common.{◌≡◌, ◌≤◌, ◌+◌, ◌*◌, ◌==◌, inl, inr, ℕ, zero, suc, Bool, true, false, List, [], ◌∷◌, ◌++◌, Option, Some, None, Err, take}
+use Rattle.std.proofs.Common.{drop, length, if◌then◌else◌, refl, subst, arith}
 use Rattle.std.proofs.lemmas.List.Elements.{All-tail}
 use Rattle.std.specs.List.{All}
 use Rattle.std.specs.Prelude.{not}
@@ -21,7 +22,8 @@ not-before first last other (c ∷ checks) order (inr behind) =
     let b = not-before c.place last other checks order.1 behind in
     omega arith
 
-here-least : (place last other : ℕ) (c : Check) (checks : List Check) → c.place ≡ place → AreInOrder c.place last checks → IsWrongAt other (c ∷ checks) → place ≤ other
+here-least : (place last other : ℕ) (c : Check) (checks : List Check) → c.place ≡ place → AreInOrder c.place last checks
+    → IsWrongAt other (c ∷ checks) → place ≤ other
 here-least place last other c checks at order (inl here) = let a = here.0 in omega arith
 here-least place last other c checks at order (inr behind) = let a = not-before c.place last other checks order behind in omega arith
 
@@ -29,7 +31,8 @@ behind-least : (place other : ℕ) (c : Check) (checks : List Check) → c.holds
 behind-least place other c checks right least (inl here) = let a = here.1 in cc
 behind-least place other c checks right least (inr behind) = least.least other behind
 
-least-step : (first last place : ℕ) (c : Check) (checks : List Check) (holds : Bool) → c.holds ≡ holds → AreInOrder first last (c ∷ checks) → (judged checks ≡ Err place → IsLeastWrong place checks) → (if holds then judged checks else Err c.place) ≡ Err place → IsLeastWrong place (c ∷ checks)
+least-step : (first last place : ℕ) (c : Check) (checks : List Check) (holds : Bool) → c.holds ≡ holds → AreInOrder first last (c ∷ checks)
+    → (judged checks ≡ Err place → IsLeastWrong place checks) → (if holds then judged checks else Err c.place) ≡ Err place → IsLeastWrong place (c ∷ checks)
 least-step first last place c checks true is order more h =
     let own = more h in
     record { wrong = inr own.wrong; least = λ other wrong. behind-least place other c checks is own wrong }
@@ -47,7 +50,8 @@ wider : (first middle last : ℕ) (checks : List Check) → first ≤ middle →
 wider first middle last [] le order = omega arith
 wider first middle last (c ∷ checks) le order = let a = order.0 in (omega arith, order.1)
 
-joined : (first middle last : ℕ) (front behind : List Check) → AreInOrder first middle front → AreInOrder middle last behind → AreInOrder first last (front ++ behind)
+joined : (first middle last : ℕ) (front behind : List Check) → AreInOrder first middle front → AreInOrder middle last behind → AreInOrder first last
+    (front ++ behind)
 joined first middle last [] behind front-order order = wider first middle last behind front-order order
 joined first middle last (c ∷ front) behind front-order order =
     (front-order.0, joined c.place middle last front behind front-order.1 order)
@@ -87,7 +91,8 @@ least-within place row =
     (within (not (word_in 72 row == 0)) place (place + 96) (place + 72) _ (omega arith) (omega arith)
     (within (not (hyper_in 76 row == 0)) place (place + 96) (place + 76) (place + 84) (omega arith) (omega arith) (omega arith, omega arith)))))
 
-used-in-order : (version : Version) (place : ℕ) (slots : List (Option Slot)) (row : List ℕ) → AreInOrder place (place + 96) (used_checks version place slots row)
+used-in-order : (version : Version) (place : ℕ) (slots : List (Option Slot)) (row : List ℕ) → AreInOrder place (place + 96) (used_checks version place
+    slots row)
 unfolding used_checks
 used-in-order version place slots row = (omega arith, (omega arith, (omega arith, (omega arith, (omega arith, (omega arith, omega arith))))))
 
@@ -99,7 +104,8 @@ row-in-order version place slots row =
     either (are_zeros row) place (place + 96) [] (if is_shut version slots then shut else used) (omega arith)
     (either (is_shut version slots) place (place + 96) shut used (least-within place row) (used-in-order version place slots row))
 
-pub rows-in-order : (version : Version) (count place : ℕ) (slots : List (Option Slot)) (rows : List ℕ) → AreInOrder place (place + 96 * count) (rows_checks version count place slots rows)
+pub rows-in-order : (version : Version) (count place : ℕ) (slots : List (Option Slot)) (rows : List ℕ) → AreInOrder place (place + 96 * count)
+    (rows_checks version count place slots rows)
 unfolding rows_checks
 rows-in-order version zero place slots rows = omega arith
 rows-in-order version (suc count) place slots rows =
@@ -109,7 +115,8 @@ rows-in-order version (suc count) place slots rows =
     joined place (place + 96) (place + 96 * suc count) (row_checks version place slots (take 96 rows)) behind (row-in-order version place slots (take 96 rows))
     (ends-at (place + 96) ((place + 96) + 96 * count) (place + 96 * suc count) behind end (rows-in-order version count (place + 96) more (drop 96 rows)))
 
-table-in-order : (count tables place : ℕ) (marks : List Bool) (rest : List ℕ) → AreInOrder place (place + 4 * count) (table_checks count tables place marks rest)
+table-in-order : (count tables place : ℕ) (marks : List Bool) (rest : List ℕ) → AreInOrder place (place + 4 * count) (table_checks count tables place
+    marks rest)
 unfolding table_checks
 table-in-order zero tables place marks rest = (omega arith, omega arith)
 table-in-order (suc count) tables place marks rest =
@@ -121,13 +128,16 @@ table-in-order (suc count) tables place marks rest =
           (ends-at (place + 4) ((place + 4) + 4 * count) (place + 4 * suc count) behind end (table-in-order count tables (place + 4) own (drop 4 rest))),
     )
 
-slot-in-order : (tables place : ℕ) (slot : Option Slot) (marks : List Bool) (table : List ℕ) → blocks_of slot ≤ 1024 → AreInOrder place (place + 4096) (slot_checks tables place slot marks table)
+slot-in-order : (tables place : ℕ) (slot : Option Slot) (marks : List Bool) (table : List ℕ) → blocks_of slot ≤ 1024 → AreInOrder place (place + 4096)
+    (slot_checks tables place slot marks table)
 unfolding slot_checks
 slot-in-order tables place None marks table short = omega arith
 slot-in-order tables place (Some slot) marks table short =
-    up-to place (place + 4 * slot.blocks) (place + 4096) (table_checks slot.blocks tables place marks table) (omega arith) (table-in-order slot.blocks tables place marks table)
+    up-to place (place + 4 * slot.blocks) (place + 4096) (table_checks slot.blocks tables place marks table) (omega arith) (table-in-order slot.blocks
+    tables place marks table)
 
-pub tables-in-order : (tables place : ℕ) (slots : List (Option Slot)) (marks : List Bool) (bytes : List ℕ) → All (λ slot. blocks_of slot ≤ 1024) slots → AreInOrder place (place + 4096 * length slots) (tables_checks tables place slots marks bytes)
+pub tables-in-order : (tables place : ℕ) (slots : List (Option Slot)) (marks : List Bool) (bytes : List ℕ) → All (λ slot. blocks_of slot ≤ 1024) slots
+    → AreInOrder place (place + 4096 * length slots) (tables_checks tables place slots marks bytes)
 unfolding tables_checks
 tables-in-order tables place [] marks bytes short = omega arith
 tables-in-order tables place (slot ∷ slots) marks bytes short =
@@ -143,7 +153,8 @@ tables-in-order tables place (slot ∷ slots) marks bytes short =
           (tables-in-order tables (place + 4096) slots own bytes (All-tail (λ s. blocks_of s ≤ 1024) slot slots short))),
     )
 
-pub ids-in-order : (next place : ℕ) (ids : List ℕ) (slots : List (Option Slot)) (rest : List ℕ) → AreInOrder place (place + 4 * length slots) (ids_checks next place ids slots rest)
+pub ids-in-order : (next place : ℕ) (ids : List ℕ) (slots : List (Option Slot)) (rest : List ℕ) → AreInOrder place (place + 4 * length slots)
+    (ids_checks next place ids slots rest)
 unfolding ids_checks
 ids-in-order next place ids [] rest = (omega arith, omega arith)
 ids-in-order next place ids (slot ∷ slots) rest =
@@ -152,7 +163,8 @@ ids-in-order next place ids (slot ∷ slots) rest =
     let end : (place + 4) + 4 * length slots ≡ place + 4 * length (slot ∷ slots) = omega arith in (
       omega arith,
       wider place (place + 4) (place + 4 * length (slot ∷ slots)) behind (omega arith)
-          (ends-at (place + 4) ((place + 4) + 4 * length slots) (place + 4 * length (slot ∷ slots)) behind end (ids-in-order next (place + 4) more slots (drop 4 rest))),
+          (ends-at (place + 4) ((place + 4) + 4 * length slots) (place + 4 * length (slot ∷ slots)) behind end (ids-in-order next (place + 4) more
+          slots (drop 4 rest))),
     )
 
 pub boots-in-order : (front : List ℕ) → AreInOrder 8 64 (boots_checks front)

@@ -1,5 +1,6 @@
 -- A file is written to its row, a row is cleared, a row says another revision.
-use Rattle.std.proofs.Common.{◌≡◌, ◌≢◌, ◌≤◌, ◌<◌, ◌+◌, ◌*◌, ◌==◌, ℕ, suc, Bool, true, false, List, [], ◌∷◌, ◌++◌, Option, Some, None, take, drop, map, length, get_or, refl, sym, ap, subst, ◌∙◌, arith, length-append, length-drop}
+use Rattle.std.proofs.Common.{◌≡◌, ◌≢◌, ◌≤◌, ◌<◌, ◌+◌, ◌*◌, ◌==◌, ℕ, suc, Bool, true, false, List, [], ◌∷◌, ◌++◌, Option, Some, None, take, drop, map}
+use Rattle.std.proofs.Common.{length, get_or, refl, sym, ap, subst, ◌∙◌, arith, length-append, length-drop}
 use Rattle.std.specs.List.{All, list_any, sum_by}
 use Rattle.std.specs.Prelude.{slice_index_or}
 use Rattle.std.specs.Int.{w32, to_be_bytes}
@@ -10,7 +11,8 @@ use Rattle.std.proofs.lemmas.List.Sums.{sum_by-append, sum_by-cons}
 use Rattle.nq_image.specs.Kept.{body_in}
 use Rattle.nq_image.specs.Layout.{are_zeros, block_place, piece}
 use Rattle.nq_image.specs.Rows.{blocks_of, has_name, is_named}
-use Rattle.nq_image.specs.Standing.{AgreeBut, AreNumbered, CanStand, IsApartFrom, IsFileBlock, IsFileWritten, IsNoneOf, IsRowCleared, PlacedFile, Standing, Stands, blocks_in, found_of, overwritten, row_blocks, row_id, row_slot, rows_of_image, with_placed}
+use Rattle.nq_image.specs.Standing.{AgreeBut, AreNumbered, CanStand, IsApartFrom, IsFileBlock, IsFileWritten, IsNoneOf, IsRowCleared, PlacedFile}
+use Rattle.nq_image.specs.Standing.{Standing, Stands, blocks_in, found_of, overwritten, row_blocks, row_id, row_slot, rows_of_image, with_placed}
 use Rattle.nq_image.specs.Tables.{ids_of, slot_checks, slot_table}
 use Rattle.nq_image.specs.Writing.{row_bytes, table_of_blocks, zeros_of}
 use Rattle.nq_image.specs.declared.rows.Slot.{Slot}
@@ -20,7 +22,8 @@ use Rattle.nq_image.proofs.FileRows.{length-row, row-holds, slot-is, unused-hold
 use Rattle.nq_image.proofs.Giving.{IsHeld}
 use Rattle.nq_image.proofs.Numbering.{AllNewIds, IsNewId, IsOtherId, ids-of-any, ids-split, not-equal}
 use Rattle.nq_image.proofs.Parting.{HasParts, image-of-parts, parts-of}
-use Rattle.nq_image.proofs.Replacing.{CanStandBetween, IsBecome, IsSpelled, around-row, become-begins, become-parts, blocks-append, blocks-around, held-all, ids-behind, ids-written, sum-blocks}
+use Rattle.nq_image.proofs.Replacing.{CanStandBetween, IsBecome, IsSpelled, around-row, become-begins, become-parts, blocks-append, blocks-around}
+use Rattle.nq_image.proofs.Replacing.{held-all, ids-behind, ids-written, sum-blocks}
 use Rattle.nq_image.proofs.Rowing.{AllNew, IsApartRow, IsNewTo, apart-named, has-not, rows-new}
 use Rattle.nq_image.proofs.ReadBack.{Hold, length-zeros}
 
@@ -39,7 +42,8 @@ abbrev IsNumberedRow : ℕ → Option PlacedFile → Type 0
 IsNumberedRow n None = Unit {0}
 IsNumberedRow n (Some file) = file.slot ≡ n
 
-number-first : (row : Option PlacedFile) (rows : List (Option PlacedFile)) (first : ℕ) → IsNumberedRow first row → AreNumbered (first + 1) rows → AreNumbered first (row ∷ rows)
+number-first : (row : Option PlacedFile) (rows : List (Option PlacedFile)) (first : ℕ) → IsNumberedRow first row → AreNumbered (first + 1) rows
+    → AreNumbered first (row ∷ rows)
 number-first None rows first own rest = rest
 number-first (Some file) rows first own rest = (own, rest)
 
@@ -47,11 +51,13 @@ number-rest : (row : Option PlacedFile) (rows : List (Option PlacedFile)) (first
 number-rest None rows first all = all
 number-rest (Some file) rows first all = all.1
 
-number-again : (row : Option PlacedFile) (rows more : List (Option PlacedFile)) (first : ℕ) → AreNumbered first (row ∷ rows) → AreNumbered (first + 1) more → AreNumbered first (row ∷ more)
+number-again : (row : Option PlacedFile) (rows more : List (Option PlacedFile)) (first : ℕ) → AreNumbered first (row ∷ rows) → AreNumbered (first + 1)
+    more → AreNumbered first (row ∷ more)
 number-again None rows more first all rest = rest
 number-again (Some file) rows more first all rest = (all.0, rest)
 
-numbered-swap : (front rest : List (Option PlacedFile)) (one two : Option PlacedFile) (first : ℕ) → IsNumberedRow (first + length front) two → AreNumbered first (front ++ one ∷ rest) → AreNumbered first (front ++ two ∷ rest)
+numbered-swap : (front rest : List (Option PlacedFile)) (one two : Option PlacedFile) (first : ℕ) → IsNumberedRow (first + length front) two
+    → AreNumbered first (front ++ one ∷ rest) → AreNumbered first (front ++ two ∷ rest)
 numbered-swap [] rest one two first own all =
     let e : first + 0 ≡ first = omega arith in
     let Own : ℕ → Type 0 = λ n. IsNumberedRow n two in
@@ -59,26 +65,31 @@ numbered-swap [] rest one two first own all =
 numbered-swap (row ∷ front) rest one two first own all =
     let e : first + length (row ∷ front) ≡ first + 1 + length front = omega arith in
     let Own : ℕ → Type 0 = λ n. IsNumberedRow n two in
-    number-again row (front ++ one ∷ rest) (front ++ two ∷ rest) first all (numbered-swap front rest one two (first + 1) (subst Own e own) (number-rest row (front ++ one ∷ rest) first all))
+    number-again row (front ++ one ∷ rest) (front ++ two ∷ rest) first all (numbered-swap front rest one two (first + 1) (subst Own e own)
+    (number-rest row (front ++ one ∷ rest) first all))
 
 -- ---- tables and ids around a row
 
-piece-at : (tables n : ℕ) (old new : List ℕ) → body_in new (tables + n) ≡ body_in old (tables + n) → piece (block_place tables + 4096 * n) 4096 new ≡ piece (block_place tables + 4096 * n) 4096 old
+piece-at : (tables n : ℕ) (old new : List ℕ) → body_in new (tables + n) ≡ body_in old (tables + n) → piece (block_place tables + 4096 * n) 4096 new
+    ≡ piece (block_place tables + 4096 * n) 4096 old
 piece-at tables n old new same =
     let e : block_place (tables + n) ≡ block_place tables + 4096 * n = omega arith in
     let P : ℕ → Type 0 = λ p. piece p 4096 new ≡ piece p 4096 old in
     subst P e same
 
-same-before : (tables slot : ℕ) (old new : List ℕ) → slot < 256 → ((n : ℕ) → n < 256 → n ≢ slot → body_in new (tables + n) ≡ body_in old (tables + n)) → SameFrom (block_place tables) slot old new
+same-before : (tables slot : ℕ) (old new : List ℕ) → slot < 256 → ((n : ℕ) → n < 256 → n ≢ slot → body_in new (tables + n) ≡ body_in old (tables + n))
+    → SameFrom (block_place tables) slot old new
 same-before tables slot old new lt same k below = piece-at tables k old new (same k (omega arith) (omega arith))
 
-same-behind : (tables slot count : ℕ) (old new : List ℕ) → slot + 1 + count ≤ 256 → ((n : ℕ) → n < 256 → n ≢ slot → body_in new (tables + n) ≡ body_in old (tables + n)) → SameFrom (block_place tables + 4096 * slot + 4096) count old new
+same-behind : (tables slot count : ℕ) (old new : List ℕ) → slot + 1 + count ≤ 256 → ((n : ℕ) → n < 256 → n ≢ slot → body_in new (tables + n)
+    ≡ body_in old (tables + n)) → SameFrom (block_place tables + 4096 * slot + 4096) count old new
 same-behind tables slot count old new few same k below =
     let e : block_place tables + 4096 * (slot + 1 + k) ≡ block_place tables + 4096 * slot + 4096 + 4096 * k = omega arith in
     let P : ℕ → Type 0 = λ p. piece p 4096 new ≡ piece p 4096 old in
     subst P e (piece-at tables (slot + 1 + k) old new (same (slot + 1 + k) (omega arith) (omega arith)))
 
-ids-at : (tables slot : ℕ) (part old new : List ℕ) → body_in new (tables + 256) ≡ overwritten (4 * slot) part (body_in old (tables + 256)) → piece (block_place tables + 1048576) 4096 new ≡ overwritten (4 * slot) part (piece (block_place tables + 1048576) 4096 old)
+ids-at : (tables slot : ℕ) (part old new : List ℕ) → body_in new (tables + 256) ≡ overwritten (4 * slot) part (body_in old (tables + 256))
+    → piece (block_place tables + 1048576) 4096 new ≡ overwritten (4 * slot) part (piece (block_place tables + 1048576) 4096 old)
 ids-at tables slot part old new is =
     let e : block_place (tables + 256) ≡ block_place tables + 1048576 = omega arith in
     let P : ℕ → Type 0 = λ p. piece p 4096 new ≡ overwritten (4 * slot) part (piece p 4096 old) in
@@ -121,19 +132,22 @@ module _ (s : Standing) (file : PlacedFile) (can : CanStand s file) where
   ids-before =
       let some = can.from_one in
       list_any_none (λ k. k == file.id) (map row_id before)
-      (All-map (λ k. (k == file.id) ≡ false) row_id before (All-weaker (IsApartFrom file) (λ row. (row_id row == file.id) ≡ false) (λ row apart. apart-id file row some apart) before apart-before))
+      (All-map (λ k. (k == file.id) ≡ false) row_id before (All-weaker (IsApartFrom file) (λ row. (row_id row == file.id) ≡ false)
+      (λ row apart. apart-id file row some apart) before apart-before))
 
   names-before : is_named file.name (map row_slot before) ≡ false
   names-before =
       apart-named file.name (map row_slot before)
-      (All-map (λ x. has_name file.name x ≡ false) row_slot before (All-weaker (IsApartFrom file) (λ row. has_name file.name (row_slot row) ≡ false) (λ row apart. has-not own-slot (row_slot row) (apart-row file row apart)) before apart-before))
+      (All-map (λ x. has_name file.name x ≡ false) row_slot before (All-weaker (IsApartFrom file) (λ row. has_name file.name (row_slot row) ≡ false)
+      (λ row apart. has-not own-slot (row_slot row) (apart-row file row apart)) before apart-before))
 
   pub can-between : CanStandBetween s.heads.next s.tables before behind (Some file)
   can-between = record {
     own_id = (can.from_one, can.below_next, ids-before);
     other_ids = All-weaker (IsApartFrom file) (IsOtherId file.id) (λ row apart. apart-other file row apart) behind apart-behind;
     own_name = (names-before, (let few = few-all in omega (arith, few, sum-blocks before)));
-    other_names = All-map (IsApartRow (Some own-slot)) row_slot behind (All-weaker (IsApartFrom file) (λ row. IsApartRow (Some own-slot) (row_slot row)) (λ row apart. apart-row file row apart) behind apart-behind);
+    other_names = All-map (IsApartRow (Some own-slot)) row_slot behind (All-weaker (IsApartFrom file) (λ row. IsApartRow (Some own-slot)
+        (row_slot row)) (λ row apart. apart-row file row apart) behind apart-behind);
     few = few-all;
     few_ids = can.few_ids;
     there = can.there;
@@ -153,11 +167,13 @@ module _ (s : Standing) (file : PlacedFile) (can : CanStand s file) where
 
 -- ---- the law of a file
 
-length-sides : (s : Standing) (slot : ℕ) → slot < length s.rows → (length (rows_before s slot) ≡ slot) × (slot + 1 + length (rows_behind s slot) ≡ length s.rows)
+length-sides : (s : Standing) (slot : ℕ) → slot < length s.rows → (length (rows_before s slot) ≡ slot) × (slot + 1 + length (rows_behind s slot)
+    ≡ length s.rows)
 length-sides s slot lt = (length-take-le slot s.rows (omega arith), omega (arith, length-drop (suc slot) s.rows, lt))
 
 -- an image in which the rows are others around one
-module _ (s : Standing) (slot : ℕ) (two : Option PlacedFile) (part old new : List ℕ) (lt : slot < 256) (stands : Stands old s) (number : IsNumberedRow slot two) where
+module _ (s : Standing) (slot : ℕ) (two : Option PlacedFile) (part old new : List ℕ) (lt : slot < 256) (stands : Stands old s)
+    (number : IsNumberedRow slot two) where
   abbrev front : List (Option PlacedFile)
   front = rows_before s slot
 
@@ -176,7 +192,8 @@ module _ (s : Standing) (slot : ℕ) (two : Option PlacedFile) (part old new : L
   around : s.rows ≡ front ++ one ∷ rest
   around = around-row slot s.rows within
 
-  pub row-becomes : CanStandBetween s.heads.next s.tables front rest two → IsBecome s.heads s.tables s.hosts front rest one two part old new → Stands new (with_placed s slot two)
+  pub row-becomes : CanStandBetween s.heads.next s.tables front rest two → IsBecome s.heads s.tables s.hosts front rest one two part old new
+      → Stands new (with_placed s slot two)
   row-becomes can become =
       let image = parts-of old (found_of s) stands.found in
       let long = image.begins.long in
@@ -196,7 +213,8 @@ module _ (s : Standing) (slot : ℕ) (two : Option PlacedFile) (part old new : L
         numbered = numbered-swap front rest one two 0 (subst Number (sym at) number) (subst Numbered around stands.numbered);
       })
 
-pub file-stands : (s : Standing) (file : PlacedFile) (old new : List ℕ) → Stands old s → CanStand s file → IsFileWritten s file old new → Stands new (with_placed s file.slot (Some file))
+pub file-stands : (s : Standing) (file : PlacedFile) (old new : List ℕ) → Stands old s → CanStand s file → IsFileWritten s file old new
+    → Stands new (with_placed s file.slot (Some file))
 file-stands s file old new stands can w =
     let slot = file.slot in
     let lt = can.row in
@@ -207,7 +225,8 @@ file-stands s file old new stands can w =
     let rest = rows_behind s slot in
     let one = get_or s.rows slot None in
     let Slot : ℕ → Type 0 = λ n. rows_of_image new ≡ overwritten (2112 + 96 * n) part (rows_of_image old) in
-    let Ids : ℕ → Type 0 = λ n. piece (block_place s.tables + 1048576) 4096 new ≡ overwritten (4 * n) (to_be_bytes w32 file.id) (piece (block_place s.tables + 1048576) 4096 old) in
+    let Ids : ℕ → Type 0 = λ n. piece (block_place s.tables + 1048576) 4096 new ≡ overwritten (4 * n) (to_be_bytes w32 file.id)
+    (piece (block_place s.tables + 1048576) 4096 old) in
     let Others : ℕ → Type 0 = λ n. AreOthersSame s.tables (block_place s.tables) n (length rest) one (Some file) old new in
     let e : block_place (s.tables + slot) ≡ block_place s.tables + 4096 * slot = omega arith in
     let Table : ℕ → Type 0 = λ p. piece p 4096 new ≡ table_of_blocks file.blocks in
@@ -251,7 +270,8 @@ used-ids next known (row ∷ rows) all = All-cons (IsOtherId 0) row rows (own ro
     own (Some file) new = let some = new.0 in omega arith
 
 -- rows that are right have not too many blocks
-pub few-new : (before slots : List (Option Slot)) → AllNew before slots → sum_by blocks_of before ≤ 16384 → sum_by blocks_of before + sum_by blocks_of slots ≤ 16384
+pub few-new : (before slots : List (Option Slot)) → AllNew before slots → sum_by blocks_of before ≤ 16384 → sum_by blocks_of before + sum_by blocks_of
+    slots ≤ 16384
 few-new before [] new few = omega (arith, few)
 few-new before (slot ∷ slots) new few =
     let sums = sum_by-append blocks_of before (slot ∷ []) in
@@ -260,19 +280,31 @@ few-new before (slot ∷ slots) new few =
     let more = few-new (before ++ slot ∷ []) slots new.1 (omega (arith, own, sums, one)) in
     omega (arith, more, sums, one, sum_by-cons blocks_of slot slots)
   where
-    few-one : (before : List (Option Slot)) (slot : Option Slot) → IsNewTo before slot → sum_by blocks_of before ≤ 16384 → sum_by blocks_of before + blocks_of slot ≤ 16384
+    few-one : (before : List (Option Slot)) (slot : Option Slot) → IsNewTo before slot → sum_by blocks_of before ≤ 16384 → sum_by blocks_of before
+        + blocks_of slot ≤ 16384
     few-one before None new few = omega (arith, few)
     few-one before (Some slot) new few = new.1
 
-few-left : (s : Standing) (old : List ℕ) (front rest : List (Option PlacedFile)) (one : Option PlacedFile) → HasParts old (found_of s) → s.rows ≡ front ++ one ∷ rest → length (blocks_in front) + 0 + length (blocks_in rest) ≤ 16384
+few-left : (s : Standing) (old : List ℕ) (front rest : List (Option PlacedFile)) (one : Option PlacedFile) → HasParts old (found_of s) → s.rows
+    ≡ front ++ one ∷ rest → length (blocks_in front) + 0 + length (blocks_in rest) ≤ 16384
 few-left s old front rest one p is =
     let New : List (Option Slot) → Type 0 = λ l. AllNew [] l in
     let new = subst New p.rows_are (rows-new 256 2112 [] (piece 2112 24576 old) p.rows) in
     let few = few-new [] (map row_slot s.rows) new (omega arith) in
     let all = ap (λ (rows : List (Option PlacedFile)). length (blocks_in rows)) is in
-    omega (arith, few, sum-blocks s.rows, all, ap length (blocks-around front rest one), length-append (blocks_in front) (row_blocks one ++ blocks_in rest), length-append (row_blocks one) (blocks_in rest))
+    omega (
+      arith,
+      few,
+      sum-blocks s.rows,
+      all,
+      ap length (blocks-around front rest one),
+      length-append (blocks_in front) (row_blocks one
+          ++ blocks_in rest),
+      length-append (row_blocks one) (blocks_in rest),
+    )
 
-none-right : (tables place : ℕ) (other : List Bool) (table : List ℕ) → Hold (slot_checks tables place (row_slot None) other table) × (slot_table (row_slot None) table ≡ row_blocks None)
+none-right : (tables place : ℕ) (other : List Bool) (table : List ℕ) → Hold (slot_checks tables place (row_slot None) other table)
+    × (slot_table (row_slot None) table ≡ row_blocks None)
 unfolding slot_checks slot_table
 none-right tables place other table = (tt, refl)
 
@@ -280,7 +312,8 @@ no-apart : (slots : List (Option Slot)) → All (IsApartRow None) slots
 no-apart [] = All-nil (IsApartRow None)
 no-apart (slot ∷ slots) = All-cons (IsApartRow None) slot slots tt (no-apart slots)
 
-pub cleared-stands : (s : Standing) (slot : ℕ) (old new : List ℕ) → slot < 256 → Stands old s → IsRowCleared s slot old new → Stands new (with_placed s slot None)
+pub cleared-stands : (s : Standing) (slot : ℕ) (old new : List ℕ) → slot < 256 → Stands old s → IsRowCleared s slot old new
+    → Stands new (with_placed s slot None)
 cleared-stands s slot old new lt stands w =
     let image = parts-of old (found_of s) stands.found in
     let all = all-of s slot None (zeros_of 96) old new lt stands tt in
@@ -292,7 +325,8 @@ cleared-stands s slot old new lt stands w =
     let split = ids-split s.rows s.heads.next (place + 1048576) [] (piece (place + 1048576) 4096 old) image.parts.ids_are image.parts.ids in
     let Rows : List (Option PlacedFile) → Type 0 = λ rows. All (IsOtherId 0) rows in
     let used = used-ids s.heads.next [] s.rows split.new in
-    let behind = All-tail (IsOtherId 0) one rest (all-rest (IsOtherId 0) front (one ∷ rest) (subst Rows (around-row slot s.rows (omega (arith, lt, all))) used)) in
+    let behind = All-tail (IsOtherId 0) one rest (all-rest (IsOtherId 0) front (one ∷ rest)
+    (subst Rows (around-row slot s.rows (omega (arith, lt, all))) used)) in
     let Slot : ℕ → Type 0 = λ n. rows_of_image new ≡ overwritten (2112 + 96 * n) (zeros_of 96) (rows_of_image old) in
     let Ids : ℕ → Type 0 = λ n. piece (place + 1048576) 4096 new ≡ overwritten (4 * n) (to_be_bytes w32 0) (piece (place + 1048576) 4096 old) in
     let Part : List ℕ → Type 0 = λ part. piece (place + 1048576) 4096 new ≡ overwritten (4 * slot) part (piece (place + 1048576) 4096 old) in
@@ -333,7 +367,8 @@ cleared-stands s slot old new lt stands w =
 
 -- ---- the law of a row that says another revision
 
-rest-same : (tables slot count : ℕ) (old new : List ℕ) → slot + 1 + count ≤ 256 → SameFrom (block_place tables) 256 old new → SameFrom (block_place tables + 4096 * slot + 4096) count old new
+rest-same : (tables slot count : ℕ) (old new : List ℕ) → slot + 1 + count ≤ 256 → SameFrom (block_place tables) 256 old new
+    → SameFrom (block_place tables + 4096 * slot + 4096) count old new
 rest-same tables slot count old new few each k below =
     let e : block_place tables + 4096 * (slot + 1 + k) ≡ block_place tables + 4096 * slot + 4096 + 4096 * k = omega arith in
     let P : ℕ → Type 0 = λ p. piece p 4096 new ≡ piece p 4096 old in
@@ -342,18 +377,27 @@ rest-same tables slot count old new few each k below =
 same-length : (front rest : List (Option PlacedFile)) (one two : Option PlacedFile) → length (front ++ one ∷ rest) ≡ length (front ++ two ∷ rest)
 same-length front rest one two = omega (arith, length-append front (one ∷ rest), length-append front (two ∷ rest))
 
-same-ids : (front rest : List (Option PlacedFile)) (was file : PlacedFile) (bytes : List ℕ) → file.id ≡ was.id → ids_of (map row_slot (front ++ Some was ∷ rest)) bytes ≡ map row_id (front ++ Some was ∷ rest) → ids_of (map row_slot (front ++ Some file ∷ rest)) bytes ≡ map row_id (front ++ Some file ∷ rest)
+same-ids : (front rest : List (Option PlacedFile)) (was file : PlacedFile) (bytes : List ℕ) → file.id ≡ was.id
+    → ids_of (map row_slot (front ++ Some was ∷ rest)) bytes ≡ map row_id (front ++ Some was ∷ rest)
+    → ids_of (map row_slot (front ++ Some file ∷ rest)) bytes ≡ map row_id (front ++ Some file ∷ rest)
 same-ids front rest was file bytes same h =
     let slots = map row_slot (front ++ Some file ∷ rest) in
     let old_slots = map row_slot (front ++ Some was ∷ rest) in
-    let many : length slots ≡ length old_slots = omega (arith, length-map (front ++ Some file ∷ rest) row_slot, length-map (front ++ Some was ∷ rest) row_slot, same-length front rest (Some was) (Some file)) in
+    let many : length slots ≡ length old_slots = omega (
+      arith,
+      length-map (front ++ Some file ∷ rest) row_slot,
+      length-map (front ++ Some was ∷ rest)
+          row_slot,
+      same-length front rest (Some was) (Some file),
+    ) in
     ids-of-any slots old_slots bytes many
     ∙ h
     ∙ map-append row_id front (Some was ∷ rest)
     ∙ ap (λ (id : ℕ). map row_id front ++ id ∷ map row_id rest) (sym same)
     ∙ sym (map-append row_id front (Some file ∷ rest))
 
-held-from-old : (s : Standing) (old : List ℕ) (slot : ℕ) (was : PlacedFile) → HasParts old (found_of s) → slot < length s.rows → get_or s.rows slot None ≡ Some was → All (IsHeld (length old)) was.blocks
+held-from-old : (s : Standing) (old : List ℕ) (slot : ℕ) (was : PlacedFile) → HasParts old (found_of s) → slot < length s.rows
+    → get_or s.rows slot None ≡ Some was → All (IsHeld (length old)) was.blocks
 held-from-old s old slot was p lt is =
     let rows_are = around-row slot s.rows lt in
     let front = rows_before s slot in
@@ -365,7 +409,9 @@ held-from-old s old slot was p lt is =
     let flat = subst Blocks (blocks-around front rest (Some was)) parted in
     all-front (IsHeld (length old)) was.blocks (blocks_in rest) (all-rest (IsHeld (length old)) (blocks_in front) (was.blocks ++ blocks_in rest) flat)
 
-pub row-stands : (s : Standing) (was file : PlacedFile) (old new : List ℕ) → Stands old s → CanStand s file → slice_index_or s.rows file.slot None ≡ Some was → file.id ≡ was.id → file.blocks ≡ was.blocks → AgreeBut (2112 + 96 * file.slot) (row_bytes file.name (length file.blocks) file.rev) s old new → Stands new (with_placed s file.slot (Some file))
+pub row-stands : (s : Standing) (was file : PlacedFile) (old new : List ℕ) → Stands old s → CanStand s file → slice_index_or s.rows file.slot None
+    ≡ Some was → file.id ≡ was.id → file.blocks ≡ was.blocks → AgreeBut (2112 + 96 * file.slot) (row_bytes file.name (length file.blocks) file.rev) s
+    old new → Stands new (with_placed s file.slot (Some file))
 row-stands s was file old new stands can is same_id same_blocks agree =
     let slot = file.slot in
     let lt = can.row in
@@ -403,5 +449,6 @@ row-stands s was file old new stands can is same_id same_blocks agree =
       });
       ids_are = same-ids front rest was file (piece (place + 1048576) 4096 new) same_id from_one;
       ids_zeros = subst ZeroRows (ap length split_rows ∙ same-length front rest one (Some file)) (subst Zeros (sym tables.ids) split.zeros);
-      held_own = subst Held (sym same_blocks) (All-weaker (IsHeld (length old)) (IsHeld (length new)) (λ block h. omega (arith, h, longer)) was.blocks (held-from-old s old slot was image.parts (omega (arith, lt, all)) is));
+      held_own = subst Held (sym same_blocks) (All-weaker (IsHeld (length old)) (IsHeld (length new)) (λ block h. omega (arith, h, longer)) was.blocks
+          (held-from-old s old slot was image.parts (omega (arith, lt, all)) is));
     })

@@ -1,5 +1,6 @@
 -- Numbers and zeros are read back, and hosts' rows.
-use Rattle.std.proofs.Common.{◌≡◌, ◌≤◌, ◌<◌, ◌^◌, ◌+◌, ◌*◌, ◌==◌, ◌&&◌, ℕ, zero, suc, Bool, true, false, List, [], ◌∷◌, ◌++◌, Result, Ok, Err, Option, Some, take, drop, get_or, length, if◌then◌else◌, refl, sym, ap, subst, ◌∙◌, arith, length-append}
+use Rattle.std.proofs.Common.{◌≡◌, ◌≤◌, ◌<◌, ◌^◌, ◌+◌, ◌*◌, ◌==◌, ◌&&◌, ℕ, zero, suc, Bool, true, false, List, [], ◌∷◌, ◌++◌, Result, Ok, Err, Option}
+use Rattle.std.proofs.Common.{Some, take, drop, get_or, length, if◌then◌else◌, refl, sym, ap, subst, ◌∙◌, arith, length-append}
 use Rattle.std.specs.List.{All}
 use Rattle.std.specs.Prelude.{nat_lt, nat_le, is_some, unwrap_or}
 use Rattle.std.specs.Int.{w32, from_be_bytes, to_be_bytes}
@@ -67,7 +68,8 @@ le-both a b m n e f h = grind (arith, nat_tests)
 
 -- ---- parts of bytes
 
-pub piece-there : (place size : ℕ) (front part behind bytes : List ℕ) → bytes ≡ front ++ (part ++ behind) → length front ≡ place → length part ≡ size → piece place size bytes ≡ part
+pub piece-there : (place size : ℕ) (front part behind bytes : List ℕ) → bytes ≡ front ++ (part ++ behind) → length front ≡ place → length part ≡ size
+    → piece place size bytes ≡ part
 unfolding piece
 piece-there place size front part behind bytes is at long =
     ap (λ (b : List ℕ). take size (drop place b)) is
@@ -75,10 +77,6 @@ piece-there place size front part behind bytes is at long =
     ∙ take_at part behind size long
 
 -- ---- numbers and zeros
-
-pub word-first : (n : ℕ) (rest : List ℕ) → n < 2 ^ 32 → word_in 0 (to_be_bytes w32 n ++ rest) ≡ n
-unfolding word_in
-word-first n rest lt = from_be_bytes-to_be_bytes_4 n lt
 
 pub zeros-are : (n : ℕ) → are_zeros (zeros_of n) ≡ true
 unfolding zeros_of
@@ -177,7 +175,8 @@ host-holds place row within =
 abbrev host-with : (inc seq value : ℕ) → Option Verdict → HostRow
 host-with inc seq value verdict = record { inc = inc; seq = seq; verdict = unwrap_or verdict Verdict.Done; value = value }
 
-same-host : (row : HostRow) (inc seq value : ℕ) (verdict : Option Verdict) → inc ≡ row.inc → seq ≡ row.seq → value ≡ row.value → verdict ≡ Some row.verdict → host-with inc seq value verdict ≡ row
+same-host : (row : HostRow) (inc seq value : ℕ) (verdict : Option Verdict) → inc ≡ row.inc → seq ≡ row.seq → value ≡ row.value → verdict
+    ≡ Some row.verdict → host-with inc seq value verdict ≡ row
 same-host row inc seq value verdict a b c d =
     ap (λ (x : ℕ). host-with x seq value verdict) a
     ∙ ap (λ (x : ℕ). host-with row.inc x value verdict) b
@@ -188,7 +187,8 @@ pub host-is : (row : HostRow) → IsHostWithin row → host_of (host_bytes row) 
 unfolding host_of
 host-is row within =
     let back = host-back row within in
-    same-host row (word_in 0 (host_bytes row)) (hyper_in 8 (host_bytes row)) (hyper_in 16 (host_bytes row)) (verdict_of (word_in 4 (host_bytes row))) back.inc back.seq back.value back.verdict
+    same-host row (word_in 0 (host_bytes row)) (hyper_in 8 (host_bytes row)) (hyper_in 16 (host_bytes row)) (verdict_of (word_in 4 (host_bytes row)))
+    back.inc back.seq back.value back.verdict
 
 pub hosts-hold : (place : ℕ) (rows : List HostRow) → All IsHostWithin rows → Hold (hosts_checks (length rows) place (hosts_bytes rows))
 unfolding hosts_checks hosts_bytes

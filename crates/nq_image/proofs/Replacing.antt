@@ -1,5 +1,6 @@
 -- Another file in a row, or none: the image is one still.
-use Rattle.std.proofs.Common.{◌≡◌, ◌≤◌, ◌<◌, ◌^◌, ◌+◌, ◌-◌, ◌*◌, ◌⊎◌, inl, inr, ℕ, suc, true, false, List, [], ◌∷◌, ◌++◌, Option, Some, None, Ok, take, drop, map, set, length, get_or, refl, sym, ap, subst, ◌∙◌, arith, length-append}
+use Rattle.std.proofs.Common.{◌≡◌, ◌≤◌, ◌<◌, ◌^◌, ◌+◌, ◌-◌, ◌*◌, ◌⊎◌, inl, inr, ℕ, suc, true, false, List, [], ◌∷◌, ◌++◌, Option, Some, None, Ok}
+use Rattle.std.proofs.Common.{take, drop, map, set, length, get_or, refl, sym, ap, subst, ◌∙◌, arith, length-append}
 use Rattle.std.specs.List.{All, sum_by}
 use Rattle.std.specs.Int.{w32, to_be_bytes}
 use Rattle.std.proofs.lemmas.List.{append_assoc, drop-drop, drop_more, length-map, map-append, set_at, take-append-drop}
@@ -12,12 +13,14 @@ use Rattle.nq_image.specs.Hosts.{hosts_checks, hosts_of}
 use Rattle.nq_image.specs.Image.{no_marks}
 use Rattle.nq_image.specs.Layout.{are_zeros, block_place, piece}
 use Rattle.nq_image.specs.Rows.{blocks_of, row_checks, rows_checks, slot_of, slots_of}
-use Rattle.nq_image.specs.Standing.{AreDistinct, IsFileBlock, IsNoneOf, PlacedFile, Standing, blocks_in, found_of, marks_with, others, overwritten, row_blocks, row_id, row_slot, rows_of_image}
+use Rattle.nq_image.specs.Standing.{AreDistinct, IsFileBlock, IsNoneOf, PlacedFile, Standing, blocks_in, found_of, marks_with, others, overwritten}
+use Rattle.nq_image.specs.Standing.{row_blocks, row_id, row_slot, rows_of_image}
 use Rattle.nq_image.specs.Tables.{held, ids_checks, ids_of}
 use Rattle.nq_image.specs.declared.rows.Slot.{Slot}
 use Rattle.nq_image.specs.declared.rows.Version.{Version}
 use Rattle.nq_image.proofs.Agreeing.{all-front, all-rest, begins-same, held-by}
-use Rattle.nq_image.proofs.Allotting.{AllGiven, AreGivenOnce, AreOthersSame, AreTablesAllotted, all-given, all-swap, both-of, distinct-swap, each-given, given-if-once, once, tables-given, tables-marks-are, tables-over}
+use Rattle.nq_image.proofs.Allotting.{AllGiven, AreGivenOnce, AreOthersSame, AreTablesAllotted, all-given, all-swap, both-of, distinct-swap}
+use Rattle.nq_image.proofs.Allotting.{each-given, given-if-once, once, tables-given, tables-marks-are, tables-over}
 use Rattle.nq_image.proofs.Changing.{around, beside}
 use Rattle.nq_image.proofs.Giving.{IsGiven, IsHeld, given-is-held}
 use Rattle.nq_image.proofs.Imaging.{length-marks, no-marks}
@@ -35,7 +38,8 @@ blocks-append [] ys = refl
 blocks-append (x ∷ xs) ys =
     ap (λ (l : List ℕ). row_blocks x ++ l) (blocks-append xs ys) ∙ sym (append_assoc (row_blocks x) (blocks_in xs) (blocks_in ys))
 
-pub blocks-around : (front rest : List (Option PlacedFile)) (row : Option PlacedFile) → blocks_in (front ++ row ∷ rest) ≡ blocks_in front ++ (row_blocks row ++ blocks_in rest)
+pub blocks-around : (front rest : List (Option PlacedFile)) (row : Option PlacedFile) → blocks_in (front ++ row ∷ rest) ≡ blocks_in front
+    ++ (row_blocks row ++ blocks_in rest)
 unfolding blocks_in
 blocks-around front rest row = blocks-append front (row ∷ rest)
 
@@ -79,23 +83,27 @@ unfolding blocks_in
 behind-first P row rows all = all-rest P (row_blocks row) (blocks_in rows) all
 
 -- what is known of each block of the other rows
-pub other-held : (s : Standing) (bytes : List ℕ) (slot : ℕ) → HasParts bytes (found_of s) → All (λ block. IsHeld (length bytes) block × IsFileBlock s.tables block) (blocks_in (others slot s.rows))
+pub other-held : (s : Standing) (bytes : List ℕ) (slot : ℕ) → HasParts bytes (found_of s) → All (λ block. IsHeld (length bytes) block
+    × IsFileBlock s.tables block) (blocks_in (others slot s.rows))
 other-held s bytes slot p =
     let Both : ℕ → Type 0 = λ block. IsHeld (length bytes) block × IsFileBlock s.tables block in
-    let all = both-of (IsHeld (length bytes)) (IsFileBlock s.tables) Both (blocks_in s.rows) (λ block a c. (a, c)) (held-all s bytes p) (all-once s bytes p).there in
+    let all = both-of (IsHeld (length bytes)) (IsFileBlock s.tables) Both (blocks_in s.rows) (λ block a c. (a, c)) (held-all s bytes p)
+    (all-once s bytes p).there in
     let front = take slot s.rows in
     let Blocks : List ℕ → Type 0 = λ l. All Both l in
     let parted = subst Blocks (ap blocks_in (sym (take-append-drop slot s.rows)) ∙ blocks-append front (drop slot s.rows)) all in
     let rest = all-rest Both (blocks_in front) (blocks_in (drop slot s.rows)) parted in
     subst Blocks (sym (blocks-append front (drop (suc slot) s.rows)))
-    (All-append Both (blocks_in front) (blocks_in (drop (suc slot) s.rows)) (all-front Both (blocks_in front) (blocks_in (drop slot s.rows)) parted) (one-less Both (drop slot s.rows) (drop (suc slot) s.rows) (drop-again slot s.rows) rest))
+    (All-append Both (blocks_in front) (blocks_in (drop (suc slot) s.rows)) (all-front Both (blocks_in front) (blocks_in (drop slot s.rows)) parted)
+    (one-less Both (drop slot s.rows) (drop (suc slot) s.rows) (drop-again slot s.rows) rest))
   where
     drop-again : (n : ℕ) (rows : List (Option PlacedFile)) → drop (suc n) rows ≡ drop 1 (drop n rows)
     drop-again n rows = let e : n + 1 ≡ suc n = omega arith in sym (drop-drop 1 n rows ∙ ap (λ (k : ℕ). drop k rows) e)
 
     one-less : (P : ℕ → Type 0) (rows more : List (Option PlacedFile)) → more ≡ drop 1 rows → All P (blocks_in rows) → All P (blocks_in more)
     one-less P [] more is all = let Rows : List (Option PlacedFile) → Type 0 = λ l. All P (blocks_in l) in subst Rows (sym is) all
-    one-less P (row ∷ rows) more is all = let Rows : List (Option PlacedFile) → Type 0 = λ l. All P (blocks_in l) in subst Rows (sym is) (behind-first P row rows all)
+    one-less P (row ∷ rows) more is all = let Rows : List (Option PlacedFile) → Type 0 = λ l. All P (blocks_in l) in
+        subst Rows (sym is) (behind-first P row rows all)
 
 -- ---- one row becomes another
 
@@ -131,7 +139,8 @@ module _ (heads : Heads) (tables : ℕ) (hosts : List HostRow) (front rest : Lis
   names-before row = map-append row_slot front (row ∷ rest)
 
   -- the id of the row is written
-  module _ (old new : List ℕ) (all : length (front ++ one ∷ rest) ≡ 256) (few_ids : row_id two < 2 ^ 32) (p : HasParts old (found_of (standing one))) (is : piece (place + 1048576) 4096 new ≡ overwritten (4 * slot) (to_be_bytes w32 (row_id two)) (piece (place + 1048576) 4096 old)) where
+  module _ (old new : List ℕ) (all : length (front ++ one ∷ rest) ≡ 256) (few_ids : row_id two < 2 ^ 32) (p : HasParts old (found_of (standing one)))
+      (is : piece (place + 1048576) 4096 new ≡ overwritten (4 * slot) (to_be_bytes w32 (row_id two)) (piece (place + 1048576) 4096 old)) where
     abbrev id_block : List ℕ
     id_block = piece (place + 1048576) 4096 old
 
@@ -166,7 +175,8 @@ module _ (heads : Heads) (tables : ℕ) (hosts : List HostRow) (front rest : Lis
         subst Zeros all s.zeros
 
     behind-part : drop 1024 (overwritten (4 * slot) (to_be_bytes w32 (row_id two)) id_block) ≡ drop 1024 id_block
-    behind-part = drop-past 1024 (4 * slot) (to_be_bytes w32 (row_id two)) id_block (omega (arith, id-here, id-part)) (omega (arith, id-here, id-part, id-long))
+    behind-part = drop-past 1024 (4 * slot) (to_be_bytes w32 (row_id two)) id_block (omega (arith, id-here, id-part))
+        (omega (arith, id-here, id-part, id-long))
 
     pub ids-behind : are_zeros (drop (4 * length (front ++ two ∷ rest)) (piece (place + 1048576) 4096 new)) ≡ true
     ids-behind =
@@ -183,7 +193,8 @@ module _ (heads : Heads) (tables : ℕ) (hosts : List HostRow) (front rest : Lis
     pub ids_zeros : are_zeros (drop (4 * length (front ++ two ∷ rest)) (piece (place + 1048576) 4096 new)) ≡ true
     pub held_own : All (IsHeld (length new)) (row_blocks two)
 
-  module _ (part old new : List ℕ) (long : 40960 ≤ length old) (all : length (front ++ one ∷ rest) ≡ 256) (can : CanStandBetween heads.next tables front rest two) (b : IsBecome part old new) (p : HasParts old (found_of (standing one))) where
+  module _ (part old new : List ℕ) (long : 40960 ≤ length old) (all : length (front ++ one ∷ rest) ≡ 256) (can : CanStandBetween heads.next tables
+      front rest two) (b : IsBecome part old new) (p : HasParts old (found_of (standing one))) where
     abbrev table : List ℕ
     table = piece 2112 24576 old
 
@@ -199,7 +210,8 @@ module _ (heads : Heads) (tables : ℕ) (hosts : List HostRow) (front rest : Lis
     fits : 2112 + 96 * slot + length part ≤ 28672
     fits = let s = b.spelled.size in omega (arith, s, here)
 
-    side : (from size : ℕ) → from + size ≤ 28672 → (from + size ≤ 2112 + 96 * slot) ⊎ (2112 + 96 * slot + length part ≤ from) → piece from size new ≡ piece from size old
+    side : (from size : ℕ) → from + size ≤ 28672 → (from + size ≤ 2112 + 96 * slot) ⊎ (2112 + 96 * slot + length part ≤ from) → piece from size new
+        ≡ piece from size old
     side = beside (2112 + 96 * slot) part old new long fits b.rows
 
     front-same : piece 0 64 new ≡ piece 0 64 old
@@ -212,7 +224,8 @@ module _ (heads : Heads) (tables : ℕ) (hosts : List HostRow) (front rest : Lis
     gap-same = let s = b.spelled.size in side 26688 1984 (omega arith) (inr (omega (arith, s, here)))
 
     rows-there : piece 2112 24576 new ≡ overwritten (2112 + 96 * slot - 2112) part table
-    rows-there = let s = b.spelled.size in around (2112 + 96 * slot) part old new long fits b.rows 2112 24576 (omega arith) (omega arith) (omega (arith, s, here))
+    rows-there = let s = b.spelled.size in around (2112 + 96 * slot) part old new long fits b.rows 2112 24576 (omega arith) (omega arith)
+        (omega (arith, s, here))
 
     at-is : 2112 + 96 * slot - 2112 ≡ 96 * slot
     at-is = omega arith
@@ -242,7 +255,8 @@ module _ (heads : Heads) (tables : ℕ) (hosts : List HostRow) (front rest : Lis
         let s = b.spelled in
         let P : List ℕ → Type 0 = λ r. Hold (rows_checks Version.Two 256 2112 [] r) in
         let New : List (Option Slot) → Type 0 = λ l. AllNew [] l in
-        subst P (sym rows-there) (rows-over part (row_slot two) s.size s.is s.own 256 slot (2112 + 96 * slot - 2112) 2112 [] [] table at-is here table-long (subst New (sym set-names) names-new) p.rows)
+        subst P (sym rows-there) (rows-over part (row_slot two) s.size s.is s.own 256 slot (2112 + 96 * slot - 2112) 2112 [] [] table at-is here
+        table-long (subst New (sym set-names) names-new) p.rows)
 
     rows-are : slots_of 256 (piece 2112 24576 new) ≡ map row_slot (front ++ two ∷ rest)
     rows-are =
@@ -271,12 +285,14 @@ module _ (heads : Heads) (tables : ℕ) (hosts : List HostRow) (front rest : Lis
         }))
 
     allotted : AreTablesAllotted tables place (front ++ two ∷ rest) (no_marks 16641) new
-    allotted = tables-over front rest one two tables place (no_marks 16641) (no_marks 16641) old new b.others_same new-given (record { holds = p.tables; blocks = p.blocks_are })
+    allotted = tables-over front rest one two tables place (no_marks 16641) (no_marks 16641) old new b.others_same new-given
+        (record { holds = p.tables; blocks = p.blocks_are })
 
     -- ---- the ids
 
     ids-new : AllNewIds heads.next [] (front ++ two ∷ rest)
-    ids-new = swap-ids heads.next [] front rest one two can.own_id can.other_ids (ids-split (front ++ one ∷ rest) heads.next (place + 1048576) [] (piece (place + 1048576) 4096 old) p.ids_are p.ids).new
+    ids-new = swap-ids heads.next [] front rest one two can.own_id can.other_ids (ids-split (front ++ one ∷ rest) heads.next (place + 1048576) []
+        (piece (place + 1048576) 4096 old) p.ids_are p.ids).new
 
     ids-hold : Hold (ids_checks heads.next (place + 1048576) [] (map row_slot (front ++ two ∷ rest)) (piece (place + 1048576) 4096 new))
     ids-hold = ids-join (front ++ two ∷ rest) heads.next (place + 1048576) [] (piece (place + 1048576) 4096 new) b.ids_are ids-new b.ids_zeros
@@ -287,14 +303,17 @@ module _ (heads : Heads) (tables : ℕ) (hosts : List HostRow) (front rest : Lis
     held-old =
         let Held : List ℕ → Type 0 = λ l. All (IsHeld (length old)) l in
         let blocks = blocks_in front ++ (row_blocks one ++ blocks_in rest) in
-        All-weaker (IsHeld (length old)) (IsHeld (length new)) (λ block h. omega (arith, h, longer)) blocks (subst Held (blocks-around front rest one) (held-all (standing one) old p))
+        All-weaker (IsHeld (length old)) (IsHeld (length new)) (λ block h. omega (arith, h, longer)) blocks (subst Held (blocks-around front rest one)
+        (held-all (standing one) old p))
 
     held-new : held (length new) (marks_with (no_marks 16641) (blocks_in (front ++ two ∷ rest))) ≡ Ok tt
     held-new =
         let Each : List ℕ → Type 0 = λ l. All (IsHeld (length new)) l in
-        let each = subst Each (sym (blocks-around front rest two)) (all-swap (IsHeld (length new)) (blocks_in front) (row_blocks one) (row_blocks two) (blocks_in rest) b.held_own held-old) in
+        let each = subst Each (sym (blocks-around front rest two)) (all-swap (IsHeld (length new)) (blocks_in front) (row_blocks one) (row_blocks two)
+        (blocks_in rest) b.held_own held-old) in
         held-by (length new) (marks_with (no_marks 16641) (blocks_in (front ++ two ∷ rest)))
-        (λ block given. each-given (IsHeld (length new)) (no_marks 16641) (blocks_in (front ++ two ∷ rest)) each block (λ marked. absurd (never block marked)) given)
+        (λ block given. each-given (IsHeld (length new)) (no_marks 16641) (blocks_in (front ++ two ∷ rest)) each block
+        (λ marked. absurd (never block marked)) given)
       where
         never : (block : ℕ) → IsGiven (no_marks 16641) block → ⊥
         never block marked = let free = no-marks 16641 block in let wrong : true ≡ false = sym marked ∙ free in cc

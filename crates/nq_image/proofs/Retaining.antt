@@ -1,5 +1,6 @@
 -- What is kept once a file is written, a row cleared, a body written.
-use Rattle.std.proofs.Common.{◌≡◌, ◌≢◌, ◌<◌, ◌==◌, ◌⊎◌, inl, inr, ℕ, zero, suc, Bool, true, false, List, [], ◌∷◌, ◌++◌, Option, Some, None, take, drop, map, set, length, get_or, if◌then◌else◌, refl, sym, ap, subst, ◌∙◌, arith}
+use Rattle.std.proofs.Common.{◌≡◌, ◌≢◌, ◌<◌, ◌==◌, ◌⊎◌, inl, inr, ℕ, zero, suc, Bool, true, false, List, [], ◌∷◌, ◌++◌, Option, Some, None, take}
+use Rattle.std.proofs.Common.{drop, map, set, length, get_or, if◌then◌else◌, refl, sym, ap, subst, ◌∙◌, arith}
 use Rattle.std.specs.List.{All}
 use Rattle.std.specs.Prelude.{nat_lt, not, slice_index_or}
 use Rattle.std.proofs.lemmas.Bool.Decides.{nat_tests}
@@ -9,7 +10,8 @@ use Rattle.nq_base.specs.declared.BlockChange.{BlockChange}
 use Rattle.nq_model.specs.Change.{file_of, with_body, with_block, with_block_in, with_file, with_file_at}
 use Rattle.nq_model.specs.Kept.{File, Kept, drop_file, find_file, replace_file, with_files}
 use Rattle.nq_image.specs.Kept.{body_in}
-use Rattle.nq_image.specs.Standing.{AreDistinct, HasBodies, IsApartFrom, IsNoneOf, PlacedFile, Standing, blocks_in, file_at, files_in, kept_at, others, put_file, row_at, row_blocks, row_for, with_placed, with_rows}
+use Rattle.nq_image.specs.Standing.{AreDistinct, HasBodies, IsApartFrom, IsNoneOf, PlacedFile, Standing, blocks_in, file_at, files_in, kept_at}
+use Rattle.nq_image.specs.Standing.{others, put_file, row_at, row_blocks, row_for, with_placed, with_rows}
 use Rattle.nq_image.proofs.Agreeing.{all-front, all-put, all-rest, each-block, map-same, same-file, same-files}
 use Rattle.nq_image.proofs.Allotting.{both-of}
 use Rattle.nq_image.proofs.Numbering.{IsOtherId, not-equal}
@@ -18,9 +20,6 @@ use Rattle.nq_image.proofs.Sorting.{OfRow, of-rows, put-last, put-replaced, repl
 
 same-id : (n : ℕ) → (n == n) ≡ true
 same-id n = grind (arith, nat_tests)
-
-equal-of : (m n : ℕ) → (m == n) ≡ true → m ≡ n
-equal-of m n h = grind (arith, nat_tests)
 
 -- ---- files by their ids
 
@@ -48,13 +47,16 @@ module _ (bytes : List ℕ) where
   find-own false f rest granted = cc
 
   find-first : (x : PlacedFile) (files : List PlacedFile) → find_file x.id (map (file_at bytes) (x ∷ files)) ≡ Some (file_at bytes x)
-  find-first x files = find-own ((file_at bytes x).id == x.id) x (find_file x.id (map (file_at bytes) files)) (ap (λ (n : ℕ). n == x.id) (id-of x) ∙ same-id x.id)
+  find-first x files = find-own ((file_at bytes x).id == x.id) x (find_file x.id (map (file_at bytes) files)) (ap (λ (n : ℕ). n == x.id) (id-of x)
+      ∙ same-id x.id)
 
-  pub find-put : (x : PlacedFile) (files : List PlacedFile) → All (λ f. f.id ≢ x.id) files → find_file x.id (map (file_at bytes) (put_file x files)) ≡ Some (file_at bytes x)
+  pub find-put : (x : PlacedFile) (files : List PlacedFile) → All (λ f. f.id ≢ x.id) files → find_file x.id (map (file_at bytes) (put_file x files))
+      ≡ Some (file_at bytes x)
   find-put x [] all = find-first x []
   find-put x (f ∷ files) all = by (nat_lt x.id f.id) (find-put x files (All-tail (λ g. g.id ≢ x.id) f files all))
     where
-      by : (b : Bool) → find_file x.id (map (file_at bytes) (put_file x files)) ≡ Some (file_at bytes x) → find_file x.id (map (file_at bytes) (if b then x ∷ f ∷ files else f ∷ put_file x files)) ≡ Some (file_at bytes x)
+      by : (b : Bool) → find_file x.id (map (file_at bytes) (put_file x files)) ≡ Some (file_at bytes x)
+          → find_file x.id (map (file_at bytes) (if b then x ∷ f ∷ files else f ∷ put_file x files)) ≡ Some (file_at bytes x)
       by true more = find-first x (f ∷ files)
       by false more =
           let own = ap (λ (n : ℕ). n == x.id) (id-of f) ∙ not-equal f.id x.id (λ e. All-head (λ g. g.id ≢ x.id) f files all (sym e)) in
@@ -67,29 +69,35 @@ module _ (old new : List ℕ) where
   abbrev IsSameBut : (id : ℕ) → PlacedFile → Type 0
   IsSameBut id f = (f.id ≡ id) ⊎ (file_at new f ≡ file_at old f)
 
-  one-in-place : (x : PlacedFile) (made : File) (f : PlacedFile) → file_at new x ≡ made → IsSameBut x.id f → file_at new (if f.id == x.id then x else f) ≡ (if (file_at old f).id == made.id then made else file_at old f)
+  one-in-place : (x : PlacedFile) (made : File) (f : PlacedFile) → file_at new x ≡ made → IsSameBut x.id f → file_at new (if f.id == x.id then x
+      else f) ≡ (if (file_at old f).id == made.id then made else file_at old f)
   one-in-place x made f same (inl e) =
       let id = id-of new x in
       let own = sym id ∙ ap (λ (g : File). g.id) same in
       ap (λ (n : ℕ). file_at new (if n == x.id then x else f)) e
       ∙ ap (λ (b : Bool). file_at new (if b then x else f)) (same-id x.id)
       ∙ same
-      ∙ sym (ap (λ (n : ℕ). if n == made.id then made else file_at old f) (id-of old f ∙ e ∙ own) ∙ ap (λ (b : Bool). if b then made else file_at old f) (same-id made.id))
+      ∙ sym (ap (λ (n : ℕ). if n == made.id then made else file_at old f) (id-of old f ∙ e ∙ own) ∙ ap (λ (b : Bool). if b then made
+      else file_at old f) (same-id made.id))
   one-in-place x made f same (inr e) =
       let own = sym (id-of new x) ∙ ap (λ (g : File). g.id) same in
       by (f.id == x.id) refl own
     where
-      by : (b : Bool) → (f.id == x.id) ≡ b → x.id ≡ made.id → file_at new (if f.id == x.id then x else f) ≡ (if (file_at old f).id == made.id then made else file_at old f)
+      by : (b : Bool) → (f.id == x.id) ≡ b → x.id ≡ made.id → file_at new (if f.id == x.id then x else f) ≡ (if (file_at old f).id == made.id
+          then made else file_at old f)
       by true is own =
           ap (λ (c : Bool). file_at new (if c then x else f)) is
           ∙ same
-          ∙ sym (ap (λ (n : ℕ). if n == made.id then made else file_at old f) (id-of old f) ∙ ap (λ (n : ℕ). if f.id == n then made else file_at old f) (sym own) ∙ ap (λ (c : Bool). if c then made else file_at old f) is)
+          ∙ sym (ap (λ (n : ℕ). if n == made.id then made else file_at old f) (id-of old f) ∙ ap (λ (n : ℕ). if f.id == n then made
+          else file_at old f) (sym own) ∙ ap (λ (c : Bool). if c then made else file_at old f) is)
       by false is own =
           ap (λ (c : Bool). file_at new (if c then x else f)) is
           ∙ e
-          ∙ sym (ap (λ (n : ℕ). if n == made.id then made else file_at old f) (id-of old f) ∙ ap (λ (n : ℕ). if f.id == n then made else file_at old f) (sym own) ∙ ap (λ (c : Bool). if c then made else file_at old f) is)
+          ∙ sym (ap (λ (n : ℕ). if n == made.id then made else file_at old f) (id-of old f) ∙ ap (λ (n : ℕ). if f.id == n then made
+          else file_at old f) (sym own) ∙ ap (λ (c : Bool). if c then made else file_at old f) is)
 
-  pub in-place : (x : PlacedFile) (made : File) (files : List PlacedFile) → file_at new x ≡ made → All (IsSameBut x.id) files → map (file_at new) (replaced x files) ≡ replace_file made (map (file_at old) files)
+  pub in-place : (x : PlacedFile) (made : File) (files : List PlacedFile) → file_at new x ≡ made → All (IsSameBut x.id) files
+      → map (file_at new) (replaced x files) ≡ replace_file made (map (file_at old) files)
   in-place x made [] same all = refl
   in-place x made (f ∷ files) same all =
       let own = one-in-place x made f same (All-head (IsSameBut x.id) f files all) in
@@ -99,32 +107,39 @@ module _ (old new : List ℕ) where
 
 -- ---- a file without its row
 
-dropped-none : (bytes : List ℕ) (id : ℕ) (files : List PlacedFile) → All (λ f. f.id ≢ id) files → drop_file id (map (file_at bytes) files) ≡ map (file_at bytes) files
+dropped-none : (bytes : List ℕ) (id : ℕ) (files : List PlacedFile) → All (λ f. f.id ≢ id) files → drop_file id (map (file_at bytes) files)
+    ≡ map (file_at bytes) files
 dropped-none bytes id [] all = refl
 dropped-none bytes id (f ∷ files) all =
     let own = ap (λ (n : ℕ). n == id) (id-of bytes f) ∙ not-equal f.id id (λ e. All-head (λ g. g.id ≢ id) f files all (sym e)) in
     stays ((file_at bytes f).id == id) own ∙ ap (λ (l : List File). file_at bytes f ∷ l) (dropped-none bytes id files (All-tail (λ g. g.id ≢ id) f files all))
   where
-    stays : (b : Bool) → b ≡ false → (if not b then file_at bytes f ∷ drop_file id (map (file_at bytes) files) else drop_file id (map (file_at bytes) files)) ≡ file_at bytes f ∷ drop_file id (map (file_at bytes) files)
+    stays : (b : Bool) → b ≡ false → (if not b then file_at bytes f ∷ drop_file id (map (file_at bytes) files)
+        else drop_file id (map (file_at bytes) files)) ≡ file_at bytes f ∷ drop_file id (map (file_at bytes) files)
     stays true never = cc
     stays false never = refl
 
-dropped-first : (bytes : List ℕ) (x : PlacedFile) (files : List PlacedFile) → drop_file x.id (map (file_at bytes) (x ∷ files)) ≡ drop_file x.id (map (file_at bytes) files)
+dropped-first : (bytes : List ℕ) (x : PlacedFile) (files : List PlacedFile) → drop_file x.id (map (file_at bytes) (x ∷ files)) ≡ drop_file x.id
+    (map (file_at bytes) files)
 dropped-first bytes x files = goes ((file_at bytes x).id == x.id) (ap (λ (n : ℕ). n == x.id) (id-of bytes x) ∙ same-id x.id)
   where
-    goes : (b : Bool) → b ≡ true → (if not b then file_at bytes x ∷ drop_file x.id (map (file_at bytes) files) else drop_file x.id (map (file_at bytes) files)) ≡ drop_file x.id (map (file_at bytes) files)
+    goes : (b : Bool) → b ≡ true → (if not b then file_at bytes x ∷ drop_file x.id (map (file_at bytes) files)
+        else drop_file x.id (map (file_at bytes) files)) ≡ drop_file x.id (map (file_at bytes) files)
     goes true granted = refl
     goes false granted = cc
 
-dropped-put : (bytes : List ℕ) (x : PlacedFile) (files : List PlacedFile) → All (λ f. f.id ≢ x.id) files → drop_file x.id (map (file_at bytes) (put_file x files)) ≡ map (file_at bytes) files
+dropped-put : (bytes : List ℕ) (x : PlacedFile) (files : List PlacedFile) → All (λ f. f.id ≢ x.id) files
+    → drop_file x.id (map (file_at bytes) (put_file x files)) ≡ map (file_at bytes) files
 dropped-put bytes x [] all = dropped-first bytes x []
 dropped-put bytes x (f ∷ files) all = by (nat_lt x.id f.id) (dropped-put bytes x files (All-tail (λ g. g.id ≢ x.id) f files all))
   where
-    stays : (b : Bool) → b ≡ false → (if not b then file_at bytes f ∷ drop_file x.id (map (file_at bytes) (put_file x files)) else drop_file x.id (map (file_at bytes) (put_file x files))) ≡ file_at bytes f ∷ drop_file x.id (map (file_at bytes) (put_file x files))
+    stays : (b : Bool) → b ≡ false → (if not b then file_at bytes f ∷ drop_file x.id (map (file_at bytes) (put_file x files))
+        else drop_file x.id (map (file_at bytes) (put_file x files))) ≡ file_at bytes f ∷ drop_file x.id (map (file_at bytes) (put_file x files))
     stays true never = cc
     stays false never = refl
 
-    by : (b : Bool) → drop_file x.id (map (file_at bytes) (put_file x files)) ≡ map (file_at bytes) files → drop_file x.id (map (file_at bytes) (if b then x ∷ f ∷ files else f ∷ put_file x files)) ≡ map (file_at bytes) (f ∷ files)
+    by : (b : Bool) → drop_file x.id (map (file_at bytes) (put_file x files)) ≡ map (file_at bytes) files
+        → drop_file x.id (map (file_at bytes) (if b then x ∷ f ∷ files else f ∷ put_file x files)) ≡ map (file_at bytes) (f ∷ files)
     by true more = dropped-first bytes x (f ∷ files) ∙ dropped-none bytes x.id (f ∷ files) all
     by false more =
         let own = ap (λ (n : ℕ). n == x.id) (id-of bytes f) ∙ not-equal f.id x.id (λ e. All-head (λ g. g.id ≢ x.id) f files all (sym e)) in
@@ -185,7 +200,8 @@ apart-ids file rows all = All-weaker (IsApartFrom file) (IsOtherId file.id) (λ 
     one file None apart = tt
     one file (Some other) apart = apart.1
 
-pub new-is-last : (s : Standing) (file : PlacedFile) → file.slot < length s.rows → row_at s file.slot ≡ None → All (IsApartFrom file) (others file.slot s.rows) → All (λ f. f.id < file.id) (files_in s) → files_in (with_placed s file.slot (Some file)) ≡ files_in s ++ file ∷ []
+pub new-is-last : (s : Standing) (file : PlacedFile) → file.slot < length s.rows → row_at s file.slot ≡ None → All (IsApartFrom file)
+    (others file.slot s.rows) → All (λ f. f.id < file.id) (files_in s) → files_in (with_placed s file.slot (Some file)) ≡ files_in s ++ file ∷ []
 new-is-last s file lt is apart last =
     let Files : List PlacedFile → Type 0 = λ l. All (λ f. f.id < file.id) l in
     let same = files-none s file.slot lt is in
@@ -193,7 +209,8 @@ new-is-last s file lt is apart last =
     ∙ put-last file (other-files s file.slot) (subst Files same last)
     ∙ ap (λ (l : List PlacedFile). l ++ file ∷ []) (sym same)
 
-pub same-takes-place : (s : Standing) (was file : PlacedFile) → file.slot < length s.rows → row_at s file.slot ≡ Some was → was.id ≡ file.id → All (IsApartFrom file) (others file.slot s.rows) → files_in (with_placed s file.slot (Some file)) ≡ replaced file (files_in s)
+pub same-takes-place : (s : Standing) (was file : PlacedFile) → file.slot < length s.rows → row_at s file.slot ≡ Some was → was.id ≡ file.id
+    → All (IsApartFrom file) (others file.slot s.rows) → files_in (with_placed s file.slot (Some file)) ≡ replaced file (files_in s)
 same-takes-place s was file lt is same apart =
     let slot = file.slot in
     let ids = apart-ids file (others slot s.rows) apart in
@@ -208,7 +225,8 @@ abbrev kept-with : Standing → List File → Kept
 kept-with s files = record { files = files; hosts = s.hosts; boot = s.heads.boot; opened = s.heads.opened; longest = s.heads.longest; next = s.heads.next }
 
 -- a kept state of other files
-from-files : (s : Standing) (slot : ℕ) (row : Option PlacedFile) (old new : List ℕ) (files : List File) → map (file_at new) (files_in (with_placed s slot row)) ≡ files → kept_at new (with_placed s slot row) ≡ with_files (kept_at old s) files
+from-files : (s : Standing) (slot : ℕ) (row : Option PlacedFile) (old new : List ℕ) (files : List File)
+    → map (file_at new) (files_in (with_placed s slot row)) ≡ files → kept_at new (with_placed s slot row) ≡ with_files (kept_at old s) files
 unfolding kept_at with_files
 from-files s slot row old new files same = ap (kept-with s) same
 
@@ -216,16 +234,21 @@ pub kept-files : (bytes : List ℕ) (s : Standing) → (kept_at bytes s).files �
 unfolding kept_at
 kept-files bytes s = refl
 
-made-file : (s : Standing) (file : PlacedFile) (old new : List ℕ) → HasBodies s file old new → file_at new file ≡ file_of (row_for file) (map (body_in old) (row_blocks (row_at s file.slot)))
+made-file : (s : Standing) (file : PlacedFile) (old new : List ℕ) → HasBodies s file old new → file_at new file ≡ file_of (row_for file)
+    (map (body_in old) (row_blocks (row_at s file.slot)))
 unfolding file_at file_of
 made-file s file old new bodies =
     let made : List (List ℕ) → File = λ b. record { id = file.id; name = file.name; rev = file.rev; bodies = b } in
     ap made bodies
 
-other-bodies : (s : Standing) (slot : ℕ) (old new : List ℕ) → All (λ block. body_in new block ≡ body_in old block) (blocks_in (others slot s.rows)) → map (file_at new) (other-files s slot) ≡ map (file_at old) (other-files s slot)
+other-bodies : (s : Standing) (slot : ℕ) (old new : List ℕ) → All (λ block. body_in new block ≡ body_in old block) (blocks_in (others slot s.rows))
+    → map (file_at new) (other-files s slot) ≡ map (file_at old) (other-files s slot)
 other-bodies s slot old new all = same-files old new (others slot s.rows) all
 
-pub new-kept : (s : Standing) (file : PlacedFile) (old new : List ℕ) → file.slot < length s.rows → row_at s file.slot ≡ None → All (IsApartFrom file) (others file.slot s.rows) → All (λ f. f.id < file.id) (files_in s) → HasBodies s file old new → All (λ block. body_in new block ≡ body_in old block) (blocks_in (others file.slot s.rows)) → kept_at new (with_placed s file.slot (Some file)) ≡ with_files (kept_at old s) (with_file (row_for file) (kept_at old s).files)
+pub new-kept : (s : Standing) (file : PlacedFile) (old new : List ℕ) → file.slot < length s.rows → row_at s file.slot ≡ None → All (IsApartFrom file)
+    (others file.slot s.rows) → All (λ f. f.id < file.id) (files_in s) → HasBodies s file old new
+    → All (λ block. body_in new block ≡ body_in old block) (blocks_in (others file.slot s.rows)) → kept_at new (with_placed s file.slot (Some file))
+    ≡ with_files (kept_at old s) (with_file (row_for file) (kept_at old s).files)
 new-kept s file old new lt is apart last bodies rest =
     let slot = file.slot in
     let row = row_for file in
@@ -250,7 +273,10 @@ bodies-at : (bytes : List ℕ) (f : PlacedFile) → (file_at bytes f).bodies ≡
 unfolding file_at
 bodies-at bytes f = refl
 
-pub same-kept : (s : Standing) (was file : PlacedFile) (old new : List ℕ) → file.slot < length s.rows → row_at s file.slot ≡ Some was → was.id ≡ file.id → All (IsApartFrom file) (others file.slot s.rows) → HasBodies s file old new → All (λ block. body_in new block ≡ body_in old block) (blocks_in (others file.slot s.rows)) → kept_at new (with_placed s file.slot (Some file)) ≡ with_files (kept_at old s) (with_file (row_for file) (kept_at old s).files)
+pub same-kept : (s : Standing) (was file : PlacedFile) (old new : List ℕ) → file.slot < length s.rows → row_at s file.slot ≡ Some was → was.id
+    ≡ file.id → All (IsApartFrom file) (others file.slot s.rows) → HasBodies s file old new → All (λ block. body_in new block ≡ body_in old block)
+    (blocks_in (others file.slot s.rows)) → kept_at new (with_placed s file.slot (Some file)) ≡ with_files (kept_at old s)
+    (with_file (row_for file) (kept_at old s).files)
 same-kept s was file old new lt is same apart bodies rest =
     let slot = file.slot in
     let row = row_for file in
@@ -277,14 +303,18 @@ same-kept s was file old new lt is same apart bodies rest =
     ∙ sym (ap (λ (l : List File). with_file row l) is_files) in
     from-files s slot (Some file) old new (with_file row (kept_at old s).files) all
   where
-    all-but : (s : Standing) (slot : ℕ) (was : PlacedFile) (id : ℕ) (old new : List ℕ) → was.id ≡ id → All (λ block. body_in new block ≡ body_in old block) (blocks_in (others slot s.rows)) → All (IsSameBut old new id) (put_file was (other-files s slot))
+    all-but : (s : Standing) (slot : ℕ) (was : PlacedFile) (id : ℕ) (old new : List ℕ) → was.id ≡ id
+        → All (λ block. body_in new block ≡ body_in old block) (blocks_in (others slot s.rows)) → All (IsSameBut old new id)
+        (put_file was (other-files s slot))
     all-but s slot was id old new same rest =
         let Same : ℕ → Type 0 = λ block. body_in new block ≡ body_in old block in
         let each = each-block Same [] (others slot s.rows) (All-nil (λ f. All Same f.blocks)) rest in
         all-put (IsSameBut old new id) was (other-files s slot) (inl same)
         (All-weaker (λ f. All Same f.blocks) (IsSameBut old new id) (λ f own. inr (same-file old new f own)) (other-files s slot) each)
 
-pub cleared-kept : (s : Standing) (slot : ℕ) (was : PlacedFile) (old new : List ℕ) → slot < length s.rows → row_at s slot ≡ Some was → All (IsApartFrom was) (others slot s.rows) → All (λ block. body_in new block ≡ body_in old block) (blocks_in (others slot s.rows)) → kept_at new (with_placed s slot None) ≡ with_files (kept_at old s) (drop_file was.id (kept_at old s).files)
+pub cleared-kept : (s : Standing) (slot : ℕ) (was : PlacedFile) (old new : List ℕ) → slot < length s.rows → row_at s slot ≡ Some was
+    → All (IsApartFrom was) (others slot s.rows) → All (λ block. body_in new block ≡ body_in old block) (blocks_in (others slot s.rows))
+    → kept_at new (with_placed s slot None) ≡ with_files (kept_at old s) (drop_file was.id (kept_at old s).files)
 cleared-kept s slot was old new lt is apart rest =
     let ids = apart-ids was (others slot s.rows) apart in
     let now = files-some s slot lt was is ids in
@@ -299,7 +329,9 @@ cleared-kept s slot was old new lt is apart rest =
 -- ---- the body of a block
 
 -- the place of a block in a file
-body-set : (old new : List ℕ) (blocks : List ℕ) (k block : ℕ) (body : List ℕ) → k < length blocks → get_or blocks k 0 ≡ block → AreDistinct blocks → body_in new block ≡ body → All (λ other. other ≢ block → body_in new other ≡ body_in old other) blocks → map (body_in new) blocks ≡ set (map (body_in old) blocks) k body
+body-set : (old new : List ℕ) (blocks : List ℕ) (k block : ℕ) (body : List ℕ) → k < length blocks → get_or blocks k 0 ≡ block → AreDistinct blocks
+    → body_in new block ≡ body → All (λ other. other ≢ block → body_in new other ≡ body_in old other) blocks → map (body_in new) blocks
+    ≡ set (map (body_in old) blocks) k body
 body-set old new [] k block body lt is distinct own rest = absurd (omega (arith, lt))
 body-set old new (b ∷ blocks) zero block body lt is distinct own rest =
     let Rest : ℕ → Type 0 = λ other. other ≢ block → body_in new other ≡ body_in old other in
@@ -317,7 +349,8 @@ body-set old new (b ∷ blocks) (suc k) block body lt is distinct own rest =
     at-none : (xs : List ℕ) (k x : ℕ) → k < length xs → IsNoneOf xs x → get_or xs k 0 ≡ x → ⊥
     at-none xs k x lt none is = none k 0 lt is
 
-body-made : (file : PlacedFile) (k : ℕ) (body old new : List ℕ) → map (body_in new) file.blocks ≡ set (map (body_in old) file.blocks) k body → file_at new file ≡ with_body (file_at old file) k body
+body-made : (file : PlacedFile) (k : ℕ) (body old new : List ℕ) → map (body_in new) file.blocks ≡ set (map (body_in old) file.blocks) k body
+    → file_at new file ≡ with_body (file_at old file) k body
 unfolding file_at with_body
 body-made file k body old new same =
     let made : List (List ℕ) → File = λ bodies. record { id = file.id; name = file.name; rev = file.rev; bodies = bodies } in
@@ -331,7 +364,11 @@ own-rest : (file : PlacedFile) (rows : List (Option PlacedFile)) (P : ℕ → Ty
 unfolding blocks_in
 own-rest file rows P all = all-rest P file.blocks (blocks_in rows) all
 
-pub body-kept : (s : Standing) (file : PlacedFile) (k block : ℕ) (body old new : List ℕ) → file.slot < length s.rows → row_at s file.slot ≡ Some file → k < length file.blocks → slice_index_or file.blocks k 0 ≡ block → All (IsApartFrom file) (others file.slot s.rows) → AreDistinct file.blocks → All (λ other. other ≢ block) (blocks_in (others file.slot s.rows)) → body_in new block ≡ body → All (λ other. other ≢ block → body_in new other ≡ body_in old other) (blocks_in s.rows) → map (file_at new) (files_in s) ≡ replace_file (with_body (file_at old file) k body) (map (file_at old) (files_in s))
+pub body-kept : (s : Standing) (file : PlacedFile) (k block : ℕ) (body old new : List ℕ) → file.slot < length s.rows → row_at s file.slot ≡ Some file
+    → k < length file.blocks → slice_index_or file.blocks k 0 ≡ block → All (IsApartFrom file) (others file.slot s.rows) → AreDistinct file.blocks
+    → All (λ other. other ≢ block) (blocks_in (others file.slot s.rows)) → body_in new block ≡ body → All (λ other. other ≢ block → body_in new other
+    ≡ body_in old other) (blocks_in s.rows) → map (file_at new) (files_in s) ≡ replace_file (with_body (file_at old file) k body)
+    (map (file_at old) (files_in s))
 body-kept s file k block body old new lt is below at apart distinct free own rest =
     let slot = file.slot in
     let ids = apart-ids file (others slot s.rows) apart in
@@ -346,19 +383,24 @@ body-kept s file k block body old new lt is below at apart distinct free own res
     let of_file = own-front file (drop (suc slot) s.rows) Rest behind in
     let of_rest = own-rest file (drop (suc slot) s.rows) Rest behind in
     let of_front = all-front Rest (blocks_in (take slot s.rows)) (blocks_in (Some file ∷ drop (suc slot) s.rows)) flat in
-    let of_others = subst Blocks (sym (blocks-append (take slot s.rows) (drop (suc slot) s.rows))) (All-append Rest (blocks_in (take slot s.rows)) (blocks_in (drop (suc slot) s.rows)) of_front of_rest) in
+    let of_others = subst Blocks (sym (blocks-append (take slot s.rows) (drop (suc slot) s.rows))) (All-append Rest (blocks_in (take slot s.rows))
+    (blocks_in (drop (suc slot) s.rows)) of_front of_rest) in
     let Same : ℕ → Type 0 = λ o. body_in new o ≡ body_in old o in
     let same = both-of (λ o. o ≢ block) Rest Same (blocks_in (others slot s.rows)) (λ o ne more. more ne) free of_others in
     let made = body-made file k body old new (body-set old new file.blocks k block body below at distinct own of_file) in
     let each = each-block Same [] (others slot s.rows) (All-nil (λ f. All Same f.blocks)) same in
-    let but = all-put (IsSameBut old new file.id) file (other-files s slot) (inl refl) (All-weaker (λ f. All Same f.blocks) (IsSameBut old new file.id) (λ f own. inr (same-file old new f own)) (other-files s slot) each) in
+    let but = all-put (IsSameBut old new file.id) file (other-files s slot) (inl refl) (All-weaker (λ f. All Same f.blocks)
+    (IsSameBut old new file.id) (λ f own. inr (same-file old new f own)) (other-files s slot) each) in
     let But : List PlacedFile → Type 0 = λ l. All (IsSameBut old new file.id) l in
     let self = put-replaced file file (other-files s slot) refl (others-apart s slot file.id ids) in
     ap (λ (l : List PlacedFile). map (file_at new) l) (now ∙ self ∙ ap (λ (l : List PlacedFile). replaced file l) (sym now))
     ∙ in-place old new file (with_body (file_at old file) k body) (files_in s) made (subst But (sym now) but)
 
 -- what is kept once the files are these
-pub block-kept : (s : Standing) (file : PlacedFile) (k : ℕ) (body old new : List ℕ) → file.slot < length s.rows → row_at s file.slot ≡ Some file → All (IsApartFrom file) (others file.slot s.rows) → map (file_at new) (files_in s) ≡ replace_file (with_body (file_at old file) k body) (map (file_at old) (files_in s)) → kept_at new s ≡ with_files (kept_at old s) (with_block (record { file = file.id; block = k; body = body }) (kept_at old s).files)
+pub block-kept : (s : Standing) (file : PlacedFile) (k : ℕ) (body old new : List ℕ) → file.slot < length s.rows → row_at s file.slot ≡ Some file
+    → All (IsApartFrom file) (others file.slot s.rows) → map (file_at new) (files_in s) ≡ replace_file (with_body (file_at old file) k body)
+    (map (file_at old) (files_in s)) → kept_at new s ≡ with_files (kept_at old s) (with_block (record { file = file.id; block = k; body = body })
+    (kept_at old s).files)
 unfolding kept_at with_files
 block-kept s file k body old new lt is apart same =
     let slot = file.slot in

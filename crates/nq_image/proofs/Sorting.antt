@@ -1,5 +1,6 @@
 -- The files of rows in order of their ids, once one row is another.
-use Rattle.std.proofs.Common.{◌≡◌, ◌≢◌, ◌≤◌, ◌<◌, ◌==◌, ℕ, Bool, true, false, List, [], ◌∷◌, ◌++◌, Option, Some, None, map, if◌then◌else◌, refl, sym, ap, ◌∙◌, arith}
+use Rattle.std.proofs.Common.{◌≡◌, ◌≢◌, ◌≤◌, ◌<◌, ◌==◌, ℕ, Bool, true, false, List, [], ◌∷◌, ◌++◌, Option, Some, None, map, if◌then◌else◌, refl, sym}
+use Rattle.std.proofs.Common.{ap, ◌∙◌, arith}
 use Rattle.std.specs.List.{All, filter}
 use Rattle.std.specs.Prelude.{nat_lt, not}
 use Rattle.std.proofs.lemmas.Bool.Decides.{nat_tests}
@@ -37,7 +38,8 @@ module _ (x y : PlacedFile) (lt : x.id < y.id) where
   put-swap [] = put-before x y [] lt ∙ sym (put-after y x [] (omega arith))
   put-swap (f ∷ files) = by (nat_lt x.id f.id) (nat_lt y.id f.id) refl refl (put-swap files)
     where
-      by : (a b : Bool) → nat_lt x.id f.id ≡ a → nat_lt y.id f.id ≡ b → put_file x (put_file y files) ≡ put_file y (put_file x files) → put_file x (put_file y (f ∷ files)) ≡ put_file y (put_file x (f ∷ files))
+      by : (a b : Bool) → nat_lt x.id f.id ≡ a → nat_lt y.id f.id ≡ b → put_file x (put_file y files) ≡ put_file y (put_file x files)
+          → put_file x (put_file y (f ∷ files)) ≡ put_file y (put_file x (f ∷ files))
       by true true a b more =
           ap (λ (l : List PlacedFile). put_file x l) (put-before y f files (lt-of y.id f.id b))
           ∙ put-before x y (f ∷ files) lt
@@ -67,15 +69,18 @@ put-either x y files other = by (nat_lt x.id y.id) refl
 
 -- ---- the file of one row is put last
 
-put-later : (x : PlacedFile) (rows : List (Option PlacedFile)) (files : List PlacedFile) → All (IsOtherId x.id) rows → with_rows (put_file x files) rows ≡ put_file x (with_rows files rows)
+put-later : (x : PlacedFile) (rows : List (Option PlacedFile)) (files : List PlacedFile) → All (IsOtherId x.id) rows → with_rows (put_file x files)
+    rows ≡ put_file x (with_rows files rows)
 unfolding with_rows
 put-later x [] files other = refl
 put-later x (None ∷ rows) files other = put-later x rows files (All-tail (IsOtherId x.id) None rows other)
 put-later x (Some y ∷ rows) files other =
     let ne = All-head (IsOtherId x.id) (Some y) rows other in
-    ap (λ (l : List PlacedFile). with_rows l rows) (sym (put-either x y files ne)) ∙ put-later x rows (put_file y files) (All-tail (IsOtherId x.id) (Some y) rows other)
+    ap (λ (l : List PlacedFile). with_rows l rows) (sym (put-either x y files ne)) ∙ put-later x rows (put_file y files) (All-tail (IsOtherId x.id)
+    (Some y) rows other)
 
-pub row-put : (x : PlacedFile) (front rest : List (Option PlacedFile)) (files : List PlacedFile) → All (IsOtherId x.id) rest → with_rows files (front ++ Some x ∷ rest) ≡ put_file x (with_rows files (front ++ rest))
+pub row-put : (x : PlacedFile) (front rest : List (Option PlacedFile)) (files : List PlacedFile) → All (IsOtherId x.id) rest
+    → with_rows files (front ++ Some x ∷ rest) ≡ put_file x (with_rows files (front ++ rest))
 unfolding with_rows
 row-put x [] rest files other = put-later x rest files other
 row-put x (None ∷ front) rest files other = row-put x front rest files other
@@ -93,7 +98,8 @@ abbrev pub OfRow : (PlacedFile → Type 0) → Option PlacedFile → Type 0
 OfRow P None = Unit {0}
 OfRow P (Some file) = P file
 
-pub of-rows : (P : PlacedFile → Type 0) (rows : List (Option PlacedFile)) (files : List PlacedFile) → All P files → All (OfRow P) rows → All P (with_rows files rows)
+pub of-rows : (P : PlacedFile → Type 0) (rows : List (Option PlacedFile)) (files : List PlacedFile) → All P files → All (OfRow P) rows
+    → All P (with_rows files rows)
 unfolding with_rows
 of-rows P [] files done all = done
 of-rows P (None ∷ rows) files done all = of-rows P rows files done (All-tail (OfRow P) None rows all)
@@ -128,14 +134,16 @@ the-replaced : (was x : PlacedFile) → was.id ≡ x.id → (if was.id == x.id t
 the-replaced was x same =
     ap (λ (n : ℕ). if n == x.id then x else was) same ∙ ap (λ (c : Bool). if c then x else was) (same-id x.id)
 
-pub put-replaced : (was x : PlacedFile) (files : List PlacedFile) → was.id ≡ x.id → All (λ f. f.id ≢ x.id) files → put_file x files ≡ replaced x (put_file was files)
+pub put-replaced : (was x : PlacedFile) (files : List PlacedFile) → was.id ≡ x.id → All (λ f. f.id ≢ x.id) files → put_file x files
+    ≡ replaced x (put_file was files)
 put-replaced was x [] same all = ap (λ (g : PlacedFile). g ∷ []) (sym (the-replaced was x same))
 put-replaced was x (f ∷ files) same all = by (nat_lt x.id f.id) refl (put-replaced was x files same (All-tail (λ g. g.id ≢ x.id) f files all))
   where
     own : (if f.id == x.id then x else f) ≡ f
     own = one-replaced x f (f.id == x.id) refl (not-equal f.id x.id (λ e. All-head (λ g. g.id ≢ x.id) f files all (sym e)))
 
-    by : (b : Bool) → nat_lt x.id f.id ≡ b → put_file x files ≡ replaced x (put_file was files) → put_file x (f ∷ files) ≡ replaced x (put_file was (f ∷ files))
+    by : (b : Bool) → nat_lt x.id f.id ≡ b → put_file x files ≡ replaced x (put_file was files) → put_file x (f ∷ files)
+        ≡ replaced x (put_file was (f ∷ files))
     by true is more =
         let lt = lt-of x.id f.id is in
         put-before x f files lt

@@ -1,5 +1,6 @@
 -- Tables of blocks and ids are read back.
-use Rattle.std.proofs.Common.{◌≡◌, ◌≢◌, ◌≤◌, ◌<◌, ◌^◌, ◌+◌, ◌-◌, ◌*◌, ◌/◌, ◌==◌, ◌&&◌, ℕ, zero, suc, Bool, true, false, List, [], ◌∷◌, ◌++◌, Option, Some, None, Ok, drop, length, get_or, if◌then◌else◌, refl, sym, ap, subst, ◌∙◌, arith, length-append}
+use Rattle.std.proofs.Common.{◌≡◌, ◌≢◌, ◌≤◌, ◌<◌, ◌^◌, ◌+◌, ◌-◌, ◌*◌, ◌/◌, ◌==◌, ◌&&◌, ℕ, zero, suc, Bool, true, false, List, [], ◌∷◌, ◌++◌, Option}
+use Rattle.std.proofs.Common.{Some, None, Ok, drop, length, get_or, if◌then◌else◌, refl, sym, ap, subst, ◌∙◌, arith, length-append}
 use Rattle.std.specs.List.{All, list_any, position, prefix_len}
 use Rattle.std.specs.Prelude.{min, nat_lt, nat_le, not}
 use Rattle.std.specs.Int.{w32, to_be_bytes}
@@ -15,7 +16,8 @@ use Rattle.nq_model.specs.Kept.{File, blocks_in_all, blocks_of as length_of}
 use Rattle.nq_image.specs.Check.{check}
 use Rattle.nq_image.specs.Kept.{numbers_from}
 use Rattle.nq_image.specs.Layout.{piece, word_in, whole_blocks}
-use Rattle.nq_image.specs.Tables.{held, held_from, ids_checks, ids_of, is_entry, is_id, is_marked, is_of_tables, marked, marks_behind, slot_checks, slot_marks, slot_table, table_checks, table_of, tables_blocks, tables_checks, tables_marks}
+use Rattle.nq_image.specs.Tables.{held, held_from, ids_checks, ids_of, is_entry, is_id, is_marked, is_of_tables, marked, marks_behind, slot_checks}
+use Rattle.nq_image.specs.Tables.{slot_marks, slot_table, table_checks, table_of, tables_blocks, tables_checks, tables_marks}
 use Rattle.nq_image.specs.Writing.{entries_bytes, ids_bytes, table_bytes, tables_bytes, zeros_of}
 use Rattle.nq_image.specs.declared.rows.Slot.{Slot}
 use Rattle.nq_image.proofs.FileRows.{slot_for, slots_for}
@@ -39,7 +41,8 @@ not-of-tables tables block lt = ap (λ (b : Bool). not (b && nat_lt block (table
     not-le : (m n : ℕ) → n < m → nat_le m n ≡ false
     not-le m n lt = grind (arith, nat_tests)
 
-entry-holds : (tables block entry : ℕ) (marks : List Bool) → entry ≡ block + 1 → block < tables → tables ≤ 16384 → AreFree block marks → is_entry tables marks entry ≡ true
+entry-holds : (tables block entry : ℕ) (marks : List Bool) → entry ≡ block + 1 → block < tables → tables ≤ 16384 → AreFree block marks
+    → is_entry tables marks entry ≡ true
 unfolding is_entry
 entry-holds tables block entry marks is lt near free =
     let less : entry - 1 ≡ block = omega (arith, is) in
@@ -59,23 +62,40 @@ length-entries (suc count) block = omega (arith, length-entries count (block + 1
 
 pub length-table : (count block : ℕ) → count ≤ 1024 → length (table_bytes count block) ≡ 4096
 unfolding table_bytes
-length-table count block short = omega (arith, short, length-entries count block, length-zeros (4096 - 4 * count), length-append (entries_bytes count block) (zeros_of (4096 - 4 * count)))
+length-table count block short = omega (
+  arith,
+  short,
+  length-entries count block,
+  length-zeros (4096 - 4 * count),
+  length-append (entries_bytes count block) (zeros_of (4096 - 4 * count)),
+)
 
 pub length-tables : (count block next : ℕ) (files : List File) → All (IsFileWithin next) files → length (tables_bytes count block files) ≡ 4096 * count
 unfolding tables_bytes
 length-tables zero block next files within = refl
-length-tables (suc count) block next [] within = omega (arith, length-zeros 4096, length-tables count block next [] within, length-append (zeros_of 4096) (tables_bytes count block []))
+length-tables (suc count) block next [] within = omega (
+  arith,
+  length-zeros 4096,
+  length-tables count block next [] within,
+  length-append (zeros_of 4096) (tables_bytes count block []),
+)
 length-tables (suc count) block next (file ∷ files) within =
     let n = length_of file in
     let own = All-head (IsFileWithin next) file files within in
-    omega (arith, length-table n block own.short, length-tables count (block + n) next files (All-tail (IsFileWithin next) file files within), length-append (table_bytes n block) (tables_bytes count (block + n) files))
+    omega (
+      arith,
+      length-table n block own.short,
+      length-tables count (block + n) next files (All-tail (IsFileWithin next) file files within),
+      length-append (table_bytes n block) (tables_bytes count (block + n) files),
+    )
 
 pub numbers-append : (first m n : ℕ) → numbers_from first m ++ numbers_from (first + m) n ≡ numbers_from first (m + n)
 unfolding numbers_from
 numbers-append first zero n = same first n
   where
     same : (first n : ℕ) → numbers_from (first + 0) n ≡ numbers_from first (0 + n)
-    same first n = let e : first + 0 ≡ first = omega arith in let f : 0 + n ≡ n = omega arith in ap (λ (a : ℕ). numbers_from a n) e ∙ ap (λ (b : ℕ). numbers_from first b) (sym f)
+    same first n = let e : first + 0 ≡ first = omega arith in let f : 0 + n ≡ n = omega arith in ap (λ (a : ℕ). numbers_from a n) e
+        ∙ ap (λ (b : ℕ). numbers_from first b) (sym f)
 numbers-append first (suc m) n =
     let e : first + suc m ≡ first + 1 + m = omega arith in
     let f : suc (m + n) ≡ suc m + n = omega arith in
@@ -110,7 +130,9 @@ module _ (tables : ℕ) (near : tables ≤ 16384) where
     free = λ k le. free k (omega arith);
   }
 
-  one-entry : (count place block : ℕ) (marks : List Bool) (bytes rest : List ℕ) → block < tables → AreFree block marks → word_in 0 bytes ≡ block + 1 → drop 4 bytes ≡ rest → IsTableBack tables count (place + 4) (block + 1) (marked marks (block + 1)) rest → IsTableBack tables (suc count) place block marks bytes
+  one-entry : (count place block : ℕ) (marks : List Bool) (bytes rest : List ℕ) → block < tables → AreFree block marks → word_in 0 bytes ≡ block + 1
+      → drop 4 bytes ≡ rest → IsTableBack tables count (place + 4) (block + 1) (marked marks (block + 1)) rest → IsTableBack tables (suc count) place
+      block marks bytes
   unfolding table_checks table_of marks_behind numbers_from
   one-entry count place block marks bytes rest lt free is behind more =
       let P : ℕ → List ℕ → Type 0 = λ w d. Hold (check place (is_entry tables marks w) ∷ table_checks count tables (place + 4) (marked marks w) d) in
@@ -118,12 +140,16 @@ module _ (tables : ℕ) (near : tables ≤ 16384) where
       let F : ℕ → Type 0 = λ n. AreFree n (marks_behind count (marked marks (block + 1)) rest) in
       let next : block + 1 + count ≡ block + suc count = omega arith in
       record {
-        holds = subst (λ (w : ℕ). P w (drop 4 bytes)) (sym is) (subst (λ (d : List ℕ). P (block + 1) d) (sym behind) (entry-holds tables block (block + 1) marks refl lt near free, more.holds));
-        blocks = ap (λ (w : ℕ). (w - 1) ∷ table_of count (drop 4 bytes)) is ∙ ap (λ (d : List ℕ). (block + 1 - 1) ∷ table_of count d) behind ∙ ap (λ (b : ℕ). b ∷ table_of count rest) less ∙ ap (λ (l : List ℕ). block ∷ l) more.blocks;
-        free = subst (λ (w : ℕ). AreFree (block + suc count) (marks_behind count (marked marks w) (drop 4 bytes))) (sym is) (subst (λ (d : List ℕ). AreFree (block + suc count) (marks_behind count (marked marks (block + 1)) d)) (sym behind) (subst F next more.free));
+        holds = subst (λ (w : ℕ). P w (drop 4 bytes)) (sym is) (subst (λ (d : List ℕ). P (block + 1) d) (sym behind)
+            (entry-holds tables block (block + 1) marks refl lt near free, more.holds));
+        blocks = ap (λ (w : ℕ). (w - 1) ∷ table_of count (drop 4 bytes)) is ∙ ap (λ (d : List ℕ). (block + 1 - 1) ∷ table_of count d) behind
+            ∙ ap (λ (b : ℕ). b ∷ table_of count rest) less ∙ ap (λ (l : List ℕ). block ∷ l) more.blocks;
+        free = subst (λ (w : ℕ). AreFree (block + suc count) (marks_behind count (marked marks w) (drop 4 bytes))) (sym is)
+            (subst (λ (d : List ℕ). AreFree (block + suc count) (marks_behind count (marked marks (block + 1)) d)) (sym behind) (subst F next more.free));
       }
 
-  entries-back : (count place block zeros : ℕ) (marks : List Bool) → block + count ≤ tables → AreFree block marks → IsTableBack tables count place block marks (entries_bytes count block ++ zeros_of zeros)
+  entries-back : (count place block zeros : ℕ) (marks : List Bool) → block + count ≤ tables → AreFree block marks → IsTableBack tables count place
+      block marks (entries_bytes count block ++ zeros_of zeros)
   unfolding entries_bytes
   entries-back zero place block zeros marks few free = last-entry place block zeros marks free
   entries-back (suc count) place block zeros marks few free =
@@ -131,30 +157,40 @@ module _ (tables : ℕ) (near : tables ≤ 16384) where
       one-entry count place block marks (to_be_bytes w32 (block + 1) ++ rest) rest (omega arith) free (word-of-block block rest (omega arith)) refl
       (entries-back count (place + 4) (block + 1) zeros (marked marks (block + 1)) (omega arith) (free-behind block marks free))
 
-  pub table-back : (count place block : ℕ) (marks : List Bool) → block + count ≤ tables → AreFree block marks → IsTableBack tables count place block marks (table_bytes count block)
+  pub table-back : (count place block : ℕ) (marks : List Bool) → block + count ≤ tables → AreFree block marks → IsTableBack tables count place block
+      marks (table_bytes count block)
   unfolding table_bytes
   table-back count place block marks few free = entries-back count place block (4096 - 4 * count) marks few free
 
   -- ---- all tables
 
-  table-whole : (place : ℕ) (pre table suf bytes : List ℕ) → bytes ≡ pre ++ (table ++ suf) → length pre ≡ place → length table ≡ 4096 → nat_le (place + 4096) (length bytes) ≡ true
+  table-whole : (place : ℕ) (pre table suf bytes : List ℕ) → bytes ≡ pre ++ (table ++ suf) → length pre ≡ place → length table ≡ 4096
+      → nat_le (place + 4096) (length bytes) ≡ true
   table-whole place pre table suf bytes is at long =
       let e : length bytes ≡ place + 4096 + length suf = omega (arith, ap length is, length-append pre (table ++ suf), length-append table suf, at, long) in
       ge-true (length bytes) (place + 4096 + length suf) (place + 4096) e (omega arith)
 
   -- a table in front of others
-  used-table : (count place block : ℕ) (file : File) (files : List File) (marks : List Bool) (table bytes : List ℕ) → nat_le (place + 4096) (length bytes) ≡ true → piece place 4096 bytes ≡ table → IsTableBack tables (length_of file) place block marks table → AreTablesBack tables count (place + 4096) (block + length_of file) files (marks_behind (length_of file) marks table) bytes → AreTablesBack tables (suc count) place block (file ∷ files) marks bytes
+  used-table : (count place block : ℕ) (file : File) (files : List File) (marks : List Bool) (table bytes : List ℕ) → nat_le (place + 4096)
+      (length bytes) ≡ true → piece place 4096 bytes ≡ table → IsTableBack tables (length_of file) place block marks table → AreTablesBack tables
+      count (place + 4096) (block + length_of file) files (marks_behind (length_of file) marks table) bytes → AreTablesBack tables (suc count) place
+      block (file ∷ files) marks bytes
   unfolding slots_for tables_checks tables_blocks tables_marks slot_checks slot_table slot_marks
   used-table count place block file files marks table bytes whole is own more =
       let n = length_of file in
       let slots = slots_for count files in
       let sums = sum_by-cons length_of file files in
-      let Checks : List ℕ → Type 0 = λ t. Hold (check place (nat_le (place + 4096) (length bytes)) ∷ (table_checks n tables place marks t ++ tables_checks tables (place + 4096) slots (marks_behind n marks t) bytes)) in
+      let Checks : List ℕ → Type 0 = λ t. Hold (check place (nat_le (place + 4096) (length bytes)) ∷ (table_checks n tables place marks t
+      ++ tables_checks tables (place + 4096) slots (marks_behind n marks t) bytes)) in
       let Free : List ℕ → Type 0 = λ t. AreFree (block + blocks_in_all (file ∷ files)) (tables_marks (place + 4096) slots (marks_behind n marks t) bytes) in
       let F : ℕ → Type 0 = λ k. AreFree k (tables_marks (place + 4096) slots (marks_behind n marks table) bytes) in
       let next : block + n + blocks_in_all files ≡ block + blocks_in_all (file ∷ files) = omega (arith, sums) in
       record {
-        holds = subst Checks (sym is) (whole, hold-append (table_checks n tables place marks table) (tables_checks tables (place + 4096) slots (marks_behind n marks table) bytes) own.holds more.holds);
+        holds = subst Checks (sym is) (
+          whole,
+          hold-append (table_checks n tables place marks table) (tables_checks tables (place + 4096) slots
+              (marks_behind n marks table) bytes) own.holds more.holds,
+        );
         blocks = ap (λ (t : List ℕ). table_of n t ++ tables_blocks (place + 4096) slots bytes) is
             ∙ ap (λ (l : List ℕ). l ++ tables_blocks (place + 4096) slots bytes) own.blocks
             ∙ ap (λ (l : List ℕ). numbers_from block n ++ l) more.blocks
@@ -163,7 +199,8 @@ module _ (tables : ℕ) (near : tables ≤ 16384) where
         free = subst Free (sym is) (subst F next more.free);
       }
 
-  unused-table : (count place block : ℕ) (marks : List Bool) (bytes : List ℕ) → nat_le (place + 4096) (length bytes) ≡ true → AreTablesBack tables count (place + 4096) block [] marks bytes → AreTablesBack tables (suc count) place block [] marks bytes
+  unused-table : (count place block : ℕ) (marks : List Bool) (bytes : List ℕ) → nat_le (place + 4096) (length bytes) ≡ true → AreTablesBack tables
+      count (place + 4096) block [] marks bytes → AreTablesBack tables (suc count) place block [] marks bytes
   unfolding slots_for tables_checks tables_blocks tables_marks slot_checks slot_table slot_marks
   unused-table count place block marks bytes whole more = record {
     holds = (whole, more.holds);
@@ -182,7 +219,9 @@ module _ (tables : ℕ) (near : tables ≤ 16384) where
   shifted : (pre table more suf bytes : List ℕ) → bytes ≡ pre ++ ((table ++ more) ++ suf) → bytes ≡ pre ++ (table ++ (more ++ suf))
   shifted pre table more suf bytes is = is ∙ ap (λ (b : List ℕ). pre ++ b) (append_assoc table more suf)
 
-  pub tables-back : (count place block next : ℕ) (files : List File) (marks : List Bool) (pre suf bytes : List ℕ) → bytes ≡ pre ++ (tables_bytes count block files ++ suf) → length pre ≡ place → length files ≤ count → All (IsFileWithin next) files → block + blocks_in_all files ≤ tables → AreFree block marks → AreTablesBack tables count place block files marks bytes
+  pub tables-back : (count place block next : ℕ) (files : List File) (marks : List Bool) (pre suf bytes : List ℕ) → bytes ≡ pre
+      ++ (tables_bytes count block files ++ suf) → length pre ≡ place → length files ≤ count → All (IsFileWithin next) files → block + blocks_in_all
+      files ≤ tables → AreFree block marks → AreTablesBack tables count place block files marks bytes
   unfolding tables_bytes
   tables-back zero place block next [] marks pre suf bytes is at all within few free = no-tables place block marks bytes free
   tables-back zero place block next (file ∷ files) marks pre suf bytes is at all within few free = absurd (omega arith)
@@ -192,7 +231,8 @@ module _ (tables : ℕ) (near : tables ≤ 16384) where
       let flat = shifted pre table more suf bytes is in
       let whole = table-whole place pre table (more ++ suf) bytes flat at (length-zeros 4096) in
       unused-table count place block marks bytes whole
-      (tables-back count (place + 4096) block next [] marks (pre ++ table) suf bytes (flat ∙ sym (append_assoc pre table (more ++ suf))) (omega (arith, at, length-append pre table, length-zeros 4096)) (omega arith) within few free)
+      (tables-back count (place + 4096) block next [] marks (pre ++ table) suf bytes (flat ∙ sym (append_assoc pre table (more ++ suf)))
+      (omega (arith, at, length-append pre table, length-zeros 4096)) (omega arith) within few free)
   tables-back (suc count) place block next (file ∷ files) marks pre suf bytes is at all within few free =
       let own = All-head (IsFileWithin next) file files within in
       let n = length_of file in
@@ -202,8 +242,11 @@ module _ (tables : ℕ) (near : tables ≤ 16384) where
       let flat = shifted pre table more suf bytes is in
       let long = length-table n block own.short in
       let back = table-back n place block marks (omega (arith, few, sums)) free in
-      used-table count place block file files marks table bytes (table-whole place pre table (more ++ suf) bytes flat at long) (piece-there place 4096 pre table (more ++ suf) bytes flat at long) back
-      (tables-back count (place + 4096) (block + n) next files (marks_behind n marks table) (pre ++ table) suf bytes (flat ∙ sym (append_assoc pre table (more ++ suf))) (omega (arith, at, length-append pre table, long)) (omega arith) (All-tail (IsFileWithin next) file files within) (omega (arith, few, sums)) back.free)
+      used-table count place block file files marks table bytes (table-whole place pre table (more ++ suf) bytes flat at long)
+      (piece-there place 4096 pre table (more ++ suf) bytes flat at long) back
+      (tables-back count (place + 4096) (block + n) next files (marks_behind n marks table) (pre ++ table) suf bytes
+      (flat ∙ sym (append_assoc pre table (more ++ suf))) (omega (arith, at, length-append pre table, long)) (omega arith)
+      (All-tail (IsFileWithin next) file files within) (omega (arith, few, sums)) back.free)
 
 -- ---- ids
 
@@ -219,19 +262,24 @@ not-known known id all = ap not (list_any_none (λ k. k == id) known (All-weaker
     other : (k id : ℕ) → k < id → (k == id) ≡ false
     other k id lt = grind (arith, nat_tests)
 
-id-holds : (next word : ℕ) (known : List ℕ) (slot : Slot) (id : ℕ) → word ≡ id → 1 ≤ id → id < next → All (λ k. k < id) known → is_id next known (Some slot) word ≡ true
+id-holds : (next word : ℕ) (known : List ℕ) (slot : Slot) (id : ℕ) → word ≡ id → 1 ≤ id → id < next → All (λ k. k < id) known
+    → is_id next known (Some slot) word ≡ true
 unfolding is_id
 id-holds next word known slot id is some lt all =
     ap (λ (w : ℕ). nat_le 1 w && nat_lt w next && not (list_any (λ k. k == w) known)) is
-    ∙ and-three (nat_le 1 id) (nat_lt id next) (not (list_any (λ k. k == id) known)) (ge-true id id 1 refl some) (lt-true id id next refl lt) (not-known known id all)
+    ∙ and-three (nat_le 1 id) (nat_lt id next) (not (list_any (λ k. k == id) known)) (ge-true id id 1 refl some) (lt-true id id next refl lt)
+    (not-known known id all)
 
-one-id : (next place count word : ℕ) (known : List ℕ) (slot : Option Slot) (slots : List (Option Slot)) (bytes rest : List ℕ) → word_in 0 bytes ≡ word → drop 4 bytes ≡ rest → is_id next known slot word ≡ true → Hold (ids_checks next (place + 4) (known ++ word ∷ []) slots rest) → Hold (ids_checks next place known (slot ∷ slots) bytes)
+one-id : (next place count word : ℕ) (known : List ℕ) (slot : Option Slot) (slots : List (Option Slot)) (bytes rest : List ℕ) → word_in 0 bytes ≡ word
+    → drop 4 bytes ≡ rest → is_id next known slot word ≡ true → Hold (ids_checks next (place + 4) (known ++ word ∷ []) slots rest)
+    → Hold (ids_checks next place known (slot ∷ slots) bytes)
 unfolding ids_checks
 one-id next place count word known slot slots bytes rest is behind own more =
     let P : ℕ → List ℕ → Type 0 = λ w d. Hold (check place (is_id next known slot w) ∷ ids_checks next (place + 4) (known ++ w ∷ []) slots d) in
     subst (λ (w : ℕ). P w (drop 4 bytes)) (sym is) (subst (λ (d : List ℕ). P word d) (sym behind) (own, more))
 
-one-id-is : (word : ℕ) (slot : Option Slot) (slots : List (Option Slot)) (bytes rest ids : List ℕ) → word_in 0 bytes ≡ word → drop 4 bytes ≡ rest → ids_of slots rest ≡ ids → ids_of (slot ∷ slots) bytes ≡ word ∷ ids
+one-id-is : (word : ℕ) (slot : Option Slot) (slots : List (Option Slot)) (bytes rest ids : List ℕ) → word_in 0 bytes ≡ word → drop 4 bytes ≡ rest
+    → ids_of slots rest ≡ ids → ids_of (slot ∷ slots) bytes ≡ word ∷ ids
 unfolding ids_of
 one-id-is word slot slots bytes rest ids is behind more =
     ap (λ (w : ℕ). w ∷ ids_of slots (drop 4 bytes)) is ∙ ap (λ (d : List ℕ). word ∷ ids_of slots d) behind ∙ ap (λ (l : List ℕ). word ∷ l) more
@@ -256,7 +304,8 @@ unused-id : (next : ℕ) (known : List ℕ) → is_id next known None 0 ≡ true
 unfolding is_id
 unused-id next known = refl
 
-pub ids-hold : (count next place zeros : ℕ) (known : List ℕ) (files : List File) → next ≤ 2147483648 → All (IsFileWithin next) files → AreApart files → All (λ f. All (λ k. k < f.id) known) files → Hold (ids_checks next place known (slots_for count files) (ids_bytes count files ++ zeros_of zeros))
+pub ids-hold : (count next place zeros : ℕ) (known : List ℕ) (files : List File) → next ≤ 2147483648 → All (IsFileWithin next) files → AreApart files
+    → All (λ f. All (λ k. k < f.id) known) files → Hold (ids_checks next place known (slots_for count files) (ids_bytes count files ++ zeros_of zeros))
 unfolding slots_for ids_bytes
 ids-hold zero next place zeros known files few within apart all = last-holds next place zeros known
 ids-hold (suc count) next place zeros known [] few within apart all =
@@ -268,18 +317,23 @@ ids-hold (suc count) next place zeros known (file ∷ files) few within apart al
     let rest = ids_bytes count files ++ zeros_of zeros in
     let below = own.below_next in
     let earlier = All-head (λ f. All (λ k. k < f.id) known) file files all in
-    one-id next place count file.id known (Some (slot_for file)) (slots_for count files) (to_be_bytes w32 file.id ++ rest) rest (id-word file.id rest (omega arith)) refl
+    one-id next place count file.id known (Some (slot_for file)) (slots_for count files) (to_be_bytes w32 file.id ++ rest) rest
+    (id-word file.id rest (omega arith)) refl
     (id-holds next file.id known (slot_for file) file.id refl own.from_one below earlier)
-    (ids-hold count next (place + 4) zeros (known ++ file.id ∷ []) files few (All-tail (IsFileWithin next) file files within) apart.2 (more known file files (All-tail (λ f. All (λ k. k < f.id) known) file files all) apart.0))
+    (ids-hold count next (place + 4) zeros (known ++ file.id ∷ []) files few (All-tail (IsFileWithin next) file files within) apart.2
+    (more known file files (All-tail (λ f. All (λ k. k < f.id) known) file files all) apart.0))
   where
-    more : (known : List ℕ) (file : File) (files : List File) → All (λ f. All (λ k. k < f.id) known) files → All (λ later. file.id < later.id) files → All (λ f. All (λ k. k < f.id) (known ++ file.id ∷ [])) files
+    more : (known : List ℕ) (file : File) (files : List File) → All (λ f. All (λ k. k < f.id) known) files → All (λ later. file.id < later.id) files
+        → All (λ f. All (λ k. k < f.id) (known ++ file.id ∷ [])) files
     more known file [] all later = All-nil (λ f. All (λ k. k < f.id) (known ++ file.id ∷ []))
     more known file (f ∷ files) all later =
         All-cons (λ f. All (λ k. k < f.id) (known ++ file.id ∷ [])) f files
-        (All-append (λ k. k < f.id) known (file.id ∷ []) (All-head (λ f. All (λ k. k < f.id) known) f files all) (All-cons (λ k. k < f.id) file.id [] (All-head (λ later. file.id < later.id) f files later) (All-nil (λ k. k < f.id))))
+        (All-append (λ k. k < f.id) known (file.id ∷ []) (All-head (λ f. All (λ k. k < f.id) known) f files all) (All-cons (λ k. k < f.id) file.id []
+        (All-head (λ later. file.id < later.id) f files later) (All-nil (λ k. k < f.id))))
         (more known file files (All-tail (λ f. All (λ k. k < f.id) known) f files all) (All-tail (λ later. file.id < later.id) f files later))
 
-pub ids-are : (count next zeros : ℕ) (files : List File) → next ≤ 2147483648 → All (IsFileWithin next) files → ids_of (slots_for count files) (ids_bytes count files ++ zeros_of zeros) ≡ ids_for count files
+pub ids-are : (count next zeros : ℕ) (files : List File) → next ≤ 2147483648 → All (IsFileWithin next) files → ids_of (slots_for count files)
+    (ids_bytes count files ++ zeros_of zeros) ≡ ids_for count files
 unfolding slots_for ids_bytes ids_for
 ids-are zero next zeros files few within = last-is zeros
 ids-are (suc count) next zeros [] few within =
@@ -289,7 +343,8 @@ ids-are (suc count) next zeros (file ∷ files) few within =
     let own = All-head (IsFileWithin next) file files within in
     let below = own.below_next in
     let rest = ids_bytes count files ++ zeros_of zeros in
-    one-id-is file.id (Some (slot_for file)) (slots_for count files) (to_be_bytes w32 file.id ++ rest) rest (ids_for count files) (id-word file.id rest (omega arith)) refl (ids-are count next zeros files few (All-tail (IsFileWithin next) file files within))
+    one-id-is file.id (Some (slot_for file)) (slots_for count files) (to_be_bytes w32 file.id ++ rest) rest (ids_for count files)
+    (id-word file.id rest (omega arith)) refl (ids-are count next zeros files few (All-tail (IsFileWithin next) file files within))
 
 pub length-ids : (count : ℕ) (files : List File) → length (ids_bytes count files) ≡ 4 * count
 unfolding ids_bytes
@@ -316,7 +371,8 @@ none-marked marks free =
     not-lt : (m n : ℕ) → n ≤ m → nat_lt m n ≡ false
     not-lt m n le = grind (arith, nat_tests)
 
-pub all-held : (size tables : ℕ) (marks : List Bool) → AreFree tables marks → length marks ≡ 16641 → tables ≤ 16384 → 40960 + 4096 * tables ≤ size → held size marks ≡ Ok tt
+pub all-held : (size tables : ℕ) (marks : List Bool) → AreFree tables marks → length marks ≡ 16641 → tables ≤ 16384 → 40960 + 4096 * tables ≤ size
+    → held size marks ≡ Ok tt
 unfolding held whole_blocks
 all-held size tables marks free long near most =
     let whole = min ((size - 40960) / 4096) (length marks) in

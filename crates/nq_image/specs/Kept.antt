@@ -1,5 +1,6 @@
 -- For which kept state an image stands.
-use Rattle.std.specs.Prelude.{ℕ, Bool, ◌+◌, List, [], ◌∷◌, Option, Some, None, Result, Ok, Err, length, map, position, take, drop, nat_lt, slice_index_or, sum_by, unwrap_or, zero, suc}
+use Rattle.std.specs.Prelude.{ℕ, Bool, ◌+◌, List, [], ◌∷◌, Option, Some, None, Result, Ok, Err, length, map, position, take, drop, nat_lt}
+use Rattle.std.specs.Prelude.{slice_index_or, sum_by, unwrap_or, zero, suc}
 use Rattle.std.specs.List.{insert}
 use Rattle.nq_base.specs.declared.Heads.{Heads}
 use Rattle.nq_base.specs.declared.HostRow.{HostRow}

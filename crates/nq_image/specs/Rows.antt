@@ -1,5 +1,6 @@
 -- The rows of the files in an image.
-use Rattle.std.specs.Prelude.{ℕ, ◌+◌, ◌==◌, Bool, true, false, ◌&&◌, not, List, [], ◌∷◌, ◌++◌, Option, Some, None, take, drop, nat_lt, nat_le, nat_eq, sum_by, zero, suc, if◌then◌else◌}
+use Rattle.std.specs.Prelude.{ℕ, ◌+◌, ◌==◌, Bool, true, false, ◌&&◌, not, List, [], ◌∷◌, ◌++◌, Option, Some, None, take, drop, nat_lt, nat_le, nat_eq}
+use Rattle.std.specs.Prelude.{sum_by, zero, suc, if◌then◌else◌}
 use Rattle.std.specs.Cmp.Lexicographic.{pointwise}
 use Rattle.std.specs.List.{list_any}
 use Rattle.nq_base.specs.Name.{is_name}

@@ -1,5 +1,6 @@
 -- The tables of an image of version 2: for each row the physical numbers of its file's blocks, and behind them the ids.
-use Rattle.std.specs.Prelude.{ℕ, ◌+◌, ◌-◌, ◌==◌, Bool, true, false, Result, Ok, Err, position, min, length, slice_index_or, slice_set, ◌&&◌, not, List, [], ◌∷◌, ◌++◌, Option, Some, None, drop, nat_lt, nat_le, zero, suc}
+use Rattle.std.specs.Prelude.{ℕ, ◌+◌, ◌-◌, ◌==◌, Bool, true, false, Result, Ok, Err, position, min, length, slice_index_or, slice_set, ◌&&◌, not}
+use Rattle.std.specs.Prelude.{List, [], ◌∷◌, ◌++◌, Option, Some, None, drop, nat_lt, nat_le, zero, suc}
 use Rattle.std.specs.List.{list_any}
 use Rattle.nq_image.specs.declared.rows.Slot.{Slot}
 use Rattle.nq_image.specs.Check.{Check, check}

@@ -1,5 +1,6 @@
 -- An image of either version: the eighth byte says which.
-use Rattle.std.specs.Prelude.{◌≡◌, ◌≤◌, ℕ, Bool, ◌&&◌, List, [], ◌∷◌, Option, Some, None, Result, Ok, length, nat_eq, nat_le, slice_index_or, sum_by, if◌then◌else◌}
+use Rattle.std.specs.Prelude.{◌≡◌, ◌≤◌, ℕ, Bool, ◌&&◌, List, [], ◌∷◌, Option, Some, None, Result, Ok, length, nat_eq, nat_le, slice_index_or, sum_by}
+use Rattle.std.specs.Prelude.{if◌then◌else◌}
 use Rattle.std.specs.Cmp.Lexicographic.{pointwise}
 use Rattle.nq_image.specs.declared.rows.Version.{Version}
 use Rattle.nq_image.specs.declared.whole.Image.{Image}

@@ -1,4 +1,3 @@
-pub mod Front
 mod Telling
 pub mod Told
 mod Writing

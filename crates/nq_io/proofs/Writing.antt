@@ -5,7 +5,8 @@ use Rattle.std.proofs.lemmas.List.{take_rest}
 use Rattle.std.specs.Io.KnownBytes.{Appends}
 
 -- after the first n bytes, m more of the rest
-pub appends_more : (bytes : List ℕ) (n m : ℕ) (first known now : Option (List ℕ)) → Appends first known (take n bytes) → Appends known now (take m (take (length bytes - n) (drop n bytes))) → Appends first now (take (n + m) bytes)
+pub appends_more : (bytes : List ℕ) (n m : ℕ) (first known now : Option (List ℕ)) → Appends first known (take n bytes)
+    → Appends known now (take m (take (length bytes - n) (drop n bytes))) → Appends first now (take (n + m) bytes)
 appends_more bytes n m None known now front more = tt
 appends_more bytes n m (Some held) None now front more = absurd front
 appends_more bytes n m (Some held) (Some then) None front more = absurd more

@@ -8,7 +8,8 @@ use Rattle.nq_base.specs.declared.Mode.{Mode}
 use Rattle.nq_base.specs.Plain.{plain}
 use Rattle.nq_script.specs.Forms.{told_words, said_words}
 use Rattle.nq_script.proofs.Again.{take_u64, take_u32, take_who, take_place, take_tag, told_again, said_again, has_told_again}
-use Rattle.nq_journal.specs.ReadingEntries.{mode_of, mode_at, way_of, way_at, source_at, longest_at, kind_of, c_at, w_at, r_at, s_at, l_at, g_at, f_at, o_at, b_at, x_at, z_at, a_at, entry_of}
+use Rattle.nq_journal.specs.ReadingEntries.{mode_of, mode_at, way_of, way_at, source_at, longest_at, kind_of, c_at, w_at, r_at, s_at, l_at, g_at}
+use Rattle.nq_journal.specs.ReadingEntries.{f_at, o_at, b_at, x_at, z_at, a_at, entry_of}
 use Rattle.nq_journal.specs.Text.{mode_word, way_word, source_words, longest_words, entry_words, FitsSource, Fits, Has}
 
 take_mode : (mode : Mode) (words : List (List ℕ)) → mode_at (mode_word mode ∷ words) ≡ Some (mode, words)

@@ -1,6 +1,5 @@
 -- Names, as they are compared.
-use Rattle.std.proofs.Common.{◌≡◌, ◌≢◌, ℕ, ◌+◌, ◌<◌, Bool, true, false, ◌&&◌, ◌==◌, List, [], ◌∷◌, Some, if◌then◌else◌, length, suc, refl, sym, ap, ◌∙◌, arith, drop, get_or, drop-cons}
-use Rattle.nq_model.specs.Kept.{File, find_name}
+use Rattle.std.proofs.Common.{◌≡◌, ◌≢◌, ℕ, Bool, true, false, ◌&&◌, ◌==◌, List, [], ◌∷◌, refl}
 use Rattle.nq_model.specs.Profile.{same_bytes}
 use Rattle.nq_model.proofs.Finding.{same-number, number-same}
 

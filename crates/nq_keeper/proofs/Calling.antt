@@ -22,11 +22,13 @@ of-told P kept o holds = λ x e. let same : told_of kept ≡ x = cc in subst P (
 -- ---- through the fields of a keeper
 
 -- what holds of what the fields keep holds of what is told
-pub told-as : (keeper : StoredKeeper) (kept : Kept) (calls : CallCounts) (P : Kept → Type 0) → record { kept = kept; calls = calls } ≡ keeper → IsWithinBounds kept → P kept → (x : Kept) → Some (told_of keeper.kept) ≡ Some x → P x
+pub told-as : (keeper : StoredKeeper) (kept : Kept) (calls : CallCounts) (P : Kept → Type 0) → record { kept = kept; calls = calls } ≡ keeper
+    → IsWithinBounds kept → P kept → (x : Kept) → Some (told_of keeper.kept) ≡ Some x → P x
 told-as keeper kept calls P view o holds x e = of-told P kept o holds x (ap (λ k. Some (told_of k.kept)) view ∙ e)
 
 -- and what is asked of what is told is asked of what the fields keep
-pub asked-as : (keeper : StoredKeeper) (kept : Kept) (calls : CallCounts) (P : Kept → Type 0) → record { kept = kept; calls = calls } ≡ keeper → IsWithinBounds kept → ((x : Kept) → Some (told_of keeper.kept) ≡ Some x → P x) → P kept
+pub asked-as : (keeper : StoredKeeper) (kept : Kept) (calls : CallCounts) (P : Kept → Type 0) → record { kept = kept; calls = calls } ≡ keeper
+    → IsWithinBounds kept → ((x : Kept) → Some (told_of keeper.kept) ≡ Some x → P x) → P kept
 asked-as keeper kept calls P view o for = for kept (sym (ap (λ k. Some (told_of k.kept)) view) ∙ ap (λ k. Some k) (told-kept kept o))
 
 -- ---- a call that reads
@@ -36,14 +38,17 @@ answered true found = tt
 answered false found = refl
 
 -- what was found in what the fields keep is found in what is told
-pub tells : {X : Type 0} (keeper : StoredKeeper) (kept : Kept) (calls : CallCounts) (x : Kept → X) (found : X) (result : Result X KeepFault) → record { kept = kept; calls = calls } ≡ keeper → IsWithinBounds kept → found ≡ x kept → result ≡ answer_of calls found → ForSome (Some (told_of keeper.kept)) (λ told. IfOk result (λ y. y ≡ x told))
+pub tells : {X : Type 0} (keeper : StoredKeeper) (kept : Kept) (calls : CallCounts) (x : Kept → X) (found : X) (result : Result X KeepFault)
+    → record { kept = kept; calls = calls } ≡ keeper → IsWithinBounds kept → found ≡ x kept → result ≡ answer_of calls found
+    → ForSome (Some (told_of keeper.kept)) (λ told. IfOk result (λ y. y ≡ x told))
 tells keeper kept calls x found result view o is answer =
     told-as keeper kept calls (λ told. IfOk result (λ y. y ≡ x told)) view o
     (subst (λ v. IfOk result (λ y. y ≡ v)) is (subst (λ r. IfOk r (λ y. y ≡ found)) (sym answer) (answered (is_next_listed calls) found)))
 
 -- ---- a commit
 
-pub told-applied : (kept : Kept) (change : Change) → IsWithinBounds kept → Fits kept change → IsChangeWithin kept change → told_of (applied kept change) ≡ applied (told_of kept) change
+pub told-applied : (kept : Kept) (change : Change) → IsWithinBounds kept → Fits kept change → IsChangeWithin kept change
+    → told_of (applied kept change) ≡ applied (told_of kept) change
 told-applied kept change o fits own =
     told-kept (applied kept change) (within-applied kept change o fits own) ∙ ap (λ k. applied k change) (sym (told-kept kept o))
 
@@ -51,7 +56,8 @@ module _ (old new : StoredKeeper) (change : Change) (o : IsWithinBounds old.kept
   pub leaves-two : new.kept ≡ applied old.kept change → LeavesTwo change (Some (told_of old.kept)) (LeavesEither old new)
   leaves-two is = λ kept e found left. by kept e found left
     where
-      by : (kept : Kept) → Some (told_of old.kept) ≡ Some kept → (found : Option Kept) → LeavesEither old new found → (found ≡ Some kept) ⊎ (found ≡ Some (applied kept change))
+      by : (kept : Kept) → Some (told_of old.kept) ≡ Some kept → (found : Option Kept) → LeavesEither old new found → (found ≡ Some kept)
+          ⊎ (found ≡ Some (applied kept change))
       by kept e found (inl left) = inl (left ∙ e)
       by kept e found (inr left) =
           let told : told_of old.kept ≡ kept = cc in
@@ -59,6 +65,8 @@ module _ (old new : StoredKeeper) (change : Change) (o : IsWithinBounds old.kept
 
 -- ---- a new keeper
 
-pub as-empty : (files : List File) (hosts : List HostRow) → files ≡ [] → hosts ≡ replicate most_hosts fresh_row → kept_as files hosts (record { boot = 0; opened = 0; longest = 60; next = 1 }) ≡ empty_kept
+pub as-empty : (files : List File) (hosts : List HostRow) → files ≡ [] → hosts ≡ replicate most_hosts fresh_row
+    → kept_as files hosts (record { boot = 0; opened = 0; longest = 60; next = 1 }) ≡ empty_kept
 unfolding kept_as
-as-empty files hosts none fresh = ap (λ fs. kept_as fs hosts (record { boot = 0; opened = 0; longest = 60; next = 1 })) none ∙ ap (λ hs. kept_as [] hs (record { boot = 0; opened = 0; longest = 60; next = 1 })) fresh
+as-empty files hosts none fresh = ap (λ fs. kept_as fs hosts (record { boot = 0; opened = 0; longest = 60; next = 1 })) none
+    ∙ ap (λ hs. kept_as [] hs (record { boot = 0; opened = 0; longest = 60; next = 1 })) fresh

@@ -1,5 +1,6 @@
 -- A row whose revision code caps: within the bounds it is as before, and it fits in any case.
-use Rattle.std.proofs.Common.{◌≡◌, ◌≤◌, ℕ, ◌+◌, ◌==◌, Bool, true, false, List, [], ◌∷◌, ◌++◌, Option, Some, None, if◌then◌else◌, length, min, refl, sym, subst, ap, ◌∙◌, arith, length-append}
+use Rattle.std.proofs.Common.{◌≡◌, ◌≤◌, ℕ, ◌+◌, ◌==◌, Bool, true, false, List, [], ◌∷◌, ◌++◌, Option, Some, None, if◌then◌else◌, length, min, refl}
+use Rattle.std.proofs.Common.{sym, subst, ap, ◌∙◌, arith, length-append}
 use Rattle.std.specs.Option.{IfSome}
 use Rattle.std.proofs.lemmas.List.Sums.{sum_by-append}
 use Rattle.nq_base.specs.declared.BlockChange.{BlockChange}
@@ -37,30 +38,36 @@ id-alike-first g x y false alike = refl
 blocks-alike : (x y : File) (files : List File) → Alike x y → blocks_in_all (replace_file x files) ≡ blocks_in_all (replace_file y files)
 blocks-alike x y [] alike = refl
 blocks-alike x y (g ∷ files) alike =
-    let heads : blocks_of (if g.id == x.id then x else g) ≡ blocks_of (if g.id == y.id then y else g) = blocks-alike-first g x y (g.id == x.id) alike ∙ ap (λ i. blocks_of (if g.id == i then y else g)) alike.id in
+    let heads : blocks_of (if g.id == x.id then x else g) ≡ blocks_of (if g.id == y.id then y else g) = blocks-alike-first g x y (g.id == x.id) alike
+    ∙ ap (λ i. blocks_of (if g.id == i then y else g)) alike.id in
     let rest : blocks_in_all (replace_file x files) ≡ blocks_in_all (replace_file y files) = blocks-alike x y files alike in
     blocks-first (if g.id == x.id then x else g) (replace_file x files)
     ∙ ap (λ n. n + blocks_in_all (replace_file x files)) heads
     ∙ ap (λ n. blocks_of (if g.id == y.id then y else g) + n) rest
     ∙ sym (blocks-first (if g.id == y.id then y else g) (replace_file y files))
 
-has-first : (block id : ℕ) (a b : File) (rest after : Option File) (c : Bool) → a.id ≡ b.id → blocks_of a ≡ blocks_of b → (a.id == id) ≡ c → (HasBlock block rest → HasBlock block after) → HasBlock block (if c then Some a else rest) → HasBlock block (if b.id == id then Some b else after)
+has-first : (block id : ℕ) (a b : File) (rest after : Option File) (c : Bool) → a.id ≡ b.id → blocks_of a ≡ blocks_of b → (a.id == id) ≡ c
+    → (HasBlock block rest → HasBlock block after) → HasBlock block (if c then Some a else rest) → HasBlock block (if b.id == id then Some b else after)
 has-first block id a b rest after true ids blocks e later h = rw (ap (λ i. i == id) (sym ids) ∙ e) (omega arith)
 has-first block id a b rest after false ids blocks e later h = rw (ap (λ i. i == id) (sym ids) ∙ e) (later h)
 
-has-alike : (block id : ℕ) (x y : File) (files : List File) → Alike x y → HasBlock block (find_file id (replace_file x files)) → HasBlock block (find_file id (replace_file y files))
+has-alike : (block id : ℕ) (x y : File) (files : List File) → Alike x y → HasBlock block (find_file id (replace_file x files))
+    → HasBlock block (find_file id (replace_file y files))
 has-alike block id x y [] alike h = h
 has-alike block id x y (g ∷ files) alike h =
-    has-first block id (if g.id == x.id then x else g) (if g.id == y.id then y else g) (find_file id (replace_file x files)) (find_file id (replace_file y files)) ((if g.id == x.id then x else g).id == id)
+    has-first block id (if g.id == x.id then x else g) (if g.id == y.id then y else g) (find_file id (replace_file x files))
+    (find_file id (replace_file y files)) ((if g.id == x.id then x else g).id == id)
     (id-alike-first g x y (g.id == x.id) alike ∙ ap (λ i. (if g.id == i then y else g).id) alike.id)
     (blocks-alike-first g x y (g.id == x.id) alike ∙ ap (λ i. blocks_of (if g.id == i then y else g)) alike.id)
     refl
     (has-alike block id x y files alike)
     h
 
-has-added : (block id : ℕ) (x y : File) (files : List File) → Alike x y → HasBlock block (find_file id (files ++ x ∷ [])) → HasBlock block (find_file id (files ++ y ∷ []))
+has-added : (block id : ℕ) (x y : File) (files : List File) → Alike x y → HasBlock block (find_file id (files ++ x ∷ []))
+    → HasBlock block (find_file id (files ++ y ∷ []))
 has-added block id x y [] alike h = has-first block id x y None None (x.id == id) alike.id alike.blocks refl (λ none. none) h
-has-added block id x y (g ∷ files) alike h = has-first block id g g (find_file id (files ++ x ∷ [])) (find_file id (files ++ y ∷ [])) (g.id == id) refl refl refl (has-added block id x y files alike) h
+has-added block id x y (g ∷ files) alike h = has-first block id g g (find_file id (files ++ x ∷ [])) (find_file id (files ++ y ∷ [])) (g.id == id)
+    refl refl refl (has-added block id x y files alike) h
 
 capped-alike : (row : FileRow) (bodies : List (List ℕ)) → Alike (file_of row bodies) (file_of (capped_row row) bodies)
 unfolding file_of capped_row
@@ -74,14 +81,17 @@ length-at : (row : FileRow) (files : List File) (o : Option File) → length (wi
 length-at row files None = length-append files (file_of (capped_row row) [] ∷ []) ∙ sym (length-append files (file_of row [] ∷ []))
 length-at row files (Some f) = length-replaced (file_of (capped_row row) f.bodies) files ∙ sym (length-replaced (file_of row f.bodies) files)
 
-blocks-at : (row : FileRow) (files : List File) (o : Option File) → blocks_in_all (with_file_at row files o) ≡ blocks_in_all (with_file_at (capped_row row) files o)
+blocks-at : (row : FileRow) (files : List File) (o : Option File) → blocks_in_all (with_file_at row files o) ≡ blocks_in_all
+    (with_file_at (capped_row row) files o)
 blocks-at row files None =
     sum_by-append blocks_of files (file_of row [] ∷ [])
-    ∙ ap (λ n. blocks_in_all files + n) (blocks-first (file_of row []) [] ∙ ap (λ n. n + blocks_in_all []) (capped-alike row []).blocks ∙ sym (blocks-first (file_of (capped_row row) []) []))
+    ∙ ap (λ n. blocks_in_all files + n) (blocks-first (file_of row []) [] ∙ ap (λ n. n + blocks_in_all []) (capped-alike row []).blocks
+    ∙ sym (blocks-first (file_of (capped_row row) []) []))
     ∙ sym (sum_by-append blocks_of files (file_of (capped_row row) [] ∷ []))
 blocks-at row files (Some f) = blocks-alike (file_of row f.bodies) (file_of (capped_row row) f.bodies) files (capped-alike row f.bodies)
 
-has-at : (block id : ℕ) (row : FileRow) (files : List File) (o : Option File) → HasBlock block (find_file id (with_file_at row files o)) → HasBlock block (find_file id (with_file_at (capped_row row) files o))
+has-at : (block id : ℕ) (row : FileRow) (files : List File) (o : Option File) → HasBlock block (find_file id (with_file_at row files o))
+    → HasBlock block (find_file id (with_file_at (capped_row row) files o))
 has-at block id row files None h = has-added block id (file_of row []) (file_of (capped_row row) []) files (capped-alike row []) h
 has-at block id row files (Some f) h = has-alike block id (file_of row f.bodies) (file_of (capped_row row) f.bodies) files (capped-alike row f.bodies) h
 
@@ -100,18 +110,25 @@ capped-blocks row = refl
 
 pub file-capped : (kept : Kept) (heads : Option Heads) (row : FileRow) → FitsFile kept heads row → FitsFile kept heads (capped_row row)
 file-capped kept heads row fits = record {
-  of_file = subst (λ i. IsRowOf kept heads (capped_row row) (find_file i kept.files)) (sym (capped-id row)) (row-at kept heads row (find_file row.id kept.files) fits.of_file);
+  of_file = subst (λ i. IsRowOf kept heads (capped_row row) (find_file i kept.files)) (sym (capped-id row))
+      (row-at kept heads row (find_file row.id kept.files) fits.of_file);
   not_empty = subst (λ n. 1 ≤ n) (sym (capped-blocks row)) fits.not_empty;
   short = subst (λ n. n ≤ most_blocks_of_file) (sym (capped-blocks row)) fits.short;
-  few_files = subst (λ n. n ≤ most_files) (sym (ap length (found-capped row kept.files) ∙ length-at row kept.files (find_file row.id kept.files))) fits.few_files;
-  few_blocks = subst (λ n. n ≤ most_blocks) (blocks-at row kept.files (find_file row.id kept.files) ∙ ap blocks_in_all (sym (found-capped row kept.files))) fits.few_blocks;
+  few_files = subst (λ n. n ≤ most_files) (sym (ap length (found-capped row kept.files) ∙ length-at row kept.files (find_file row.id kept.files)))
+      fits.few_files;
+  few_blocks = subst (λ n. n ≤ most_blocks) (blocks-at row kept.files (find_file row.id kept.files)
+      ∙ ap blocks_in_all (sym (found-capped row kept.files))) fits.few_blocks;
 }
 
-pub files-capped : (kept : Kept) (heads : Option Heads) (file : Option FileRow) → IfSome file (FitsFile kept heads) → IfSome (capped_file file) (FitsFile kept heads)
+pub files-capped : (kept : Kept) (heads : Option Heads) (file : Option FileRow) → IfSome file (FitsFile kept heads) → IfSome (capped_file file)
+    (FitsFile kept heads)
 files-capped kept heads None fits = fits
 files-capped kept heads (Some row) fits = file-capped kept heads row fits
 
-pub blocks-capped : (kept : Kept) (file : Option FileRow) (block : Option BlockChange) → IfSome block (λ b. HasBlock b.block (find_file b.file (files_with file kept.files))) → IfSome block (λ b. HasBlock b.block (find_file b.file (files_with (capped_file file) kept.files)))
+pub blocks-capped : (kept : Kept) (file : Option FileRow) (block : Option BlockChange)
+    → IfSome block (λ b. HasBlock b.block (find_file b.file (files_with file kept.files)))
+    → IfSome block (λ b. HasBlock b.block (find_file b.file (files_with (capped_file file) kept.files)))
 blocks-capped kept file None has = has
 blocks-capped kept None (Some b) has = has
-blocks-capped kept (Some row) (Some b) has = subst (λ files. HasBlock b.block (find_file b.file files)) (sym (found-capped row kept.files)) (has-at b.block b.file row kept.files (find_file row.id kept.files) has)
+blocks-capped kept (Some row) (Some b) has = subst (λ files. HasBlock b.block (find_file b.file files)) (sym (found-capped row kept.files))
+    (has-at b.block b.file row kept.files (find_file row.id kept.files) has)

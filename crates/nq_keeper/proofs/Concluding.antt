@@ -1,5 +1,6 @@
 -- The change that an effect makes.
-use Rattle.std.proofs.Common.{◌≡◌, ◌⊎◌, ◌<◌, ◌+◌, ◌*◌, ◌/◌, ◌%◌, ◌^◌, ℕ, Bool, true, false, if◌then◌else◌, List, [], ◌∷◌, ◌++◌, zero, suc, get_or, refl, Option, Some, None, Result, Ok, Err, sym, ap, ◌∙◌, subst, inl, inr, arith}
+use Rattle.std.proofs.Common.{◌≡◌, ◌⊎◌, ◌<◌, ◌/◌, ◌%◌, ◌^◌, ℕ, true, false, if◌then◌else◌, List, [], ◌∷◌, zero, suc, get_or, refl, Option, Some, None}
+use Rattle.std.proofs.Common.{Result, Ok, Err, sym, ap, ◌∙◌, subst, inl, inr, arith}
 use Rattle.std.specs.List.{All}
 use Rattle.std.specs.Option.{ForSome}
 use Rattle.std.specs.Prelude.{nat_lt}
@@ -18,9 +19,10 @@ use Rattle.nq_base.specs.declared.Who.{Who}
 use Rattle.nq_io.specs.Faults.{Rose}
 use Rattle.nq_keeper.specs.declared.keeper.KeepFault.{KeepFault}
 use Rattle.nq_keeper.specs.declared.keeper.KeepFault.TheVariants.{Failed, Memory}
-use Rattle.nq_keeper.specs.Keeping.{Commits, LeavesOne, LeavesTwo, StaysOrEnds, told_after}
+use Rattle.nq_keeper.specs.Keeping.{Commits, LeavesTwo, StaysOrEnds, told_after}
 use Rattle.nq_model.specs.Change.{Fits, IsChangeWithin, IsWithinBounds, applied, applied_if}
-use Rattle.nq_model.specs.Decided.{HasText, attach_decided, change_with, decided, decided_before, effect_of, fresh_change, fresh_decided, if_fresh, no_effect, or_fresh, row_with}
+use Rattle.nq_model.specs.Decided.{HasText, attach_decided, change_with, decided, decided_before, effect_of, fresh_change, fresh_decided, if_fresh}
+use Rattle.nq_model.specs.Decided.{no_effect, or_fresh, row_with}
 use Rattle.nq_model.specs.Kept.{Kept, can_be_kept, host_row}
 use Rattle.nq_model.specs.Profile.{most_hosts}
 use Rattle.nq_model.proofs.FreshFits.{effect-fits, orderly-within}
@@ -39,7 +41,8 @@ word-bytes : (v : ℕ) → v < 2 ^ 32 → All (λ byte. byte < 256) (word v)
 word-bytes v small =
     All-cons (λ byte. byte < 256) (v / 16777216) (v / 65536 % 256 ∷ v / 256 % 256 ∷ v % 256 ∷ []) (omega arith)
     (All-cons (λ byte. byte < 256) (v / 65536 % 256) (v / 256 % 256 ∷ v % 256 ∷ []) (omega arith)
-    (All-cons (λ byte. byte < 256) (v / 256 % 256) (v % 256 ∷ []) (omega arith) (All-cons (λ byte. byte < 256) (v % 256) [] (omega arith) (All-nil (λ byte. byte < 256)))))
+    (All-cons (λ byte. byte < 256) (v / 256 % 256) (v % 256 ∷ []) (omega arith) (All-cons (λ byte. byte < 256) (v % 256) [] (omega arith)
+    (All-nil (λ byte. byte < 256)))))
 
 words-bytes : (times v : ℕ) → v < 2 ^ 32 → All (λ byte. byte < 256) (repeated times v)
 words-bytes zero v small = All-nil (λ byte. byte < 256)
@@ -52,7 +55,8 @@ filled-bytes v small = words-bytes 1024 v small
 -- ---- the host's row
 
 -- the host that it names is the one that asked
-pub names-host : (who : Who) (seq : ℕ) (effect : Effect) (change : Change) (h : HostChange) → change ≡ change_with who seq effect → change.host ≡ Some h → who.host < most_hosts → h.host < most_hosts
+pub names-host : (who : Who) (seq : ℕ) (effect : Effect) (change : Change) (h : HostChange) → change ≡ change_with who seq effect → change.host
+    ≡ Some h → who.host < most_hosts → h.host < most_hosts
 unfolding change_with
 names-host who seq effect change h is named few =
     let own : Some (record { host = who.host; row = row_with who seq effect }) ≡ Some h = sym (ap (λ c. c.host) is) ∙ named in
@@ -71,25 +75,32 @@ module _ (who : Who) (seq : ℕ) (effect : Effect) where
   given = if_fresh (fresh_decided who seq effect) (change_with who seq effect)
 
   -- what a call gives that keeps the effect
-  pub gives-kept : (change : Change) (told tells : Option Kept) (before now : ℕ) (done : Unit {0}) → change ≡ change_with who seq effect → can_be_kept (row_with who seq effect) ≡ true → Commits (Ok done) change told tells before now → Gives (λ kept. fresh_decided who seq effect) (λ kept. given) (Ok (Fresh effect.verdict effect.value)) told tells before now
+  pub gives-kept : (change : Change) (told tells : Option Kept) (before now : ℕ) (done : Unit {0}) → change ≡ change_with who seq effect
+      → can_be_kept (row_with who seq effect) ≡ true → Commits (Ok done) change told tells before now → Gives (λ kept. fresh_decided who seq effect)
+      (λ kept. given) (Ok (Fresh effect.verdict effect.value)) told tells before now
   gives-kept change told tells before now done is can h = (
     λ kept e. (
       sym (is-fresh can),
-      h.0 ∙ ap (told_after change) e ∙ ap (λ c. Some (applied kept c)) is ∙ ap (λ d. Some (applied_if kept (if_fresh d (change_with who seq effect)))) (sym (is-fresh can)),
+      h.0 ∙ ap (told_after change) e ∙ ap (λ c. Some (applied kept c)) is ∙ ap (λ d. Some (applied_if kept (if_fresh d (change_with who seq effect))))
+          (sym (is-fresh can)),
     ),
     h.1,
   )
 
   -- and what a stop leaves in it
-  pub leaves-kept : (change : Change) (told : Option Kept) (leaves : Option Kept → Type 0) → change ≡ change_with who seq effect → can_be_kept (row_with who seq effect) ≡ true → LeavesTwo change told leaves → LeavesGiven (λ kept. given) told leaves
+  pub leaves-kept : (change : Change) (told : Option Kept) (leaves : Option Kept → Type 0) → change ≡ change_with who seq effect
+      → can_be_kept (row_with who seq effect) ≡ true → LeavesTwo change told leaves → LeavesGiven (λ kept. given) told leaves
   leaves-kept change told leaves is can h = λ kept e found left. by kept found (h kept e found left)
     where
-      by : (kept : Kept) (found : Option Kept) → (found ≡ Some kept) ⊎ (found ≡ Some (applied kept change)) → (found ≡ Some kept) ⊎ (found ≡ Some (applied_if kept given))
+      by : (kept : Kept) (found : Option Kept) → (found ≡ Some kept) ⊎ (found ≡ Some (applied kept change)) → (found ≡ Some kept)
+          ⊎ (found ≡ Some (applied_if kept given))
       by kept found (inl s) = inl s
-      by kept found (inr s) = inr (s ∙ ap (λ c. Some (applied kept c)) is ∙ ap (λ d. Some (applied_if kept (if_fresh d (change_with who seq effect)))) (sym (is-fresh can)))
+      by kept found (inr s) = inr (s ∙ ap (λ c. Some (applied kept c)) is ∙ ap (λ d. Some (applied_if kept (if_fresh d (change_with who seq effect))))
+          (sym (is-fresh can)))
 
   -- where the row can not be kept nothing changes
-  pub gives-out : (told : Option Kept) (now : ℕ) → can_be_kept (row_with who seq effect) ≡ false → Gives (λ kept. fresh_decided who seq effect) (λ kept. given) (Ok OutOfBounds) told told now now
+  pub gives-out : (told : Option Kept) (now : ℕ) → can_be_kept (row_with who seq effect) ≡ false → Gives (λ kept. fresh_decided who seq effect)
+      (λ kept. given) (Ok OutOfBounds) told told now now
   gives-out told now can = (
     λ kept e. (sym (is-out can), e ∙ ap (λ d. Some (applied_if kept (if_fresh d (change_with who seq effect)))) (sym (is-out can))),
     refl,
@@ -98,19 +109,26 @@ module _ (who : Who) (seq : ℕ) (effect : Effect) where
 -- ---- what is told of an effect
 
 -- the same decision and change, told in other words
-pub gives-as : (d e : Kept → Decided) (c f : Kept → Option Change) (result : Result Decided KeepFault) (told between tells : Option Kept) (before middle now : ℕ) → between ≡ told → middle ≡ before → ForSome told (λ kept. d kept ≡ e kept) → ForSome told (λ kept. c kept ≡ f kept) → Gives d c result between tells middle now → Gives e f result told tells before now
+pub gives-as : (d e : Kept → Decided) (c f : Kept → Option Change) (result : Result Decided KeepFault) (told between tells : Option Kept)
+    (before middle now : ℕ) → between ≡ told → middle ≡ before → ForSome told (λ kept. d kept ≡ e kept) → ForSome told (λ kept. c kept ≡ f kept)
+    → Gives d c result between tells middle now → Gives e f result told tells before now
 gives-as d e c f (Ok given) told between tells before middle now stays is same alike h =
     (λ kept t. let own = h.0 kept (stays ∙ t) in (own.0 ∙ same kept t, own.1 ∙ ap (λ o. Some (applied_if kept o)) (alike kept t)), h.1 ∙ is)
 gives-as d e c f (Err Memory) told between tells before middle now stays is same alike h = (h.0 ∙ stays, h.1 ∙ is)
-gives-as d e c f (Err Failed) told between tells before middle now stays is same alike h = (subst (λ o. StaysOrEnds o tells) stays h.0, subst (λ n. Rose n now) is h.1)
+gives-as d e c f (Err Failed) told between tells before middle now stays is same alike h = (
+  subst (λ o. StaysOrEnds o tells) stays h.0,
+  subst (λ n. Rose n now) is h.1,
+)
 
 -- the same change, told in other words
-pub leaves-as : (kept : Kept) (found : Option Kept) (c f : Option Change) → c ≡ f → (found ≡ Some kept) ⊎ (found ≡ Some (applied_if kept c)) → (found ≡ Some kept) ⊎ (found ≡ Some (applied_if kept f))
+pub leaves-as : (kept : Kept) (found : Option Kept) (c f : Option Change) → c ≡ f → (found ≡ Some kept) ⊎ (found ≡ Some (applied_if kept c))
+    → (found ≡ Some kept) ⊎ (found ≡ Some (applied_if kept f))
 leaves-as kept found c f same (inl h) = inl h
 leaves-as kept found c f same (inr h) = inr (h ∙ ap (λ o. Some (applied_if kept o)) same)
 
 -- what is left before a call that changes nothing, or in one that makes a change
-pub leaves-then : (A B : Type 0) (found : Option Kept) (kept : Kept) (c : Option Change) → A ⊎ B → (A → found ≡ Some kept) → (B → (found ≡ Some kept) ⊎ (found ≡ Some (applied_if kept c))) → (found ≡ Some kept) ⊎ (found ≡ Some (applied_if kept c))
+pub leaves-then : (A B : Type 0) (found : Option Kept) (kept : Kept) (c : Option Change) → A ⊎ B → (A → found ≡ Some kept)
+    → (B → (found ≡ Some kept) ⊎ (found ≡ Some (applied_if kept c))) → (found ≡ Some kept) ⊎ (found ≡ Some (applied_if kept c))
 leaves-then A B found kept c (inl a) f h = inl (f a)
 leaves-then A B found kept c (inr b) f h = h b
 
@@ -118,7 +136,8 @@ leaves-then A B found kept c (inr b) f h = h b
 abbrev pub given_of : Who → (seq : ℕ) → Effect → Option Change
 given_of who seq effect = if_fresh (fresh_decided who seq effect) (change_with who seq effect)
 
-module _ (gate : Gate) (r : Request) (who : Who) (seq : ℕ) (effect : Effect) (kept : Kept) (within : IsWithinBounds kept) (is : effect ≡ capped (effect_of kept gate r)) where
+module _ (gate : Gate) (r : Request) (who : Who) (seq : ℕ) (effect : Effect) (kept : Kept) (within : IsWithinBounds kept) (is : effect
+    ≡ capped (effect_of kept gate r)) where
   -- the effect is what the definitions say
   pub is-effect : effect ≡ effect_of kept gate r
   is-effect = is ∙ effect-stays kept within gate r
@@ -126,14 +145,17 @@ module _ (gate : Gate) (r : Request) (who : Who) (seq : ℕ) (effect : Effect) (
   -- it can be kept
   pub fits-kept : who.host < most_hosts → Fits kept (change_with who seq effect)
   fits-kept few =
-      subst (λ x. Fits kept (change_with who seq x)) (sym is) (capped-fits kept who seq (effect_of kept gate r) (effect-fits kept (orderly-within kept within) who few seq gate r))
+      subst (λ x. Fits kept (change_with who seq x)) (sym is) (capped-fits kept who seq (effect_of kept gate r)
+      (effect-fits kept (orderly-within kept within) who few seq gate r))
 
   -- and is within the bounds, where the row can be kept
-  pub within-kept : HasText r → decided kept gate r ≡ fresh_decided who seq (effect_of kept gate r) → fresh_change kept gate r ≡ change_with who seq (effect_of kept gate r) → can_be_kept (row_with who seq effect) ≡ true → IsChangeWithin kept (change_with who seq effect)
+  pub within-kept : HasText r → decided kept gate r ≡ fresh_decided who seq (effect_of kept gate r) → fresh_change kept gate r ≡ change_with who seq
+      (effect_of kept gate r) → can_be_kept (row_with who seq effect) ≡ true → IsChangeWithin kept (change_with who seq effect)
   within-kept text decides changes can =
       subst (λ x. IsChangeWithin kept (change_with who seq x)) (sym is-effect)
       (subst (IsChangeWithin kept) changes
-      (fresh-within kept within gate r (effect_of kept gate r).verdict (effect_of kept gate r).value (decides ∙ is-fresh who seq (effect_of kept gate r) (subst (λ x. can_be_kept (row_with who seq x) ≡ true) is-effect can)) text))
+      (fresh-within kept within gate r (effect_of kept gate r).verdict (effect_of kept gate r).value (decides
+      ∙ is-fresh who seq (effect_of kept gate r) (subst (λ x. can_be_kept (row_with who seq x) ≡ true) is-effect can)) text))
 
   -- what is decided and changed by it
   pub decided-as : fresh_decided who seq effect ≡ fresh_decided who seq (effect_of kept gate r)
@@ -143,10 +165,12 @@ module _ (gate : Gate) (r : Request) (who : Who) (seq : ℕ) (effect : Effect) (
   given-as = ap (given_of who seq) is-effect
 
 -- a request of a sequence of which nothing is said is fresh
-pub of-sequence : (kept : Kept) (gate : Gate) (r : Request) (who : Who) (seq : ℕ) → IsOfSequence who seq r → decided_before who seq (host_row kept who.host) ≡ None → decided kept gate r ≡ fresh_decided who seq (effect_of kept gate r)
+pub of-sequence : (kept : Kept) (gate : Gate) (r : Request) (who : Who) (seq : ℕ) → IsOfSequence who seq r → decided_before who seq
+    (host_row kept who.host) ≡ None → decided kept gate r ≡ fresh_decided who seq (effect_of kept gate r)
 of-sequence kept gate r who seq asked later = asked.decides kept gate ∙ ap (λ o. or_fresh o (fresh_decided who seq (effect_of kept gate r))) later
 
 -- ---- a later incarnation attaches
 
 pub attaches-fresh : (who : Who) (line : HostRow) → nat_lt line.inc who.inc ≡ true → attach_decided who line ≡ fresh_decided who 0 (no_effect Verdict.Done)
-attaches-fresh who line later = ap (λ b. if b then fresh_decided who 0 (no_effect Verdict.Done) else (if nat_lt who.inc line.inc then OldIncarnation else Again line.verdict line.value)) later
+attaches-fresh who line later = ap (λ b. if b then fresh_decided who 0 (no_effect Verdict.Done) else (if nat_lt who.inc line.inc then OldIncarnation
+    else Again line.verdict line.value)) later

@@ -1,5 +1,6 @@
 -- What the edits of a vector of files, and of a vector of blocks, make of them.
-use Rattle.std.proofs.Common.{◌≡◌, ℕ, ◌+◌, ◌-◌, ◌≤◌, ◌<◌, ◌==◌, Bool, true, false, not, if◌then◌else◌, List, [], ◌∷◌, ◌++◌, Some, None, Result, Ok, Err, suc, zero, set, length, get_or, refl, sym, subst, ap, ◌∙◌, append_assoc, arith}
+use Rattle.std.proofs.Common.{◌≡◌, ℕ, ◌+◌, ◌-◌, ◌≤◌, ◌<◌, ◌==◌, Bool, true, false, not, if◌then◌else◌, List, [], ◌∷◌, ◌++◌, Some, None, Result, Ok}
+use Rattle.std.proofs.Common.{Err, suc, zero, set, length, get_or, refl, sym, subst, ap, ◌∙◌, append_assoc, arith}
 use Rattle.std.specs.Prelude.{IfOk, OnOk, replicate, take, slice_get}
 use Rattle.std.specs.List.{remove}
 use Rattle.std.specs.Option.{ForSome}
@@ -19,7 +20,8 @@ use Rattle.nq_model.proofs.FreshFits.{blocks-first, blocks-replaced}
 -- ---- blocks
 
 -- one block of zeros more
-pub zeros-more : (bodies : List (List ℕ)) (n : ℕ) (block : List ℕ) → block ≡ filled 0 → (bodies ++ replicate n zeros) ++ block ∷ [] ≡ bodies ++ replicate (n + 1) zeros
+pub zeros-more : (bodies : List (List ℕ)) (n : ℕ) (block : List ℕ) → block ≡ filled 0 → (bodies ++ replicate n zeros) ++ block ∷ [] ≡ bodies
+    ++ replicate (n + 1) zeros
 unfolding zeros
 zeros-more bodies n block is =
     append_assoc bodies (replicate n (filled 0)) (block ∷ [])
@@ -58,7 +60,8 @@ pub got-at : {X : Type 0} (xs : List X) (place : ℕ) (x : X) → place < length
 got-at xs place x lt is = let one = some-at xs place lt in one.1 ∙ ap Some (sym (is ∙ get-index xs place one.0 x one.1))
 
 -- the file that stands where its id was found
-pub found-there : (files seen : List File) (place id : ℕ) (f : File) → seen ≡ files → find_file id seen ≡ slice_get seen place → place < length seen → f ≡ get_or files place f → find_file id files ≡ Some f
+pub found-there : (files seen : List File) (place id : ℕ) (f : File) → seen ≡ files → find_file id seen ≡ slice_get seen place → place < length seen
+    → f ≡ get_or files place f → find_file id files ≡ Some f
 found-there files seen place id f same found lt is =
     subst (λ xs. find_file id xs ≡ Some f) same (found ∙ got-at seen place f lt (subst (λ xs. f ≡ get_or xs place f) (sym same) is))
 
@@ -71,7 +74,8 @@ unfolding with_body
 body-id f block body = refl
 
 -- a file with another body in its place
-pub writes-block : (files new : List File) (place : ℕ) (b : BlockChange) → AreApart files → find_file b.file files ≡ slice_get files place → place < length files → ForSome (slice_get files place) (λ f. new ≡ set files place (with_body f b.block b.body)) → new ≡ with_block b files
+pub writes-block : (files new : List File) (place : ℕ) (b : BlockChange) → AreApart files → find_file b.file files ≡ slice_get files place
+    → place < length files → ForSome (slice_get files place) (λ f. new ≡ set files place (with_body f b.block b.body)) → new ≡ with_block b files
 writes-block files new place b apart found lt is =
     let one = some-at files place lt in
     let f : File = one.0 in
@@ -81,7 +85,8 @@ writes-block files new place b apart found lt is =
     ∙ sym (ap (with_block_in b files) (found ∙ at))
 
 -- a file that follows its row in its place
-pub follows-row : (files new : List File) (place : ℕ) (row : FileRow) → AreApart files → find_file row.id files ≡ slice_get files place → place < length files → ForSome (slice_get files place) (λ f. new ≡ set files place (file_of row f.bodies)) → new ≡ with_file row files
+pub follows-row : (files new : List File) (place : ℕ) (row : FileRow) → AreApart files → find_file row.id files ≡ slice_get files place
+    → place < length files → ForSome (slice_get files place) (λ f. new ≡ set files place (file_of row f.bodies)) → new ≡ with_file row files
 follows-row files new place row apart found lt is =
     let one = some-at files place lt in
     let f : File = one.0 in
@@ -92,7 +97,8 @@ follows-row files new place row apart found lt is =
     ∙ sym (ap (with_file_at row files) (found ∙ at))
 
 -- a file taken out of its place
-pub drops-file : (files : List File) (place id : ℕ) → AreApart files → find_file id files ≡ slice_get files place → place < length files → remove files place ≡ drop_file id files
+pub drops-file : (files : List File) (place id : ℕ) → AreApart files → find_file id files ≡ slice_get files place → place < length files
+    → remove files place ≡ drop_file id files
 drops-file files place id apart found lt =
     let one = some-at files place lt in
     let f : File = one.0 in
@@ -108,7 +114,9 @@ blocks-added files row =
     sum_by-append blocks_of files (file_of row [] ∷ []) ∙ (omega arith)
 
 -- with another length of a file there are as many blocks more or fewer
-pub counts-row : (files new : List File) (place : ℕ) (row had : FileRow) → AreApart files → find_file row.id files ≡ slice_get files place → place < length files → new ≡ with_file row files → ((f : File) → slice_get files place ≡ Some f → had ≡ row_of f) → had.blocks + blocks_in_all new ≡ blocks_in_all files + row.blocks
+pub counts-row : (files new : List File) (place : ℕ) (row had : FileRow) → AreApart files → find_file row.id files ≡ slice_get files place
+    → place < length files → new ≡ with_file row files → ((f : File) → slice_get files place ≡ Some f → had ≡ row_of f) → had.blocks + blocks_in_all
+    new ≡ blocks_in_all files + row.blocks
 counts-row files new place row had apart found lt is told =
     let one = some-at files place lt in
     let f : File = one.0 in
@@ -122,7 +130,8 @@ counts-row files new place row had apart found lt is told =
     omega arith
 
 -- the row at a place has the id by which its file was found
-pub id-at : (files : List File) (place : ℕ) (row : FileRow) → find_file row.id files ≡ slice_get files place → ForSome (slice_get files place) (λ f. row.id ≡ f.id)
+pub id-at : (files : List File) (place : ℕ) (row : FileRow) → find_file row.id files ≡ slice_get files place → ForSome (slice_get files place)
+    (λ f. row.id ≡ f.id)
 id-at files place row found = λ f at. sym (found-id row.id files f (found ∙ at))
 
 -- no file goes where none has the id
@@ -130,6 +139,7 @@ pub drops-none : (id : ℕ) (files : List File) → find_file id files ≡ None 
 drops-none id [] none = refl
 drops-none id (f ∷ files) none = by (f.id == id) refl none (drops-none id files)
   where
-    by : (b : Bool) → (f.id == id) ≡ b → (if b then Some f else find_file id files) ≡ None → (find_file id files ≡ None → drop_file id files ≡ files) → (if not b then f ∷ drop_file id files else drop_file id files) ≡ f ∷ files
+    by : (b : Bool) → (f.id == id) ≡ b → (if b then Some f else find_file id files) ≡ None → (find_file id files ≡ None → drop_file id files ≡ files)
+        → (if not b then f ∷ drop_file id files else drop_file id files) ≡ f ∷ files
     by true e h rest = cc
     by false e h rest = ap (λ l. f ∷ l) (rest h)

@@ -17,7 +17,8 @@ pub if-some : {X : Type 0} (o : Option X) (x : X) (P : X → Type 0) → IfSome 
 if-some None x P holds e = cc
 if-some (Some y) x P holds e = let same : y ≡ x = cc in subst P same holds
 
-row-among : (kept : Kept) (heads : Option Heads) (row : FileRow) (found : Option File) → IsOrderly kept → IsRowOf kept heads row found → IsRowAmong row kept.files found
+row-among : (kept : Kept) (heads : Option Heads) (row : FileRow) (found : Option File) → IsOrderly kept → IsRowOf kept heads row found
+    → IsRowAmong row kept.files found
 row-among kept heads row None o is = ((λ k d i. let own = o.below k d i in let next = is.0 in omega arith), is.1)
 row-among kept heads row (Some f) o is = is
 
@@ -35,7 +36,9 @@ pub alone : (kept : Kept) (change : Change) (id : ℕ) → FitsRemoval kept chan
 alone kept change id fits = (fits.no_file, fits.no_block)
 
 -- a change is applied part by part
-pub as-applied : (files new : List File) (hosts rows : List HostRow) (heads numbers : Heads) (change : Change) → new ≡ blocks_with change.block (files_with change.file (files_without change.removed files)) → rows ≡ hosts_with change.host hosts → numbers ≡ heads_with change.heads heads → kept_as new rows numbers ≡ applied (kept_as files hosts heads) change
+pub as-applied : (files new : List File) (hosts rows : List HostRow) (heads numbers : Heads) (change : Change) → new ≡ blocks_with change.block
+    (files_with change.file (files_without change.removed files)) → rows ≡ hosts_with change.host hosts → numbers ≡ heads_with change.heads heads
+    → kept_as new rows numbers ≡ applied (kept_as files hosts heads) change
 unfolding kept_as
 as-applied files new hosts rows heads numbers change a b c =
     ap (λ fs. kept_as fs rows numbers) a

@@ -1,5 +1,6 @@
 -- Each host, incarnation and sequence is executed once at most, and what comes again is answered again.
-use Rattle.std.proofs.Common.{◌≡◌, ◌≢◌, ◌⊎◌, ◌≤◌, ◌<◌, ℕ, ◌+◌, ◌==◌, Bool, true, false, ◌&&◌, List, [], ◌∷◌, ◌++◌, Option, Some, None, if◌then◌else◌, length, zero, suc, get_or, refl, sym, subst, ap, ◌∙◌, inl, inr, arith}
+use Rattle.std.proofs.Common.{◌≡◌, ◌≢◌, ◌⊎◌, ◌≤◌, ◌<◌, ℕ, ◌+◌, ◌==◌, Bool, true, false, ◌&&◌, List, [], ◌∷◌, ◌++◌, Option, Some, None, if◌then◌else◌}
+use Rattle.std.proofs.Common.{length, zero, suc, get_or, refl, sym, subst, ap, ◌∙◌, inl, inr, arith}
 use Rattle.std.specs.Prelude.{All, Contains, count_by, nat_lt, slice_get, slice_set, unwrap_or}
 use Rattle.std.proofs.lemmas.Bool.Decides.{nat_tests}
 use Rattle.std.proofs.lemmas.List.{length-set}
@@ -16,9 +17,11 @@ use Rattle.nq_base.specs.declared.Request.TheVariants.{Null, Attach, Lookup, Cre
 use Rattle.nq_base.specs.declared.Verdict.{Verdict}
 use Rattle.nq_base.specs.declared.Who.{Who}
 use Rattle.nq_keeper.specs.Deciding.{IsOfHost}
-use Rattle.nq_keeper.specs.Repeats.{Coming, Key, Execution, key_of, execution_of, kept_after, kept_after_all, executed, is_of, IsRepeat, IsAttachedAgain, AtMostOnce, KeptIsSaid}
+use Rattle.nq_keeper.specs.Repeats.{Coming, Key, Execution, key_of, execution_of, kept_after, kept_after_all, executed, is_of, IsRepeat}
+use Rattle.nq_keeper.specs.Repeats.{IsAttachedAgain, AtMostOnce, KeptIsSaid}
 use Rattle.nq_model.specs.Change.{applied, applied_if, kept_as}
-use Rattle.nq_model.specs.Decided.{no_effect, decided, decided_before, attach_decided, or_fresh, fresh_decided, if_fresh, effect_of, change_of, change_with, row_with}
+use Rattle.nq_model.specs.Decided.{no_effect, decided, decided_before, attach_decided, or_fresh, fresh_decided, if_fresh, effect_of, change_of}
+use Rattle.nq_model.specs.Decided.{change_with, row_with}
 use Rattle.nq_model.specs.Kept.{Kept, can_be_kept, host_row, fresh_row}
 use Rattle.nq_model.specs.Message.{sequence_of}
 use Rattle.nq_model.specs.Profile.{most_hosts}
@@ -61,7 +64,8 @@ abbrev Moves : (kept after : Kept) → Key → Decided → Type 0
 Moves kept after key decision =
     ((after ≡ kept) × (execution_of (Some key) decision ≡ [])) ⊎ Executes kept after key decision
 
-kept-rows : (kept : Kept) (who : Who) (seq : ℕ) (effect : Effect) → (applied kept (change_with who seq effect)).hosts ≡ slice_set kept.hosts who.host (row_after (record { who = who; seq = seq }) effect.verdict effect.value)
+kept-rows : (kept : Kept) (who : Who) (seq : ℕ) (effect : Effect) → (applied kept (change_with who seq effect)).hosts ≡ slice_set kept.hosts who.host
+    (row_after (record { who = who; seq = seq }) effect.verdict effect.value)
 unfolding change_with kept_as
 kept-rows kept who seq effect = refl
 
@@ -78,7 +82,10 @@ abbrev or_out : Bool → Verdict → (value : ℕ) → Decided
 or_out can verdict value = if can then Fresh verdict value else OutOfBounds
 
 module _ (kept : Kept) (who : Who) (effect : Effect) (is : effect ≡ no_effect Verdict.Done) where
-  attach-by : (b c can : Bool) → nat_lt (host_row kept who.host).inc who.inc ≡ b → Moves kept (applied_if kept (if_fresh (if b then or_out can Verdict.Done 0 else (if c then OldIncarnation else Again (host_row kept who.host).verdict (host_row kept who.host).value)) (change_with who 0 effect))) (record { who = who; seq = 0 }) (if b then or_out can Verdict.Done 0 else (if c then OldIncarnation else Again (host_row kept who.host).verdict (host_row kept who.host).value))
+  attach-by : (b c can : Bool) → nat_lt (host_row kept who.host).inc who.inc ≡ b
+      → Moves kept (applied_if kept (if_fresh (if b then or_out can Verdict.Done 0 else (if c then OldIncarnation
+      else Again (host_row kept who.host).verdict (host_row kept who.host).value)) (change_with who 0 effect))) (record { who = who; seq = 0 })
+      (if b then or_out can Verdict.Done 0 else (if c then OldIncarnation else Again (host_row kept who.host).verdict (host_row kept who.host).value))
   attach-by true c true e =
       let before : (host_row kept who.host).inc < who.inc = grind (arith, nat_tests) in
       inr (record {
@@ -86,23 +93,30 @@ module _ (kept : Kept) (who : Who) (effect : Effect) (is : effect ≡ no_effect 
         value = 0;
         fresh = refl;
         behind = inl before;
-        rows = kept-rows kept who 0 effect ∙ ap (λ v. slice_set kept.hosts who.host (row_after (record { who = who; seq = 0 }) v effect.value)) (no-verdict effect is) ∙ ap (λ v. slice_set kept.hosts who.host (row_after (record { who = who; seq = 0 }) Verdict.Done v)) (no-value effect is);
+        rows = kept-rows kept who 0 effect ∙ ap (λ v. slice_set kept.hosts who.host (row_after (record { who = who; seq = 0 }) v effect.value))
+            (no-verdict effect is) ∙ ap (λ v. slice_set kept.hosts who.host (row_after (record { who = who; seq = 0 }) Verdict.Done v)) (no-value effect is);
       })
   attach-by true c false e = inl (refl, refl)
   attach-by false true can e = inl (refl, refl)
   attach-by false false can e = inl (refl, refl)
 
-  moves-attach : Moves kept (applied_if kept (if_fresh (attach_decided who (host_row kept who.host)) (change_with who 0 effect))) (record { who = who; seq = 0 }) (attach_decided who (host_row kept who.host))
+  moves-attach : Moves kept (applied_if kept (if_fresh (attach_decided who (host_row kept who.host)) (change_with who 0 effect)))
+      (record { who = who; seq = 0 }) (attach_decided who (host_row kept who.host))
   unfolding no_effect
-  moves-attach = attach-by (nat_lt (host_row kept who.host).inc who.inc) (nat_lt who.inc (host_row kept who.host).inc) (can_be_kept (row_with who 0 (no_effect Verdict.Done))) refl
+  moves-attach = attach-by (nat_lt (host_row kept who.host).inc who.inc) (nat_lt who.inc (host_row kept who.host).inc)
+      (can_be_kept (row_with who 0 (no_effect Verdict.Done))) refl
 
 -- the choice by which a request of a sequence is decided
 abbrev chosen : HostRow → Decided → (a b c d : Bool) → Decided
 chosen line fresh a b c d =
-    or_fresh (if a then Some OldIncarnation else (if b then Some NotAttached else (if c then Some (Again line.verdict line.value) else (if d then Some Old else None)))) fresh
+    or_fresh (if a then Some OldIncarnation else (if b then Some NotAttached else (if c then Some (Again line.verdict line.value)
+    else (if d then Some Old else None)))) fresh
 
 module _ (kept : Kept) (who : Who) (seq : ℕ) (effect : Effect) where
-  by-tests : (a b c d can : Bool) → nat_lt who.inc (host_row kept who.host).inc ≡ a → nat_lt (host_row kept who.host).inc who.inc ≡ b → (seq == (host_row kept who.host).seq) ≡ c → nat_lt seq (host_row kept who.host).seq ≡ d → Moves kept (applied_if kept (if_fresh (chosen (host_row kept who.host) (or_out can effect.verdict effect.value) a b c d) (change_with who seq effect))) (record { who = who; seq = seq }) (chosen (host_row kept who.host) (or_out can effect.verdict effect.value) a b c d)
+  by-tests : (a b c d can : Bool) → nat_lt who.inc (host_row kept who.host).inc ≡ a → nat_lt (host_row kept who.host).inc who.inc ≡ b
+      → (seq == (host_row kept who.host).seq) ≡ c → nat_lt seq (host_row kept who.host).seq ≡ d
+      → Moves kept (applied_if kept (if_fresh (chosen (host_row kept who.host) (or_out can effect.verdict effect.value) a b c d)
+      (change_with who seq effect))) (record { who = who; seq = seq }) (chosen (host_row kept who.host) (or_out can effect.verdict effect.value) a b c d)
   by-tests true b c d can e f g h = inl (refl, refl)
   by-tests false true c d can e f g h = inl (refl, refl)
   by-tests false false true d can e f g h = inl (refl, refl)
@@ -119,15 +133,19 @@ module _ (kept : Kept) (who : Who) (seq : ℕ) (effect : Effect) where
         rows = kept-rows kept who seq effect;
       })
 
-  moves-sequence : Moves kept (applied_if kept (if_fresh (or_fresh (decided_before who seq (host_row kept who.host)) (fresh_decided who seq effect)) (change_with who seq effect))) (record { who = who; seq = seq }) (or_fresh (decided_before who seq (host_row kept who.host)) (fresh_decided who seq effect))
-  moves-sequence = by-tests (nat_lt who.inc (host_row kept who.host).inc) (nat_lt (host_row kept who.host).inc who.inc) (seq == (host_row kept who.host).seq) (nat_lt seq (host_row kept who.host).seq) (can_be_kept (row_with who seq effect)) refl refl refl refl
+  moves-sequence : Moves kept (applied_if kept (if_fresh (or_fresh (decided_before who seq (host_row kept who.host)) (fresh_decided who seq effect))
+      (change_with who seq effect))) (record { who = who; seq = seq }) (or_fresh (decided_before who seq (host_row kept who.host))
+      (fresh_decided who seq effect))
+  moves-sequence = by-tests (nat_lt who.inc (host_row kept who.host).inc) (nat_lt (host_row kept who.host).inc who.inc)
+      (seq == (host_row kept who.host).seq) (nat_lt seq (host_row kept who.host).seq) (can_be_kept (row_with who seq effect)) refl refl refl refl
 
 attach-effect : (kept : Kept) (gate : Gate) (who : Who) → effect_of kept gate (Attach who) ≡ no_effect Verdict.Done
 attach-effect kept (Recovering opened) who = refl
 attach-effect kept (Serving boot conflict held) who = refl
 
 -- a request of this key
-moves : (kept : Kept) (gate : Gate) (r : Request) (key : Key) → key_of r ≡ Some key → Moves kept (applied_if kept (change_of kept gate r)) key (decided kept gate r)
+moves : (kept : Kept) (gate : Gate) (r : Request) (key : Key) → key_of r ≡ Some key → Moves kept (applied_if kept (change_of kept gate r)) key
+    (decided kept gate r)
 moves kept gate Null key e = cc
 moves kept gate (Lookup who name) key e = cc
 moves kept gate (GetAttr who file) key e = cc
@@ -137,19 +155,25 @@ moves kept gate (Vacated who file tag) key e = cc
 moves kept gate (Evicted who file tag) key e = cc
 moves kept gate (Attach who) key e =
     let is : record { who = who; seq = 0 } ≡ key = cc in
-    subst (λ k. Moves kept (applied_if kept (change_of kept gate (Attach who))) k (decided kept gate (Attach who))) is (moves-attach kept who (effect_of kept gate (Attach who)) (attach-effect kept gate who))
+    subst (λ k. Moves kept (applied_if kept (change_of kept gate (Attach who))) k (decided kept gate (Attach who))) is
+    (moves-attach kept who (effect_of kept gate (Attach who)) (attach-effect kept gate who))
 moves kept gate (Create who seq name blocks) key e =
     let is : record { who = who; seq = seq } ≡ key = cc in
-    subst (λ k. Moves kept (applied_if kept (change_of kept gate (Create who seq name blocks))) k (decided kept gate (Create who seq name blocks))) is (moves-sequence kept who seq (effect_of kept gate (Create who seq name blocks)))
+    subst (λ k. Moves kept (applied_if kept (change_of kept gate (Create who seq name blocks))) k (decided kept gate (Create who seq name blocks))) is
+    (moves-sequence kept who seq (effect_of kept gate (Create who seq name blocks)))
 moves kept gate (Write who seq file block first last push body) key e =
     let is : record { who = who; seq = seq } ≡ key = cc in
-    subst (λ k. Moves kept (applied_if kept (change_of kept gate (Write who seq file block first last push body))) k (decided kept gate (Write who seq file block first last push body))) is (moves-sequence kept who seq (effect_of kept gate (Write who seq file block first last push body)))
+    subst (λ k. Moves kept (applied_if kept (change_of kept gate (Write who seq file block first last push body))) k
+    (decided kept gate (Write who seq file block first last push body))) is (moves-sequence kept who seq
+    (effect_of kept gate (Write who seq file block first last push body)))
 moves kept gate (Resize who seq q file blocks) key e =
     let is : record { who = who; seq = seq } ≡ key = cc in
-    subst (λ k. Moves kept (applied_if kept (change_of kept gate (Resize who seq q file blocks))) k (decided kept gate (Resize who seq q file blocks))) is (moves-sequence kept who seq (effect_of kept gate (Resize who seq q file blocks)))
+    subst (λ k. Moves kept (applied_if kept (change_of kept gate (Resize who seq q file blocks))) k
+    (decided kept gate (Resize who seq q file blocks))) is (moves-sequence kept who seq (effect_of kept gate (Resize who seq q file blocks)))
 moves kept gate (Remove who seq q file) key e =
     let is : record { who = who; seq = seq } ≡ key = cc in
-    subst (λ k. Moves kept (applied_if kept (change_of kept gate (Remove who seq q file))) k (decided kept gate (Remove who seq q file))) is (moves-sequence kept who seq (effect_of kept gate (Remove who seq q file)))
+    subst (λ k. Moves kept (applied_if kept (change_of kept gate (Remove who seq q file))) k (decided kept gate (Remove who seq q file))) is
+    (moves-sequence kept who seq (effect_of kept gate (Remove who seq q file)))
 
 -- any other request leaves all as it is
 rests : (kept : Kept) (c : Coming) → key_of c.request ≡ None → kept_after kept c ≡ kept
@@ -179,34 +203,45 @@ of-host (GetLease who file want) key e host = cc
 of-host (Vacated who file tag) key e host = cc
 of-host (Evicted who file tag) key e host = cc
 of-host (Attach who) key e host = let is : record { who = who; seq = 0 } ≡ key = cc in subst (λ k. k.who.host < most_hosts) is (host who refl)
-of-host (Create who seq name blocks) key e host = let is : record { who = who; seq = seq } ≡ key = cc in subst (λ k. k.who.host < most_hosts) is (host who refl)
-of-host (Write who seq file block first last push body) key e host = let is : record { who = who; seq = seq } ≡ key = cc in subst (λ k. k.who.host < most_hosts) is (host who refl)
-of-host (Resize who seq q file blocks) key e host = let is : record { who = who; seq = seq } ≡ key = cc in subst (λ k. k.who.host < most_hosts) is (host who refl)
+of-host (Create who seq name blocks) key e host = let is : record { who = who; seq = seq } ≡ key = cc in subst (λ k. k.who.host < most_hosts) is
+    (host who refl)
+of-host (Write who seq file block first last push body) key e host = let is : record { who = who; seq = seq } ≡ key = cc in
+    subst (λ k. k.who.host < most_hosts) is (host who refl)
+of-host (Resize who seq q file blocks) key e host = let is : record { who = who; seq = seq } ≡ key = cc in subst (λ k. k.who.host < most_hosts) is
+    (host who refl)
 of-host (Remove who seq q file) key e host = let is : record { who = who; seq = seq } ≡ key = cc in subst (λ k. k.who.host < most_hosts) is (host who refl)
 
 -- ---- the row of each host over a request
 
 own-row : (kept after : Kept) (host : ℕ) (row : HostRow) → host < length kept.hosts → after.hosts ≡ slice_set kept.hosts host row → host_row after host ≡ row
-own-row kept after host row few e = ap (λ rows. unwrap_or (slice_get rows host) fresh_row) e ∙ ap (λ o. unwrap_or o fresh_row) (get-set kept.hosts host row few)
+own-row kept after host row few e = ap (λ rows. unwrap_or (slice_get rows host) fresh_row) e ∙ ap (λ o. unwrap_or o fresh_row)
+    (get-set kept.hosts host row few)
 
-other-row : (kept after : Kept) (host other : ℕ) (row : HostRow) → host ≢ other → after.hosts ≡ slice_set kept.hosts host row → host_row after other ≡ host_row kept other
-other-row kept after host other row apart e = ap (λ rows. unwrap_or (slice_get rows other) fresh_row) e ∙ ap (λ o. unwrap_or o fresh_row) (get-other kept.hosts host other row apart)
+other-row : (kept after : Kept) (host other : ℕ) (row : HostRow) → host ≢ other → after.hosts ≡ slice_set kept.hosts host row → host_row after other
+    ≡ host_row kept other
+other-row kept after host other row apart e = ap (λ rows. unwrap_or (slice_get rows other) fresh_row) e ∙ ap (λ o. unwrap_or o fresh_row)
+    (get-other kept.hosts host other row apart)
 
 -- how a request of a host that there can be leaves the row of a host: as it was, or as that of a later request
 abbrev Goes : HostRow → HostRow → Type 0
 Goes old new = (new ≡ old) ⊎ IsBehind old new.inc new.seq
 
-goes : (kept : Kept) (c : Coming) (host : ℕ) → length kept.hosts ≡ most_hosts → IsOfHost c.request → Goes (host_row kept host) (host_row (kept_after kept c) host)
+goes : (kept : Kept) (c : Coming) (host : ℕ) → length kept.hosts ≡ most_hosts → IsOfHost c.request → Goes (host_row kept host)
+    (host_row (kept_after kept c) host)
 goes kept c host all few = by (key_of c.request) refl
   where
-    moved : (key : Key) → key.who.host < most_hosts → Moves kept (kept_after kept c) key (decided kept c.gate c.request) → Goes (host_row kept host) (host_row (kept_after kept c) host)
+    moved : (key : Key) → key.who.host < most_hosts → Moves kept (kept_after kept c) key (decided kept c.gate c.request) → Goes (host_row kept host)
+        (host_row (kept_after kept c) host)
     moved key own (inl still) = inl (ap (λ k. host_row k host) still.0)
     moved key own (inr done) = elim (cases_of (key.who.host == host)) [
       | inl e ↦
           let same : key.who.host ≡ host = same-number key.who.host host e in
-          let row : host_row (kept_after kept c) key.who.host ≡ row_after key done.verdict done.value = own-row kept (kept_after kept c) key.who.host (row_after key done.verdict done.value) (omega arith) done.rows in
-          subst (λ h. Goes (host_row kept h) (host_row (kept_after kept c) h)) same (subst (λ r. Goes (host_row kept key.who.host) r) (sym row) (inr done.behind))
-      | inr e ↦ inl (other-row kept (kept_after kept c) key.who.host host (row_after key done.verdict done.value) (λ i. let bad : (key.who.host == host) ≡ true = number-same key.who.host host i in absurd (cc)) done.rows)
+          let row : host_row (kept_after kept c) key.who.host ≡ row_after key done.verdict done.value = own-row kept (kept_after kept c) key.who.host
+          (row_after key done.verdict done.value) (omega arith) done.rows in
+          subst (λ h. Goes (host_row kept h) (host_row (kept_after kept c) h)) same (subst (λ r. Goes (host_row kept key.who.host) r) (sym row)
+          (inr done.behind))
+      | inr e ↦ inl (other-row kept (kept_after kept c) key.who.host host (row_after key done.verdict done.value)
+          (λ i. let bad : (key.who.host == host) ≡ true = number-same key.who.host host i in absurd (cc)) done.rows)
     ]
 
     by : (o : Option Key) → key_of c.request ≡ o → Goes (host_row kept host) (host_row (kept_after kept c) host)
@@ -232,7 +267,8 @@ behind-further a b inc seq (inl same) later = subst (λ r. IsBehind r inc seq) s
 behind-further a b inc seq (inr (inl less)) (inl later) = inl (omega arith)
 behind-further a b inc seq (inr (inl less)) (inr later) = let same = later.0 in inl (omega arith)
 behind-further a b inc seq (inr (inr less)) (inl later) = let same = less.0 in inl (omega arith)
-behind-further a b inc seq (inr (inr less)) (inr later) = let one = less.0 in let two = later.0 in let three = less.1 in let four = later.1 in inr (omega arith, omega arith)
+behind-further a b inc seq (inr (inr less)) (inr later) = let one = less.0 in let two = later.0 in let three = less.1 in let four = later.1 in
+    inr (omega arith, omega arith)
 
 -- an execution of a host stands before the row that its host has
 abbrev ComesAfter : Kept → Execution → Type 0
@@ -243,7 +279,8 @@ module _ (kept : Kept) (c : Coming) (all : length kept.hosts ≡ most_hosts) (fe
   executes-later : All (ComesAfter kept) (execution_of (key_of c.request) (decided kept c.gate c.request))
   executes-later = by (key_of c.request) refl
     where
-      moved : (key : Key) → Moves kept (kept_after kept c) key (decided kept c.gate c.request) → All (ComesAfter kept) (execution_of (Some key) (decided kept c.gate c.request))
+      moved : (key : Key) → Moves kept (kept_after kept c) key (decided kept c.gate c.request) → All (ComesAfter kept)
+          (execution_of (Some key) (decided kept c.gate c.request))
       moved key (inl still) = subst (All (ComesAfter kept)) (sym still.1) (All-nil _)
       moved key (inr done) =
           subst (λ d. All (ComesAfter kept) (execution_of (Some key) d)) (sym done.fresh)
@@ -261,9 +298,12 @@ each-later : (kept : Kept) (cs : List Coming) → length kept.hosts ≡ most_hos
 each-later kept [] all few = All-nil _
 each-later kept (c ∷ cs) all few =
     let own : IsOfHost c.request = All-head (λ c. IsOfHost c.request) c cs few in
-    let rest : All (ComesAfter (kept_after kept c)) (executed (kept_after kept c) cs) = each-later (kept_after kept c) cs (all-rows kept c all) (All-tail (λ c. IsOfHost c.request) c cs few) in
-    all-append (ComesAfter kept) (execution_of (key_of c.request) (decided kept c.gate c.request)) (executed (kept_after kept c) cs) (executes-later kept c all own)
-    (λ k d i. let e = get_or (executed (kept_after kept c) cs) k d in behind-further (host_row kept e.key.who.host) (host_row (kept_after kept c) e.key.who.host) e.key.who.inc e.key.seq (goes kept c e.key.who.host all own) (rest k d i))
+    let rest : All (ComesAfter (kept_after kept c)) (executed (kept_after kept c) cs) = each-later (kept_after kept c) cs (all-rows kept c all)
+    (All-tail (λ c. IsOfHost c.request) c cs few) in
+    all-append (ComesAfter kept) (execution_of (key_of c.request) (decided kept c.gate c.request)) (executed (kept_after kept c) cs)
+    (executes-later kept c all own)
+    (λ k d i. let e = get_or (executed (kept_after kept c) cs) k d in behind-further (host_row kept e.key.who.host) (host_row (kept_after kept c)
+    e.key.who.host) e.key.who.inc e.key.seq (goes kept c e.key.who.host all own) (rest k d i))
 
 -- ---- no host, incarnation and sequence twice
 
@@ -286,7 +326,8 @@ not-itself row inc seq a b (inl less) = absurd (omega arith)
 not-itself row inc seq a b (inr less) = let c = less.1 in absurd (omega arith)
 
 -- none of these is the request whose row the host has
-none-is : (kept : Kept) (host inc seq : ℕ) (es : List Execution) → (host_row kept host).inc ≡ inc → (host_row kept host).seq ≡ seq → All (ComesAfter kept) es → count_by (is_of host inc seq) es ≡ 0
+none-is : (kept : Kept) (host inc seq : ℕ) (es : List Execution) → (host_row kept host).inc ≡ inc → (host_row kept host).seq ≡ seq
+    → All (ComesAfter kept) es → count_by (is_of host inc seq) es ≡ 0
 none-is kept host inc seq [] a b later = refl
 none-is kept host inc seq (e ∷ es) a b later =
     by (is_of host inc seq e) refl (none-is kept host inc seq es a b (All-tail (ComesAfter kept) e es later))
@@ -295,28 +336,40 @@ none-is kept host inc seq (e ∷ es) a b later =
     by true is rest =
         let key = is-key host inc seq e is in
         let own : ComesAfter kept e = All-head (ComesAfter kept) e es later in
-        let at : IsBehind (host_row kept host) inc seq = subst (λ n. IsBehind (host_row kept host) inc n) key.2 (subst (λ n. IsBehind (host_row kept host) n e.key.seq) key.1 (subst (λ h. IsBehind (host_row kept h) e.key.who.inc e.key.seq) key.0 own)) in
+        let at : IsBehind (host_row kept host) inc seq = subst (λ n. IsBehind (host_row kept host) inc n) key.2
+        (subst (λ n. IsBehind (host_row kept host) n e.key.seq) key.1 (subst (λ h. IsBehind (host_row kept h) e.key.who.inc e.key.seq) key.0 own)) in
         absurd (not-itself (host_row kept host) inc seq a b at)
-    by false is rest = sum_by-cons (λ x. if is_of host inc seq x then 1 else 0) e es ∙ rw is (let zero_first : 0 + count_by (is_of host inc seq) es ≡ count_by (is_of host inc seq) es = omega arith in zero_first ∙ rest)
+    by false is rest = sum_by-cons (λ x. if is_of host inc seq x then 1 else 0) e es ∙ rw is (let zero_first : 0 + count_by (is_of host inc seq) es
+        ≡ count_by (is_of host inc seq) es = omega arith in zero_first ∙ rest)
 
-counts-first : (host inc seq : ℕ) (e : Execution) (es : List Execution) (t : Bool) → is_of host inc seq e ≡ t → count_by (is_of host inc seq) (e ∷ es) ≡ (if t then 1 else 0) + count_by (is_of host inc seq) es
-counts-first host inc seq e es t is = sum_by-cons (λ x. if is_of host inc seq x then 1 else 0) e es ∙ ap (λ b. (if b then 1 else 0) + count_by (is_of host inc seq) es) is
+counts-first : (host inc seq : ℕ) (e : Execution) (es : List Execution) (t : Bool) → is_of host inc seq e ≡ t → count_by (is_of host inc seq) (e ∷ es)
+    ≡ (if t then 1 else 0) + count_by (is_of host inc seq) es
+counts-first host inc seq e es t is = sum_by-cons (λ x. if is_of host inc seq x then 1 else 0) e es
+    ∙ ap (λ b. (if b then 1 else 0) + count_by (is_of host inc seq) es) is
 
-once-more : (kept : Kept) (c : Coming) (host inc seq : ℕ) (es : List Execution) → length kept.hosts ≡ most_hosts → IsOfHost c.request → All (ComesAfter (kept_after kept c)) es → count_by (is_of host inc seq) es ≤ 1 → count_by (is_of host inc seq) (execution_of (key_of c.request) (decided kept c.gate c.request) ++ es) ≤ 1
+once-more : (kept : Kept) (c : Coming) (host inc seq : ℕ) (es : List Execution) → length kept.hosts ≡ most_hosts → IsOfHost c.request
+    → All (ComesAfter (kept_after kept c)) es → count_by (is_of host inc seq) es ≤ 1 → count_by (is_of host inc seq) (execution_of (key_of c.request)
+    (decided kept c.gate c.request) ++ es) ≤ 1
 once-more kept c host inc seq es all few later once = by (key_of c.request) refl
   where
-    first : (key : Key) (verdict : Verdict) (value : ℕ) (t : Bool) → is_of host inc seq (record { key = key; verdict = verdict; value = value }) ≡ t → host_row (kept_after kept c) key.who.host ≡ row_after key verdict value → count_by (is_of host inc seq) (record { key = key; verdict = verdict; value = value } ∷ es) ≤ 1
+    first : (key : Key) (verdict : Verdict) (value : ℕ) (t : Bool) → is_of host inc seq (record { key = key; verdict = verdict; value = value }) ≡ t
+        → host_row (kept_after kept c) key.who.host ≡ row_after key verdict value → count_by (is_of host inc seq)
+        (record { key = key; verdict = verdict; value = value } ∷ es) ≤ 1
     first key verdict value true is row =
         let own = is-key host inc seq (record { key = key; verdict = verdict; value = value }) is in
         let at : host_row (kept_after kept c) host ≡ row_after key verdict value = ap (λ h. host_row (kept_after kept c) h) (sym own.0) ∙ row in
-        let none : count_by (is_of host inc seq) es ≡ 0 = none-is (kept_after kept c) host inc seq es (ap (λ r. r.inc) at ∙ own.1) (ap (λ r. r.seq) at ∙ own.2) later in
-        let whole : count_by (is_of host inc seq) (record { key = key; verdict = verdict; value = value } ∷ es) ≡ 1 + count_by (is_of host inc seq) es = counts-first host inc seq (record { key = key; verdict = verdict; value = value }) es true is in
+        let none : count_by (is_of host inc seq) es ≡ 0 = none-is (kept_after kept c) host inc seq es (ap (λ r. r.inc) at ∙ own.1) (ap (λ r. r.seq) at
+        ∙ own.2) later in
+        let whole : count_by (is_of host inc seq) (record { key = key; verdict = verdict; value = value } ∷ es) ≡ 1 + count_by (is_of host inc seq)
+        es = counts-first host inc seq (record { key = key; verdict = verdict; value = value }) es true is in
         omega arith
     first key verdict value false is row =
-        let whole : count_by (is_of host inc seq) (record { key = key; verdict = verdict; value = value } ∷ es) ≡ 0 + count_by (is_of host inc seq) es = counts-first host inc seq (record { key = key; verdict = verdict; value = value }) es false is in
+        let whole : count_by (is_of host inc seq) (record { key = key; verdict = verdict; value = value } ∷ es) ≡ 0 + count_by (is_of host inc seq)
+        es = counts-first host inc seq (record { key = key; verdict = verdict; value = value }) es false is in
         omega arith
 
-    moved : (key : Key) → key.who.host < most_hosts → Moves kept (kept_after kept c) key (decided kept c.gate c.request) → count_by (is_of host inc seq) (execution_of (Some key) (decided kept c.gate c.request) ++ es) ≤ 1
+    moved : (key : Key) → key.who.host < most_hosts → Moves kept (kept_after kept c) key (decided kept c.gate c.request)
+        → count_by (is_of host inc seq) (execution_of (Some key) (decided kept c.gate c.request) ++ es) ≤ 1
     moved key own (inl still) = subst (λ xs. count_by (is_of host inc seq) (xs ++ es) ≤ 1) (sym still.1) once
     moved key own (inr done) =
         subst (λ d. count_by (is_of host inc seq) (execution_of (Some key) d ++ es) ≤ 1) (sym done.fresh)
@@ -327,7 +380,8 @@ once-more kept c host inc seq es all few later once = by (key_of c.request) refl
     by None e = once
     by (Some key) e = moved key (of-host c.request key e few) (moves kept c.gate c.request key e)
 
-once : (kept : Kept) (cs : List Coming) (host inc seq : ℕ) → length kept.hosts ≡ most_hosts → All (λ c. IsOfHost c.request) cs → count_by (is_of host inc seq) (executed kept cs) ≤ 1
+once : (kept : Kept) (cs : List Coming) (host inc seq : ℕ) → length kept.hosts ≡ most_hosts → All (λ c. IsOfHost c.request) cs
+    → count_by (is_of host inc seq) (executed kept cs) ≤ 1
 once kept [] host inc seq all few = omega arith
 once kept (c ∷ cs) host inc seq all few =
     let rest = All-tail (λ c. IsOfHost c.request) c cs few in
@@ -346,11 +400,13 @@ settled-on e old new settled (inl same) = subst (Settled e) (sym same) settled
 settled-on e old new (inl at) (inr later) = inr (subst (λ r. IsBehind r new.inc new.seq) at later)
 settled-on e old new (inr past) (inr later) = inr (behind-further (row_after e.key e.verdict e.value) old new.inc new.seq (inr past) later)
 
-stays-settled : (e : Execution) (kept : Kept) (cs : List Coming) → length kept.hosts ≡ most_hosts → All (λ c. IsOfHost c.request) cs → Settled e (host_row kept e.key.who.host) → Settled e (host_row (kept_after_all kept cs) e.key.who.host)
+stays-settled : (e : Execution) (kept : Kept) (cs : List Coming) → length kept.hosts ≡ most_hosts → All (λ c. IsOfHost c.request) cs
+    → Settled e (host_row kept e.key.who.host) → Settled e (host_row (kept_after_all kept cs) e.key.who.host)
 stays-settled e kept [] all few settled = settled
 stays-settled e kept (c ∷ cs) all few settled =
     stays-settled e (kept_after kept c) cs (all-rows kept c all) (All-tail (λ c. IsOfHost c.request) c cs few)
-    (settled-on e (host_row kept e.key.who.host) (host_row (kept_after kept c) e.key.who.host) settled (goes kept c e.key.who.host all (All-head (λ c. IsOfHost c.request) c cs few)))
+    (settled-on e (host_row kept e.key.who.host) (host_row (kept_after kept c) e.key.who.host) settled (goes kept c e.key.who.host all
+    (All-head (λ c. IsOfHost c.request) c cs few)))
 
 the-one : {X : Type 0} (x y : X) → Contains (x ∷ []) y → x ≡ y
 the-one x y (zero, lt, is) = is
@@ -360,32 +416,46 @@ in-none : {X : Type 0} (y : X) → Contains [] y → ⊥
 in-none y (k, lt, is) = absurd (omega arith)
 
 -- what a request executed is settled after it
-settles : (e : Execution) (kept : Kept) (c : Coming) → length kept.hosts ≡ most_hosts → IsOfHost c.request → Contains (execution_of (key_of c.request) (decided kept c.gate c.request)) e → Settled e (host_row (kept_after kept c) e.key.who.host)
+settles : (e : Execution) (kept : Kept) (c : Coming) → length kept.hosts ≡ most_hosts → IsOfHost c.request
+    → Contains (execution_of (key_of c.request) (decided kept c.gate c.request)) e → Settled e (host_row (kept_after kept c) e.key.who.host)
 settles e kept c all few has = by (key_of c.request) refl has
   where
-    moved : (key : Key) → key.who.host < most_hosts → Moves kept (kept_after kept c) key (decided kept c.gate c.request) → Contains (execution_of (Some key) (decided kept c.gate c.request)) e → Settled e (host_row (kept_after kept c) e.key.who.host)
+    moved : (key : Key) → key.who.host < most_hosts → Moves kept (kept_after kept c) key (decided kept c.gate c.request)
+        → Contains (execution_of (Some key) (decided kept c.gate c.request)) e → Settled e (host_row (kept_after kept c) e.key.who.host)
     moved key own (inl still) there = absurd (in-none e (subst (λ xs. Contains xs e) still.1 there))
     moved key own (inr done) there =
-        let is : record { key = key; verdict = done.verdict; value = done.value } ≡ e = the-one (record { key = key; verdict = done.verdict; value = done.value }) e (subst (λ d. Contains (execution_of (Some key) d) e) done.fresh there) in
-        subst (λ x. Settled x (host_row (kept_after kept c) x.key.who.host)) is (inl (own-row kept (kept_after kept c) key.who.host (row_after key done.verdict done.value) (omega arith) done.rows))
+        let is : record { key = key; verdict = done.verdict; value = done.value } ≡ e = the-one (record {
+          key = key;
+          verdict = done.verdict;
+          value =
+              done.value;
+        }) e (subst (λ d. Contains (execution_of (Some key) d) e) done.fresh there) in
+        subst (λ x. Settled x (host_row (kept_after kept c) x.key.who.host)) is
+        (inl (own-row kept (kept_after kept c) key.who.host (row_after key done.verdict done.value) (omega arith) done.rows))
 
-    by : (o : Option Key) → key_of c.request ≡ o → Contains (execution_of o (decided kept c.gate c.request)) e → Settled e (host_row (kept_after kept c) e.key.who.host)
+    by : (o : Option Key) → key_of c.request ≡ o → Contains (execution_of o (decided kept c.gate c.request)) e
+        → Settled e (host_row (kept_after kept c) e.key.who.host)
     by None none there = absurd (in-none e there)
     by (Some key) is there = moved key (of-host c.request key is few) (moves kept c.gate c.request key is) there
 
-all-settled : (e : Execution) (kept : Kept) (cs : List Coming) → length kept.hosts ≡ most_hosts → All (λ c. IsOfHost c.request) cs → Contains (executed kept cs) e → Settled e (host_row (kept_after_all kept cs) e.key.who.host)
+all-settled : (e : Execution) (kept : Kept) (cs : List Coming) → length kept.hosts ≡ most_hosts → All (λ c. IsOfHost c.request) cs
+    → Contains (executed kept cs) e → Settled e (host_row (kept_after_all kept cs) e.key.who.host)
 all-settled e kept [] all few has = absurd (in-none e has)
 all-settled e kept (c ∷ cs) all few has =
     by (λ later. all-settled e (kept_after kept c) cs (all-rows kept c all) (All-tail (λ c. IsOfHost c.request) c cs few) later)
     (Contains-append_cases (execution_of (key_of c.request) (decided kept c.gate c.request)) (executed (kept_after kept c) cs) e has)
   where
-    by : (Contains (executed (kept_after kept c) cs) e → Settled e (host_row (kept_after_all (kept_after kept c) cs) e.key.who.host)) → Contains (execution_of (key_of c.request) (decided kept c.gate c.request)) e ⊎ Contains (executed (kept_after kept c) cs) e → Settled e (host_row (kept_after_all (kept_after kept c) cs) e.key.who.host)
-    by rest (inl own) = stays-settled e (kept_after kept c) cs (all-rows kept c all) (All-tail (λ c. IsOfHost c.request) c cs few) (settles e kept c all (All-head (λ c. IsOfHost c.request) c cs few) own)
+    by : (Contains (executed (kept_after kept c) cs) e → Settled e (host_row (kept_after_all (kept_after kept c) cs) e.key.who.host))
+        → Contains (execution_of (key_of c.request) (decided kept c.gate c.request)) e ⊎ Contains (executed (kept_after kept c) cs) e
+        → Settled e (host_row (kept_after_all (kept_after kept c) cs) e.key.who.host)
+    by rest (inl own) = stays-settled e (kept_after kept c) cs (all-rows kept c all) (All-tail (λ c. IsOfHost c.request) c cs few)
+        (settles e kept c all (All-head (λ c. IsOfHost c.request) c cs few) own)
     by rest (inr later) = rest later
 
 -- a request of the sequence of an execution, by the row of its host
 module _ (e : Execution) (line : HostRow) (fresh : Decided) where
-  said-again : (a b c d : Bool) → nat_lt e.key.who.inc line.inc ≡ a → nat_lt line.inc e.key.who.inc ≡ b → (e.key.seq == line.seq) ≡ c → nat_lt e.key.seq line.seq ≡ d → Settled e line → IsRepeat e (chosen line fresh a b c d)
+  said-again : (a b c d : Bool) → nat_lt e.key.who.inc line.inc ≡ a → nat_lt line.inc e.key.who.inc ≡ b → (e.key.seq == line.seq) ≡ c
+      → nat_lt e.key.seq line.seq ≡ d → Settled e line → IsRepeat e (chosen line fresh a b c d)
   said-again true b c d p q r s settled = inr (inr refl)
   said-again false true c d p q r s (inl at) = let same : line.inc ≡ e.key.who.inc = ap (λ x. x.inc) at in absurd (grind (arith, nat_tests))
   said-again false true c d p q r s (inr (inl less)) = absurd (grind (arith, nat_tests))
@@ -399,9 +469,11 @@ module _ (e : Execution) (line : HostRow) (fresh : Decided) where
   said-again false false false false p q r s (inr (inr less)) = let after = less.1 in absurd (grind (arith, nat_tests))
 
   repeats-sequence : Settled e line → IsRepeat e (or_fresh (decided_before e.key.who e.key.seq line) fresh)
-  repeats-sequence settled = said-again (nat_lt e.key.who.inc line.inc) (nat_lt line.inc e.key.who.inc) (e.key.seq == line.seq) (nat_lt e.key.seq line.seq) refl refl refl refl settled
+  repeats-sequence settled = said-again (nat_lt e.key.who.inc line.inc) (nat_lt line.inc e.key.who.inc) (e.key.seq == line.seq)
+      (nat_lt e.key.seq line.seq) refl refl refl refl settled
 
-repeats : (e : Execution) (kept : Kept) (gate : Gate) (r : Request) → sequence_of r ≡ Some e.key.seq → key_of r ≡ Some e.key → Settled e (host_row kept e.key.who.host) → IsRepeat e (decided kept gate r)
+repeats : (e : Execution) (kept : Kept) (gate : Gate) (r : Request) → sequence_of r ≡ Some e.key.seq → key_of r ≡ Some e.key
+    → Settled e (host_row kept e.key.who.host) → IsRepeat e (decided kept gate r)
 repeats e kept gate Null seq is settled = cc
 repeats e kept gate (Lookup who name) seq is settled = cc
 repeats e kept gate (GetAttr who file) seq is settled = cc
@@ -412,22 +484,31 @@ repeats e kept gate (Evicted who file tag) seq is settled = cc
 repeats e kept gate (Attach who) seq is settled = cc
 repeats e kept gate (Create who n name blocks) seq is settled =
     let own : e.key ≡ record { who = who; seq = n } = cc in
-    subst (λ k. IsRepeat e (or_fresh (decided_before k.who k.seq (host_row kept k.who.host)) (fresh_decided who n (effect_of kept gate (Create who n name blocks))))) own (repeats-sequence e (host_row kept e.key.who.host) (fresh_decided who n (effect_of kept gate (Create who n name blocks))) settled)
+    subst (λ k. IsRepeat e (or_fresh (decided_before k.who k.seq (host_row kept k.who.host))
+    (fresh_decided who n (effect_of kept gate (Create who n name blocks))))) own (repeats-sequence e (host_row kept e.key.who.host)
+    (fresh_decided who n (effect_of kept gate (Create who n name blocks))) settled)
 repeats e kept gate (Write who n file block first last push body) seq is settled =
     let own : e.key ≡ record { who = who; seq = n } = cc in
-    subst (λ k. IsRepeat e (or_fresh (decided_before k.who k.seq (host_row kept k.who.host)) (fresh_decided who n (effect_of kept gate (Write who n file block first last push body))))) own (repeats-sequence e (host_row kept e.key.who.host) (fresh_decided who n (effect_of kept gate (Write who n file block first last push body))) settled)
+    subst (λ k. IsRepeat e (or_fresh (decided_before k.who k.seq (host_row kept k.who.host))
+    (fresh_decided who n (effect_of kept gate (Write who n file block first last push body))))) own
+    (repeats-sequence e (host_row kept e.key.who.host) (fresh_decided who n (effect_of kept gate (Write who n file block first last push body))) settled)
 repeats e kept gate (Resize who n q file blocks) seq is settled =
     let own : e.key ≡ record { who = who; seq = n } = cc in
-    subst (λ k. IsRepeat e (or_fresh (decided_before k.who k.seq (host_row kept k.who.host)) (fresh_decided who n (effect_of kept gate (Resize who n q file blocks))))) own (repeats-sequence e (host_row kept e.key.who.host) (fresh_decided who n (effect_of kept gate (Resize who n q file blocks))) settled)
+    subst (λ k. IsRepeat e (or_fresh (decided_before k.who k.seq (host_row kept k.who.host))
+    (fresh_decided who n (effect_of kept gate (Resize who n q file blocks))))) own (repeats-sequence e (host_row kept e.key.who.host)
+    (fresh_decided who n (effect_of kept gate (Resize who n q file blocks))) settled)
 repeats e kept gate (Remove who n q file) seq is settled =
     let own : e.key ≡ record { who = who; seq = n } = cc in
-    subst (λ k. IsRepeat e (or_fresh (decided_before k.who k.seq (host_row kept k.who.host)) (fresh_decided who n (effect_of kept gate (Remove who n q file))))) own (repeats-sequence e (host_row kept e.key.who.host) (fresh_decided who n (effect_of kept gate (Remove who n q file))) settled)
+    subst (λ k. IsRepeat e (or_fresh (decided_before k.who k.seq (host_row kept k.who.host))
+    (fresh_decided who n (effect_of kept gate (Remove who n q file))))) own (repeats-sequence e (host_row kept e.key.who.host)
+    (fresh_decided who n (effect_of kept gate (Remove who n q file))) settled)
 
 -- an ATTACH of an incarnation that was attached
 attached-again : (who : Who) (line : HostRow) → who.inc ≤ line.inc → IsAttachedAgain (attach_decided who line)
 attached-again who line most = by (nat_lt line.inc who.inc) refl (nat_lt who.inc line.inc)
   where
-    by : (b : Bool) → nat_lt line.inc who.inc ≡ b → (c : Bool) → IsAttachedAgain (if b then fresh_decided who 0 (no_effect Verdict.Done) else (if c then OldIncarnation else Again line.verdict line.value))
+    by : (b : Bool) → nat_lt line.inc who.inc ≡ b → (c : Bool) → IsAttachedAgain (if b then fresh_decided who 0 (no_effect Verdict.Done)
+        else (if c then OldIncarnation else Again line.verdict line.value))
     by true e c = absurd (grind (arith, nat_tests))
     by false e true = inr refl
     by false e false = inl (line.verdict, (line.value, refl))
@@ -441,7 +522,8 @@ pub at-most-once : AtMostOnce
 at-most-once kept cs all few = record {
   once = λ host inc seq. once kept cs host inc seq all few;
   repeats = λ e c has seq is. repeats e (kept_after_all kept cs) c.gate c.request seq is (all-settled e kept cs all few has);
-  attaches = λ e gate has. attached-again e.key.who (host_row (kept_after_all kept cs) e.key.who.host) (settled-inc e (host_row (kept_after_all kept cs) e.key.who.host) (all-settled e kept cs all few has));
+  attaches = λ e gate has. attached-again e.key.who (host_row (kept_after_all kept cs) e.key.who.host)
+      (settled-inc e (host_row (kept_after_all kept cs) e.key.who.host) (all-settled e kept cs all few has));
 }
 
 -- ---- what is answered again is what is kept
@@ -455,7 +537,8 @@ fresh-is-new true v verdict n value is = cc
 fresh-is-new false v verdict n value is = cc
 
 module _ (line : HostRow) (fresh : Decided) (inc : ℕ) (verdict : Verdict) (value : ℕ) (new : fresh ≡ Again verdict value → ⊥) where
-  said-kept : (a b c d : Bool) → nat_lt inc line.inc ≡ a → nat_lt line.inc inc ≡ b → chosen line fresh a b c d ≡ Again verdict value → IsSaid line inc verdict value
+  said-kept : (a b c d : Bool) → nat_lt inc line.inc ≡ a → nat_lt line.inc inc ≡ b → chosen line fresh a b c d ≡ Again verdict value
+      → IsSaid line inc verdict value
   said-kept true b c d p q is = cc
   said-kept false true c d p q is = cc
   said-kept false false true d p q is = (grind (arith, nat_tests), (cc), (cc))
@@ -465,14 +548,18 @@ module _ (line : HostRow) (fresh : Decided) (inc : ℕ) (verdict : Verdict) (val
 attach-kept : (who : Who) (line : HostRow) (verdict : Verdict) (value : ℕ) → attach_decided who line ≡ Again verdict value → IsSaid line who.inc verdict value
 attach-kept who line verdict value is = by (nat_lt line.inc who.inc) refl (nat_lt who.inc line.inc) refl is
   where
-    by : (b : Bool) → nat_lt line.inc who.inc ≡ b → (c : Bool) → nat_lt who.inc line.inc ≡ c → (if b then fresh_decided who 0 (no_effect Verdict.Done) else (if c then OldIncarnation else Again line.verdict line.value)) ≡ Again verdict value → IsSaid line who.inc verdict value
-    by true e c f h = absurd (fresh-is-new (can_be_kept (row_with who 0 (no_effect Verdict.Done))) (no_effect Verdict.Done).verdict verdict (no_effect Verdict.Done).value value h)
+    by : (b : Bool) → nat_lt line.inc who.inc ≡ b → (c : Bool) → nat_lt who.inc line.inc ≡ c → (if b then fresh_decided who 0 (no_effect Verdict.Done)
+        else (if c then OldIncarnation else Again line.verdict line.value)) ≡ Again verdict value → IsSaid line who.inc verdict value
+    by true e c f h = absurd (fresh-is-new (can_be_kept (row_with who 0 (no_effect Verdict.Done))) (no_effect Verdict.Done).verdict verdict
+        (no_effect Verdict.Done).value value h)
     by false e true f h = cc
     by false e false f h = (grind (arith, nat_tests), (cc), (cc))
 
-sequence-kept : (who : Who) (seq : ℕ) (line : HostRow) (effect : Effect) (verdict : Verdict) (value : ℕ) → or_fresh (decided_before who seq line) (fresh_decided who seq effect) ≡ Again verdict value → IsSaid line who.inc verdict value
+sequence-kept : (who : Who) (seq : ℕ) (line : HostRow) (effect : Effect) (verdict : Verdict) (value : ℕ) → or_fresh (decided_before who seq line)
+    (fresh_decided who seq effect) ≡ Again verdict value → IsSaid line who.inc verdict value
 sequence-kept who seq line effect verdict value is =
-    said-kept line (fresh_decided who seq effect) who.inc verdict value (λ h. fresh-is-new (can_be_kept (row_with who seq effect)) effect.verdict verdict effect.value value h) (nat_lt who.inc line.inc) (nat_lt line.inc who.inc) (seq == line.seq) (nat_lt seq line.seq) refl refl is
+    said-kept line (fresh_decided who seq effect) who.inc verdict value (λ h. fresh-is-new (can_be_kept (row_with who seq effect)) effect.verdict
+    verdict effect.value value h) (nat_lt who.inc line.inc) (nat_lt line.inc who.inc) (seq == line.seq) (nat_lt seq line.seq) refl refl is
 
 pub kept-is-said : KeptIsSaid
 kept-is-said kept c key verdict value is again = by c.request is again
@@ -490,13 +577,17 @@ kept-is-said kept c key verdict value is again = by c.request is again
         subst (λ k. IsSaid (host_row kept k.who.host) k.who.inc verdict value) own (attach-kept who (host_row kept who.host) verdict value h)
     by (Create who n name blocks) e h =
         let own : record { who = who; seq = n } ≡ key = cc in
-        subst (λ k. IsSaid (host_row kept k.who.host) k.who.inc verdict value) own (sequence-kept who n (host_row kept who.host) (effect_of kept c.gate (Create who n name blocks)) verdict value h)
+        subst (λ k. IsSaid (host_row kept k.who.host) k.who.inc verdict value) own (sequence-kept who n (host_row kept who.host)
+        (effect_of kept c.gate (Create who n name blocks)) verdict value h)
     by (Write who n file block first last push body) e h =
         let own : record { who = who; seq = n } ≡ key = cc in
-        subst (λ k. IsSaid (host_row kept k.who.host) k.who.inc verdict value) own (sequence-kept who n (host_row kept who.host) (effect_of kept c.gate (Write who n file block first last push body)) verdict value h)
+        subst (λ k. IsSaid (host_row kept k.who.host) k.who.inc verdict value) own (sequence-kept who n (host_row kept who.host)
+        (effect_of kept c.gate (Write who n file block first last push body)) verdict value h)
     by (Resize who n q file blocks) e h =
         let own : record { who = who; seq = n } ≡ key = cc in
-        subst (λ k. IsSaid (host_row kept k.who.host) k.who.inc verdict value) own (sequence-kept who n (host_row kept who.host) (effect_of kept c.gate (Resize who n q file blocks)) verdict value h)
+        subst (λ k. IsSaid (host_row kept k.who.host) k.who.inc verdict value) own (sequence-kept who n (host_row kept who.host)
+        (effect_of kept c.gate (Resize who n q file blocks)) verdict value h)
     by (Remove who n q file) e h =
         let own : record { who = who; seq = n } ≡ key = cc in
-        subst (λ k. IsSaid (host_row kept k.who.host) k.who.inc verdict value) own (sequence-kept who n (host_row kept who.host) (effect_of kept c.gate (Remove who n q file)) verdict value h)
+        subst (λ k. IsSaid (host_row kept k.who.host) k.who.inc verdict value) own (sequence-kept who n (host_row kept who.host)
+        (effect_of kept c.gate (Remove who n q file)) verdict value h)

@@ -1,5 +1,6 @@
 -- Where a file stands among files in order of their ids.
-use Rattle.std.proofs.Common.{◌≡◌, ℕ, ◌+◌, ◌≤◌, ◌<◌, ◌==◌, Bool, true, false, List, [], ◌∷◌, Option, Some, None, if◌then◌else◌, suc, zero, get_or, set, length, refl, sym, subst, ap, ◌∙◌, inl, inr, arith}
+use Rattle.std.proofs.Common.{◌≡◌, ℕ, ◌+◌, ◌≤◌, ◌<◌, ◌==◌, Bool, true, false, List, [], ◌∷◌, Option, Some, None, if◌then◌else◌, suc, zero, get_or}
+use Rattle.std.proofs.Common.{set, length, refl, sym, subst, ap, ◌∙◌, inl, inr, arith}
 use Rattle.std.specs.List.{prefix_len, remove, slice_get, All}
 use Rattle.std.specs.List.Sorted.{IsPartitionedBy, IsPartitionPoint}
 use Rattle.std.specs.Fn.{Called, ComputesKey}
@@ -34,7 +35,10 @@ parted p closed (f ∷ files) h (suc i) zero d le lt k = absurd (omega arith)
 parted p closed (f ∷ files) h (suc i) (suc j) d le lt k = parted p closed files h.2 i j d (omega arith) (omega arith) k
 
 -- what halving gives, where the test is closed
-pub place-from-clause : (p : File → Bool) → IsClosed p → {F : Type 0} {g : Mut F (Bor File × Unit {0}) Bool} {f : F} (files : List File) (place : ℕ) → AreApart files → place ≤ length files → ((q : File → Bool) → ComputesKey g q f → IsPartitionedBy q files → IsPartitionPoint (λ y. q y ≡ true) (λ y. q y ≡ false) files place) → ((a : Bor File × Unit {0}) (r : Bool) (f' : F) → Called g f a r f' → (r ≡ p a.0.now) × (f' ≡ f)) → place ≡ prefix_len p files
+pub place-from-clause : (p : File → Bool) → IsClosed p → {F : Type 0} {g : Mut F (Bor File × Unit {0}) Bool} {f : F} (files : List File) (place : ℕ)
+    → AreApart files → place ≤ length files → ((q : File → Bool) → ComputesKey g q f → IsPartitionedBy q files → IsPartitionPoint (λ y. q y ≡ true)
+    (λ y. q y ≡ false) files place) → ((a : Bor File × Unit {0}) (r : Bool) (f' : F) → Called g f a r f' → (r ≡ p a.0.now) × (f' ≡ f))
+    → place ≡ prefix_len p files
 place-from-clause p closed [] place o within clause says = omega arith
 place-from-clause p closed (d ∷ files) place o within clause says =
     let point = IsPartitionPoint-from_clause p (d ∷ files) place clause (parted p closed (d ∷ files) o) says in
@@ -87,11 +91,13 @@ within id (f ∷ files) zero h = omega arith
 within id (f ∷ files) (suc place) h = let rest = within id files place h in omega arith
 
 -- what the test at the place of an id says
-pub found-at : (id : ℕ) (files : List File) (place : ℕ) → AreApart files → place ≡ prefix_len (is_below id) files → is_some (of_id id (slice_get files place)) ≡ true → (find_file id files ≡ slice_get files place) × (place < length files)
+pub found-at : (id : ℕ) (files : List File) (place : ℕ) → AreApart files → place ≡ prefix_len (is_below id) files
+    → is_some (of_id id (slice_get files place)) ≡ true → (find_file id files ≡ slice_get files place) × (place < length files)
 found-at id files place apart at h =
     (find-at id files apart ∙ ap (λ p. of_id id (slice_get files p)) (sym at) ∙ passes id (slice_get files place) h, within id files place h)
 
-pub none-at : (id : ℕ) (files : List File) (place : ℕ) → AreApart files → place ≡ prefix_len (is_below id) files → is_some (of_id id (slice_get files place)) ≡ false → find_file id files ≡ None
+pub none-at : (id : ℕ) (files : List File) (place : ℕ) → AreApart files → place ≡ prefix_len (is_below id) files
+    → is_some (of_id id (slice_get files place)) ≡ false → find_file id files ≡ None
 none-at id files place apart at h =
     find-at id files apart ∙ ap (λ p. of_id id (slice_get files p)) (sym at) ∙ fails (of_id id (slice_get files place)) h
 
@@ -127,7 +133,8 @@ get-above id f (g ∷ files) zero above at = let same : g ≡ f = cc in subst (�
 get-above id f (g ∷ files) (suc place) above at = get-above id f files place (λ k d lt. above (suc k) d (omega arith)) at
 
 -- a file takes the place of the one of its id
-pub replace-at : (x f : File) (files : List File) (place : ℕ) → AreApart files → slice_get files place ≡ Some f → f.id ≡ x.id → replace_file x files ≡ set files place x
+pub replace-at : (x f : File) (files : List File) (place : ℕ) → AreApart files → slice_get files place ≡ Some f → f.id ≡ x.id → replace_file x files
+    ≡ set files place x
 replace-at x f [] place apart at same = cc
 replace-at x f (g ∷ files) zero apart at same =
     let is : g ≡ f = cc in
@@ -139,7 +146,8 @@ replace-at x f (g ∷ files) (suc place) apart at same =
     rw other (ap (λ l. g ∷ l) (replace-at x f files place apart.2 at same))
 
 -- a file is taken out of its place
-pub drop-at : (id : ℕ) (f : File) (files : List File) (place : ℕ) → AreApart files → slice_get files place ≡ Some f → f.id ≡ id → drop_file id files ≡ remove files place
+pub drop-at : (id : ℕ) (f : File) (files : List File) (place : ℕ) → AreApart files → slice_get files place ≡ Some f → f.id ≡ id → drop_file id files
+    ≡ remove files place
 drop-at id f [] place apart at same = cc
 drop-at id f (g ∷ files) zero apart at same =
     let is : g ≡ f = cc in

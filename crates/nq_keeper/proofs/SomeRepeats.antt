@@ -43,7 +43,10 @@ repeats-are-met = record {
   kept = kept;
   comings = write ∷ write ∷ remove ∷ attach ∷ attach ∷ write ∷ [];
   all_hosts = refl;
-  few = All-cons (λ c. IsOfHost c.request) write (write ∷ remove ∷ attach ∷ attach ∷ write ∷ []) (host-few 1) (All-cons (λ c. IsOfHost c.request) write (remove ∷ attach ∷ attach ∷ write ∷ []) (host-few 1) (All-cons (λ c. IsOfHost c.request) remove (attach ∷ attach ∷ write ∷ []) (host-few 1) (All-cons (λ c. IsOfHost c.request) attach (attach ∷ write ∷ []) (host-few 2) (All-cons (λ c. IsOfHost c.request) attach (write ∷ []) (host-few 2) (All-cons (λ c. IsOfHost c.request) write [] (host-few 1) (All-nil _))))));
+  few = All-cons (λ c. IsOfHost c.request) write (write ∷ remove ∷ attach ∷ attach ∷ write ∷ []) (host-few 1) (All-cons (λ c. IsOfHost c.request)
+      write (remove ∷ attach ∷ attach ∷ write ∷ []) (host-few 1) (All-cons (λ c. IsOfHost c.request) remove (attach ∷ attach ∷ write ∷ [])
+      (host-few 1) (All-cons (λ c. IsOfHost c.request) attach (attach ∷ write ∷ []) (host-few 2) (All-cons (λ c. IsOfHost c.request) attach
+      (write ∷ []) (host-few 2) (All-cons (λ c. IsOfHost c.request) write [] (host-few 1) (All-nil _))))));
   said = refl;
   twice = refl;
 }

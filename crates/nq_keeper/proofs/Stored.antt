@@ -14,7 +14,8 @@ use Rattle.nq_model.proofs.FreshFits.{blocks-replaced, length-replaced}
 use Rattle.nq_model.proofs.WithinBounds.{named-as-found, apart-replaced, apart-filtered, apart-added, fewer-files, fewer-blocks}
 
 -- without a file
-pub stored-dropped : (files new : List File) (blocks had id : ℕ) → AreStored files blocks → new ≡ drop_file id files → had + blocks_in_all new ≡ blocks_in_all files → AreStored new (blocks - had)
+pub stored-dropped : (files new : List File) (blocks had id : ℕ) → AreStored files blocks → new ≡ drop_file id files → had + blocks_in_all new
+    ≡ blocks_in_all files → AreStored new (blocks - had)
 stored-dropped files new blocks had id stored is sum = record {
   apart = subst AreApart (sym is) (apart-filtered (λ f. not (f.id == id)) files stored.apart);
   few_files = let few = stored.few_files in subst (λ l. length l ≤ most_files) (sym is) (omega (arith, fewer-files (λ f. not (f.id == id)) files));
@@ -23,7 +24,8 @@ stored-dropped files new blocks had id stored is sum = record {
 }
 
 -- the files with a row's file are apart
-apart-with : (row : FileRow) (files : List File) (found : Option File) → AreApart files → find_file row.id files ≡ found → IsRowAmong row files found → AreApart (with_file_at row files found)
+apart-with : (row : FileRow) (files : List File) (found : Option File) → AreApart files → find_file row.id files ≡ found → IsRowAmong row files found
+    → AreApart (with_file_at row files found)
 apart-with row files None apart is among =
     apart-added row.id (file_of row []) files among.0 (made-id row []) (subst (λ n. find_name n files ≡ None) (sym (made-name row [])) among.1) apart
 apart-with row files (Some f) apart is among =
@@ -32,7 +34,8 @@ apart-with row files (Some f) apart is among =
     apart
 
 -- with a row's file
-pub stored-put : (files new : List File) (blocks had : ℕ) (row : FileRow) → AreStored files blocks → FitsAmong row files → new ≡ with_file row files → had + blocks_in_all new ≡ blocks_in_all files + row.blocks → AreStored new ((blocks + row.blocks) - had)
+pub stored-put : (files new : List File) (blocks had : ℕ) (row : FileRow) → AreStored files blocks → FitsAmong row files → new ≡ with_file row files
+    → had + blocks_in_all new ≡ blocks_in_all files + row.blocks → AreStored new ((blocks + row.blocks) - had)
 stored-put files new blocks had row stored fits is sum = record {
   apart = subst AreApart (sym is) (apart-with row files (find_file row.id files) stored.apart refl fits.among);
   few_files = subst (λ l. length l ≤ most_files) (sym is) fits.few_files;

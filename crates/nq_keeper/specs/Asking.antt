@@ -8,7 +8,8 @@ use Rattle.nq_keeper.specs.Keeping.{Reads, LeavesOne}
 use Rattle.nq_model.specs.Kept.{Kept}
 
 -- it answers this of what is kept
-pub record Asks {X : Type 0} (answer : Kept → X) (result : Result X KeepFault) (told tells : Option Kept) (before now : ℕ) (goes : Type 0) (left : Option Kept → Type 0) : Type 0 where
+pub record Asks {X : Type 0} (answer : Kept → X) (result : Result X KeepFault) (told tells : Option Kept) (before now : ℕ) (goes : Type 0)
+    (left : Option Kept → Type 0) : Type 0 where
   pub answers : ForSome told (λ kept. IfOk result (λ x. x ≡ answer kept))
   pub reads : Reads result told tells before now
   pub follows : goes

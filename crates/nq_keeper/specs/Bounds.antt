@@ -44,21 +44,25 @@ apart-decides (file ∷ files) =
 body-decides : (body : List ℕ) → Decides (is_body body) (IsBody body)
 body-decides body =
     Decides-like (is_body body) (λ h. record { size = h.0; bytes = h.1 }) (λ h. (h.size, h.bytes))
-    (Decides-and (length body == 4096) (list_all (λ byte. nat_lt byte 256) body) (eq-decides (length body) 4096) (each-decides (λ byte. nat_lt byte 256) (λ byte. byte < 256) (λ byte. lt-decides byte 256) body))
+    (Decides-and (length body == 4096) (list_all (λ byte. nat_lt byte 256) body) (eq-decides (length body) 4096)
+    (each-decides (λ byte. nat_lt byte 256) (λ byte. byte < 256) (λ byte. lt-decides byte 256) body))
 
 -- tests, one behind the other
 three : {A B C : Type 0} (a b c : Bool) → Decides a A → Decides b B → Decides c C → Decides (a && b && c) (A × B × C)
 three a b c p q r = Decides-like (a && b && c) (λ h. (h.0.0, h.0.1, h.1)) (λ h. ((h.0, h.1), h.2)) (Decides-and (a && b) c (Decides-and a b p q) r)
 
 four : {A B C D : Type 0} (a b c d : Bool) → Decides a A → Decides b B → Decides c C → Decides d D → Decides (a && b && c && d) (A × B × C × D)
-four a b c d p q r s = Decides-like (a && b && c && d) (λ h. (h.0.0, h.0.1, h.0.2, h.1)) (λ h. ((h.0, h.1, h.2), h.3)) (Decides-and (a && b && c) d (three a b c p q r) s)
+four a b c d p q r s = Decides-like (a && b && c && d) (λ h. (h.0.0, h.0.1, h.0.2, h.1)) (λ h. ((h.0, h.1, h.2), h.3)) (Decides-and (a && b && c) d
+    (three a b c p q r) s)
 
-six : {A B C D E F : Type 0} (a b c d e f : Bool) → Decides a A → Decides b B → Decides c C → Decides d D → Decides e E → Decides f F → Decides (a && b && c && d && e && f) (A × B × C × D × E × F)
+six : {A B C D E F : Type 0} (a b c d e f : Bool) → Decides a A → Decides b B → Decides c C → Decides d D → Decides e E → Decides f F
+    → Decides (a && b && c && d && e && f) (A × B × C × D × E × F)
 six a b c d e f p q r s t u =
     Decides-like (a && b && c && d && e && f) (λ h. (h.0.0, h.0.1, h.0.2, h.1, h.2, h.3)) (λ h. ((h.0, h.1, h.2), h.3, h.4, h.5))
     (four (a && b && c) d e f (three a b c p q r) s t u)
 
-seven : {A B C D E F G : Type 0} (a b c d e f g : Bool) → Decides a A → Decides b B → Decides c C → Decides d D → Decides e E → Decides f F → Decides g G → Decides (a && b && c && d && e && f && g) (A × B × C × D × E × F × G)
+seven : {A B C D E F G : Type 0} (a b c d e f g : Bool) → Decides a A → Decides b B → Decides c C → Decides d D → Decides e E → Decides f F
+    → Decides g G → Decides (a && b && c && d && e && f && g) (A × B × C × D × E × F × G)
 seven a b c d e f g p q r s t u v =
     Decides-like (a && b && c && d && e && f && g) (λ h. (h.0.0, h.0.1, h.0.2, h.0.3, h.0.4, h.0.5, h.1)) (λ h. ((h.0, h.1, h.2, h.3, h.4, h.5), h.6))
     (Decides-and (a && b && c && d && e && f) g (six a b c d e f p q r s t u) v)
@@ -68,14 +72,17 @@ file-decides next file =
     Decides-like (is_file_within next file)
     (λ h. record { from_one = h.0; below_next = h.1; name = h.2; rev = h.3; not_empty = h.4; short = h.5; bodies = h.6 })
     (λ h. (h.from_one, h.below_next, h.name, h.rev, h.not_empty, h.short, h.bodies))
-    (seven (nat_le 1 file.id) (nat_lt file.id next) (is_name file.name) (nat_lt file.rev rev_end) (nat_le 1 (blocks_of file)) (nat_le (blocks_of file) most_blocks_of_file) (list_all is_body file.bodies)
-    (le-decides 1 file.id) (lt-decides file.id next) (name_decides file.name) (lt-decides file.rev rev_end) (le-decides 1 (blocks_of file)) (le-decides (blocks_of file) most_blocks_of_file)
+    (seven (nat_le 1 file.id) (nat_lt file.id next) (is_name file.name) (nat_lt file.rev rev_end) (nat_le 1 (blocks_of file))
+    (nat_le (blocks_of file) most_blocks_of_file) (list_all is_body file.bodies)
+    (le-decides 1 file.id) (lt-decides file.id next) (name_decides file.name) (lt-decides file.rev rev_end) (le-decides 1 (blocks_of file))
+    (le-decides (blocks_of file) most_blocks_of_file)
     (each-decides is_body IsBody body-decides file.bodies))
 
 host-decides : (row : HostRow) → Decides (is_host_within row) (IsHostWithin row)
 host-decides row =
     Decides-like (is_host_within row) (λ h. record { inc = h.0; seq = h.1; value = h.2 }) (λ h. (h.inc, h.seq, h.value))
-    (three (nat_lt row.inc inc_end) (nat_lt row.seq seq_end) (nat_lt row.value (2 ^ 64)) (lt-decides row.inc inc_end) (lt-decides row.seq seq_end) (lt-decides row.value (2 ^ 64)))
+    (three (nat_lt row.inc inc_end) (nat_lt row.seq seq_end) (nat_lt row.value (2 ^ 64)) (lt-decides row.inc inc_end) (lt-decides row.seq seq_end)
+    (lt-decides row.value (2 ^ 64)))
 
 -- the server's numbers are within their bounds
 record AreNumbersWithin (kept : Kept) : Type 0 where
@@ -88,9 +95,12 @@ record AreNumbersWithin (kept : Kept) : Type 0 where
 
 heads-decide : (kept : Kept) → Decides (are_heads_within kept) (AreNumbersWithin kept)
 heads-decide kept =
-    Decides-like (are_heads_within kept) (λ h. record { opened = h.0; boot = h.1; long = h.2; short = h.3; ids = h.4; few_ids = h.5 }) (λ h. (h.opened, h.boot, h.long, h.short, h.ids, h.few_ids))
-    (six (nat_le kept.opened kept.boot) (nat_lt kept.boot (2 ^ 31)) (nat_le shortest_term kept.longest) (nat_le kept.longest longest_term) (nat_le 1 kept.next) (nat_le kept.next most_ids)
-    (le-decides kept.opened kept.boot) (lt-decides kept.boot (2 ^ 31)) (le-decides shortest_term kept.longest) (le-decides kept.longest longest_term) (le-decides 1 kept.next) (le-decides kept.next most_ids))
+    Decides-like (are_heads_within kept) (λ h. record { opened = h.0; boot = h.1; long = h.2; short = h.3; ids = h.4; few_ids = h.5 })
+    (λ h. (h.opened, h.boot, h.long, h.short, h.ids, h.few_ids))
+    (six (nat_le kept.opened kept.boot) (nat_lt kept.boot (2 ^ 31)) (nat_le shortest_term kept.longest) (nat_le kept.longest longest_term)
+    (nat_le 1 kept.next) (nat_le kept.next most_ids)
+    (le-decides kept.opened kept.boot) (lt-decides kept.boot (2 ^ 31)) (le-decides shortest_term kept.longest) (le-decides kept.longest longest_term)
+    (le-decides 1 kept.next) (le-decides kept.next most_ids))
 
 pub within-decides : (kept : Kept) → Decides (is_within kept) (IsWithinBounds kept)
 unfolding is_within
@@ -110,9 +120,27 @@ within-decides kept =
       ids = h.6.ids;
       few_ids = h.6.few_ids;
     })
-    (λ h. (h.files, h.apart, h.few_files, h.few_blocks, h.hosts, h.all_hosts, record { opened = h.opened; boot = h.boot; long = h.long; short = h.short; ids = h.ids; few_ids = h.few_ids }))
-    (seven (list_all (is_file_within kept.next) kept.files) (are_apart kept.files) (nat_le (length kept.files) most_files) (nat_le (blocks_in_all kept.files) most_blocks) (list_all is_host_within kept.hosts) (length kept.hosts == most_hosts) (are_heads_within kept)
-    (each-decides (is_file_within kept.next) (IsFileWithin kept.next) (file-decides kept.next) kept.files) (apart-decides kept.files) (le-decides (length kept.files) most_files) (le-decides (blocks_in_all kept.files) most_blocks)
+    (λ h. (
+      h.files,
+      h.apart,
+      h.few_files,
+      h.few_blocks,
+      h.hosts,
+      h.all_hosts,
+      record {
+        opened = h.opened;
+        boot = h.boot;
+        long = h.long;
+        short =
+            h.short;
+        ids = h.ids;
+        few_ids = h.few_ids;
+      },
+    ))
+    (seven (list_all (is_file_within kept.next) kept.files) (are_apart kept.files) (nat_le (length kept.files) most_files)
+    (nat_le (blocks_in_all kept.files) most_blocks) (list_all is_host_within kept.hosts) (length kept.hosts == most_hosts) (are_heads_within kept)
+    (each-decides (is_file_within kept.next) (IsFileWithin kept.next) (file-decides kept.next) kept.files) (apart-decides kept.files)
+    (le-decides (length kept.files) most_files) (le-decides (blocks_in_all kept.files) most_blocks)
     (each-decides is_host_within IsHostWithin host-decides kept.hosts) (eq-decides (length kept.hosts) most_hosts) (heads-decide kept))
 
 -- the empty kept state is within its bounds

@@ -32,7 +32,8 @@ LeavesGiven change told leaves =
     ForSome told (λ kept. (found : Option Kept) → leaves found → (found ≡ Some kept) ⊎ (found ≡ Some (applied_if kept (change kept))))
 
 -- both together, where `goes` says that the keeper after the call is the one before it, and `left` what a stop in it leaves
-pub record Decides (decision : Kept → Decided) (change : Kept → Option Change) (result : Result Decided KeepFault) (told tells : Option Kept) (before now : ℕ) (goes : Type 0) (left : Option Kept → Type 0) : Type 0 where
+pub record Decides (decision : Kept → Decided) (change : Kept → Option Change) (result : Result Decided KeepFault) (told tells : Option Kept)
+    (before now : ℕ) (goes : Type 0) (left : Option Kept → Type 0) : Type 0 where
   pub gives : Gives decision change result told tells before now
   pub follows : goes
   pub leaves : LeavesGiven change told left

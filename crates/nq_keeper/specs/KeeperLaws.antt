@@ -24,10 +24,12 @@ goes-on-further first second third one two =
 pub faults-rise : (first last : StoredKeeper) → GoesOn first last → first.calls.faults ≤ last.calls.faults
 faults-rise first last goes = goes.rises
 
-pub may-leave : (first last : StoredKeeper) (kept : Kept) → GoesOn first last → (Some (told_of first.kept) ≡ Some kept) ⊎ (Some (told_of last.kept) ≡ Some kept) → LeavesEither first last (Some kept)
+pub may-leave : (first last : StoredKeeper) (kept : Kept) → GoesOn first last → (Some (told_of first.kept) ≡ Some kept)
+    ⊎ (Some (told_of last.kept) ≡ Some kept) → LeavesEither first last (Some kept)
 may-leave first last kept goes (inl e) = inl (sym e)
 may-leave first last kept goes (inr e) = inr (sym e)
 
-pub leaves-parts : (first middle last : StoredKeeper) (found : Option Kept) → GoesOn first middle → GoesOn middle last → LeavesEither first last found → LeavesEither first middle found ⊎ LeavesEither middle last found
+pub leaves-parts : (first middle last : StoredKeeper) (found : Option Kept) → GoesOn first middle → GoesOn middle last → LeavesEither first last found
+    → LeavesEither first middle found ⊎ LeavesEither middle last found
 leaves-parts first middle last found one two (inl left) = inl (inl left)
 leaves-parts first middle last found one two (inr left) = inr (inr left)

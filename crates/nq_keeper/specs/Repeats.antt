@@ -84,7 +84,8 @@ IsAttachedAgain decision = ((verdict : Verdict) × ((value : ℕ) × (decision �
 -- answered again is the kept verdict and value
 pub record DecidesOnce (kept : Kept) (cs : List Coming) : Type 0 where
   pub once : (host inc seq : ℕ) → count_by (is_of host inc seq) (executed kept cs) ≤ 1
-  pub repeats : (e : Execution) (c : Coming) → Contains (executed kept cs) e → sequence_of c.request ≡ Some e.key.seq → key_of c.request ≡ Some e.key → IsRepeat e (decided (kept_after_all kept cs) c.gate c.request)
+  pub repeats : (e : Execution) (c : Coming) → Contains (executed kept cs) e → sequence_of c.request ≡ Some e.key.seq → key_of c.request ≡ Some e.key
+      → IsRepeat e (decided (kept_after_all kept cs) c.gate c.request)
   pub attaches : (e : Execution) (gate : Gate) → Contains (executed kept cs) e → IsAttachedAgain (decided (kept_after_all kept cs) gate (Attach e.key.who))
 
 -- at most once, for every list of requests, with repeats
@@ -113,4 +114,5 @@ pub record RepeatsAreMet : Type 0 where
   pub all_hosts : length kept.hosts ≡ most_hosts
   pub few : All (λ c. IsOfHost c.request) comings
   pub said : said_of kept comings ≡ Fresh Done 1 ∷ Again Done 1 ∷ Again Done 1 ∷ Fresh Done 0 ∷ Again Done 0 ∷ OldIncarnation ∷ []
-  pub twice : map (λ e. e.key) (executed kept comings) ≡ record { who = record { host = 0; inc = 1 }; seq = 1 } ∷ record { who = record { host = 0; inc = 2 }; seq = 0 } ∷ []
+  pub twice : map (λ e. e.key) (executed kept comings) ≡ record { who = record { host = 0; inc = 1 }; seq = 1 }
+      ∷ record { who = record { host = 0; inc = 2 }; seq = 0 } ∷ []

@@ -1,5 +1,6 @@
 -- A keeper in memory, as contracts see it.
-use Rattle.std.specs.Prelude.{◌≡◌, ◌⊎◌, ◌≤◌, ◌==◌, ◌^◌, ℕ, Bool, true, ◌&&◌, List, [], ◌∷◌, Option, Some, Result, Ok, Err, length, nat_le, nat_lt, is_none, replicate, if◌then◌else◌}
+use Rattle.std.specs.Prelude.{◌≡◌, ◌⊎◌, ◌≤◌, ◌==◌, ◌^◌, ℕ, Bool, true, ◌&&◌, List, [], ◌∷◌, Option, Some, Result, Ok, Err, length, nat_le, nat_lt}
+use Rattle.std.specs.Prelude.{is_none, replicate, if◌then◌else◌}
 use Rattle.std.specs.List.{list_all}
 use Rattle.nq_base.specs.Name.{is_name}
 use Rattle.nq_base.specs.declared.Change.{Change}

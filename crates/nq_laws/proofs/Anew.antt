@@ -1,13 +1,16 @@
 -- A `write` that was put off asks for a lease anew: whose write is to go through does not pause.
-use Rattle.std.proofs.Common.{◌≡◌, ◌≢◌, ◌≤◌, ◌⊎◌, ℕ, ◌+◌, ◌==◌, Bool, true, false, List, [], ◌∷◌, Option, Some, None, refl, sym, subst, ap, ◌∙◌, arith, inl, inr}
+use Rattle.std.proofs.Common.{◌≡◌, ◌≢◌, ◌≤◌, ◌⊎◌, ℕ, ◌+◌, ◌==◌, Bool, true, false, List, [], ◌∷◌, Option, Some, None, refl, sym, subst, ap, ◌∙◌}
+use Rattle.std.proofs.Common.{arith, inl, inr}
 use Rattle.std.specs.Prelude.{slice_get, slice_set}
 use Rattle.nq_base.specs.declared.Answer.{Answer}
 use Rattle.nq_base.specs.declared.Call.{Call}
 use Rattle.nq_base.specs.declared.Event.{Event}
 use Rattle.nq_base.specs.declared.Reply.{Reply}
 use Rattle.nq_model.specs.Client.{Client, ClientStep, for_call, Ticket, UnderWay, begun}
-use Rattle.nq_model.specs.ClientStep.{begins_call, is_called, says_busy, at_time, sends_again, fresh_client, attached_client, starts, restart, client_call, client_tick}
-use Rattle.nq_model.specs.Hear.{hear, reply_counts, answers_call, marks_through, with_through, pauses, takes_optional, replied, cancels, vacates_lease, notes_notice, evicted}
+use Rattle.nq_model.specs.ClientStep.{begins_call, is_called, says_busy, at_time, sends_again, fresh_client, attached_client, starts, restart}
+use Rattle.nq_model.specs.ClientStep.{client_call, client_tick}
+use Rattle.nq_model.specs.Hear.{hear, reply_counts, answers_call, marks_through, with_through, pauses, takes_optional, replied, cancels}
+use Rattle.nq_model.specs.Hear.{vacates_lease, notes_notice, evicted}
 use Rattle.nq_model.specs.Message.{Message}
 use Rattle.nq_model.specs.Send.{sends_request, after_seq, after_number, takes_push, gives_up, send_next}
 use Rattle.nq_model.specs.Settle.{answers, after_read, reads_cached, after_write, marks_written, settle}
@@ -22,7 +25,8 @@ use Rattle.walk_steps.proofs.StepCases.{evicted-cases, heard-cases, call-cases, 
 use Rattle.walk_steps.proofs.Steps.{Changes, nothing, by_client, by_server, step-changes, ClientActs, called, ticked, restarted, heard}
 use Rattle.walk_steps.proofs.Worlds.{Holds, get-set-same, get-set-other, first-client, run-holds}
 use Rattle.walk_steps.proofs.Rows.{same-number, number-same}
-use Rattle.law_rounds.proofs.EffortReplies.{Goes, start as spent, optional-goes, pushed-goes, refused-goes, read-goes, write-goes, known-goes, attached-goes, start-same}
+use Rattle.law_rounds.proofs.EffortReplies.{Goes, start as spent, optional-goes, pushed-goes, refused-goes, read-goes, write-goes, known-goes}
+use Rattle.law_rounds.proofs.EffortReplies.{attached-goes, start-same}
 use Rattle.nq_laws.proofs.CallRequests.{run-asks}
 use Rattle.nq_laws.specs.PausedWritesAskAnew.{PausedWritesAskAnew}
 

@@ -126,7 +126,8 @@ module _ (head : Head) (events : List Event) (host xid inc : ℕ) (u : UnderWay)
   no-space : (r : Request) → IsFor u dirty push r → Had Refusal.NoSpc r → Answered Refusal.NoSpc
   no-space (Request.Create who seq name blocks) is had =
       subst (λ k. Says head events Said.NoSpace (Some (told k))) (sym is)
-      (once-map (HadSo host xid (Reply.Refused inc Refusal.NoSpc) (Request.Create who seq name blocks)) (λ w. HasNoRoom w.server.kept.files w.server.kept.next blocks) head
+      (once-map (HadSo host xid (Reply.Refused inc Refusal.NoSpc) (Request.Create who seq name blocks)) (λ w. HasNoRoom w.server.kept.files
+      w.server.kept.next blocks) head
       events (λ w so. so.1.1) had)
   no-space (Request.Resize who seq q file blocks) is had =
       subst (λ k. Says head events Said.NoSpace (Some (told k))) (sym is.0)

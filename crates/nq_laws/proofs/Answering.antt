@@ -1,6 +1,7 @@
 -- What becomes of a request that wants a lease: its host has a row then, which lets it cache, or shares the file for the shortest term; and a reply to
 -- GETLEASE brings no lease that does not cache, but where it shares the file.
-use Rattle.std.proofs.Common.{◌≡◌, ◌≤◌, ◌<◌, ◌⊎◌, ℕ, ◌+◌, ◌%◌, ◌++◌, ◌==◌, ◌&&◌, Bool, true, false, nat_lt, List, [], ◌∷◌, Option, Some, None, if◌then◌else◌, refl, sym, ap, subst, ◌∙◌, arith, inl, inr, length}
+use Rattle.std.proofs.Common.{◌≡◌, ◌≤◌, ◌<◌, ◌⊎◌, ℕ, ◌+◌, ◌%◌, ◌++◌, ◌==◌, ◌&&◌, Bool, true, false, nat_lt, List, [], ◌∷◌, Option, Some, None}
+use Rattle.std.proofs.Common.{if◌then◌else◌, refl, sym, ap, subst, ◌∙◌, arith, inl, inr, length}
 use Rattle.std.specs.Prelude.{slice_get}
 use Rattle.nq_base.specs.declared.Asked.{Asked}
 use Rattle.nq_base.specs.declared.Question.{Question}
@@ -9,12 +10,12 @@ use Rattle.nq_base.specs.declared.Row.{Row}
 use Rattle.nq_base.specs.declared.Want.{Want}
 use Rattle.nq_base.specs.declared.Who.{Who}
 use Rattle.nq_model.specs.Ask.{Reply, ask}
-use Rattle.nq_model.specs.Hear.{wants_of}
 use Rattle.nq_model.specs.Kept.{File, find_file, host_row}
-use Rattle.nq_model.specs.Message.{Reason, old_incarnation, wrong_host, request, call, datagram_of}
+use Rattle.nq_model.specs.Message.{Reason, old_incarnation, wrong_host, request, call}
 use Rattle.nq_model.specs.Profile.{most_hosts}
 use Rattle.nq_model.specs.Server.{Phase, serving, recovering, Server, ServerStep, quiet, drops, says, refuses, with_table, after_notices}
-use Rattle.nq_model.specs.ServerStep.{access_of, to_read, tells_later, serves, leases, read_of, read_asked, read_block, read, lease_asked, lease_of, get_lease, look, perform, not_attached, receive}
+use Rattle.nq_model.specs.ServerStep.{access_of, to_read, tells_later, serves, leases, read_of, read_asked, read_block, read, lease_asked, lease_of}
+use Rattle.nq_model.specs.ServerStep.{get_lease, look, perform, not_attached, receive}
 use Rattle.nq_model.specs.Table.{is_writing, find_row, with_rows}
 use Rattle.walk_steps.proofs.ClientMoves.{some-same}
 use Rattle.walk_steps.proofs.Tests.{is-not-below}
@@ -24,7 +25,8 @@ use Rattle.nq_base.specs.declared.Reply.{Reply as Answer}
 use Rattle.nq_model.specs.Message.{Packet, reply}
 use Rattle.nq_model.specs.Profile.{xid_end, shortest_term, most_rows}
 use Rattle.nq_model.specs.Server.{to_host, notices}
-use Rattle.nq_model.specs.Ask.{sharing_row, caching_row, shared_again, renewed_row, grant_of, free as free_reply, put_off_by_own, granted, no_lease, term_of, marked}
+use Rattle.nq_model.specs.Ask.{sharing_row, caching_row, shared_again, renewed_row, grant_of, free as free_reply, put_off_by_own, granted, no_lease}
+use Rattle.nq_model.specs.Ask.{term_of, marked}
 use Rattle.nq_model.specs.LeaseInterval.{grant_in}
 use Rattle.walk_steps.proofs.Packets.{In, reply-same, told-same}
 use Rattle.std.specs.Prelude.{max, min}
@@ -235,18 +237,6 @@ module _ (s : Server) (who : Who) (xid next : ℕ) where
       (nat_lt who.inc (host_row s.kept who.host).inc) (nat_lt (host_row s.kept who.host).inc who.inc) (not_attached s who xid
       (Request.GetLease who file want)) (perform s who xid next (host_row s.kept who.host) (Request.GetLease who file want)) (refuses-mute _ _ _)
       (lease-looks file want s.phase)
-
--- a request that wants a lease on a file, whatever it is
-pub request-asks : (s : Server) (xid next sender file : ℕ) (r : Request) → wants_of file r ≡ true
-    → Asks s (question_for s sender r) (receive s sender next (datagram_of (call xid r)))
-request-asks s xid next sender file (Request.Read who q f block (Some want)) wants = read-request s who xid next sender q f block want
-request-asks s xid next sender file (Request.Read who q f block None) wants = absurd (no (f == file) wants)
-  where
-    no : (b : Bool) → (b && false) ≡ true → ⊥
-    no true e = cc
-    no false e = cc
-request-asks s xid next sender file (Request.GetLease who f want) wants = lease-request s who xid next sender f want
-request-asks s xid next sender file other wants = absurd (cc)
 
 -- ---- by the ask table
 

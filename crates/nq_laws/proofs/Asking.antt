@@ -173,7 +173,8 @@ module _ (rows after : List Row) (clients : List Client) (y : Packet) (ys more :
             absurd (cc))))
         of-job t asks number pushing job = all_on (all-or (λ v has. not-this v (λ same st off counts.
             let one : t ≡ v = some-same t v (sym asks ∙ has) in
-            let none : refusal_counts st v.request v.job ≡ false = ap (refusal_counts st v.request) (ap (λ (z : Ticket). z.job) (sym one) ∙ job) ∙ ap not off in
+            let none : refusal_counts st v.request v.job ≡ false = ap (refusal_counts st v.request) (ap (λ (z : Ticket). z.job) (sym one) ∙ job)
+            ∙ ap not off in
             absurd (cc))))
 
         numbered : (t : Ticket) → c.ticket ≡ Some t → (e : Bool) → (t.xid == x) ≡ e → Fate rows after clients y ys more b c
@@ -191,6 +192,7 @@ module _ (rows after : List Row) (clients : List Client) (y : Packet) (ys more :
     fate = by served.outcome
       where
         by : Outcome rows after more b c.who x r → Fate rows after clients y ys more b c
-        by (quiet never from) = all_on (λ h k. hopes-on h (λ d t there asks. safe-none h d t more (λ z i o. never z i h t.xid d.who.inc o.status o.is o.off)) k)
+        by (quiet never from) = all_on (λ h k. hopes-on h (λ d t there asks. safe-none h d t more (λ z i o. never z i h t.xid d.who.inc o.status o.is
+            o.off)) k)
         by (by_own f n own wants found sends same) = all_on (all-or (λ t asks. first-cancels f n own t asks found wants sends))
         by (by_others f ch clash on way each only) = off-for-others f ch clash on way each only

@@ -1,6 +1,7 @@
 -- While a host shares a file, no host comes to cache it: the row that shares it stays through all packets but a REMOVE of the file, and through ticks
 -- until it ends. And a file that was removed has no rows, and never comes back.
-use Rattle.std.proofs.Common.{◌≡◌, ◌≢◌, ◌≤◌, ◌<◌, ◌⊎◌, ℕ, ◌+◌, ◌==◌, ◌&&◌, nat_le, Bool, true, false, not, List, ◌∷◌, [], ◌++◌, Option, Some, None, if◌then◌else◌, is_some, refl, sym, subst, ap, ◌∙◌, arith, inl, inr}
+use Rattle.std.proofs.Common.{◌≡◌, ◌≢◌, ◌≤◌, ◌<◌, ◌⊎◌, ℕ, ◌==◌, ◌&&◌, nat_le, Bool, true, false, not, List, ◌∷◌, [], ◌++◌, Option, Some, None}
+use Rattle.std.proofs.Common.{if◌then◌else◌, is_some, refl, sym, subst, ap, ◌∙◌, arith, inl, inr}
 use Rattle.std.specs.List.{find}
 use Rattle.std.specs.Option.{option_map}
 use Rattle.std.proofs.lemmas.Bool.{and_parts}
@@ -21,7 +22,8 @@ use Rattle.nq_model.specs.Kept.{File, Kept, find_file, replace_file, drop_file, 
 use Rattle.nq_model.specs.Message.{Message, Datagram, call, datagram_of}
 use Rattle.nq_model.specs.Profile.{most_hosts}
 use Rattle.nq_model.specs.Server.{Server, Phase, serving, recovering, after_notices, keeping, keeping_with, with_table, quiet, drops, says}
-use Rattle.nq_model.specs.ServerStep.{access_of, to_read, attaches, vacates, vacated_rows, tells_later, serves, leases, receive, tick, fence, is_over, is_due, end_reading}
+use Rattle.nq_model.specs.ServerStep.{access_of, to_read, attaches, vacates, vacated_rows, tells_later, serves, leases, receive, tick, fence, is_over}
+use Rattle.nq_model.specs.ServerStep.{is_due, end_reading}
 use Rattle.nq_model.specs.Skew.{IsWithinSkew}
 use Rattle.nq_model.specs.Table.{Table, caches, is_writing, same_tag, find_row, is_row_of, drop_host, drop_rows_of, drop_row, put_row, with_rows, after_draw}
 use Rattle.nq_model.specs.World.{Head, run}
@@ -30,7 +32,8 @@ use Rattle.walk_steps.proofs.ClientMoves.{some-same, none-some}
 use Rattle.walk_steps.proofs.Runs.{none-served}
 use Rattle.walk_steps.proofs.AskCases.{with_marked, IsGranted, shares_again, begins_sharing, begins_caching, renews_row}
 use Rattle.walk_steps.proofs.KeptChanges.{found-replaced, found-added, find-removed, find-not-removed}
-use Rattle.walk_steps.proofs.RowChanges.{HasUniqueKeys, kept_if, mark, mark-is, find-marked, find-put, of-key, find-kept, find-other-dropped, find-other-host-dropped, find-other-file-dropped, found-any, unique-filtered}
+use Rattle.walk_steps.proofs.RowChanges.{HasUniqueKeys, kept_if, mark, mark-is, find-marked, find-put, of-key, find-kept, find-other-dropped}
+use Rattle.walk_steps.proofs.RowChanges.{find-other-host-dropped, find-other-file-dropped, found-any, unique-filtered}
 use Rattle.walk_steps.proofs.Rows.{choice, found-row, find-passes, same-number, number-same}
 use Rattle.walk_steps.proofs.ServerCases.{server-hears}
 use Rattle.walk_steps.proofs.ServerMoves.{server-moves, tick-moves}

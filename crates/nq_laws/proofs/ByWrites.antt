@@ -1,5 +1,6 @@
 -- Calls on files to which no `write` is open are answered first; then four rounds are enough for each call that is left.
-use Rattle.std.proofs.Common.{◌≡◌, ◌≤◌, ◌<◌, ◌⊎◌, ℕ, ◌+◌, ◌*◌, ◌||◌, Bool, true, false, zero, suc, List, [], ◌∷◌, Option, Some, None, if◌then◌else◌, length, refl, sym, subst, ap, ◌∙◌, arith, inl, inr}
+use Rattle.std.proofs.Common.{◌≡◌, ◌≤◌, ◌<◌, ◌⊎◌, ℕ, ◌+◌, ◌*◌, ◌||◌, Bool, true, false, zero, suc, List, [], ◌∷◌, Option, Some, None, if◌then◌else◌}
+use Rattle.std.proofs.Common.{length, refl, sym, subst, ap, ◌∙◌, arith, inl, inr}
 use Rattle.std.specs.Prelude.{All, slice_get}
 use Rattle.nq_base.specs.declared.Event.{Event}
 use Rattle.nq_model.specs.Bounds.{KeepsBounds}
@@ -18,7 +19,8 @@ use Rattle.law_rounds.proofs.CalmEnds.{IsRising, rounds-rising, calmed-rising}
 use Rattle.law_rounds.proofs.CalmIsLawful.{rounds}
 use Rattle.law_rounds.specs.RoundsEndQuiet.{IsSmall}
 use Rattle.law_rounds.specs.WholeRounds.{whole_round, whole_rounds, AreWhole, LinksKeepOrder}
-use Rattle.law_rounds.proofs.CalmOrders.{calm_order, calm_orders, delivered-is, calm-arrives, calm-in-order, calms-are, calm-count, calms-are-whole, calms-keep-links}
+use Rattle.law_rounds.proofs.CalmOrders.{calm_order, calm_orders, delivered-is, calm-arrives, calm-in-order, calms-are, calm-count, calms-are-whole}
+use Rattle.law_rounds.proofs.CalmOrders.{calms-keep-links}
 use Rattle.law_rounds.proofs.Flows.{Covered, whole-small, wholes-small, wholes-cover, later-covers}
 use Rattle.law_rounds.proofs.Orders.{whole-lawful, whole-rising}
 use Rattle.law_rounds.proofs.Quiet.{order-ends-quiet}
@@ -32,7 +34,8 @@ use Rattle.nq_laws.specs.SharedFilesAnswered.{file_in}
 use Rattle.nq_laws.proofs.SharedRounds.{rounds-idle, rounds-call, rounds-of}
 use Rattle.nq_laws.proofs.SharedAnswered.{left-over}
 use Rattle.nq_laws.specs.UnwrittenFiles.{written_by, WritesNotTo}
-use Rattle.nq_laws.specs.CallsByWrites.{is_file, is_write_to, is_written, may_wait, one_if_waits, waiting_of, waiting_calls, rounds_by_writes, AnsweredByWrites, FewWritesAnswered, served_rounds_by_writes, ServedByWrites}
+use Rattle.nq_laws.specs.CallsByWrites.{is_file, is_write_to, is_written, may_wait, one_if_waits, waiting_of, waiting_calls, rounds_by_writes}
+use Rattle.nq_laws.specs.CallsByWrites.{AnsweredByWrites, FewWritesAnswered, served_rounds_by_writes, ServedByWrites}
 use Rattle.nq_laws.proofs.Fileless.{fileless-end}
 use Rattle.nq_laws.proofs.Theorem.{lawful, fewer, Serves, serves-late, serves-early, serving, call-so}
 

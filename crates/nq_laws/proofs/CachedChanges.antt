@@ -1,6 +1,7 @@
 -- In every run a cached read changes its client's count of calls, the mark of its lease and the order of its clean blocks,
 -- and nothing else.
-use Rattle.std.proofs.Common.{◌≡◌, ◌≢◌, ℕ, ◌+◌, ◌==◌, not, Bool, true, false, List, ◌∷◌, ◌++◌, Option, Some, None, if◌then◌else◌, refl, sym, subst, ap, ◌∙◌, inl, inr, append-nil}
+use Rattle.std.proofs.Common.{◌≡◌, ◌≢◌, ℕ, ◌+◌, ◌==◌, not, Bool, true, false, List, ◌∷◌, ◌++◌, Option, Some, None, if◌then◌else◌, refl, sym, subst}
+use Rattle.std.proofs.Common.{ap, ◌∙◌, inl, inr, append-nil}
 use Rattle.std.specs.Option.{option_map}
 use Rattle.std.specs.Prelude.{slice_get}
 use Rattle.std.proofs.lemmas.Bool.{and_parts, not_from_false}
@@ -70,7 +71,8 @@ used-found : (file : ℕ) (leases : List Lease) (l : Lease) → lease_on file le
 used-found file leases l e =
     used-lease-found file file leases ∙ ap (option_map (marked_used file)) e ∙ ap Some (marks file l (l.file == file) refl (lease-file file leases l e))
 
-other-found : (file other : ℕ) (leases : List Lease) (o : Option Lease) → other ≢ file → lease_on other leases ≡ o → lease_on other (used_lease file leases) ≡ o
+other-found : (file other : ℕ) (leases : List Lease) (o : Option Lease) → other ≢ file → lease_on other leases ≡ o
+    → lease_on other (used_lease file leases) ≡ o
 other-found file other leases None apart e = used-lease-found other file leases ∙ ap (option_map (marked_used file)) e
 other-found file other leases (Some l) apart e =
     used-lease-found other file leases ∙ ap (option_map (marked_used file)) e

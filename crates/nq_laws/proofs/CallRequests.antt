@@ -7,7 +7,8 @@ use Rattle.nq_base.specs.declared.Event.{Event}
 use Rattle.nq_base.specs.declared.Request.{Request}
 use Rattle.nq_base.specs.declared.Tag.{Tag}
 use Rattle.nq_model.specs.Client.{Client, ClientStep, begun, for_call, Ticket, UnderWay, lease_on}
-use Rattle.nq_model.specs.ClientStep.{begins_call, is_called, says_busy, client_call, at_time, sends_again, client_tick, attached_client, starts, fresh_client, restart}
+use Rattle.nq_model.specs.ClientStep.{begins_call, is_called, says_busy, client_call, at_time, sends_again, client_tick, attached_client, starts}
+use Rattle.nq_model.specs.ClientStep.{fresh_client, restart}
 use Rattle.nq_model.specs.Hear.{hear, replied, cancels, vacates_lease, notes_notice, evicted}
 use Rattle.nq_model.specs.Message.{Message}
 use Rattle.nq_model.specs.Send.{sends_request, after_seq, after_number, takes_push, gives_up, read_want, shares_live, send_next}

@@ -1,5 +1,6 @@
 -- What a reply tells, and the cause where it refuses: of the replies that the server makes.
-use Rattle.std.proofs.Common.{◌≡◌, ◌⊎◌, ◌<◌, ◌≤◌, ℕ, ◌==◌, true, ◌+◌, ◌-◌, ◌||◌, nat_lt, nat_le, List, [], ◌∷◌, Some, None, length, refl, sym, subst, inl, inr, arith}
+use Rattle.std.proofs.Common.{◌≡◌, ◌⊎◌, ◌<◌, ◌≤◌, ℕ, ◌==◌, true, ◌+◌, ◌-◌, ◌||◌, nat_lt, nat_le, List, [], ◌∷◌, Some, None, length, refl, sym, subst}
+use Rattle.std.proofs.Common.{inl, inr, arith}
 use Rattle.std.proofs.lemmas.Bool.{or_cases}
 use Rattle.std.proofs.lemmas.Bool.Decides.{nat_tests}
 use Rattle.std.specs.Prelude.{slice_get, zero, suc, ⊤}
@@ -16,7 +17,8 @@ use Rattle.nq_model.specs.Server.{Server}
 use Rattle.nq_model.specs.RepliesTellWhatWas.{IsSo, KeepsAt}
 use Rattle.nq_laws.specs.RefusalsHaveCauses.{LacksNamed, IsCause, file_named}
 use Rattle.walk_steps.proofs.ClientMoves.{some-same}
-use Rattle.walk_steps.proofs.ServerOutcomes.{file_changed_by, IsDeclined, bad_length, name_taken, no_room, not_kept, outside, no_row, not_under, not_over, not_while_recovering, bad_size, no_room_to_grow}
+use Rattle.walk_steps.proofs.ServerOutcomes.{file_changed_by, IsDeclined, bad_length, name_taken, no_room, not_kept, outside, no_row, not_under}
+use Rattle.walk_steps.proofs.ServerOutcomes.{not_over, not_while_recovering, bad_size, no_room_to_grow}
 use Rattle.walk_steps.proofs.Tests.{there-is}
 
 -- a refusal has its cause, and a grant tells the length of its file
@@ -92,8 +94,11 @@ module _ (s : Server) (who : Who) (r : Request) where
       gives Verdict.Exist verdict is
       (tt, subst (λ q. IsCause s.kept.files s.kept.next Refusal.Exist q) (sym on) (record { file = there.0; found = there.1 }))
   declined-told verdict (no_room seq blocks name p on full is) =
-      gives Verdict.NoSpace verdict is
-      (tt, subst (λ q. IsCause s.kept.files s.kept.next Refusal.NoSpc q) (sym on) (no-room-so (length s.kept.files) (blocks_in_all s.kept.files) s.kept.next blocks full))
+      gives Verdict.NoSpace verdict is (
+        tt,
+        subst (λ q. IsCause s.kept.files s.kept.next Refusal.NoSpc q) (sym on) (no-room-so (length s.kept.files) (blocks_in_all s.kept.files)
+            s.kept.next blocks full),
+      )
   declined-told verdict (not_kept file on none is) = gives Verdict.Stale verdict is (tt, changed-lacks s.kept.files r file on none)
   declined-told verdict (outside seq file block first last push body f on found out is) =
       gives Verdict.Invalid verdict is

@@ -16,7 +16,8 @@ use Rattle.walk_steps.proofs.Packets.{In, in-left, in-right, told-same, not-both
 use Rattle.walk_steps.proofs.Worlds.{set-there, get-set-other}
 use Rattle.walk_steps.proofs.Rows.{same-number, number-same}
 use Rattle.law_rounds.proofs.Coming.{in-map}
-use Rattle.nq_laws.proofs.Hope.{file_of_call, access_of_call, Cancels, PutsOff, Safe, Hopeful, IsWished, by_read, by_write, Goes, told, waits, vacated, Passes, goes, hoped, InWay, Clear, safe-rest, safe-append, safe-none, safe-fewer}
+use Rattle.nq_laws.proofs.Hope.{file_of_call, access_of_call, Cancels, PutsOff, Safe, Hopeful, IsWished, by_read, by_write, Goes, told, waits}
+use Rattle.nq_laws.proofs.Hope.{vacated, Passes, goes, hoped, InWay, Clear, safe-rest, safe-append, safe-none, safe-fewer}
 
 pub map-in : {A B : Type 0} (f : A → B) (xs : List A) (z : B) → In (map f xs) z → (x : A) × In xs x × (z ≡ f x)
 map-in f [] z i = absurd i

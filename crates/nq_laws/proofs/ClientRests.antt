@@ -19,7 +19,8 @@ use Rattle.nq_model.specs.Settle.{said}
 use Rattle.walk_files.proofs.CallFacts.{CallsAt, called-below, asks-told}
 use Rattle.walk_files.proofs.Placed.{call-told}
 use Rattle.walk_steps.proofs.ClientFacts.{fits_job}
-use Rattle.walk_steps.proofs.ClientEntries.{needs_reply, IsPastEnd, Lent, IsGranting, IsTelling, Going, OfClient, call-keeps, tick-keeps, hear-keeps, restart-keeps}
+use Rattle.walk_steps.proofs.ClientEntries.{needs_reply, IsPastEnd, Lent, IsGranting, IsTelling, Going, OfClient, call-keeps, tick-keeps, hear-keeps}
+use Rattle.walk_steps.proofs.ClientEntries.{restart-keeps}
 
 -- the next entry before is a cached read of this call
 abbrev pub IsCachedNext : (who : Who) (q : ℕ) → List Entry → Type 0

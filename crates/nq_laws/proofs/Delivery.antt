@@ -1,6 +1,7 @@
 -- A delivery of a calm network while the server serves, packet by packet: what holds of each request under way, and what each packet leaves of
 -- hopes and of rows in the way. Or a call is answered.
-use Rattle.std.proofs.Common.{◌≡◌, ◌≢◌, ◌≤◌, ◌<◌, ◌⊎◌, ℕ, ◌==◌, ◌++◌, Bool, true, false, not, List, [], ◌∷◌, Option, Some, None, is_some, nat_le, length, refl, sym, subst, ap, ◌∙◌, arith, inl, inr, append-nil}
+use Rattle.std.proofs.Common.{◌≡◌, ◌≢◌, ◌≤◌, ◌<◌, ◌⊎◌, ℕ, ◌==◌, ◌++◌, Bool, true, false, not, List, [], ◌∷◌, Option, Some, None, is_some, nat_le}
+use Rattle.std.proofs.Common.{length, refl, sym, subst, ap, ◌∙◌, arith, inl, inr, append-nil}
 use Rattle.std.specs.Prelude.{map, slice_get, slice_set}
 use Rattle.std.proofs.lemmas.Bool.{and_from}
 use Rattle.nq_base.specs.declared.Event.{Event}
@@ -52,11 +53,13 @@ use Rattle.nq_laws.proofs.Given.{AllInLine, ordered, ordered-on, tags, served}
 use Rattle.nq_laws.proofs.HearerAt.{hearer}
 use Rattle.nq_laws.proofs.Hope.{Cancels, PutsOff, Clear}
 use Rattle.nq_laws.proofs.Front.{Fronts, to-front, moves-from}
-use Rattle.nq_laws.proofs.Queue.{packets_of, queue, queue-parts, rest-parts, before-apart, queue-next, head-packet, head-comes, rest-comes, rest-later, there-is}
+use Rattle.nq_laws.proofs.Queue.{packets_of, queue, queue-parts, rest-parts, before-apart, queue-next, head-packet, head-comes, rest-comes}
+use Rattle.nq_laws.proofs.Queue.{rest-later, there-is}
 use Rattle.nq_laws.proofs.Served.{IsWant, by_read, by_lease, IsServed, Fits, read_fits, write_fits, Wanting, by_call, by_renewal}
 use Rattle.nq_laws.proofs.Asking.{Fate, all_on, off, fate}
 use Rattle.nq_laws.proofs.ServerHopes.{Asker, clear-on, off-clear, off-hope}
-use Rattle.nq_laws.proofs.UnderWay.{InOrder, TagsFit, WantedNow, of_call, of_row, Wants, NoneRenew, Moves, all_move, all_but, Paused, hear-sent, none-renews, serves-is}
+use Rattle.nq_laws.proofs.UnderWay.{InOrder, TagsFit, WantedNow, of_call, of_row, Wants, NoneRenew, Moves, all_move, all_but, Paused, hear-sent}
+use Rattle.nq_laws.proofs.UnderWay.{none-renews, serves-is}
 
 -- ---- a state
 

@@ -43,7 +43,8 @@ use Rattle.law_rounds.proofs.ClientSteps.{get-below}
 -- ---- how long a lease runs
 
 module _ (most : ℕ) (head : Head) where
-  covered-boot : (s : Server) (phase : Phase) (who : Who) (file : ℕ) (mode : Mode) (tag : Tag) (until : ℕ) → BootsFit s.kept.boot s.kept.opened phase s.table → StandingFits s.kept.files phase s.table → IsCovered s phase (claim_of who file mode tag until) → tag.boot ≡ s.kept.opened
+  covered-boot : (s : Server) (phase : Phase) (who : Who) (file : ℕ) (mode : Mode) (tag : Tag) (until : ℕ) → BootsFit s.kept.boot s.kept.opened phase
+      s.table → StandingFits s.kept.files phase s.table → IsCovered s phase (claim_of who file mode tag until) → tag.boot ≡ s.kept.opened
   covered-boot s serving who file mode tag until boots stood c =
       let k = stood.fits file who.host c.row c.stands in
       between s.table.boot c.row.since tag c.row.tag k.since_boot k.tag_boot c.fits.began c.fits.goes_on ∙ boots.table_boot ∙ sym boots.opened_now
@@ -55,7 +56,9 @@ module _ (most : ℕ) (head : Head) where
   writes-caches NonCaching e = absurd (cc)
 
   -- a running lease to write ends within the longest term of all boots
-  lease-short : (events : List Event) → KeepsBounds most head events → IsWithinSkew head.hosts most events → (host : ℕ) (c : Client) → slice_get (run head events).clients host ≡ Some c → (file : ℕ) (l : Lease) → lease_on file c.leases ≡ Some l → is_writing l.mode ≡ true → c.now < l.expiry → l.expiry ≤ c.now + most
+  lease-short : (events : List Event) → KeepsBounds most head events → IsWithinSkew head.hosts most events → (host : ℕ) (c : Client)
+      → slice_get (run head events).clients host ≡ Some c → (file : ℕ) (l : Lease) → lease_on file c.leases ≡ Some l → is_writing l.mode ≡ true
+      → c.now < l.expiry → l.expiry ≤ c.now + most
   lease-short events bounds within host c at file l on writes runs =
       let r = run-runs most head events bounds within in
       let k = (r.known.clients host c at).covered in
@@ -64,14 +67,16 @@ module _ (most : ℕ) (head : Head) where
       let last = a.past in
       let caching = writes-caches l.mode writes in
       let covered = k.held file l on caching (omega arith) in
-      let boot = covered-boot (run head events).server (run head events).server.phase c.who file l.mode l.tag (cover_end c.who.host (l.expiry - l.term) l.term events) r.served.boots r.served.stood covered in
+      let boot = covered-boot (run head events).server (run head events).server.phase c.who file l.mode l.tag
+      (cover_end c.who.host (l.expiry - l.term) l.term events) r.served.boots r.served.stood covered in
       let short = k.held_short file l on caching boot in
       let few = r.served.terms.kept_few in
       omega arith
 
   -- ---- who is quiet and has no open call
 
-  pub quiet-ends : (q : Play) → IsLawful most head q → (host : ℕ) (c : Client) → slice_get q.world.clients host ≡ Some c → IsQuiet c → c.call ≡ None → EndsWithin most c
+  pub quiet-ends : (q : Play) → IsLawful most head q → (host : ℕ) (c : Client) → slice_get q.world.clients host ≡ Some c → IsQuiet c → c.call ≡ None
+      → EndsWithin most c
   quiet-ends q l host c at quiet answered = record {
     answered = answered;
     idle = λ t e. none-some t (sym quiet.no_request ∙ e);
@@ -80,7 +85,8 @@ module _ (most : ℕ) (head : Head) where
         let same : h.0 ≡ lease = some-same h.0 lease (sym h.1 ∙ on) in
         let late = h.2.late in
         subst (λ (x : Lease). x.expiry ≤ c.now + most) same
-        (lease-short q.events l.bounds l.within host c (subst (λ (u : World). slice_get u.clients host ≡ Some c) l.is_run at) file h.0 h.1 h.2.writes (omega arith));
+        (lease-short q.events l.bounds l.within host c (subst (λ (u : World). slice_get u.clients host ≡ Some c) l.is_run at) file h.0 h.1 h.2.writes
+        (omega arith));
   }
 
   -- where all leases over delayed writes are over there are none
@@ -98,7 +104,8 @@ module _ (most : ℕ) (head : Head) where
 
   -- ---- rounds
 
-  round-ends : (host left : ℕ) (p : Play) → IsLawful most head p → host < length (all_delivered p).world.clients → At most head host (EndsWithin (left + 1)) p.world → At most head host (EndsWithin left) (calm_round p).world
+  round-ends : (host left : ℕ) (p : Play) → IsLawful most head p → host < length (all_delivered p).world.clients
+      → At most head host (EndsWithin (left + 1)) p.world → At most head host (EndsWithin left) (calm_round p).world
   unfolding calm_round
   round-ends host left p l below all =
       ticked most head host (EndsWithin (left + 1)) (EndsWithin left) (tick-ends left) (all_delivered p) below
@@ -107,7 +114,8 @@ module _ (most : ℕ) (head : Head) where
   lawful-many : (p : Play) → IsLawful most head p → length p.world.clients ≡ head.hosts
   lawful-many p l = ap (λ (w : World). length w.clients) l.is_run ∙ client-count head p.events
 
-  rounds-end : (host left n : ℕ) (p : Play) → IsLawful most head p → host < head.hosts → At most head host (EndsWithin (left + n)) p.world → At most head host (EndsWithin left) (calm_rounds n p).world
+  rounds-end : (host left n : ℕ) (p : Play) → IsLawful most head p → host < head.hosts → At most head host (EndsWithin (left + n)) p.world
+      → At most head host (EndsWithin left) (calm_rounds n p).world
   rounds-end host left zero p l below all = let e : left + 0 ≡ left = omega arith in subst (λ k. At most head host (EndsWithin k) p.world) e all
   rounds-end host left (suc n) p l below all =
       let e : left + suc n ≡ (left + n) + 1 = omega arith in
@@ -117,11 +125,13 @@ module _ (most : ℕ) (head : Head) where
 
   -- from the third calm round on all clients are quiet once all is delivered
   module _ (base : Play) (l : IsLawful most head base) (rising : IsRising base) where
-    pub fresh-quiet : (n : ℕ) → IsSmall (all_delivered (calm_rounds (2 + n) base)) → (host : ℕ) (c : Client) → slice_get (all_delivered (calm_rounds (2 + n) base)).world.clients host ≡ Some c → IsQuiet c
+    pub fresh-quiet : (n : ℕ) → IsSmall (all_delivered (calm_rounds (2 + n) base)) → (host : ℕ) (c : Client)
+        → slice_get (all_delivered (calm_rounds (2 + n) base)).world.clients host ≡ Some c → IsQuiet c
     fresh-quiet n small =
         let p = calm_rounds (2 + n) base in
         let split : calm_rounds (2 + n) base ≡ calm_rounds n (calm_rounds 2 base) = rounds-more 2 n base in
-        let fits : IsSmall (calm_rounds n (calm_rounds 2 base)) = subst (λ (q : Play). IsSmall q) split (flow-small (enough_deliveries (calm_rounds (2 + n) base)) (calm_rounds (2 + n) base) small) in
+        let fits : IsSmall (calm_rounds n (calm_rounds 2 base)) = subst (λ (q : Play). IsSmall q) split
+        (flow-small (enough_deliveries (calm_rounds (2 + n) base)) (calm_rounds (2 + n) base) small) in
         ends-quiet most head (calm_rounds (2 + n) base) (rounds most head (2 + n) base l) (rounds-rising (2 + n) base rising) small
         (λ host below. subst (λ (q : Play). Covered most head host 0 q) (sym split) (third-covers most head host n base l below fits))
 
@@ -135,14 +145,22 @@ module _ (most : ℕ) (head : Head) where
   round-over p l rising = ap (play_rounds 1) (stays-over (enough_deliveries (all_delivered p)) (all_delivered p) (lawful-delivers most head p l rising))
 
   -- no call comes to be open in a delivery
-  pub answered-delivered : (p : Play) → IsLawful most head p → All IsAnswered p.world.clients → (host : ℕ) (c : Client) → slice_get (all_delivered p).world.clients host ≡ Some c → IsAnswered c
+  pub answered-delivered : (p : Play) → IsLawful most head p → All IsAnswered p.world.clients → (host : ℕ) (c : Client)
+      → slice_get (all_delivered p).world.clients host ≡ Some c → IsAnswered c
   answered-delivered p l all host c at =
       let r = flow-keeps most head host (Rests ⊥) (λ d k m t alone hears h. hear-idles ⊥ d k m t hears h) (enough_deliveries p) p l
-      (λ d there. let a = all-get IsAnswered p.world.clients host d there all in record { attached = a.attached; answered = a.answered; dirty = λ no. absurd no; push = λ no. absurd no }) c at in
+      (λ d there. let a = all-get IsAnswered p.world.clients host d there all in record {
+        attached = a.attached;
+        answered = a.answered;
+        dirty = λ no.
+            absurd no;
+        push = λ no. absurd no;
+      }) c at in
       record { attached = r.attached; answered = r.answered }
 
   -- all is stored once the leases are over
-  all-stored : (base : Play) → IsLawful most head base → IsRising base → (count : ℕ) → All IsAnswered (calm_rounds (2 + count) base).world.clients → IsSmall (calm_rounds ((2 + count) + (most + 1)) base) → All HasStored (all_delivered (calm_rounds (2 + (count + most)) base)).world.clients
+  all-stored : (base : Play) → IsLawful most head base → IsRising base → (count : ℕ) → All IsAnswered (calm_rounds (2 + count) base).world.clients
+      → IsSmall (calm_rounds ((2 + count) + (most + 1)) base) → All HasStored (all_delivered (calm_rounds (2 + (count + most)) base)).world.clients
   all-stored base l rising count answered small = all-found HasStored (all_delivered (calm_rounds (2 + (count + most)) base)).world.clients each
     where
       l0 : IsLawful most head (calm_rounds (2 + count) base)
@@ -151,27 +169,33 @@ module _ (most : ℕ) (head : Head) where
       small-last : IsSmall (all_delivered (calm_rounds (2 + (count + most)) base))
       small-last =
           let e : (2 + count) + (most + 1) ≡ (2 + (count + most)) + 1 = omega arith in
-          let split : calm_rounds ((2 + count) + (most + 1)) base ≡ calm_round (calm_rounds (2 + (count + most)) base) = ap (λ n. calm_rounds n base) e ∙ rounds-more (2 + (count + most)) 1 base in
+          let split : calm_rounds ((2 + count) + (most + 1)) base ≡ calm_round (calm_rounds (2 + (count + most)) base) = ap (λ n. calm_rounds n base)
+          e ∙ rounds-more (2 + (count + most)) 1 base in
           round-small (calm_rounds (2 + (count + most)) base) (subst (λ (q : Play). IsSmall q) split small)
 
       small-first : IsSmall (all_delivered (calm_rounds (2 + count) base))
       small-first =
           let e : (2 + count) + (most + 1) ≡ ((2 + count) + 1) + most = omega arith in
-          let split : calm_rounds ((2 + count) + (most + 1)) base ≡ calm_rounds most (calm_rounds ((2 + count) + 1) base) = ap (λ n. calm_rounds n base) e ∙ rounds-more ((2 + count) + 1) most base in
-          let one : IsSmall (calm_rounds ((2 + count) + 1) base) = rounds-small most (calm_rounds ((2 + count) + 1) base) (subst (λ (q : Play). IsSmall q) split small) in
+          let split : calm_rounds ((2 + count) + (most + 1)) base ≡ calm_rounds most (calm_rounds ((2 + count) + 1) base) =
+          ap (λ n. calm_rounds n base) e ∙ rounds-more ((2 + count) + 1) most base in
+          let one : IsSmall (calm_rounds ((2 + count) + 1) base) = rounds-small most (calm_rounds ((2 + count) + 1) base)
+          (subst (λ (q : Play). IsSmall q) split small) in
           round-small (calm_rounds (2 + count) base) (subst (λ (q : Play). IsSmall q) (rounds-more (2 + count) 1 base) one)
 
       each : (host : ℕ) (c : Client) → slice_get (all_delivered (calm_rounds (2 + (count + most)) base)).world.clients host ≡ Some c → HasStored c
       each host c at =
-          let lq = flows most head (enough_deliveries (calm_rounds (2 + (count + most)) base)) (calm_rounds (2 + (count + most)) base) (rounds most head (2 + (count + most)) base l) in
+          let lq = flows most head (enough_deliveries (calm_rounds (2 + (count + most)) base)) (calm_rounds (2 + (count + most)) base)
+          (rounds most head (2 + (count + most)) base l) in
           let inside = get-below (all_delivered (calm_rounds (2 + (count + most)) base)).world.clients host c at in
           let many = lawful-many (all_delivered (calm_rounds (2 + (count + most)) base)) lq in
           let lq0 = flows most head (enough_deliveries (calm_rounds (2 + count) base)) (calm_rounds (2 + count) base) l0 in
           let early : At most head host (EndsWithin most) (all_delivered (calm_rounds (2 + count) base)).world =
-          λ d there. quiet-ends (all_delivered (calm_rounds (2 + count) base)) lq0 host d there (fresh-quiet base l rising count small-first host d there) (answered-delivered (calm_rounds (2 + count) base) l0 answered host d there).answered in
+          λ d there. quiet-ends (all_delivered (calm_rounds (2 + count) base)) lq0 host d there (fresh-quiet base l rising count small-first host d
+          there) (answered-delivered (calm_rounds (2 + count) base) l0 answered host d there).answered in
           quiet-stored c (fresh-quiet base l rising (count + most) small-last host c at) (late most refl (omega arith) early c at)
         where
-          late : (n : ℕ) → n ≡ most → host < head.hosts → At most head host (EndsWithin most) (all_delivered (calm_rounds (2 + count) base)).world → At most head host (EndsWithin 0) (all_delivered (calm_rounds (2 + (count + most)) base)).world
+          late : (n : ℕ) → n ≡ most → host < head.hosts → At most head host (EndsWithin most) (all_delivered (calm_rounds (2 + count) base)).world
+              → At most head host (EndsWithin 0) (all_delivered (calm_rounds (2 + (count + most)) base)).world
           late zero e below early =
               let same : 2 + count ≡ 2 + (count + most) = omega arith in
               subst (λ k. At most head host (EndsWithin 0) (all_delivered (calm_rounds k base)).world) same
@@ -179,11 +203,17 @@ module _ (most : ℕ) (head : Head) where
           late (suc n) e below early =
               let lq0 = flows most head (enough_deliveries (calm_rounds (2 + count) base)) (calm_rounds (2 + count) base) l0 in
               let sum : most ≡ 0 + suc n = omega arith in
-              let down : At most head host (EndsWithin 0) (calm_rounds (suc n) (all_delivered (calm_rounds (2 + count) base))).world = rounds-end host 0 (suc n) (all_delivered (calm_rounds (2 + count) base)) lq0 below (subst (λ k. At most head host (EndsWithin k) (all_delivered (calm_rounds (2 + count) base)).world) sum early) in
+              let down : At most head host (EndsWithin 0) (calm_rounds (suc n) (all_delivered (calm_rounds (2 + count) base))).world =
+              rounds-end host 0 (suc n) (all_delivered (calm_rounds (2 + count) base)) lq0 below
+              (subst (λ k. At most head host (EndsWithin k) (all_delivered (calm_rounds (2 + count) base)).world) sum early) in
               let over : calm_rounds (suc n) (all_delivered (calm_rounds (2 + count) base)) ≡ calm_rounds (2 + (count + most)) base =
-              ap (calm_rounds n) (round-over (calm_rounds (2 + count) base) l0 (rounds-rising (2 + count) base rising)) ∙ sym (rounds-more (2 + count) (suc n) base) ∙ ap (λ k. calm_rounds k base) (numbers n e) in
-              let before : At most head host (EndsWithin 0) (calm_rounds (2 + (count + most)) base).world = subst (λ (q : Play). At most head host (EndsWithin 0) q.world) over down in
-              flow-keeps most head host (EndsWithin 0) (λ d k m t alone hears h. hear-ends 0 d k m t hears h) (enough_deliveries (calm_rounds (2 + (count + most)) base)) (calm_rounds (2 + (count + most)) base) (rounds most head (2 + (count + most)) base l) before
+              ap (calm_rounds n) (round-over (calm_rounds (2 + count) base) l0 (rounds-rising (2 + count) base rising))
+              ∙ sym (rounds-more (2 + count) (suc n) base) ∙ ap (λ k. calm_rounds k base) (numbers n e) in
+              let before : At most head host (EndsWithin 0) (calm_rounds (2 + (count + most)) base).world =
+              subst (λ (q : Play). At most head host (EndsWithin 0) q.world) over down in
+              flow-keeps most head host (EndsWithin 0) (λ d k m t alone hears h. hear-ends 0 d k m t hears h)
+              (enough_deliveries (calm_rounds (2 + (count + most)) base)) (calm_rounds (2 + (count + most)) base)
+              (rounds most head (2 + (count + most)) base l) before
             where
               numbers : (n : ℕ) → suc n ≡ most → (2 + count) + suc n ≡ 2 + (count + most)
               numbers n e = omega arith
@@ -198,11 +228,16 @@ stored-once-answered most head events bounds within under_way count more all ans
     let lp = rounds most head (2 + (count + most)) base l in
     let stored = all-stored most head base l rising count answered small in
     let e : (2 + count) + (most + 1) + more ≡ (2 + (count + most)) + (suc more) = omega arith in
-    let split : calm_rounds ((2 + count) + (most + 1) + more) base ≡ calm_rounds more (calm_round (calm_rounds (2 + (count + most)) base)) = ap (λ n. calm_rounds n base) e ∙ rounds-more (2 + (count + most)) (suc more) base in
-    let over : calm_round (all_delivered (calm_rounds (2 + (count + most)) base)) ≡ calm_round (calm_rounds (2 + (count + most)) base) = round-over most head p lp (rounds-rising (2 + (count + most)) base rising) in
+    let split : calm_rounds ((2 + count) + (most + 1) + more) base ≡ calm_rounds more (calm_round (calm_rounds (2 + (count + most)) base)) =
+    ap (λ n. calm_rounds n base) e ∙ rounds-more (2 + (count + most)) (suc more) base in
+    let over : calm_round (all_delivered (calm_rounds (2 + (count + most)) base)) ≡ calm_round (calm_rounds (2 + (count + most)) base) =
+    round-over most head p lp (rounds-rising (2 + (count + most)) base rising) in
     let sum : 2 + (count + most) ≡ (2 + count) + most = omega arith in
-    let split2 : calm_rounds (2 + (count + most)) base ≡ calm_rounds most (calm_rounds (2 + count) base) = ap (λ n. calm_rounds n base) sum ∙ rounds-more (2 + count) most base in
-    let still : All IsAnswered (calm_rounds (2 + (count + most)) base).world.clients = subst (λ (q : Play). All IsAnswered q.world.clients) (sym split2) (answers-stay (calm_rounds (2 + count) base) most answered) in
-    let quiet : All IsAnswered (all_delivered (calm_rounds (2 + (count + most)) base)).world.clients = all-found IsAnswered (all_delivered (calm_rounds (2 + (count + most)) base)).world.clients (answered-delivered most head p lp still) in
+    let split2 : calm_rounds (2 + (count + most)) base ≡ calm_rounds most (calm_rounds (2 + count) base) = ap (λ n. calm_rounds n base) sum
+    ∙ rounds-more (2 + count) most base in
+    let still : All IsAnswered (calm_rounds (2 + (count + most)) base).world.clients = subst (λ (q : Play). All IsAnswered q.world.clients)
+    (sym split2) (answers-stay (calm_rounds (2 + count) base) most answered) in
+    let quiet : All IsAnswered (all_delivered (calm_rounds (2 + (count + most)) base)).world.clients = all-found IsAnswered
+    (all_delivered (calm_rounds (2 + (count + most)) base)).world.clients (answered-delivered most head p lp still) in
     let kept = stores-stay (all_delivered (calm_rounds (2 + (count + most)) base)) (suc more) quiet stored in
     subst (λ (q : Play). All HasStored q.world.clients) (ap (calm_rounds more) over ∙ sym split) kept

@@ -1,5 +1,6 @@
 -- Four rounds while the server serves: a call is answered, or none is open.
-use Rattle.std.proofs.Common.{◌≡◌, ◌≤◌, ◌<◌, ◌⊎◌, ℕ, ◌+◌, ◌*◌, Bool, true, false, nat_le, zero, suc, List, [], ◌∷◌, Option, Some, None, length, refl, sym, subst, ap, ◌∙◌, arith, inl, inr}
+use Rattle.std.proofs.Common.{◌≡◌, ◌≤◌, ◌<◌, ◌⊎◌, ℕ, ◌+◌, ◌*◌, Bool, true, false, nat_le, zero, suc, List, [], ◌∷◌, Option, Some, None, length, refl}
+use Rattle.std.proofs.Common.{sym, subst, ap, ◌∙◌, arith, inl, inr}
 use Rattle.std.specs.Prelude.{slice_get}
 use Rattle.nq_model.specs.Client.{Client, UnderWay}
 use Rattle.nq_model.specs.ClientStep.{client_tick}
@@ -19,7 +20,8 @@ use Rattle.nq_laws.proofs.Frames.{NoWay, none-clear}
 use Rattle.nq_laws.proofs.Hope.{Hopeful, Clear}
 use Rattle.nq_laws.proofs.Queue.{queue}
 use Rattle.nq_laws.proofs.Ticks.{tick-pause, ticks-free}
-use Rattle.nq_laws.proofs.Rounds.{LateOf, PausesFor, early-or-late, St, Round, done-lawful, done-serves, after-ticks, Rested, next-state, early-hopes, soon, first-ends, second-ends}
+use Rattle.nq_laws.proofs.Rounds.{LateOf, PausesFor, early-or-late, St, Round, done-lawful, done-serves, after-ticks, Rested, next-state, early-hopes}
+use Rattle.nq_laws.proofs.Rounds.{soon, first-ends, second-ends}
 
 module _ (most : ℕ) (head : Head) where
   -- ---- four deliveries

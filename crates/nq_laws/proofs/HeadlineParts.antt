@@ -27,7 +27,8 @@ use Rattle.walk_steps.proofs.Clocks.{within-before}
 use Rattle.law_runs.proofs.OkDeeds.{deeds-in-every-run}
 use Rattle.law_runs.proofs.Standings.{synchronized-in-every-run, answers-in-every-run, busy-in-every-run}
 
-headline : (most : ℕ) (head : Head) (events : List Event) → KeepsBounds most head events → IsWithinSkew head.hosts most events → HeadlineHolds (run head events)
+headline : (most : ℕ) (head : Head) (events : List Event) → KeepsBounds most head events → IsWithinSkew head.hosts most events
+    → HeadlineHolds (run head events)
 headline most head events bounds within =
     record {
       ordered = ordered-in-every-run most head events bounds within;

@@ -17,7 +17,8 @@ use Rattle.nq_model.specs.WritesAreAccounted.{HasFate, EachHasItsFate, IsStillUn
 use Rattle.nq_laws.proofs.LastTable.{boots-alike}
 use Rattle.nq_laws.proofs.TornRuns.{torn-is-run}
 use Rattle.nq_laws.specs.TornHeadline.{TornAtEveryMoment, OneIsTorn, EachStopTears, FirstBootTears}
-use Rattle.nq_laws.specs.TornRuns.{Happening, whole, torn_before, torn_after, TornWorld, brings_unsent, comes, boots_over, unheard, torn_off, torn_run, events_of, event_of, schedule, without_last, IsWorldOf}
+use Rattle.nq_laws.specs.TornRuns.{Happening, whole, torn_before, torn_after, TornWorld, brings_unsent, comes, boots_over, unheard, torn_off}
+use Rattle.nq_laws.specs.TornRuns.{torn_run, events_of, event_of, schedule, without_last, IsWorldOf}
 
 -- ---- another network, and another server with the same kept state
 

@@ -19,7 +19,9 @@ use Rattle.walk_steps.proofs.Rows.{found-row, number-same}
 use Rattle.walk_steps.proofs.ServerFacts.{IncsFit, AreCurrent}
 use Rattle.nq_laws.specs.NoticesAreHeard.{RunsOn, NoticesAreHeard}
 
-module _ (most : ℕ) (head : Head) (events : List Event) (bounds : KeepsBounds most head events) (within : IsWithinSkew head.hosts most events) (host file : ℕ) (c : Client) (row : Row) (serves : (run head events).server.phase ≡ serving) (at : slice_get (run head events).clients host ≡ Some c) (found : find_row file host (run head events).server.table.rows ≡ Some row) where
+module _ (most : ℕ) (head : Head) (events : List Event) (bounds : KeepsBounds most head events) (within : IsWithinSkew head.hosts most events)
+    (host file : ℕ) (c : Client) (row : Row) (serves : (run head events).server.phase ≡ serving) (at : slice_get (run head events).clients host
+    ≡ Some c) (found : find_row file host (run head events).server.table.rows ≡ Some row) where
   here : c.who.host ≡ host
   here = ((run-holds head events).clients host c at).here
 
@@ -27,7 +29,8 @@ module _ (most : ℕ) (head : Head) (events : List Event) (bounds : KeepsBounds 
   holder : c.attached ≡ true → same_who row.who c.who ≡ true
   holder on =
       let r = run-runs most head events bounds within in
-      let current : AreCurrent (run head events).server.kept (run head events).server.table.rows = subst (λ ph. IncsFit (run head events).server.kept ph (run head events).server.table) serves r.served.incs in
+      let current : AreCurrent (run head events).server.kept (run head events).server.table.rows = subst (λ ph. IncsFit (run head events).server.kept
+      ph (run head events).server.table) serves r.served.incs in
       let inc = current file host row found ∙ (r.known.clients host c at).lined.current on in
       let same = (found-row file host (run head events).server.table.rows row found).1 ∙ sym here in
       and_from (row.who.host == c.who.host) (row.who.inc == c.who.inc) (number-same row.who.host c.who.host same) (number-same row.who.inc c.who.inc inc)
@@ -45,8 +48,11 @@ module _ (most : ℕ) (head : Head) (events : List Event) (bounds : KeepsBounds 
           let first = a.term in
           let live = (runs l on).live in
           let covered = k.held file l on (runs l on).caching (omega arith) in
-          let h : HasFitting (claim_of c.who file l.mode l.tag (cover_end c.who.host (l.expiry - l.term) l.term events)) (run head events).server.table = subst (λ ph. IsCovered (run head events).server ph (claim_of c.who file l.mode l.tag (cover_end c.who.host (l.expiry - l.term) l.term events))) serves covered in
-          let one : h.row ≡ row = some-same h.row row (sym (subst (λ n. find_row file n (run head events).server.table.rows ≡ Some h.row) here h.stands) ∙ found) in
+          let h : HasFitting (claim_of c.who file l.mode l.tag (cover_end c.who.host (l.expiry - l.term) l.term events))
+          (run head events).server.table = subst (λ ph. IsCovered (run head events).server ph (claim_of c.who file l.mode l.tag
+          (cover_end c.who.host (l.expiry - l.term) l.term events))) serves covered in
+          let one : h.row ≡ row = some-same h.row row (sym (subst (λ n. find_row file n (run head events).server.table.rows ≡ Some h.row) here
+          h.stands) ∙ found) in
           subst (λ (x : Row). tag_below x.tag l.tag ≡ false) one h.fits.goes_on
 
 pub notices-are-heard : NoticesAreHeard

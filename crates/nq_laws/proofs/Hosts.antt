@@ -1,5 +1,6 @@
 -- What deliveries and ticks leave of the client of one host.
-use Rattle.std.proofs.Common.{◌≡◌, ◌≢◌, ◌≤◌, ◌<◌, ℕ, ◌+◌, ◌==◌, Bool, true, false, zero, suc, List, [], ◌∷◌, Option, Some, None, length, refl, sym, subst, ◌∙◌, arith}
+use Rattle.std.proofs.Common.{◌≡◌, ◌≢◌, ◌≤◌, ◌<◌, ℕ, ◌+◌, ◌==◌, Bool, true, false, zero, suc, List, [], ◌∷◌, Option, Some, None, length, refl, sym}
+use Rattle.std.proofs.Common.{subst, ◌∙◌, arith}
 use Rattle.std.specs.Prelude.{All, slice_get, slice_set, slice_index_or}
 use Rattle.nq_base.specs.declared.Event.{Event}
 use Rattle.nq_model.specs.Client.{Client, ClientStep}
@@ -19,7 +20,8 @@ use Rattle.law_rounds.proofs.Coming.{Delivery, no_packet, at_server, at_host, ig
 
 -- ---- lists
 
-pub all-found : {A : Type 0} (P : A → Type 0) (xs : List A) → ((i : ℕ) (x : A) → slice_get xs i ≡ Some x → P x) → (k : ℕ) (d : A) → k < length xs → P (slice_index_or xs k d)
+pub all-found : {A : Type 0} (P : A → Type 0) (xs : List A) → ((i : ℕ) (x : A) → slice_get xs i ≡ Some x → P x) → (k : ℕ) (d : A) → k < length xs
+    → P (slice_index_or xs k d)
 all-found P [] given k d below = absurd (omega arith)
 all-found P (y ∷ xs) given zero d below = given 0 y refl
 all-found P (y ∷ xs) given (suc k) d below = all-found P xs (λ i x is. given (suc i) x is) k d (omega arith)
@@ -37,7 +39,8 @@ module _ (most : ℕ) (head : Head) (host : ℕ) where
   At P w = (c : Client) → slice_get w.clients host ≡ Some c → P c
 
   -- a step of some host's client
-  pub stepped : (P : Client → Type 0) (w : World) (h : ℕ) (c : Client) (t : ClientStep) → slice_get w.clients h ≡ Some c → (P c → P t.client) → At P w → At P (after_client w h t)
+  pub stepped : (P : Client → Type 0) (w : World) (h : ℕ) (c : Client) (t : ClientStep) → slice_get w.clients h ≡ Some c → (P c → P t.client) → At P w
+      → At P (after_client w h t)
   unfolding after_client
   stepped P w h c t at goes all d there = case (host == h) refl
     where
@@ -81,12 +84,14 @@ module _ (most : ℕ) (head : Head) (host : ℕ) where
 
   -- ---- ticks
 
-  other-tick : (P : Client → Type 0) (w : World) (h : ℕ) → host ≢ h → At P w → (o : Option Client) → slice_get w.clients h ≡ o → At P (at_client w h (λ c. client_tick c (c.now + 1)) o)
+  other-tick : (P : Client → Type 0) (w : World) (h : ℕ) → host ≢ h → At P w → (o : Option Client) → slice_get w.clients h ≡ o
+      → At P (at_client w h (λ c. client_tick c (c.now + 1)) o)
   unfolding after_client
   other-tick P w h apart all None at = all
   other-tick P w h apart all (Some c) at = λ d there. all d (sym (get-set-other w.clients h host (client_tick c (c.now + 1)).client apart) ∙ there)
 
-  own-tick : (P Q : Client → Type 0) → ((c : Client) → P c → Q (client_tick c (c.now + 1)).client) → (w : World) → At P w → (o : Option Client) → slice_get w.clients host ≡ o → At Q (at_client w host (λ c. client_tick c (c.now + 1)) o)
+  own-tick : (P Q : Client → Type 0) → ((c : Client) → P c → Q (client_tick c (c.now + 1)).client) → (w : World) → At P w → (o : Option Client)
+      → slice_get w.clients host ≡ o → At Q (at_client w host (λ c. client_tick c (c.now + 1)) o)
   unfolding after_client
   own-tick P Q ticks w all None at = λ d there. none-some d (sym at ∙ there)
   own-tick P Q ticks w all (Some c) at = λ d there. subst Q (sym (get-set-same w.clients host (client_tick c (c.now + 1)).client d there)) (ticks c (all c at))
@@ -97,14 +102,17 @@ module _ (most : ℕ) (head : Head) (host : ℕ) where
       hosts-pass P count (h + 1) (play p (Event.ClientTick h)) (omega arith)
       (other-tick P p.world h (λ e. omega arith) all (slice_get p.world.clients h) refl)
 
-  hosts-tick : (P Q : Client → Type 0) → ((c : Client) → P c → Q (client_tick c (c.now + 1)).client) → (count h : ℕ) (p : Play) → h ≤ host → host < h + count → At P p.world → At Q (play_hosts count h p).world
+  hosts-tick : (P Q : Client → Type 0) → ((c : Client) → P c → Q (client_tick c (c.now + 1)).client) → (count h : ℕ) (p : Play) → h ≤ host
+      → host < h + count → At P p.world → At Q (play_hosts count h p).world
   hosts-tick P Q ticks zero h p from below all = absurd (omega arith)
   hosts-tick P Q ticks (suc count) h p from below all = by (hosts-tick P Q ticks count (h + 1) (play p (Event.ClientTick h))) (host == h) refl
     where
-      by : ((h + 1) ≤ host → host < (h + 1) + count → At P (play p (Event.ClientTick h)).world → At Q (play_hosts count (h + 1) (play p (Event.ClientTick h))).world) → (b : Bool) → (host == h) ≡ b → At Q (play_hosts (suc count) h p).world
+      by : ((h + 1) ≤ host → host < (h + 1) + count → At P (play p (Event.ClientTick h)).world
+          → At Q (play_hosts count (h + 1) (play p (Event.ClientTick h))).world) → (b : Bool) → (host == h) ≡ b → At Q (play_hosts (suc count) h p).world
       by again true same =
           let e : host ≡ h = same-number host h same in
-          let first : At Q (play p (Event.ClientTick h)).world = subst (λ n. At Q (play p (Event.ClientTick n)).world) e (own-tick P Q ticks p.world all (slice_get p.world.clients host) refl) in
+          let first : At Q (play p (Event.ClientTick h)).world = subst (λ n. At Q (play p (Event.ClientTick n)).world) e (own-tick P Q ticks p.world
+          all (slice_get p.world.clients host) refl) in
           hosts-pass Q count (h + 1) (play p (Event.ClientTick h)) (omega arith) first
       by again false differs =
           let apart : host ≢ h = λ e. let yes : (host == h) ≡ true = number-same host h e in absurd (cc) in
@@ -113,6 +121,7 @@ module _ (most : ℕ) (head : Head) (host : ℕ) where
           later : host ≢ h → h + 1 ≤ host
           later apart = omega arith
 
-  pub ticked : (P Q : Client → Type 0) → ((c : Client) → P c → Q (client_tick c (c.now + 1)).client) → (p : Play) → host < length p.world.clients → At P p.world → At Q (play_rounds 1 p).world
+  pub ticked : (P Q : Client → Type 0) → ((c : Client) → P c → Q (client_tick c (c.now + 1)).client) → (p : Play) → host < length p.world.clients
+      → At P p.world → At Q (play_rounds 1 p).world
   unfolding after_server
   ticked P Q ticks p below all = hosts-tick P Q ticks (length p.world.clients) 0 p (omega arith) (omega arith) all

@@ -180,7 +180,8 @@ module _ (host : ℕ) (p : Play) (e : Event) (rises : IsRising p) (line : InLine
     pub client-line : InLine host (play p e)
     client-line = record {
       own = λ d there x r b. own d there x r (asks-now x r b);
-      told = λ d there x r b. line.told c at x r (replied x r b) ∙ ap (λ (w : Who). w.inc) (sym sent.who) ∙ ap (λ (y : Client). y.who.inc) (sym (mine d there));
+      told = λ d there x r b. line.told c at x r (replied x r b) ∙ ap (λ (w : Who). w.inc) (sym sent.who) ∙ ap (λ (y : Client). y.who.inc)
+          (sym (mine d there));
       rising = λ x y r s b d less. rising x y r s b d less (asks-now x r b) (asks-now y s d);
       drawing = λ x y m n r s b d less sq also. drawing x y m n r s b d less sq also (asks-now x r b) (asks-now y s d);
       behind = λ x y r s b d. behind x y r s (replied x r b) (asks-now y s d);

@@ -9,9 +9,13 @@ use Rattle.nq_base.specs.declared.Request.{Request}
 use Rattle.nq_base.specs.declared.Tag.{Tag}
 use Rattle.nq_base.specs.declared.Want.{Want}
 use Rattle.nq_base.specs.declared.Who.{Who}
-use Rattle.nq_model.specs.Client.{Client, ClientStep, Lease, lease_on, drop_lease, notice_on, first_dirty, dirty_at, is_clean, is_clean_in, Job, attaching, for_call, renewing, pushing, Notice, Ticket, UnderWay, begun}
+use Rattle.nq_model.specs.Client.{Client, ClientStep, Lease, lease_on, drop_lease, notice_on, first_dirty, dirty_at, is_clean, is_clean_in, Job}
+use Rattle.nq_model.specs.Client.{attaching, for_call, renewing, pushing, Notice, Ticket, UnderWay, begun}
 use Rattle.nq_model.specs.ClientStep.{client_tick, sends_again, at_time}
-use Rattle.nq_model.specs.Hear.{hear, granted_lease, breaks, is_put_off, vacates_lease, vacates_noticed, loses, reports_to, without_lease, push_refused, breaks_chain, holds, takes_grant, takes_optional, caches_block, knows_revision, with_through, marks_through, ends_push, caches_push, push_done, spends, attached, pauses, done_renewal, done_push, done, refused_push, refused, replied, cancels, notes_notice, evicted}
+use Rattle.nq_model.specs.Hear.{hear, granted_lease, breaks, is_put_off, vacates_lease, vacates_noticed, loses, reports_to, without_lease}
+use Rattle.nq_model.specs.Hear.{push_refused, breaks_chain, holds, takes_grant, takes_optional, caches_block, knows_revision, with_through}
+use Rattle.nq_model.specs.Hear.{marks_through, ends_push, caches_push, push_done, spends, attached, pauses, done_renewal, done_push, done}
+use Rattle.nq_model.specs.Hear.{refused_push, refused, replied, cancels, notes_notice, evicted}
 use Rattle.nq_model.specs.Message.{Message}
 use Rattle.nq_model.specs.Send.{sends_request, after_seq, after_number, takes_push, gives_up, send_next}
 use Rattle.nq_model.specs.Settle.{settle, settle_under_way}
@@ -38,14 +42,16 @@ pub record EndsWithin (left : ℕ) (c : Client) : Type 0 where
 abbrev Fewer : (dirty : List Push) (push : Option Push) (less : List Push) (going : Option Push) → Type 0
 Fewer dirty push less going = (file : ℕ) → is_clean_in file less going ≡ false → is_clean_in file dirty push ≡ false
 
-still-clean : (dirty : List Push) (push : Option Push) (less : List Push) (going : Option Push) → Fewer dirty push less going → (file : ℕ) → is_clean_in file dirty push ≡ true → is_clean_in file less going ≡ true
+still-clean : (dirty : List Push) (push : Option Push) (less : List Push) (going : Option Push) → Fewer dirty push less going → (file : ℕ)
+    → is_clean_in file dirty push ≡ true → is_clean_in file less going ≡ true
 still-clean dirty push less going fewer file clean = by (is_clean_in file less going) refl
   where
     by : (b : Bool) → is_clean_in file less going ≡ b → b ≡ true
     by true e = refl
     by false e = let no = fewer file e in absurd (cc)
 
-still-idle : (dirty : List Push) (push : Option Push) (less : List Push) (going : Option Push) (job : Job) (request : Request) → Fewer dirty push less going → IsIdle dirty push job request → IsIdle less going job request
+still-idle : (dirty : List Push) (push : Option Push) (less : List Push) (going : Option Push) (job : Job) (request : Request) → Fewer dirty push less
+    going → IsIdle dirty push job request → IsIdle less going job request
 still-idle dirty push less going job request fewer h = record {
   no_call = h.no_call;
   clean = λ e who file want is. still-clean dirty push less going fewer file (h.clean e who file want is);
@@ -60,7 +66,8 @@ module _ (left : ℕ) where
   Rest t = EndsWithin left t.client
 
   -- a step in which leases go, files come to be clean, and the request under way is the same or none
-  less : (t u : ClientStep) → u.client.call ≡ t.client.call → u.client.now ≡ t.client.now → ((v : Ticket) → u.client.ticket ≡ Some v → t.client.ticket ≡ Some v) → Among u.client.leases t.client.leases → Fewer t.client.dirty t.client.push u.client.dirty u.client.push → Rest t → Rest u
+  less : (t u : ClientStep) → u.client.call ≡ t.client.call → u.client.now ≡ t.client.now → ((v : Ticket) → u.client.ticket ≡ Some v → t.client.ticket
+      ≡ Some v) → Among u.client.leases t.client.leases → Fewer t.client.dirty t.client.push u.client.dirty u.client.push → Rest t → Rest u
   less t u called time asks among fewer h = record {
     answered = called ∙ h.answered;
     idle = λ v e. still-idle t.client.dirty t.client.push u.client.dirty u.client.push v.job v.request fewer (h.idle v (asks v e));
@@ -75,7 +82,9 @@ module _ (left : ℕ) where
 
   -- ---- the next request
 
-  requests : (t u : ClientStep) (job : Job) (request : Request) → u.client.call ≡ t.client.call → u.client.now ≡ t.client.now → Among u.client.leases t.client.leases → Fewer t.client.dirty t.client.push u.client.dirty u.client.push → IsIdle u.client.dirty u.client.push job request → Rest t → Rest (sends_request u job request)
+  requests : (t u : ClientStep) (job : Job) (request : Request) → u.client.call ≡ t.client.call → u.client.now ≡ t.client.now → Among u.client.leases
+      t.client.leases → Fewer t.client.dirty t.client.push u.client.dirty u.client.push → IsIdle u.client.dirty u.client.push job request → Rest t
+      → Rest (sends_request u job request)
   unfolding sends_request
   requests t u job request called time among fewer new h = record {
     answered = called ∙ h.answered;
@@ -102,7 +111,11 @@ module _ (left : ℕ) where
     resizing = λ u file blocks free is clean. none-some u (sym h.answered ∙ free.called);
     removing = λ u file free is clean. none-some u (sym h.answered ∙ free.called);
     renewing = λ file lease tick free nothing unpaused renewed held of clean quiet. requests t t renewing _ refl refl (λ f l on. on) (λ f unclean. unclean)
-        (record { no_call = λ e. absurd (cc); clean = λ e who f want is. subst (λ n. is_clean_in n t.client.dirty t.client.push ≡ true) (sym of ∙ asked-file _ who lease.file f _ want is) clean }) h;
+        (record {
+          no_call = λ e. absurd (cc);
+          clean = λ e who f want is. subst (λ n. is_clean_in n t.client.dirty t.client.push ≡ true) (sym of
+              ∙ asked-file _ who lease.file f _ want is) clean;
+        }) h;
   })
     where
       asked-file : (v w : Who) (a b : ℕ) (x y : Want) → Request.GetLease v a x ≡ Request.GetLease w b y → a ≡ b
@@ -127,7 +140,8 @@ module _ (left : ℕ) where
   refused-push t file h =
       let free = without_lease (loses t file) file in
       let gone = vacates_noticed free file (notice_on file t.client.notices) in
-      let lost : Rest (without_lease (loses t file) file) = less t (without_lease (loses t file) file) refl refl (λ v e. e) (dropped file t.client.leases) (λ f unclean. unclean-lost file f t.client.dirty t.client.push unclean) h in
+      let lost : Rest (without_lease (loses t file) file) = less t (without_lease (loses t file) file) refl refl (λ v e. e)
+      (dropped file t.client.leases) (λ f unclean. unclean-lost file f t.client.dirty t.client.push unclean) h in
       reported gone file gone.client.call refl (noticed free file (notice_on file t.client.notices) lost)
 
   held : (t : ClientStep) (file : ℕ) (g : Grant) (sent : ℕ) → is_clean_in file t.client.dirty t.client.push ≡ true → Rest t → Rest (holds t file g sent)
@@ -138,18 +152,22 @@ module _ (left : ℕ) where
     ends = λ f l unclean on. by f l unclean (lease-after-put (granted_lease file g sent) f t.client.leases l on);
   }
     where
-      by : (f : ℕ) (l : Lease) → is_clean_in f t.client.dirty t.client.push ≡ false → ((f ≡ file) × (l ≡ granted_lease file g sent)) ⊎ ((f ≢ file) × (lease_on f t.client.leases ≡ Some l)) → l.expiry ≤ t.client.now + left
-      by f l unclean (inl p) = let yes : is_clean_in f t.client.dirty t.client.push ≡ true = subst (λ n. is_clean_in n t.client.dirty t.client.push ≡ true) (sym p.0) clean in absurd (cc)
+      by : (f : ℕ) (l : Lease) → is_clean_in f t.client.dirty t.client.push ≡ false → ((f ≡ file) × (l ≡ granted_lease file g sent))
+          ⊎ ((f ≢ file) × (lease_on f t.client.leases ≡ Some l)) → l.expiry ≤ t.client.now + left
+      by f l unclean (inl p) = let yes : is_clean_in f t.client.dirty t.client.push ≡ true = subst (λ n. is_clean_in n t.client.dirty t.client.push
+          ≡ true) (sym p.0) clean in absurd (cc)
       by f l unclean (inr p) = h.ends f l unclean p.1
 
   taken : (t : ClientStep) (file : ℕ) (g : Grant) (sent : ℕ) → is_clean_in file t.client.dirty t.client.push ≡ true → Rest t → Rest (takes_grant t file g sent)
   taken t file g sent clean h =
-      choice (λ (u : ClientStep). Rest (holds u file g sent)) (breaks g (lease_on file t.client.leases) && not (is_clean t.client file)) (breaks_chain t file) t (λ e. absurd (whole (and_parts _ _ e).1)) (λ e. held t file g sent clean h)
+      choice (λ (u : ClientStep). Rest (holds u file g sent)) (breaks g (lease_on file t.client.leases) && not (is_clean t.client file))
+      (breaks_chain t file) t (λ e. absurd (whole (and_parts _ _ e).1)) (λ e. held t file g sent clean h)
     where
       whole : not (is_clean t.client file) ≡ true → ⊥
       whole e = let no : not (is_clean t.client file) ≡ false = ap not clean in absurd (cc)
 
-  optional : (t : ClientStep) (file : ℕ) (o : Option Grant) (sent : ℕ) → is_clean_in file t.client.dirty t.client.push ≡ true → Rest t → Rest (takes_optional t file o sent)
+  optional : (t : ClientStep) (file : ℕ) (o : Option Grant) (sent : ℕ) → is_clean_in file t.client.dirty t.client.push ≡ true → Rest t
+      → Rest (takes_optional t file o sent)
   optional t file None sent clean h = h
   optional t file (Some g) sent clean h = taken t file g sent clean h
 
@@ -159,10 +177,13 @@ module _ (left : ℕ) where
       let known = knows_revision (ends_push t) file rev in
       let u = caches_push known file block body in
       let knew : Rest known = less t known refl refl (λ v e. e) (λ f l on. on) (λ f unclean. unclean-ended f t.client.dirty t.client.push unclean) h in
-      let kept : Rest u = choice Rest (is_some (dirty_at file block t.client.dirty)) known (caches_block known file block body) (λ e. knew) (λ e. less known (caches_block known file block body) refl refl (λ v e. e) (λ f l on. on) (λ f unclean. unclean) knew) in
-      choice Rest (is_clean u.client file) (vacates_noticed u file (notice_on file u.client.notices)) u (λ e. noticed u file (notice_on file u.client.notices) kept) (λ e. kept)
+      let kept : Rest u = choice Rest (is_some (dirty_at file block t.client.dirty)) known (caches_block known file block body) (λ e. knew)
+      (λ e. less known (caches_block known file block body) refl refl (λ v e. e) (λ f l on. on) (λ f unclean. unclean) knew) in
+      choice Rest (is_clean u.client file) (vacates_noticed u file (notice_on file u.client.notices)) u
+      (λ e. noticed u file (notice_on file u.client.notices) kept) (λ e. kept)
 
-  renewed : (t : ClientStep) (sent : ℕ) (request : Request) (r : Reply) → ((who : Who) (file : ℕ) (want : Want) → request ≡ Request.GetLease who file want → is_clean_in file t.client.dirty t.client.push ≡ true) → Rest t → Rest (done_renewal t sent request r)
+  renewed : (t : ClientStep) (sent : ℕ) (request : Request) (r : Reply) → ((who : Who) (file : ℕ) (want : Want) → request ≡ Request.GetLease who file
+      want → is_clean_in file t.client.dirty t.client.push ≡ true) → Rest t → Rest (done_renewal t sent request r)
   renewed t sent (Request.GetLease who file want) (Reply.GetLease inc grant) clean h = optional t file grant sent (clean who file want refl) h
   renewed t sent request other clean h = h
 
@@ -170,7 +191,8 @@ module _ (left : ℕ) where
   stored t (Request.Write who seq file block first last push body) (Reply.Write inc rev) h = pushed t file block body rev h
   stored t request other h = h
 
-  finished : (t : ClientStep) (number : ℕ) (ticket : Ticket) (job : Job) (r : Reply) → IsIdle t.client.dirty t.client.push job ticket.request → Rest t → Rest (done t number ticket job r)
+  finished : (t : ClientStep) (number : ℕ) (ticket : Ticket) (job : Job) (r : Reply) → IsIdle t.client.dirty t.client.push job ticket.request → Rest t
+      → Rest (done t number ticket job r)
   unfolding attached
   finished t number ticket attaching r i h = less t (attached t) refl refl (λ v e. e) (λ f l on. on) (λ f unclean. unclean) h
   finished t number ticket for_call r i h = absurd (i.no_call refl)
@@ -185,7 +207,8 @@ module _ (left : ℕ) where
   unfolding pauses marks_through
   paused t h = record { answered = ap (with_through false) h.answered; idle = h.idle; ends = h.ends }
 
-  refusal : (t : ClientStep) (status : Refusal) (ticket : Ticket) (job : Job) → IsIdle t.client.dirty t.client.push job ticket.request → Rest t → Rest (refused t status ticket job)
+  refusal : (t : ClientStep) (status : Refusal) (ticket : Ticket) (job : Job) → IsIdle t.client.dirty t.client.push job ticket.request → Rest t
+      → Rest (refused t status ticket job)
   refusal t status ticket attaching i h = h
   refusal t status ticket for_call i h = absurd (i.no_call refl)
   refusal t status ticket renewing i h = choice Rest (is_put_off status) (pauses t) t (λ e. paused t h) (λ e. h)
@@ -218,9 +241,11 @@ module _ (left : ℕ) where
   unfolding cancels
   hear-ends c k m t hears h =
       heard-cases c k m t Rest hears (record {
-        answered = λ xid r ticket is asks own inc counts. sends false (settle (replied (begun c) k ticket r)) (settled (replied (begun c) k ticket r) (replies c k ticket r asks h));
+        answered = λ xid r ticket is asks own inc counts. sends false (settle (replied (begun c) k ticket r)) (settled (replied (begun c) k ticket r)
+            (replies c k ticket r asks h));
         noticed = λ xid file tag is older.
-            let cut : Rest (cancels (begun c) file) = less (begun c) (cancels (begun c) file) refl refl (λ v e. (keeps-or-cancels file c.ticket v e).0) (λ f l on. on) (λ f unclean. unclean) h in
+            let cut : Rest (cancels (begun c) file) = less (begun c) (cancels (begun c) file) refl refl
+            (λ v e. (keeps-or-cancels file c.ticket v e).0) (λ f l on. on) (λ f unclean. unclean) h in
             let gone = evicted (cancels (begun c) file) file tag in
             sends false (settle gone) (settled gone (evicts (cancels (begun c) file) file tag cut));
       })
@@ -229,12 +254,23 @@ module _ (left : ℕ) where
 pub tick-ends : (left : ℕ) (c : Client) → EndsWithin (left + 1) c → EndsWithin left (client_tick c (c.now + 1)).client
 unfolding sends_again at_time
 tick-ends left c h =
-    let at : EndsWithin left (begun (at_time c (c.now + 1))).client = record { answered = h.answered; idle = h.idle; ends = λ file l unclean on. let late = h.ends file l unclean on in omega arith } in
+    let at : EndsWithin left (begun (at_time c (c.now + 1))).client = record {
+      answered = h.answered;
+      idle = h.idle;
+      ends = λ file l unclean on.
+          let late = h.ends file l unclean on in omega arith;
+    } in
     tick-cases c (c.now + 1) (λ (t : ClientStep). EndsWithin left t.client) (record {
-      again = λ ticket asks long. record { answered = at.answered; idle = λ v e. subst (λ (x : Ticket). IsIdle c.dirty c.push x.job x.request) (some-same _ v e) (again-idle ticket (h.idle ticket asks)); ends = at.ends };
+      again = λ ticket asks long. record {
+        answered = at.answered;
+        idle = λ v e. subst (λ (x : Ticket). IsIdle c.dirty c.push x.job x.request)
+            (some-same _ v e) (again-idle ticket (h.idle ticket asks));
+        ends = at.ends;
+      };
       quiet = λ ticket asks short. at;
       free = λ free. sends left true (settle (begun (at_time c (c.now + 1)))) (settled left (begun (at_time c (c.now + 1))) at);
     })
   where
-    again-idle : (ticket : Ticket) → IsIdle c.dirty c.push ticket.job ticket.request → IsIdle c.dirty c.push (record ticket { last = c.now + 1 }).job (record ticket { last = c.now + 1 }).request
+    again-idle : (ticket : Ticket) → IsIdle c.dirty c.push ticket.job ticket.request → IsIdle c.dirty c.push (record ticket { last = c.now + 1 }).job
+        (record ticket { last = c.now + 1 }).request
     again-idle ticket i = record { no_call = i.no_call; clean = i.clean }

@@ -12,11 +12,13 @@ use Rattle.nq_model.specs.Hear.{hear, inc_of}
 use Rattle.nq_model.specs.Message.{Packet, reply, datagram_of}
 use Rattle.nq_model.specs.Server.{ServerStep}
 use Rattle.nq_model.specs.ServerStep.{receive, tick, crash}
-use Rattle.nq_model.specs.World.{Head, World, after_server, after_client, at_client, after_hearing, sending_host, deliver_to_client, deliver_to, deliver, start, run}
+use Rattle.nq_model.specs.World.{Head, World, after_server, after_client, at_client, after_hearing, sending_host, deliver_to_client, deliver_to}
+use Rattle.nq_model.specs.World.{deliver, start, run}
 use Rattle.nq_model.specs.AnswersTellWhatWas.{HasLength}
 use Rattle.nq_model.specs.RepliesTellWhatWas.{Once}
 use Rattle.walk_steps.proofs.ClientMoves.{none-some}
-use Rattle.walk_steps.proofs.ClientEntries.{AnyCall, OfClient, IsGranting, by_read, by_lease, Lent, any-going, call-keeps, tick-keeps, hear-keeps, restart-keeps}
+use Rattle.walk_steps.proofs.ClientEntries.{AnyCall, OfClient, IsGranting, by_read, by_lease, Lent, any-going, call-keeps, tick-keeps, hear-keeps}
+use Rattle.walk_steps.proofs.ClientEntries.{restart-keeps}
 use Rattle.walk_steps.proofs.Packets.{In, in-get, Asked, Told as ToldTo}
 use Rattle.walk_steps.proofs.RunCases.{OfClients, client_at, clients-after}
 use Rattle.walk_steps.proofs.Worlds.{Holds, IsAt, first-client, to-told, run-holds}

@@ -67,12 +67,14 @@ abbrev no-notice : ℕ → Tag → Type 0
 no-notice f tag = ⊥
 
 vacated-way : (who : Who) (f : ℕ) (tag : Tag) (k : Core) (file : ℕ) (given : Tag) → ((n : Notice) × (notice_on file k.notices ≡ Some n) × (given ≡ n.tag))
-    → k.who ≡ who → Way who f tag k.notices k.sends → Way who f tag (drop_notice file k.notices) (k.sends ++ call k.xid (Request.Vacated k.who file given) ∷ [])
+    → k.who ≡ who → Way who f tag k.notices k.sends → Way who f tag (drop_notice file k.notices)
+    (k.sends ++ call k.xid (Request.Vacated k.who file given) ∷ [])
 vacated-way who f tag k file given source mine (given_up x i) = given_up x (in-left k.sends _ _ i)
 vacated-way who f tag k file given source mine (waiting n noted is) = which (f == file) refl
   where
     which : (e : Bool) → (f == file) ≡ e → Way who f tag (drop_notice file k.notices) (k.sends ++ call k.xid (Request.Vacated k.who file given) ∷ [])
-    which false e = waiting n (other-notice-dropped file f k.notices (λ same. let yes : (f == file) ≡ true = number-same f file same in absurd (cc)) ∙ noted) is
+    which false e = waiting n (other-notice-dropped file f k.notices (λ same. let yes : (f == file) ≡ true = number-same f file same in absurd (cc))
+        ∙ noted) is
     which true e =
         let here : f ≡ file = same-number f file e in
         let one : source.0 ≡ n = some-same source.0 n (sym source.1 ∙ subst (λ g. notice_on g k.notices ≡ Some n) here noted) in
@@ -159,7 +161,8 @@ module _ (c : Client) (file : ℕ) (tag : Tag) (alone : Alone c) where
   heard-notice = goes_on (evicted (cancels (begun c) file) file tag)
 
   -- its own file
-  own-way : ((n : Notice) → notice_on file c.notices ≡ Some n → tag_below tag n.tag ≡ false) → Way c.who file tag heard-notice.client.notices heard-notice.sends
+  own-way : ((n : Notice) → notice_on file c.notices ≡ Some n → tag_below tag n.tag ≡ false) → Way c.who file tag heard-notice.client.notices
+      heard-notice.sends
   unfolding cancels vacates_lease notes_notice
   own-way fits = evicted-cases (cancels (begun c) file) file tag (λ u. Way c.who file tag (goes_on u).client.notices (goes_on u).sends) (record {
     clean = λ e. given_up c.xid ((goes-behind (vacates_lease (cancels (begun c) file) file tag)).sends _ (inl refl));

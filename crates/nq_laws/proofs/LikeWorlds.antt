@@ -1,5 +1,6 @@
 -- A torn world and the world of its schedule stay alike, whatever comes.
-use Rattle.std.proofs.Common.{◌≡◌, ◌<◌, ◌≤◌, ◌⊎◌, ◌+◌, ◌-◌, ◌||◌, ◌&&◌, ℕ, Bool, true, false, List, [], ◌∷◌, ◌++◌, Option, Some, None, length, map, nat_lt, refl, sym, subst, ap, ◌∙◌, arith, inl, inr, append-nil}
+use Rattle.std.proofs.Common.{◌≡◌, ◌<◌, ◌≤◌, ◌⊎◌, ◌+◌, ◌-◌, ◌||◌, ◌&&◌, ℕ, Bool, true, false, List, [], ◌∷◌, ◌++◌, Option, Some, None, length, map}
+use Rattle.std.proofs.Common.{nat_lt, refl, sym, subst, ap, ◌∙◌, arith, inl, inr, append-nil}
 use Rattle.std.specs.Prelude.{nat_le, replicate, slice_get, slice_set}
 use Rattle.std.proofs.lemmas.List.{length-append, length-replicate}
 use Rattle.std.proofs.lemmas.Bool.{or_parts}
@@ -14,7 +15,8 @@ use Rattle.nq_model.specs.Kept.{Kept}
 use Rattle.nq_model.specs.Message.{Message, Packet, datagram_of}
 use Rattle.nq_model.specs.Server.{ServerStep, last_in, taken}
 use Rattle.nq_model.specs.ServerStep.{receive, tick, boot, booted, crash}
-use Rattle.nq_model.specs.World.{World, from_host, after_server, after_client, at_client, after_hearing, sending_host, deliver_to_client, deliver_to, deliver, step}
+use Rattle.nq_model.specs.World.{World, from_host, after_server, after_client, at_client, after_hearing, sending_host, deliver_to_client, deliver_to}
+use Rattle.nq_model.specs.World.{deliver, step}
 use Rattle.nq_laws.proofs.LastTable.{Alike, receives-alike, ticks-alike, boots-alike}
 use Rattle.nq_laws.proofs.Numbers.{get-longer, get-more, get-beside, get-stands}
 use Rattle.nq_laws.specs.TornRuns.{Span, is_within, is_unsent, no_packet, brings_unsent, boots_over, unheard, numbers_made, without_last, IsWorldOf}

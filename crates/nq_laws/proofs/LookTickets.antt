@@ -61,14 +61,18 @@ settled t h = settle-cases t Asks (record {
   write_out = λ u sync file block body lease is write can out. over _ refl;
   write_full = λ u sync file block body lease is write can below full. over _ refl;
   writing = λ u file block body lease is write can below room. over _ refl;
-  putting = λ u file block body lease is put first can below room. record { asks = λ v called look k has. absurd (no-put file block body u v put called look) };
+  putting = λ u file block body lease is put first can below room. record {
+    asks = λ v called look k has. absurd (no-put file block body u v put
+        called look);
+  };
   write_waits = λ u sync file block body is write waits. h;
   syncing = λ u file is sync clean. over _ refl;
   sync_waits = λ u file is sync dirty. h;
   others = λ u is needs. h;
 })
   where
-    no-put : (file block : ℕ) (body : List ℕ) (u v : UnderWay) → u.call ≡ Call.WriteSync file block body → Some (record u { written = true }) ≡ Some v → looks v.call ≡ true → ⊥
+    no-put : (file block : ℕ) (body : List ℕ) (u v : UnderWay) → u.call ≡ Call.WriteSync file block body → Some (record u { written = true }) ≡ Some v
+        → looks v.call ≡ true → ⊥
     no-put file block body u v put called look =
         let same : u.call ≡ v.call = ap (λ (x : UnderWay). x.call) (some-same (record u { written = true }) v called) in
         let bad : looks v.call ≡ false = ap looks (sym same ∙ put) in
@@ -86,7 +90,8 @@ no-look t v u op called same is none = record {
 asked : (v : ClientStep) (k : Ticket) → v.client.ticket ≡ Some k → IsLook k → Asks v
 asked v k has is = record { asks = λ u called look t asks. subst IsLook (some-same k t (sym has ∙ asks)) is }
 
-nexts : (in_tick : Bool) (t : ClientStep) → (in_tick ≡ true → t.client.pause ≤ t.client.now → (u : UnderWay) → t.client.call ≡ Some u → looks u.call ≡ true → ⊥) → Asks t → Asks (send_next in_tick t)
+nexts : (in_tick : Bool) (t : ClientStep) → (in_tick ≡ true → t.client.pause ≤ t.client.now → (u : UnderWay) → t.client.call ≡ Some u → looks u.call
+    ≡ true → ⊥) → Asks t → Asks (send_next in_tick t)
 unfolding sends_request after_seq after_number takes_push gives_up
 nexts in_tick t never h = send-cases in_tick t Asks (record {
   stays_asking = λ ticket asks. h;
@@ -102,32 +107,41 @@ nexts in_tick t never h = send-cases in_tick t Asks (record {
   putting = λ u file block body free is first. no-look t _ u _ free.called refl is refl;
   resizing = λ u file blocks free is clean. no-look t _ u _ free.called refl is refl;
   removing = λ u file free is clean. no-look t _ u _ free.called refl is refl;
-  renewing = λ file lease tick free nothing unpaused renewed held of clean quiet. record { asks = λ u called look k has. absurd (never tick unpaused u called look) };
+  renewing = λ file lease tick free nothing unpaused renewed held of clean quiet. record {
+    asks = λ u called look k has.
+        absurd (never tick unpaused u called look);
+  };
 })
 
 -- ---- a datagram
 
 module _ (left : ℕ) (c : Client) (alone : Alone c) (h : Looking left c) (k : ℕ) (m : Message) (t : ClientStep) (hears : hear c k m ≡ Some t)
-    (kept : (inc : ℕ) (status : Refusal) (ticket : Ticket) → c.ticket ≡ Some ticket → m ≡ reply ticket.xid (Reply.Refused inc status) → inc ≡ c.who.inc → is_put_off status ≡ true → is_look ticket.request ≡ false) where
+    (kept : (inc : ℕ) (status : Refusal) (ticket : Ticket) → c.ticket ≡ Some ticket → m ≡ reply ticket.xid (Reply.Refused inc status)
+    → inc ≡ c.who.inc → is_put_off status ≡ true → is_look ticket.request ≡ false) where
   -- while such a call is open nothing of it is put off
-  never-off : (v : UnderWay) → c.call ≡ Some v → looks v.call ≡ true → (xid inc : ℕ) (status : Refusal) → m ≡ reply xid (Reply.Refused inc status) → is_put_off status ≡ true → ⊥
+  never-off : (v : UnderWay) → c.call ≡ Some v → looks v.call ≡ true → (xid inc : ℕ) (status : Refusal) → m ≡ reply xid (Reply.Refused inc status)
+      → is_put_off status ≡ true → ⊥
   never-off v called look xid inc status says off = heard-cases c k m t (λ (u : ClientStep). ⊥) hears (record {
     answered = λ x r ticket is asks own same counts.
         let two : reply x r ≡ reply xid (Reply.Refused inc status) = sym is ∙ says in
         let r_is : r ≡ Reply.Refused inc status = cc in
         let x_is : x ≡ xid = cc in
-        by ticket asks (ap (λ n. reply n (Reply.Refused inc status)) (sym x_is ∙ own)) (ap inc_of (sym r_is) ∙ same) (ap (λ a. reply_counts a ticket) (sym r_is) ∙ counts) ticket.job refl;
+        by ticket asks (ap (λ n. reply n (Reply.Refused inc status)) (sym x_is ∙ own)) (ap inc_of (sym r_is) ∙ same) (ap (λ a. reply_counts a ticket)
+        (sym r_is) ∙ counts) ticket.job refl;
     noticed = λ x file tag is older. let two : call x (Request.Evicted c.who file tag) ≡ reply xid (Reply.Refused inc status) = sym is ∙ says in absurd (cc);
   })
     where
-      by : (ticket : Ticket) → c.ticket ≡ Some ticket → reply xid (Reply.Refused inc status) ≡ reply ticket.xid (Reply.Refused inc status) → inc ≡ c.who.inc → refusal_counts status ticket.request ticket.job ≡ true → (job : Job) → ticket.job ≡ job → ⊥
-      by ticket asks number same counts attaching is = let no : refusal_counts status ticket.request ticket.job ≡ false = ap (refusal_counts status ticket.request) is in absurd (cc)
+      by : (ticket : Ticket) → c.ticket ≡ Some ticket → reply xid (Reply.Refused inc status) ≡ reply ticket.xid (Reply.Refused inc status)
+          → inc ≡ c.who.inc → refusal_counts status ticket.request ticket.job ≡ true → (job : Job) → ticket.job ≡ job → ⊥
+      by ticket asks number same counts attaching is = let no : refusal_counts status ticket.request ticket.job ≡ false =
+          ap (refusal_counts status ticket.request) is in absurd (cc)
       by ticket asks number same counts for_call is =
           let no = kept inc status ticket asks (says ∙ number) same off in
           let yes = (h.asks v called look ticket asks).own is in
           absurd (cc)
       by ticket asks number same counts renewing is = (h.asks v called look ticket asks).none is
-      by ticket asks number same counts pushing is = let no : refusal_counts status ticket.request ticket.job ≡ false = ap (refusal_counts status ticket.request) is ∙ ap not off in absurd (cc)
+      by ticket asks number same counts pushing is = let no : refusal_counts status ticket.request ticket.job ≡ false =
+          ap (refusal_counts status ticket.request) is ∙ ap not off in absurd (cc)
 
   opened : StillOpen c.call t.client.call
   opened = (hear-keeps ⊥ c k m t alone hears (λ no. absurd no)).calls
@@ -135,11 +149,13 @@ module _ (left : ℕ) (c : Client) (alone : Alone c) (h : Looking left c) (k : �
   asks-on : Asks t
   unfolding cancels vacates_lease notes_notice
   asks-on = heard-cases c k m t Asks hears (record {
-    answered = λ xid r ticket is asks own inc counts. nexts false (settle (replied (begun c) k ticket r)) (λ e. absurd (cc)) (settled (replied (begun c) k ticket r) (free (replied (begun c) k ticket r) (replied-free c k ticket r asks counts alone)));
+    answered = λ xid r ticket is asks own inc counts. nexts false (settle (replied (begun c) k ticket r)) (λ e. absurd (cc))
+        (settled (replied (begun c) k ticket r) (free (replied (begun c) k ticket r) (replied-free c k ticket r asks counts alone)));
     noticed = λ xid file tag is older.
         let cut : Asks (cancels (begun c) file) = record { asks = λ u called look v has. h.asks u called look v (keeps-or-cancels file c.ticket v has).0 } in
         let gone = evicted (cancels (begun c) file) file tag in
-        nexts false (settle gone) (λ e. absurd (cc)) (settled gone (evicted-cases (cancels (begun c) file) file tag Asks (record { clean = λ e. record { asks = cut.asks }; waiting = λ e. record { asks = cut.asks } })));
+        nexts false (settle gone) (λ e. absurd (cc)) (settled gone (evicted-cases (cancels (begun c) file) file tag Asks
+        (record { clean = λ e. record { asks = cut.asks }; waiting = λ e. record { asks = cut.asks } })));
   })
 
   pub hear-looking : Looking left t.client
@@ -200,7 +216,8 @@ unfolding at_time sends_again
 tick-keeps c = tick-cases c (c.now + 1) (Keeps ⊤ (at_time c (c.now + 1))) (record {
   again = λ ticket asks long. record { calls = λ v is. (v, is, refl); now = refl; pause = λ yes. refl };
   quiet = λ ticket asks short. start;
-  free = λ none. sends ⊤ (at_time c (c.now + 1)) true (settle (begun (at_time c (c.now + 1)))) (settles ⊤ (at_time c (c.now + 1)) (begun (at_time c (c.now + 1))) start);
+  free = λ none. sends ⊤ (at_time c (c.now + 1)) true (settle (begun (at_time c (c.now + 1)))) (settles ⊤ (at_time c (c.now + 1))
+      (begun (at_time c (c.now + 1))) start);
 })
   where
     start : Keeps ⊤ (at_time c (c.now + 1)) (begun (at_time c (c.now + 1)))
@@ -216,20 +233,26 @@ module _ (left : ℕ) (c : Client) (alone : Alone c) (h : Looking (left + 1) c) 
   ticked-free none = record { asks = λ u called look. by u called look (opened u called) }
     where
       opened : StillOpen c.call (send_next true (settle (begun (at_time c (c.now + 1))))).client.call
-      opened = (sends ⊥ (at_time c (c.now + 1)) true (settle (begun (at_time c (c.now + 1)))) (settles ⊥ (at_time c (c.now + 1)) (begun (at_time c (c.now + 1))) (record { calls = λ v is. (v, is, refl); now = refl; pause = λ no. absurd no }))).calls
+      opened = (sends ⊥ (at_time c (c.now + 1)) true (settle (begun (at_time c (c.now + 1)))) (settles ⊥ (at_time c (c.now + 1))
+          (begun (at_time c (c.now + 1))) (record { calls = λ v is. (v, is, refl); now = refl; pause = λ no. absurd no }))).calls
 
-      by : (u : UnderWay) → (send_next true (settle (begun (at_time c (c.now + 1))))).client.call ≡ Some u → looks u.call ≡ true → (v : UnderWay) × (c.call ≡ Some v) × (u.call ≡ v.call) → (k : Ticket) → (send_next true (settle (begun (at_time c (c.now + 1))))).client.ticket ≡ Some k → IsLook k
+      by : (u : UnderWay) → (send_next true (settle (begun (at_time c (c.now + 1))))).client.call ≡ Some u → looks u.call ≡ true → (v : UnderWay)
+          × (c.call ≡ Some v) × (u.call ≡ v.call) → (k : Ticket) → (send_next true (settle (begun (at_time c (c.now + 1))))).client.ticket ≡ Some k → IsLook k
       by u called look v k asks =
           let was : looks v.0.call ≡ true = ap looks (sym v.2) ∙ look in
           let same : settle (begun (at_time c (c.now + 1))) ≡ begun (at_time c (c.now + 1)) = settles-not (begun (at_time c (c.now + 1))) v.0 v.1 was in
-          (later v.0 v.1 was same (nat_le c.pause (c.now + 1)) refl).asks u (ap (λ (s : ClientStep). (send_next true s).client.call) (sym same) ∙ called) look k (ap (λ (s : ClientStep). (send_next true s).client.ticket) (sym same) ∙ asks)
+          (later v.0 v.1 was same (nat_le c.pause (c.now + 1)) refl).asks u (ap (λ (s : ClientStep). (send_next true s).client.call) (sym same)
+          ∙ called) look k (ap (λ (s : ClientStep). (send_next true s).client.ticket) (sym same) ∙ asks)
         where
-          later : (v : UnderWay) → c.call ≡ Some v → looks v.call ≡ true → settle (begun (at_time c (c.now + 1))) ≡ begun (at_time c (c.now + 1)) → (late : Bool) → nat_le c.pause (c.now + 1) ≡ late → Asks (send_next true (begun (at_time c (c.now + 1))))
+          later : (v : UnderWay) → c.call ≡ Some v → looks v.call ≡ true → settle (begun (at_time c (c.now + 1))) ≡ begun (at_time c (c.now + 1))
+              → (late : Bool) → nat_le c.pause (c.now + 1) ≡ late → Asks (send_next true (begun (at_time c (c.now + 1))))
           later v has was same true e =
               let settled_now : Settled (begun (at_time c (c.now + 1))) = subst Settled same (settle-settles (begun (at_time c (c.now + 1)))) in
               let asking = asks-next false (begun (at_time c (c.now + 1))) v has (is-at-most _ _ e) settled_now alone.delaying in
-              subst Asks (sym (renews-not (begun (at_time c (c.now + 1))) asking)) (nexts false (begun (at_time c (c.now + 1))) (λ f. absurd (cc)) (free (begun (at_time c (c.now + 1))) none))
-          later v has was same false e = nexts true (begun (at_time c (c.now + 1))) (λ f unpaused. let above = is-not-at-most c.pause (c.now + 1) e in absurd (omega arith)) (free (begun (at_time c (c.now + 1))) none)
+              subst Asks (sym (renews-not (begun (at_time c (c.now + 1))) asking)) (nexts false (begun (at_time c (c.now + 1))) (λ f. absurd (cc))
+              (free (begun (at_time c (c.now + 1))) none))
+          later v has was same false e = nexts true (begun (at_time c (c.now + 1))) (λ f unpaused. let above = is-not-at-most c.pause (c.now + 1) e in
+              absurd (omega arith)) (free (begun (at_time c (c.now + 1))) none)
 
   pub tick-looking : Looking left (client_tick c (c.now + 1)).client
   unfolding at_time sends_again

@@ -9,7 +9,8 @@ use Rattle.nq_base.specs.declared.Row.{Row}
 use Rattle.nq_base.specs.declared.Verdict.{Verdict}
 use Rattle.nq_base.specs.declared.Who.{Who}
 use Rattle.nq_model.specs.Ask.{conflicts}
-use Rattle.nq_model.specs.Decide.{in_the_way, done_reply, verdict_reply, decides, creates, writes_through, stores, stores_recovering, wrote, resizes, removes, puts_off, commits}
+use Rattle.nq_model.specs.Decide.{in_the_way, done_reply, verdict_reply, decides, creates, writes_through, stores, stores_recovering, wrote, resizes}
+use Rattle.nq_model.specs.Decide.{removes, puts_off, commits}
 use Rattle.nq_model.specs.Kept.{host_row}
 use Rattle.nq_model.specs.LeaseInterval.{requested_file}
 use Rattle.nq_model.specs.Message.{Message, Packet, reply, request, asker, sequence_of}
@@ -18,7 +19,10 @@ use Rattle.nq_model.specs.ServerStep.{access_of, attaches, vacates, tells_later,
 use Rattle.walk_steps.proofs.ClientMoves.{some-same, none-some}
 use Rattle.walk_steps.proofs.Packets.{told-same, reply-same}
 use Rattle.walk_steps.proofs.ServerCases.{server-hears}
-use Rattle.walk_steps.proofs.ServerOutcomes.{error_for, file_changed_by, wanted_by, IsRecovering, IsPlain, unattached, attached_again, not_yet, no_entry, entry, no_attributes, attributes, no_file, no_block, decided_again, is_old, IsDeclined, bad_length, name_taken, no_room, not_kept, outside, no_row, not_under, not_over, not_while_recovering, bad_size, no_room_to_grow}
+use Rattle.walk_steps.proofs.ServerOutcomes.{error_for, file_changed_by, wanted_by, IsRecovering, IsPlain, unattached, attached_again, not_yet}
+use Rattle.walk_steps.proofs.ServerOutcomes.{no_entry, entry, no_attributes, attributes, no_file, no_block, decided_again, is_old, IsDeclined}
+use Rattle.walk_steps.proofs.ServerOutcomes.{bad_length, name_taken, no_room, not_kept, outside, no_row, not_under, not_over, not_while_recovering}
+use Rattle.walk_steps.proofs.ServerOutcomes.{bad_size, no_room_to_grow}
 use Rattle.nq_laws.specs.PutOff.{file_of, access_by, put_off_reply, IsPutOff, by_others, by_own, PutOffForRows}
 
 -- ---- replies that put nothing off
@@ -58,7 +62,8 @@ changed-file (Request.Resize who seq q f blocks) file is = (is, refl)
 changed-file (Request.Remove who seq q f) file is = (is, refl)
 changed-file other file is = none-some file is
 
-module _ (s : Server) (sender next xid : ℕ) (r : Request) (who : Who) (serving_now : s.phase ≡ serving) (asks : asker r ≡ Some who) (new : (seq : ℕ) → sequence_of r ≡ Some seq → seq ≡ (host_row s.kept who.host).seq → ⊥) where
+module _ (s : Server) (sender next xid : ℕ) (r : Request) (who : Who) (serving_now : s.phase ≡ serving) (asks : asker r ≡ Some who) (new : (seq : ℕ)
+    → sequence_of r ≡ Some seq → seq ≡ (host_row s.kept who.host).seq → ⊥) where
   -- where the refusal is sent, it was for a row
   abbrev For : List Packet → Type 0
   For sends = (i : ℕ) → slice_get sends i ≡ Some (to_host sender (reply xid (Reply.Refused who.inc Refusal.TryLater))) → IsPutOff s who xid r sends
@@ -78,16 +83,22 @@ module _ (s : Server) (sender next xid : ℕ) (r : Request) (who : Who) (serving
   this : (x : ℕ) (z : Request) → request xid r ≡ request x z → (xid ≡ x) × (r ≡ z)
   this x z e = (cc, cc)
 
-  plain : (x : ℕ) (w : Who) (z : Request) (a : Reply) → request xid r ≡ request x z → asker z ≡ Some w → IsPlain s w z a → a ≡ Reply.Refused who.inc Refusal.TryLater → ⊥
-  plain x w z a e by (unattached later never is) f = let two : Reply.Refused w.inc Refusal.NotAttached ≡ Reply.Refused who.inc Refusal.TryLater = sym is ∙ f in cc
+  plain : (x : ℕ) (w : Who) (z : Request) (a : Reply) → request xid r ≡ request x z → asker z ≡ Some w → IsPlain s w z a → a ≡ Reply.Refused who.inc
+      Refusal.TryLater → ⊥
+  plain x w z a e by (unattached later never is) f = let two : Reply.Refused w.inc Refusal.NotAttached ≡ Reply.Refused who.inc Refusal.TryLater =
+      sym is ∙ f in cc
   plain x w z a e by (attached_again at same is) f = let two : Reply.Attach w.inc ≡ Reply.Refused who.inc Refusal.TryLater = sym is ∙ f in cc
   plain x w z a e by (not_yet same rec asks is) f = serves-not s serving_now rec
-  plain x w z a e by (no_entry name same p at found is) f = let two : Reply.Refused w.inc Refusal.NoEnt ≡ Reply.Refused who.inc Refusal.TryLater = sym is ∙ f in cc
+  plain x w z a e by (no_entry name same p at found is) f = let two : Reply.Refused w.inc Refusal.NoEnt ≡ Reply.Refused who.inc Refusal.TryLater =
+      sym is ∙ f in cc
   plain x w z a e by (entry name g same p at found is) f = let two : Reply.Lookup w.inc _ _ ≡ Reply.Refused who.inc Refusal.TryLater = sym is ∙ f in cc
-  plain x w z a e by (no_attributes file same p at found is) f = let two : Reply.Refused w.inc Refusal.Stale ≡ Reply.Refused who.inc Refusal.TryLater = sym is ∙ f in cc
+  plain x w z a e by (no_attributes file same p at found is) f = let two : Reply.Refused w.inc Refusal.Stale ≡ Reply.Refused who.inc
+      Refusal.TryLater = sym is ∙ f in cc
   plain x w z a e by (attributes file g same p at found is) f = let two : Reply.GetAttr w.inc _ _ ≡ Reply.Refused who.inc Refusal.TryLater = sym is ∙ f in cc
-  plain x w z a e by (no_file file same p at found is) f = let two : Reply.Refused w.inc Refusal.Stale ≡ Reply.Refused who.inc Refusal.TryLater = sym is ∙ f in cc
-  plain x w z a e by (no_block q file block want g same p at found missing is) f = let two : Reply.Refused w.inc Refusal.Inval ≡ Reply.Refused who.inc Refusal.TryLater = sym is ∙ f in cc
+  plain x w z a e by (no_file file same p at found is) f = let two : Reply.Refused w.inc Refusal.Stale ≡ Reply.Refused who.inc Refusal.TryLater =
+      sym is ∙ f in cc
+  plain x w z a e by (no_block q file block want g same p at found missing is) f = let two : Reply.Refused w.inc Refusal.Inval ≡ Reply.Refused who.inc
+      Refusal.TryLater = sym is ∙ f in cc
   plain x w z a e by (decided_again seq same sq last is) f =
       let t = this x z e in
       let one : w ≡ who = some-same w who (sym by ∙ ap asker (sym t.1) ∙ asks) in
@@ -102,7 +113,8 @@ module _ (s : Server) (sender next xid : ℕ) (r : Request) (who : Who) (serving
   declined w z v (not_kept file on missing is) f = let two : Verdict.Stale ≡ Verdict.TryLater = sym is ∙ f in cc
   declined w z v (outside seq file block first last push body g on found out is) f = let two : Verdict.Invalid ≡ Verdict.TryLater = sym is ∙ f in cc
   declined w z v (no_row seq file block first last base body g p on found missing is) f = let two : Verdict.Fenced ≡ Verdict.TryLater = sym is ∙ f in cc
-  declined w z v (not_under seq file block first last base body g row p on found some bars is) f = let two : Verdict.Fenced ≡ Verdict.TryLater = sym is ∙ f in cc
+  declined w z v (not_under seq file block first last base body g row p on found some bars is) f = let two : Verdict.Fenced ≡ Verdict.TryLater =
+      sym is ∙ f in cc
   declined w z v (not_over seq file block first last base body g rec on found bars is) f = let two : Verdict.Fenced ≡ Verdict.TryLater = sym is ∙ f in cc
   declined w z v (bad_size seq q file blocks g p on found bad is) f = let two : Verdict.Invalid ≡ Verdict.TryLater = sym is ∙ f in cc
   declined w z v (no_room_to_grow seq q file blocks g p on found full is) f = let two : Verdict.NoSpace ≡ Verdict.TryLater = sym is ∙ f in cc
@@ -110,20 +122,24 @@ module _ (s : Server) (sender next xid : ℕ) (r : Request) (who : Who) (serving
   -- ---- put off
 
   -- what is shown with the names of the outcome holds with those of the request
-  back : (x : ℕ) (w : Who) (z : Request) → request xid r ≡ request x z → asker z ≡ Some w → (sends : List Packet) → IsPutOff s w x z sends → IsPutOff s who xid r sends
+  back : (x : ℕ) (w : Who) (z : Request) → request xid r ≡ request x z → asker z ≡ Some w → (sends : List Packet) → IsPutOff s w x z sends
+      → IsPutOff s who xid r sends
   back x w z e by sends h =
       let t = this x z e in
       let one : w ≡ who = some-same w who (sym by ∙ ap asker (sym t.1) ∙ asks) in
       subst (λ n. IsPutOff s who n r sends) (sym t.0) (subst (λ y. IsPutOff s who x y sends) (sym t.1) (subst (λ v. IsPutOff s v x z sends) one h))
 
-  by-rows : (x : ℕ) (w : Who) (z : Request) → request xid r ≡ request x z → asker z ≡ Some w → (file : ℕ) (clash : Row) (access : Access) → file_of z ≡ Some file → access_by z ≡ access → find (conflicts file w.host access) s.table.rows ≡ Some clash → For (notices s.notice (in_the_way s file w.host access) ++ put_off_reply w x ∷ [])
+  by-rows : (x : ℕ) (w : Who) (z : Request) → request xid r ≡ request x z → asker z ≡ Some w → (file : ℕ) (clash : Row) (access : Access) → file_of z
+      ≡ Some file → access_by z ≡ access → find (conflicts file w.host access) s.table.rows ≡ Some clash
+      → For (notices s.notice (in_the_way s file w.host access) ++ put_off_reply w x ∷ [])
   by-rows x w z e by file clash access on is c i at =
       back x w z e by (notices s.notice (in_the_way s file w.host access) ++ put_off_reply w x ∷ [])
       (subst (λ a. IsPutOff s w x z (notices s.notice (in_the_way s file w.host a) ++ put_off_reply w x ∷ [])) is
       (by_others file clash on (subst (λ a. find (conflicts file w.host a) s.table.rows ≡ Some clash) (sym is) c) refl))
 
   all : For (receive s sender next (request xid r)).sends
-  unfolding quiet drops says attaches vacates serves leases tells_later decides creates writes_through stores stores_recovering wrote resizes removes puts_off commits after_notices keeping keeping_with with_table
+  unfolding quiet drops says attaches vacates serves leases tells_later decides creates writes_through stores stores_recovering wrote resizes removes
+      puts_off commits after_notices keeping keeping_with with_table
   all = server-hears s sender next (request xid r) (λ t. For t.sends) (record {
     stays = none;
     dropping = λ reason. none;
@@ -132,16 +148,21 @@ module _ (s : Server) (sender next xid : ℕ) (r : Request) (who : Who) (serving
     replying = λ x w z a e by from is. other w.host x a (plain x w z a e by is);
     attaching = λ x w e from later. other w.host x (Reply.Attach w.inc) (λ f. cc);
     vacating = λ x w file tag e current. none;
-    putting_off = λ x w z f clash e by file asking c. by-rows x w z e by f.id clash (access_of (wanted_by z)) (asked-file z f.id file).0 (asked-file z f.id file).1 c;
-    putting_off_waiting = λ x w z f clash want e by file wants asking c own room. by-rows x w z e by f.id clash (access_of (Some want)) (asked-file z f.id file).0 ((asked-file z f.id file).1 ∙ ap access_of wants) c;
-    putting_off_by_own = λ x w z f want own e by file wants asking c o evicting i at. back x w z e by (notices s.notice (own ∷ []) ++ put_off_reply w x ∷ []) (by_own f.id own (asked-file z f.id file).0 o evicting refl);
+    putting_off = λ x w z f clash e by file asking c. by-rows x w z e by f.id clash (access_of (wanted_by z)) (asked-file z f.id file).0
+        (asked-file z f.id file).1 c;
+    putting_off_waiting = λ x w z f clash want e by file wants asking c own room. by-rows x w z e by f.id clash (access_of (Some want))
+        (asked-file z f.id file).0 ((asked-file z f.id file).1 ∙ ap access_of wants) c;
+    putting_off_by_own = λ x w z f want own e by file wants asking c o evicting i at. back x w z e by (notices s.notice (own ∷ []) ++ put_off_reply w
+        x ∷ []) (by_own f.id own (asked-file z f.id file).0 o evicting refl);
     reading = λ x w q block f body e asking there c. other w.host x _ (λ g. cc);
     reading_full = λ x w q block want f body e asking there c own room. other w.host x _ (λ g. cc);
     reading_granted = λ x w q block want f body row term e asking there c g. other w.host x _ (λ h. cc);
     leasing_full = λ x w want f e asking c own room. other w.host x _ (λ g. cc);
     leasing = λ x w want f row term e asking c g. other w.host x _ (λ h. cc);
-    declining = λ x w seq z verdict e by sq fresh is. other w.host x (verdict_reply w.inc verdict 0 z) (λ f. declined w z verdict is (not-later w.inc 0 who.inc verdict z f));
-    putting_off_change = λ x w seq z f clash e by sq file base changing c. by-rows x w z e by f.id clash Access.Write (changed-file z f.id file).0 (changed-file z f.id file).1 c;
+    declining = λ x w seq z verdict e by sq fresh is. other w.host x (verdict_reply w.inc verdict 0 z) (λ f. declined w z verdict is
+        (not-later w.inc 0 who.inc verdict z f));
+    putting_off_change = λ x w seq z f clash e by sq file base changing c. by-rows x w z e by f.id clash Access.Write (changed-file z f.id file).0
+        (changed-file z f.id file).1 c;
     creating = λ x w seq blocks name e fresh serves can. other w.host x _ (λ f. cc);
     writing_through = λ x w seq block first last body f e changing below c. other w.host x _ (λ g. cc);
     storing = λ x w seq block first last base body f row e changing below can. other w.host x _ (λ g. cc);

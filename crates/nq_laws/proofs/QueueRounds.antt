@@ -1,5 +1,6 @@
 -- Each queue is in line through each calm delivery that begins where no client had a request under way before the ticks.
-use Rattle.std.proofs.Common.{◌≡◌, ◌≢◌, ◌≤◌, ◌<◌, ℕ, ◌+◌, ◌==◌, ◌++◌, Bool, true, false, zero, suc, List, [], ◌∷◌, Option, Some, None, length, refl, sym, subst, ap, ◌∙◌, arith, append-nil}
+use Rattle.std.proofs.Common.{◌≡◌, ◌≢◌, ◌≤◌, ◌<◌, ℕ, ◌+◌, ◌==◌, ◌++◌, Bool, true, false, zero, suc, List, [], ◌∷◌, Option, Some, None, length, refl}
+use Rattle.std.proofs.Common.{sym, subst, ap, ◌∙◌, arith, append-nil}
 use Rattle.std.specs.Prelude.{map, slice_get}
 use Rattle.nq_base.specs.declared.Event.{Event}
 use Rattle.nq_base.specs.declared.Party.{Party}
@@ -221,7 +222,8 @@ module _ (most : ℕ) (head : Head) (host : ℕ) where
           let k = all c at in
           let seqs = subst (λ (u : World). Seqs c.who c.seq u.packets) (sym l.is_run) ((run-draws head p.events).clients host c (at-run p l host c at)) in
           let drawn = (run-lined most head p.events l.bounds l.within host c (at-run p l host c at)).drawn in (
-            client-line host p (Event.ClientTick host) rises line c (client_tick c (c.now + 1)) at is a seqs (tick-sent c a.alone drawn k.1) (low p l c at k.0),
+            client-line host p (Event.ClientTick host) rises line c (client_tick c (c.now + 1)) at is a seqs (tick-sent c a.alone drawn k.1)
+                (low p l c at k.0),
             λ d there.
                 let new : d ≡ (client_tick c (c.now + 1)).client =
                 get-set-same p.world.clients host (client_tick c (c.now + 1)).client d

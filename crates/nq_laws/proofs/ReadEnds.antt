@@ -1,6 +1,7 @@
 -- Four rounds in which no `write` to a file is open: whoever reads it asks, and then no other host has a writing row of the file any more; and as he asks
 -- again he is answered.
-use Rattle.std.proofs.Common.{◌≡◌, ◌≢◌, ◌≤◌, ◌<◌, ◌⊎◌, ℕ, ◌+◌, Bool, true, false, nat_le, zero, suc, List, [], ◌∷◌, Option, Some, None, length, refl, sym, subst, ap, ◌∙◌, arith, inl, inr}
+use Rattle.std.proofs.Common.{◌≡◌, ◌≢◌, ◌≤◌, ◌<◌, ◌⊎◌, ℕ, ◌+◌, Bool, true, false, nat_le, zero, suc, List, [], ◌∷◌, Option, Some, None, length, refl}
+use Rattle.std.proofs.Common.{sym, subst, ap, ◌∙◌, arith, inl, inr}
 use Rattle.std.specs.Prelude.{slice_get}
 use Rattle.nq_base.specs.declared.Call.{Call}
 use Rattle.nq_base.specs.declared.Event.{Event}

@@ -1,5 +1,6 @@
 -- A round while the server serves: what holds of clients at its beginning, and what the frames tell of its delivery.
-use Rattle.std.proofs.Common.{◌≡◌, ◌≤◌, ◌<◌, ◌⊎◌, ℕ, ◌+◌, Bool, true, false, nat_le, zero, suc, List, [], ◌∷◌, Option, Some, None, length, refl, sym, subst, ap, ◌∙◌, arith, inl, inr}
+use Rattle.std.proofs.Common.{◌≡◌, ◌≤◌, ◌<◌, ◌⊎◌, ℕ, ◌+◌, Bool, true, false, nat_le, zero, suc, List, [], ◌∷◌, Option, Some, None, length, refl, sym}
+use Rattle.std.proofs.Common.{subst, ap, ◌∙◌, arith, inl, inr}
 use Rattle.std.specs.Prelude.{slice_get}
 use Rattle.nq_base.specs.declared.Event.{Event}
 use Rattle.nq_model.specs.Client.{Client, UnderWay, Ticket}
@@ -29,7 +30,8 @@ use Rattle.nq_laws.proofs.Begin.{round-tickets, round-wants, none-renew}
 use Rattle.nq_laws.proofs.Counts.{open_calls}
 use Rattle.nq_laws.proofs.Delivery.{State}
 use Rattle.nq_laws.proofs.UnderWay.{Moves, Paused}
-use Rattle.nq_laws.proofs.Frames.{HopesOrClear, SomeHopes, first-moves, second-moves, NoWay, no-hope, clear-none, none-clear, Ends, answered, stands, order-ends}
+use Rattle.nq_laws.proofs.Frames.{HopesOrClear, SomeHopes, first-moves, second-moves, NoWay, no-hope, clear-none, none-clear, Ends, answered, stands}
+use Rattle.nq_laws.proofs.Frames.{order-ends}
 use Rattle.nq_laws.proofs.Given.{begins}
 use Rattle.nq_laws.proofs.Hope.{PutsOff, Hopeful, Clear, safe-none}
 use Rattle.nq_laws.proofs.Queue.{packets_of, queue, in-comes}
@@ -131,7 +133,8 @@ module _ (most : ℕ) (head : Head) where
         → St (play_rounds 1 (play_order order r))
     next-state serves = record {
       lawful = round most head (play_order order r) done-lawful;
-      rising = played-rising (play_hosts (length (play_order order r).world.clients) 0 (play_order order r)) Event.ServerTick (hosts-rising (length (play_order order r).world.clients) 0 (play_order order r) (order-rising order r k.rising));
+      rising = played-rising (play_hosts (length (play_order order r).world.clients) 0 (play_order order r)) Event.ServerTick
+          (hosts-rising (length (play_order order r).world.clients) 0 (play_order order r) (order-rising order r k.rising));
       serves = serves;
       on = λ host c at. after-ticks Rested (λ (d : Client). d.attached ≡ true) (λ d s. tick-stays d s.alone s.on) host (λ d there. record {
         alone =
@@ -183,7 +186,8 @@ module _ (most : ℕ) (head : Head) where
 
   module _ (order : List ℕ) (r : Play) (k : Round order r) (st : St r) where
     -- no row is in the way of those for whom the first frame stands
-    pub first-ends : (K L : ℕ → Type 0) → First K L r.world (queue r) → (open_calls (play_order order r).world.clients < open_calls r.world.clients) ⊎ (((a : ℕ)
+    pub first-ends : (K L : ℕ → Type 0) → First K L r.world (queue r) → (open_calls (play_order order r).world.clients < open_calls r.world.clients)
+        ⊎ (((a : ℕ)
         → K a → NoWay (play_order order r).world a) × LateOf L (play_order order r).world)
     first-ends K L f = by (order-ends most head (First K L) (first-goes K L) order r k.in_order st f)
       where
@@ -200,7 +204,8 @@ module _ (most : ℕ) (head : Head) where
                 ⊎ Clear true (play_order order r).world.server.table.rows (play_order order r).world.clients (queue
                 (play_order order r)) a → NoWay (play_order order r).world a
             none a (inl x) = absurd (no-hope (play_order order r).world (queue (play_order order r)) k.quiet a x)
-            none a (inr x) = clear-none (play_order order r).world k.quiet true a (subst (λ q. Clear true (play_order order r).world.server.table.rows (play_order order r).world.clients q a) empty x)
+            none a (inr x) = clear-none (play_order order r).world k.quiet true a (subst (λ q. Clear true (play_order order r).world.server.table.rows
+                (play_order order r).world.clients q a) empty x)
 
     -- where somebody hopes, and no row is in anybody's way, a call is answered
     pub second-ends : ((a : ℕ) → NoWay r.world a) → (h : ℕ) → Hopeful r.world.clients (queue r) h

@@ -22,7 +22,8 @@ use Rattle.nq_model.specs.Server.{ServerStep}
 use Rattle.nq_model.specs.ServerStep.{receive, tick, crash}
 use Rattle.nq_model.specs.Settle.{said}
 use Rattle.nq_model.specs.Skew.{IsWithinSkew}
-use Rattle.nq_model.specs.World.{Head, World, after_server, after_client, at_client, after_hearing, sending_host, deliver_to_client, deliver_to, deliver, start, run}
+use Rattle.nq_model.specs.World.{Head, World, after_server, after_client, at_client, after_hearing, sending_host, deliver_to_client, deliver_to}
+use Rattle.nq_model.specs.World.{deliver, start, run}
 use Rattle.nq_model.specs.AnswersTellWhatWas.{HasLength, ToldSo, TellsSoAt, AnswersTellWhatWas}
 use Rattle.nq_model.specs.Bounds.{KeepsBounds, InEveryRun}
 use Rattle.nq_model.specs.RepliesTellWhatWas.{Once}
@@ -118,10 +119,12 @@ outside-so head events who q journal out =
     subst (Says head events Said.Range) (sym out.tells)
     (range-of-block head events p.file p.block out.op p.of_block (had-no-block head events p.file p.blocks p.block p.beyond p.had))
 
-rests-so : (head : Head) (events : List Event) (e : Entry) (entries journal : List Entry) → Rests (HadLength head events) (TellsOf head events journal) journal e entries
+rests-so : (head : Head) (events : List Event) (e : Entry) (entries journal : List Entry) → Rests (HadLength head events)
+    (TellsOf head events journal) journal e entries
     → Throughout Placed (entries ++ journal) → SaysAt head events e (entries ++ journal)
 rests-so head events (Entry.A who q (Said.OkValue value)) entries journal (inl next) placed = cached-so head events who q value entries journal next placed
-rests-so head events (Entry.A who q (Said.OkValue value)) entries journal (inr cause) placed = caused-so head events who q (Said.OkValue value) entries journal cause
+rests-so head events (Entry.A who q (Said.OkValue value)) entries journal (inr cause) placed = caused-so head events who q (Said.OkValue value)
+    entries journal cause
 rests-so head events (Entry.A who q Said.NoEntry) entries journal rests placed = caused-so head events who q Said.NoEntry entries journal (rests refl)
 rests-so head events (Entry.A who q Said.Stale) entries journal rests placed = caused-so head events who q Said.Stale entries journal (rests refl)
 rests-so head events (Entry.A who q Said.Exists) entries journal rests placed = caused-so head events who q Said.Exists entries journal (rests refl)
@@ -152,7 +155,8 @@ module _ (most : ℕ) (head : Head) (event : Event) (earlier : List Event) (boun
 
   -- a step of a client
   stepped : (host : ℕ) (t : ClientStep) → run head (event ∷ earlier) ≡ after_client w host t
-      → AllRest (HadLength head (event ∷ earlier)) (TellsOf head (event ∷ earlier) w.journal) w.journal t.entries → Throughout (SaysAt head (event ∷ earlier)) (run head (event ∷ earlier)).journal
+      → AllRest (HadLength head (event ∷ earlier)) (TellsOf head (event ∷ earlier) w.journal) w.journal t.entries
+      → Throughout (SaysAt head (event ∷ earlier)) (run head (event ∷ earlier)).journal
   unfolding after_client
   stepped host t is rest =
       subst (λ v. Throughout (SaysAt head (event ∷ earlier)) v.journal) (sym is)

@@ -1,5 +1,6 @@
 -- In every run what a reply tells of files was so at the server.
-use Rattle.std.proofs.Common.{◌≡◌, ◌⊎◌, ◌≤◌, ◌<◌, ℕ, ◌+◌, ◌==◌, List, [], ◌∷◌, ◌++◌, Option, Some, None, map, length, refl, sym, subst, ap, ◌∙◌, inl, inr, arith}
+use Rattle.std.proofs.Common.{◌≡◌, ◌⊎◌, ◌≤◌, ◌<◌, ℕ, ◌+◌, ◌==◌, List, [], ◌∷◌, ◌++◌, Option, Some, None, map, length, refl, sym, subst, ap, ◌∙◌, inl}
+use Rattle.std.proofs.Common.{inr, arith}
 use Rattle.std.specs.Prelude.{◌-◌, slice_get, replicate, unwrap_or, zero, suc}
 use Rattle.nq_base.specs.declared.Event.{Event}
 use Rattle.nq_base.specs.declared.HostRow.{HostRow}
@@ -17,7 +18,8 @@ use Rattle.nq_model.specs.Message.{Message, Packet, call, reply, request, asker,
 use Rattle.nq_model.specs.Profile.{most_hosts}
 use Rattle.nq_model.specs.Server.{Server, ServerStep, quiet, with_table, keeping_with, to_host}
 use Rattle.nq_model.specs.ServerStep.{receive, tick, crash, boot, fence, at_time, opens, ends_writing}
-use Rattle.nq_model.specs.World.{Head, World, from_host, after_server, after_client, at_client, after_hearing, sending_host, deliver_to_client, deliver_to, deliver, first_row, start, run}
+use Rattle.nq_model.specs.World.{Head, World, from_host, after_server, after_client, at_client, after_hearing, sending_host, deliver_to_client}
+use Rattle.nq_model.specs.World.{deliver_to, deliver, first_row, start, run}
 use Rattle.nq_model.specs.RepliesTellWhatWas.{Once, WasSo, RepliesTellWhatWas}
 use Rattle.walk_steps.proofs.Mail.{none-to-host}
 use Rattle.walk_steps.proofs.Packets.{In, in-append, in-left, in-get, Asked, Told}
@@ -243,7 +245,8 @@ module _ (head : Head) (event : Event) (earlier : List Event) (p : Packet) (i : 
     unfolding after_server
     asked-later host xid r asked = subst (λ v. Asked v.packets host xid r) (sym is) (in-left w.packets step_of.sends (from_host host (call xid r)) asked)
 
-    so-later : (a : Reply) (r : Request) → IsTold step_of.server.kept.files step_of.server.kept.next a r → IsTold (run head (event ∷ earlier)).server.kept.files (run head (event ∷ earlier)).server.kept.next a r
+    so-later : (a : Reply) (r : Request) → IsTold step_of.server.kept.files step_of.server.kept.next a r
+        → IsTold (run head (event ∷ earlier)).server.kept.files (run head (event ∷ earlier)).server.kept.next a r
     unfolding after_server
     so-later a r so = subst (λ v. IsTold v.server.kept.files v.server.kept.next a r) (sym is) so
 
@@ -259,7 +262,8 @@ module _ (head : Head) (event : Event) (earlier : List Event) (p : Packet) (i : 
         line : HostRow
         line = host_row w.server.kept who.host
 
-    new-reply : (host xid : ℕ) (a : Reply) → Tells w.server step_of.server.kept.files step_of.server.kept.next (datagram_of p.message) (sending_host p.sender) host xid a
+    new-reply : (host xid : ℕ) (a : Reply) → Tells w.server step_of.server.kept.files step_of.server.kept.next (datagram_of p.message)
+        (sending_host p.sender) host xid a
         → IsTrue head (event ∷ earlier) host xid a
     new-reply host xid a k =
         let asked : Asked w.packets host xid k.asks = subst (λ h. Asked w.packets h xid k.asks) (sym k.to) (asked-of xid k.asks k.is) in
@@ -273,7 +277,8 @@ module _ (head : Head) (event : Event) (earlier : List Event) (p : Packet) (i : 
               k.who asked k.home k.by k.why;
         }
 
-    row-true : (k : ℕ) (line : HostRow) → RowMove w.server step_of.server.kept.files step_of.server.kept.next (datagram_of p.message) (sending_host p.sender) k line
+    row-true : (k : ℕ) (line : HostRow) → RowMove w.server step_of.server.kept.files step_of.server.kept.next (datagram_of p.message)
+        (sending_host p.sender) k line
         → RowTrue head (event ∷ earlier) k line
     row-true k line (row_stays same) one =
         subst (IsDeed head (event ∷ earlier) k) (sym same)

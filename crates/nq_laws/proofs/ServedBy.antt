@@ -1,5 +1,6 @@
 -- What a request of an attached client does at a server that serves, where its sequence was not decided yet.
-use Rattle.std.proofs.Common.{◌≡◌, ◌≢◌, ◌<◌, ◌⊎◌, ℕ, ◌+◌, ◌==◌, ◌%◌, ◌++◌, Bool, true, false, not, List, [], ◌∷◌, Some, None, refl, sym, subst, ap, ◌∙◌, arith, inl, inr}
+use Rattle.std.proofs.Common.{◌≡◌, ◌≢◌, ◌<◌, ◌⊎◌, ℕ, ◌+◌, ◌==◌, ◌%◌, ◌++◌, Bool, true, false, not, List, [], ◌∷◌, Some, None, refl, sym, subst, ap}
+use Rattle.std.proofs.Common.{◌∙◌, arith, inl, inr}
 use Rattle.std.specs.Prelude.{find}
 use Rattle.nq_base.specs.declared.Access.{Access}
 use Rattle.nq_base.specs.declared.Refusal.{Refusal}
@@ -11,12 +12,14 @@ use Rattle.nq_base.specs.declared.Verdict.{Verdict}
 use Rattle.nq_base.specs.declared.Want.{Want}
 use Rattle.nq_base.specs.declared.Who.{Who}
 use Rattle.nq_model.specs.Ask.{conflicts, marked, mode_conflicts, term_of, sharing_row, caching_row, shared_again, renewed_row}
-use Rattle.nq_model.specs.Decide.{in_the_way, verdict_reply, decides, creates, writes_through, stores, stores_recovering, wrote, resizes, removes, puts_off, commits}
+use Rattle.nq_model.specs.Decide.{in_the_way, verdict_reply, decides, creates, writes_through, stores, stores_recovering, wrote, resizes, removes}
+use Rattle.nq_model.specs.Decide.{puts_off, commits}
 use Rattle.nq_model.specs.Hear.{is_put_off, wants_of}
 use Rattle.nq_model.specs.LeaseInterval.{requested_file}
 use Rattle.nq_model.specs.Message.{Message, Packet, call, reply, Datagram, request, datagram_of, asker, sequence_of}
 use Rattle.nq_model.specs.Profile.{most_hosts, xid_end}
-use Rattle.nq_model.specs.Server.{serving, recovering, Server, ServerStep, to_host, notices, after_notices, keeping, keeping_with, with_table, quiet as rests, drops, says}
+use Rattle.nq_model.specs.Server.{serving, recovering, Server, ServerStep, to_host, notices, after_notices, keeping, keeping_with, with_table}
+use Rattle.nq_model.specs.Server.{quiet as rests, drops, says}
 use Rattle.nq_model.specs.ServerStep.{access_of, to_read, attaches, vacates, tells_later, serves, leases, receive}
 use Rattle.nq_model.specs.Table.{caches, find_row, is_row_of, put_row, with_rows, after_draw}
 use Rattle.walk_steps.proofs.ClientMoves.{some-same, none-some}
@@ -25,14 +28,18 @@ use Rattle.walk_steps.proofs.AskCases.{shares_again, begins_sharing, begins_cach
 use Rattle.walk_steps.proofs.RowChanges.{HasUniqueKeys, of-key, mark-is, found-marked, found-put, found-any, is-clash, no-clash}
 use Rattle.walk_steps.proofs.Rows.{found-row, find-passes, number-same, same-number}
 use Rattle.walk_steps.proofs.ServerCases.{server-hears}
-use Rattle.walk_steps.proofs.ServerOutcomes.{error-no-reply, line_of, wanted_by, IsRecovering, IsPlain, unattached, attached_again, not_yet, no_entry, entry, no_attributes, attributes, no_file, no_block, decided_again, is_old, IsDeclined, bad_length, name_taken, no_room, not_kept, outside, no_row, not_under, not_over, not_while_recovering, bad_size, no_room_to_grow}
+use Rattle.walk_steps.proofs.ServerOutcomes.{error-no-reply, line_of, wanted_by, IsRecovering, IsPlain, unattached, attached_again, not_yet, no_entry}
+use Rattle.walk_steps.proofs.ServerOutcomes.{entry, no_attributes, attributes, no_file, no_block, decided_again, is_old, IsDeclined, bad_length}
+use Rattle.walk_steps.proofs.ServerOutcomes.{name_taken, no_room, not_kept, outside, no_row, not_under, not_over, not_while_recovering, bad_size}
+use Rattle.walk_steps.proofs.ServerOutcomes.{no_room_to_grow}
 use Rattle.walk_steps.proofs.Replies.{replies-are}
 use Rattle.walk_steps.proofs.RowFacts.{vacated-takes, in-the-way, holder-told}
 use Rattle.walk_steps.proofs.RowsAfter.{GoesOn, RowIs, goes_on, waits, granted, rows-are, rows-go, RowGoes, stays as stands_on, vacated, attached, removed}
 use Rattle.nq_laws.proofs.InLine.{came}
 use Rattle.nq_laws.specs.PutOff.{file_of, access_by}
 use Rattle.nq_laws.proofs.Hope.{InWay}
-use Rattle.nq_laws.proofs.Served.{IsStill, IsWant, by_read, by_lease, RowFrom, stays, shares, begins, renews, OnlyStays, AreTold, Outcome, quiet, by_own, by_others, IsServed}
+use Rattle.nq_laws.proofs.Served.{IsStill, IsWant, by_read, by_lease, RowFrom, stays, shares, begins, renews, OnlyStays, AreTold, Outcome, quiet}
+use Rattle.nq_laws.proofs.Served.{by_own, by_others, IsServed}
 use Rattle.nq_laws.proofs.PutOffs.{asked-file, changed-file}
 use Rattle.nq_laws.proofs.LookReplies.{done-not}
 

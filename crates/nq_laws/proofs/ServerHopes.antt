@@ -18,9 +18,11 @@ use Rattle.nq_model.specs.World.{from_host}
 use Rattle.walk_steps.proofs.ClientMoves.{some-same, none-some}
 use Rattle.walk_steps.proofs.Packets.{In, in-right, not-both}
 use Rattle.walk_steps.proofs.Rows.{same-number, number-same}
-use Rattle.nq_laws.proofs.Hope.{file_of_call, access_of_call, conflict-caches, Hopeful, IsWished, by_read, by_write, Hoped, Goes, told, Passes, goes, hoped, InWay, Clear, safe-none}
+use Rattle.nq_laws.proofs.Hope.{file_of_call, access_of_call, conflict-caches, Hopeful, IsWished, by_read, by_write, Hoped, Goes, told, Passes, goes}
+use Rattle.nq_laws.proofs.Hope.{hoped, InWay, Clear, safe-none}
 use Rattle.nq_laws.proofs.Asking.{Caller, IsOff, Fate, all_on, off, fate, goes-on, only-own as alone-own}
-use Rattle.nq_laws.proofs.Served.{IsStill, IsWant, RowFrom, stays, shares, begins, renews, OnlyStays, Outcome, quiet, by_own, by_others, IsServed, Fits, read_fits, write_fits, Wanting, by_call, by_renewal}
+use Rattle.nq_laws.proofs.Served.{IsStill, IsWant, RowFrom, stays, shares, begins, renews, OnlyStays, Outcome, quiet, by_own, by_others, IsServed}
+use Rattle.nq_laws.proofs.Served.{Fits, read_fits, write_fits, Wanting, by_call, by_renewal}
 
 -- what is known of the host that asked, and of the rows
 pub record Asker (rows : List Row) (clients : List Client) (ys : List Packet) (b x : ℕ) (r : Request) (c : Client) : Type 0 where
@@ -92,12 +94,14 @@ module _ (rows after : List Row) (clients : List Client) (y : Packet) (ys more :
     where
       same-wish : (k : Hoped clients (y ∷ ys) f h was) (n : Hopeful clients (ys ++ more) h) → IsWished n.under f was.mode
       same-wish k n = let one : k.hope.under ≡ n.under = some-same k.hope.under n.under (sym k.hope.opened
-          ∙ ap (λ (z : Client). z.call) (some-same k.hope.client n.client (sym k.hope.at ∙ n.at)) ∙ n.opened) in subst (λ u. IsWished u f was.mode) one k.wished
+          ∙ ap (λ (z : Client). z.call) (some-same k.hope.client n.client (sym k.hope.at ∙ n.at)) ∙ n.opened) in subst (λ u. IsWished u f was.mode)
+          one k.wished
   passes-on going (off others o) f h was row found kind s there (hoped k) = whose (h == b) refl
     where
       same-wish : (n : Hopeful clients (ys ++ more) h) → IsWished n.under f was.mode
       same-wish n = let one : k.hope.under ≡ n.under = some-same k.hope.under n.under (sym k.hope.opened
-          ∙ ap (λ (z : Client). z.call) (some-same k.hope.client n.client (sym k.hope.at ∙ n.at)) ∙ n.opened) in subst (λ u. IsWished u f was.mode) one k.wished
+          ∙ ap (λ (z : Client). z.call) (some-same k.hope.client n.client (sym k.hope.at ∙ n.at)) ∙ n.opened) in subst (λ u. IsWished u f was.mode)
+          one k.wished
 
       whose : (e : Bool) → (h == b) ≡ e → Passes going clients (ys ++ more) f h row
       whose true e =

@@ -13,7 +13,8 @@ use Rattle.nq_base.specs.declared.Row.{Row}
 use Rattle.nq_base.specs.declared.Verdict.{Verdict}
 use Rattle.nq_base.specs.declared.Who.{Who}
 use Rattle.nq_model.specs.Ask.{grant_of}
-use Rattle.nq_model.specs.Decide.{Decision, in_the_way, verdict_reply, row_after, decides, creates, writes_through, stores, wrote, stores_recovering, resizes, removes, puts_off, commits}
+use Rattle.nq_model.specs.Decide.{Decision, in_the_way, verdict_reply, row_after, decides, creates, writes_through, stores, wrote, stores_recovering}
+use Rattle.nq_model.specs.Decide.{resizes, removes, puts_off, commits}
 use Rattle.nq_model.specs.Hear.{inc_of}
 use Rattle.nq_model.specs.Kept.{File, Kept, blocks_of, find_file, find_name, new_file, host_row, with_row, with_files, with_new_file}
 use Rattle.nq_model.specs.Message.{Message, Packet, reply, asker, Datagram, request, sequence_of}
@@ -29,7 +30,8 @@ use Rattle.walk_steps.proofs.ServerSays.{notices-no-reply, verdict-inc, plain-in
 use Rattle.walk_steps.proofs.KeptChanges.{line-as}
 use Rattle.walk_steps.proofs.Rows.{number-same}
 use Rattle.walk_steps.proofs.ServerCases.{server-hears}
-use Rattle.walk_steps.proofs.ServerOutcomes.{line_of, IsFrom, CanCreate, error-no-reply, IsDeclined, IsPlain, unattached, attached_again, not_yet, no_entry, entry, no_attributes, attributes, no_file, no_block, decided_again, is_old}
+use Rattle.walk_steps.proofs.ServerOutcomes.{line_of, IsFrom, CanCreate, error-no-reply, IsDeclined, IsPlain, unattached, attached_again, not_yet}
+use Rattle.walk_steps.proofs.ServerOutcomes.{no_entry, entry, no_attributes, attributes, no_file, no_block, decided_again, is_old}
 
 -- ---- a new file is found by its name
 
@@ -211,7 +213,8 @@ module _ (s : Server) (sender next : ℕ) (d : Datagram) (no_null : (xid : ℕ) 
   told-length f found = record { file = f; found = found; has_length = refl; has_rev = refl }
 
   pub receive-tells : Both (receive s sender next d)
-  unfolding grant_of quiet drops says vacates serves leases with_table writes_through stores wrote stores_recovering resizes removes keeping keeping_with with_files
+  unfolding grant_of quiet drops says vacates serves leases with_table writes_through stores wrote stores_recovering resizes removes keeping
+      keeping_with with_files
   receive-tells = server-hears s sender next d Both (record {
     stays = (no-packets s.kept, same-rows);
     dropping = λ reason. (no-packets s.kept, same-rows);
@@ -235,14 +238,19 @@ module _ (s : Server) (sender next : ℕ) (d : Datagram) (no_null : (xid : ℕ) 
         λ xid who q block want f body e asking there c own room.
         (replied xid who (Request.Read who q f.id block (Some want)) (Reply.Read who.inc f.rev body None) e refl asking.current.from refl (tt, tt), same-rows);
     reading_granted =
-        λ xid who q block want f body row term e asking there c g.
-        (replied xid who (Request.Read who q f.id block (Some want)) (Reply.Read who.inc f.rev body _) e refl asking.current.from refl (tt, told-length f asking.found), same-rows);
+        λ xid who q block want f body row term e asking there c g. (
+          replied xid who (Request.Read who q f.id block (Some want)) (Reply.Read who.inc f.rev body _) e refl asking.current.from refl
+              (tt, told-length f asking.found),
+          same-rows,
+        );
     leasing_full =
         λ xid who want f e asking c own room.
         (replied xid who (Request.GetLease who f.id want) (Reply.GetLease who.inc None) e refl asking.current.from refl (tt, tt), same-rows);
     leasing =
-        λ xid who want f row term e asking c g.
-        (replied xid who (Request.GetLease who f.id want) (Reply.GetLease who.inc _) e refl asking.current.from refl (tt, told-length f asking.found), same-rows);
+        λ xid who want f row term e asking c g. (
+          replied xid who (Request.GetLease who f.id want) (Reply.GetLease who.inc _) e refl asking.current.from refl (tt, told-length f asking.found),
+          same-rows,
+        );
     declining = λ xid who seq r verdict e by sq fresh declines. declined xid who seq r verdict e by sq fresh.current.from declines;
     putting_off_change = λ xid who seq r f clash e by sq file base changing c. put-off xid who seq r f.id _ e by sq changing.fresh.current.from;
     creating = λ xid who seq blocks name e fresh serves can. created xid who seq blocks name e fresh.current.from can;

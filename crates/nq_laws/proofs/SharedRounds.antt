@@ -1,6 +1,7 @@
 -- Four rounds in which a file stays shared: whoever has a call on it asks, and then no other host caches the file any more; and as he asks again he is
 -- answered.
-use Rattle.std.proofs.Common.{◌≡◌, ◌≢◌, ◌≤◌, ◌<◌, ◌⊎◌, ℕ, ◌+◌, Bool, true, false, nat_le, zero, suc, List, [], ◌∷◌, Option, Some, None, length, refl, sym, subst, ap, ◌∙◌, arith, inl, inr}
+use Rattle.std.proofs.Common.{◌≡◌, ◌≢◌, ◌≤◌, ◌<◌, ◌⊎◌, ℕ, ◌+◌, Bool, true, false, nat_le, zero, suc, List, [], ◌∷◌, Option, Some, None, length, refl}
+use Rattle.std.proofs.Common.{sym, subst, ap, ◌∙◌, arith, inl, inr}
 use Rattle.std.specs.Prelude.{slice_get}
 use Rattle.nq_base.specs.declared.Call.{Call}
 use Rattle.nq_base.specs.declared.Event.{Event}
@@ -42,7 +43,8 @@ use Rattle.nq_laws.proofs.Ticks.{tick-pause, hosts-server, rows-tick}
 use Rattle.nq_laws.proofs.UnderWay.{WantedNow, of_call, of_row, serves-is}
 use Rattle.nq_laws.proofs.Barred.{Barred, shared, gone, gone-tick, shared-tick}
 use Rattle.nq_laws.proofs.CalmRounds.{Round, done-lawful, done-fresh, done-serves, after-ticks, next-state, early-hopes, soon}
-use Rattle.nq_laws.proofs.Step.{IsOpen, Over, Going, NoCache, Bar, NoWish, Renewing, Unwanted, Shut, fits-on, Calm, calm-on, Cut, Goal, over, open_on, delivers, delivered-now}
+use Rattle.nq_laws.proofs.Step.{IsOpen, Over, Going, NoCache, Bar, NoWish, Renewing, Unwanted, Shut, fits-on, Calm, calm-on, Cut, Goal, over, open_on}
+use Rattle.nq_laws.proofs.Step.{delivers, delivered-now}
 use Rattle.law_rounds.proofs.ClientSteps.{get-below}
 
 -- ---- what stays so of a client

@@ -1,5 +1,6 @@
 -- A schedule with a recovery that keeps to all bounds: a lookup waits for it, and a write is delayed once no call is open.
-use Rattle.std.proofs.Common.{◌≡◌, ℕ, ◌&&◌, not, nat_le, Bool, true, zero, suc, List, [], ◌∷◌, Option, Some, None, is_some, length, refl, sym, subst, ap, ◌∙◌, arith}
+use Rattle.std.proofs.Common.{◌≡◌, ℕ, ◌&&◌, not, nat_le, Bool, true, zero, suc, List, [], ◌∷◌, Option, Some, None, is_some, length, refl, sym, subst}
+use Rattle.std.proofs.Common.{ap, ◌∙◌, arith}
 use Rattle.std.specs.Prelude.{All, slice_get}
 use Rattle.std.proofs.lemmas.Bool.{and_parts}
 use Rattle.nq_base.specs.Block.{filled, zeros}
@@ -98,7 +99,8 @@ unfolding calmed filled zeros given-run
 few-packets = refl
 
 soon-answered : All IsAnswered (soon_rounds 15 (calmed late_head held_events [])).world.clients
-soon-answered = all-found IsAnswered (soon_rounds 15 (calmed late_head held_events [])).world.clients (λ i c is. each-answered (soon_rounds 15 (calmed late_head held_events [])).world.clients i c answered-15 is)
+soon-answered = all-found IsAnswered (soon_rounds 15 (calmed late_head held_events [])).world.clients
+    (λ i c is. each-answered (soon_rounds 15 (calmed late_head held_events [])).world.clients i c answered-15 is)
 
 soon-small : IsSmall (soon_rounds 22 (calmed late_head held_events []))
 soon-small = record {
@@ -109,8 +111,11 @@ soon-small = record {
 pub answers-met : AnswersAreMet
 answers-met = record {
   lawful = held-lawful;
-  unanswered = ap (λ (p : Play). is_open (slice_get p.world.clients 1)) (all-soon 6 late_head 14 (calmed late_head held_events []) held-lawful held-rising ends-14) ∙ open-14;
-  answered = subst (λ (p : Play). All IsAnswered p.world.clients) (sym (all-soon 6 late_head 15 (calmed late_head held_events []) held-lawful held-rising ends-15)) soon-answered;
-  delayed = ap (λ (p : Play). has_delayed (slice_get p.world.clients 0)) (all-soon 6 late_head 15 (calmed late_head held_events []) held-lawful held-rising ends-15) ∙ delayed-15;
+  unanswered = ap (λ (p : Play). is_open (slice_get p.world.clients 1)) (all-soon 6 late_head 14 (calmed late_head held_events []) held-lawful
+      held-rising ends-14) ∙ open-14;
+  answered = subst (λ (p : Play). All IsAnswered p.world.clients) (sym (all-soon 6 late_head 15 (calmed late_head held_events []) held-lawful
+      held-rising ends-15)) soon-answered;
+  delayed = ap (λ (p : Play). has_delayed (slice_get p.world.clients 0)) (all-soon 6 late_head 15 (calmed late_head held_events []) held-lawful
+      held-rising ends-15) ∙ delayed-15;
   small = subst (λ (p : Play). IsSmall p) (sym (all-soon 6 late_head 22 (calmed late_head held_events []) held-lawful held-rising ends-22)) soon-small;
 }

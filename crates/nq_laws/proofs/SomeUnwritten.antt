@@ -1,5 +1,6 @@
 -- A schedule that keeps to all bounds, and in which no open call is a `write`.
-use Rattle.std.proofs.Common.{◌≡◌, ℕ, ◌&&◌, Bool, true, false, not, nat_le, zero, suc, List, [], ◌∷◌, Option, Some, None, is_some, length, refl, sym, subst, ap, ◌∙◌}
+use Rattle.std.proofs.Common.{◌≡◌, ℕ, ◌&&◌, Bool, true, false, not, nat_le, zero, suc, List, [], ◌∷◌, Option, Some, None, is_some, length, refl, sym}
+use Rattle.std.proofs.Common.{subst, ap, ◌∙◌}
 use Rattle.std.specs.Prelude.{slice_get}
 use Rattle.std.proofs.lemmas.Bool.{and_parts}
 use Rattle.nq_base.specs.Block.{filled, zeros}

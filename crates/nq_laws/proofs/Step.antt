@@ -1,6 +1,7 @@
 -- One packet of a calm delivery while the server serves: what it leaves of one host's open call, and of the rows of the call's file, where that file is
 -- shared. Other hosts' calls may be answered or not.
-use Rattle.std.proofs.Common.{◌≡◌, ◌≢◌, ◌≤◌, ◌<◌, ◌⊎◌, ℕ, ◌==◌, ◌++◌, Bool, true, false, not, List, [], ◌∷◌, Option, Some, None, is_some, nat_le, length, refl, sym, subst, ap, ◌∙◌, arith, inl, inr, append-nil}
+use Rattle.std.proofs.Common.{◌≡◌, ◌≢◌, ◌≤◌, ◌<◌, ◌⊎◌, ℕ, ◌==◌, ◌++◌, Bool, true, false, not, List, [], ◌∷◌, Option, Some, None, is_some, nat_le}
+use Rattle.std.proofs.Common.{length, refl, sym, subst, ap, ◌∙◌, arith, inl, inr, append-nil}
 use Rattle.std.specs.Prelude.{map, slice_get, slice_set}
 use Rattle.std.proofs.lemmas.Bool.{and_from}
 use Rattle.nq_base.specs.declared.Access.{Access}
@@ -62,9 +63,11 @@ use Rattle.nq_laws.proofs.ClientHopes.{map-in, Leaves, gives_up, notes, Hearer}
 use Rattle.nq_laws.proofs.ClientHopes as client
 use Rattle.nq_laws.proofs.Given.{AllInLine, ordered, ordered-on, tags, served}
 use Rattle.nq_laws.proofs.HearerAt.{hearer}
-use Rattle.nq_laws.proofs.Hope.{file_of_call, access_of_call, conflict-caches, Cancels, PutsOff, Hopeful, Goes, told, waits, vacated, InWay, safe-rest, safe-append, safe-none}
+use Rattle.nq_laws.proofs.Hope.{file_of_call, access_of_call, conflict-caches, Cancels, PutsOff, Hopeful, Goes, told, waits, vacated, InWay}
+use Rattle.nq_laws.proofs.Hope.{safe-rest, safe-append, safe-none}
 use Rattle.nq_laws.proofs.Queue.{packets_of, queue, queue-parts, queue-next, head-packet, rest-comes, rest-later, there-is}
-use Rattle.nq_laws.proofs.Served.{IsStill, IsWant, by_read, by_lease, RowFrom, stays, shares, begins, renews, Outcome, quiet, by_own, by_others, IsServed, Fits, read_fits, write_fits}
+use Rattle.nq_laws.proofs.Served.{IsStill, IsWant, by_read, by_lease, RowFrom, stays, shares, begins, renews, Outcome, quiet, by_own, by_others}
+use Rattle.nq_laws.proofs.Served.{IsServed, Fits, read_fits, write_fits}
 use Rattle.nq_laws.proofs.UnderWay.{InOrder, TagsFit, hear-sent, serves-is}
 use Rattle.nq_laws.proofs.Asking.{Caller, IsOff, Fate, all_on, off, fate, other-hopes, goes-on}
 use Rattle.nq_laws.proofs.Barred.{Shares, Barred, shared, gone, gone-receive, shared-receive, rows-kept}
@@ -323,7 +326,8 @@ module _ (most : ℕ) (head : Head) where
               absurd (omega arith)
 
           -- a row that shares the file is not given up
-          no-vacated : (s : Shares f x least p.world.server.table.rows) (m : ℕ) (who : Who) (g : ℕ) (tag : Tag) → y.message ≡ call m (Request.Vacated who g tag)
+          no-vacated : (s : Shares f x least p.world.server.table.rows) (m : ℕ) (who : Who) (g : ℕ) (tag : Tag) → y.message
+              ≡ call m (Request.Vacated who g tag)
               → who.host ≡ sending_host y.sender → g ≡ f → who.host ≡ x → s.row.tag ≡ tag → ⊥
           no-vacated s m who g tag says from on here tags =
               let sender : sending_host y.sender ≡ b = ap (λ (z : Packet). sending_host z.sender) is in
@@ -363,7 +367,8 @@ module _ (most : ℕ) (head : Head) where
                 absurd (rows-kept most head (play p (Event.Deliver k)).events after-lawful.bounds after-lawful.within f h row
                 (subst (λ (u : World). find_row f h u.server.table.rows ≡ Some row) one found)
                 (subst (λ (u : World). find_file f u.server.kept.files ≡ None) one none.0))
-            was-caching (inr un) h row found kind = by (row-from p.world.server.table.rows t.server.table.rows t.sends b c.who n r serves.outcome f h row found)
+            was-caching (inr un) h row found kind = by (row-from p.world.server.table.rows t.server.table.rows t.sends b c.who n r serves.outcome f h
+                row found)
               where
                 renewing : (want : Want) → IsWant r f want → Renewing p.world.server.table.rows (y ∷ rest) b c n f want
                 renewing want wants = un.renewals b n c r want at (inl is) wants
@@ -719,7 +724,8 @@ module _ (most : ℕ) (head : Head) where
           no-wish none h d u there has want fit = whose (h == h0) refl
             where
               whose : (e : Bool) → (h == h0) ≡ e → ⊥
-              whose false e = none h d u (sym (other-client h (λ same. let yes : (h == h0) ≡ true = number-same h h0 same in absurd (cc))) ∙ there) has want fit
+              whose false e = none h d u (sym (other-client h (λ same. let yes : (h == h0) ≡ true = number-same h h0 same in absurd (cc))) ∙ there)
+                  has want fit
               whose true e =
                   let one : d ≡ t.client = some-same d t.client (sym there ∙ subst (λ z. slice_get later z ≡ Some t.client) (sym (same-number h h0 e))
                   own-client) in
@@ -883,7 +889,8 @@ module _ (most : ℕ) (head : Head) where
           not-cancelled : (c : Client) → slice_get p.world.clients h0 ≡ Some c → (l : Ticket) → Cancels h0 c l y → ⊥
           not-cancelled c at l z = would-hear c z.number z.file z.tag at (ap (λ (q : Packet). q.message) z.is) z.heard
 
-          unnamed : (n g : ℕ) (row : Row) → find_row g h0 p.world.server.table.rows ≡ Some row → y ≡ to_host h0 (call n (Request.Evicted row.who g row.tag)) → ⊥
+          unnamed : (n g : ℕ) (row : Row) → find_row g h0 p.world.server.table.rows ≡ Some row
+              → y ≡ to_host h0 (call n (Request.Evicted row.who g row.tag)) → ⊥
           unfolding HostedBelow
           unnamed n g row found says = by (slice_get p.world.clients h0) refl
             where
@@ -960,7 +967,8 @@ module _ (most : ℕ) (head : Head) where
             at-a-server : (y : Packet) → slice_get p.world.packets k ≡ Some y → y.to ≡ Party.Server
                 → step p.world (Event.Deliver k) ≡ after_server p.world (receive p.world.server (sending_host y.sender) (length p.world.packets)
                 (datagram_of y.message)) → IsSent y → Next (queue p) (step p.world (Event.Deliver k)) (queue (play p (Event.Deliver k)))
-            at-a-server y sent to goes (by_server host m e) = let two : Party.Client host ≡ Party.Server = ap (λ (z : Packet). z.to) (sym e) ∙ to in absurd (cc)
+            at-a-server y sent to goes (by_server host m e) = let two : Party.Client host ≡ Party.Server = ap (λ (z : Packet). z.to) (sym e) ∙ to in
+                absurd (cc)
             at-a-server y sent to goes (by_host b n r w e asks) = found (slice_get p.world.clients b) refl
               where
                 found : (o : Option Client) → slice_get p.world.clients b ≡ o → Next (queue p) (step p.world (Event.Deliver k)) (queue (play p

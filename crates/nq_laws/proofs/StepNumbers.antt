@@ -13,7 +13,8 @@ use Rattle.walk_steps.proofs.ClientMoves.{some-same, none-some, keeps-or-cancels
 use Rattle.walk_steps.proofs.Packets.{Told, call-same}
 use Rattle.walk_steps.proofs.Worlds.{IsAt}
 use Rattle.law_rounds.proofs.ClientTickets.{TicketIs, kept, resent, fresh, LastDrawn, Renewed, hear-renews, tick-renews}
-use Rattle.walk_steps.proofs.StepSends.{VacatedFrom, Gives, StepSends, only_gives, then_asks, HearSends, told, noticed, hear-sends, TickSends, rests, again, asks_now, tick-sends}
+use Rattle.walk_steps.proofs.StepSends.{VacatedFrom, Gives, StepSends, only_gives, then_asks, HearSends, told, noticed, hear-sends, TickSends, rests}
+use Rattle.walk_steps.proofs.StepSends.{again, asks_now, tick-sends}
 use Rattle.nq_laws.proofs.NewPackets.{get-last}
 
 -- a request is no VACATED

@@ -48,11 +48,16 @@ called-only c op none = call-cases c op (λ (t : ClientStep). OnlyOpen op t.clie
   telling = λ file loss losses free on changes of u is. none-some u is;
   going = λ free on no_losses. unless-cached-cases (settle (is_called (begins_call c op) op)) (λ (t : ClientStep). OnlyOpen op t.client)
       (λ cached. opened (settle (is_called (begins_call c op) op)) settled)
-      (λ other. opened (send_next false (settle (is_called (begins_call c op) op))) (sends ⊥ (is_called (begins_call c op) op).client false (settle (is_called (begins_call c op) op)) settled));
+      (λ other. opened (send_next false (settle (is_called (begins_call c op) op))) (sends ⊥ (is_called (begins_call c op) op).client false
+      (settle (is_called (begins_call c op) op)) settled));
 })
   where
     settled : Keeps ⊥ (is_called (begins_call c op) op).client (settle (is_called (begins_call c op) op))
-    settled = settles ⊥ (is_called (begins_call c op) op).client (is_called (begins_call c op) op) (record { calls = λ u is. (u, is, refl); now = refl; pause = λ no. absurd no })
+    settled = settles ⊥ (is_called (begins_call c op) op).client (is_called (begins_call c op) op) (record {
+      calls = λ u is. (u, is, refl);
+      now = refl;
+      pause = λ no. absurd no;
+    })
 
     opened : (t : ClientStep) → Keeps ⊥ (is_called (begins_call c op) op).client t → OnlyOpen op t.client
     opened t k u is =
@@ -60,15 +65,23 @@ called-only c op none = call-cases c op (λ (t : ClientStep). OnlyOpen op t.clie
         v.2 ∙ ap (λ (x : UnderWay). x.call) (sym (some-same _ v.0 v.1))
 
 module _ (most : ℕ) (head : Head) where
-  other-calls : (w : World) (host h : ℕ) (op : Call) → host ≢ h → (o : Option Client) → slice_get (at_client w h (λ c. client_call c op) o).clients host ≡ slice_get w.clients host
+  other-calls : (w : World) (host h : ℕ) (op : Call) → host ≢ h → (o : Option Client) → slice_get (at_client w h (λ c. client_call c op) o).clients
+      host ≡ slice_get w.clients host
   unfolding after_client
   other-calls w host h op other None = refl
   other-calls w host h op other (Some c) = get-set-other w.clients h host (client_call c op).client other
 
-  own-calls : (w : World) (host : ℕ) (op : Call) (d : Client) → (o : Option Client) → slice_get w.clients host ≡ o → slice_get (at_client w host (λ c. client_call c op) o).clients host ≡ Some d → (c : Client) × (slice_get w.clients host ≡ Some c) × (d ≡ (client_call c op).client)
+  own-calls : (w : World) (host : ℕ) (op : Call) (d : Client) → (o : Option Client) → slice_get w.clients host ≡ o
+      → slice_get (at_client w host (λ c. client_call c op) o).clients host ≡ Some d → (c : Client) × (slice_get w.clients host ≡ Some c)
+      × (d ≡ (client_call c op).client)
   unfolding after_client
   own-calls w host op d None at there = none-some d (sym at ∙ there)
-  own-calls w host op d (Some c) at there = (c, at, some-same d (client_call c op).client (sym there ∙ set-there w.clients host (client_call c op).client c at))
+  own-calls w host op d (Some c) at there = (
+    c,
+    at,
+    some-same d (client_call c op).client (sym there ∙ set-there w.clients host
+        (client_call c op).client c at),
+  )
 
   -- a request that a call sends is under way, as the others are
   call-covers : (p : Play) → IsLawful most head p → (host h : ℕ) (op : Call) → Covered most head host 0 p → Covered most head host 0 (play p (Event.Call h op))
@@ -80,7 +93,8 @@ module _ (most : ℕ) (head : Head) where
       still c (told r x inc counts) = told r (keeps-coming p (Event.Call h op) _ x x.fresh) inc counts
 
       -- the host that calls
-      own : host ≡ h → (c : Client) → slice_get p.world.clients host ≡ Some c → d ≡ (client_call c op).client → Under most head host (play p (Event.Call h op)) d t ⊎ (t.last + patience ≤ d.now + 0)
+      own : host ≡ h → (c : Client) → slice_get p.world.clients host ≡ Some c → d ≡ (client_call c op).client → Under most head host
+          (play p (Event.Call h op)) d t ⊎ (t.last + patience ≤ d.now + 0)
       own same c at is =
           subst (λ (e : Client). Under most head host (play p (Event.Call h op)) e t ⊎ (t.last + patience ≤ e.now + 0)) (sym is)
           (which (g.ticket t (ap (λ (e : Client). e.ticket) (sym is) ∙ has)))
@@ -89,16 +103,20 @@ module _ (most : ℕ) (head : Head) where
           there-run = subst (λ (u : World). slice_get u.clients host ≡ Some c) l.is_run at
 
           g : Renewed c c.now c.ticket (client_call c op)
-          g = call-renews c op ((run-holds head p.events).clients host c there-run).alone (run-lined most head p.events l.bounds l.within host c there-run).drawn
+          g = call-renews c op ((run-holds head p.events).clients host c there-run).alone (run-lined most head p.events l.bounds l.within host c
+              there-run).drawn
 
           to : step p.world (Event.Call h op) ≡ after_client p.world h (client_call c op)
           to = ap (at_client p.world h (λ x. client_call x op)) (subst (λ n. slice_get p.world.clients n ≡ Some c) same at)
 
           sent : In (client_call c op).sends (call t.xid t.request) → Under most head host (play p (Event.Call h op)) (client_call c op).client t
-          sent i = asking (adds-coming p (Event.Call h op) (from_host host (call t.xid t.request)) (map (from_host h) (client_call c op).sends) (ap (λ (w : World). w.packets) to)
-              (subst (λ n. In (map (from_host h) (client_call c op).sends) (from_host n (call t.xid t.request))) (sym same) (in-map (from_host h) (client_call c op).sends (call t.xid t.request) i)))
+          sent i = asking (adds-coming p (Event.Call h op) (from_host host (call t.xid t.request)) (map (from_host h) (client_call c op).sends)
+              (ap (λ (w : World). w.packets) to)
+              (subst (λ n. In (map (from_host h) (client_call c op).sends) (from_host n (call t.xid t.request))) (sym same)
+              (in-map (from_host h) (client_call c op).sends (call t.xid t.request) i)))
 
-          old : Under most head host p c t ⊎ (t.last + patience ≤ c.now + 0) → Under most head host (play p (Event.Call h op)) (client_call c op).client t ⊎ (t.last + patience ≤ (client_call c op).client.now + 0)
+          old : Under most head host p c t ⊎ (t.last + patience ≤ c.now + 0) → Under most head host (play p (Event.Call h op))
+              (client_call c op).client t ⊎ (t.last + patience ≤ (client_call c op).client.now + 0)
           old (inl under) = inl (mine (still c under))
             where
               mine : Under most head host (play p (Event.Call h op)) c t → Under most head host (play p (Event.Call h op)) (client_call c op).client t
@@ -106,7 +124,8 @@ module _ (most : ℕ) (head : Head) where
               mine (told r x inc counts) = told r x (inc ∙ ap (λ w. w.inc) (sym g.same)) counts
           old (inr late) = inr (let now = g.time in omega arith)
 
-          which : TicketIs c.ticket c.seq (client_call c op).sends t → Under most head host (play p (Event.Call h op)) (client_call c op).client t ⊎ (t.last + patience ≤ (client_call c op).client.now + 0)
+          which : TicketIs c.ticket c.seq (client_call c op).sends t → Under most head host (play p (Event.Call h op)) (client_call c op).client t
+              ⊎ (t.last + patience ≤ (client_call c op).client.now + 0)
           which (kept was) = old (all c t at was)
           which (resent w was xid of i) = inl (sent i)
           which (fresh i above) = inl (sent i)
@@ -114,13 +133,15 @@ module _ (most : ℕ) (head : Head) where
       case : (b : Bool) → (host == h) ≡ b → Under most head host (play p (Event.Call h op)) d t ⊎ (t.last + patience ≤ d.now + 0)
       case true same =
           let e = same-number host h same in
-          let o = own-calls p.world h op d (slice_get p.world.clients h) refl (subst (λ n. slice_get (step p.world (Event.Call h op)).clients n ≡ Some d) e there) in
+          let o = own-calls p.world h op d (slice_get p.world.clients h) refl (subst (λ n. slice_get (step p.world (Event.Call h op)).clients n
+          ≡ Some d) e there) in
           own e o.0 (subst (λ n. slice_get p.world.clients n ≡ Some o.0) (sym e) o.1) o.2
       case false differs =
           let apart : host ≢ h = λ e. let yes : (host == h) ≡ true = number-same host h e in absurd (cc) in
           by (all d t (sym (other-calls p.world host h op apart (slice_get p.world.clients h)) ∙ there) has)
         where
-          by : Under most head host p d t ⊎ (t.last + patience ≤ d.now + 0) → Under most head host (play p (Event.Call h op)) d t ⊎ (t.last + patience ≤ d.now + 0)
+          by : Under most head host p d t ⊎ (t.last + patience ≤ d.now + 0) → Under most head host (play p (Event.Call h op)) d t
+              ⊎ (t.last + patience ≤ d.now + 0)
           by (inl under) = inl (still d under)
           by (inr late) = inr late
 
@@ -133,26 +154,30 @@ module _ (most : ℕ) (head : Head) where
         case : (b : Bool) → (h == host) ≡ b → OnlyOpen (Call.Sync file) d
         case true same =
             let e = same-number h host same in
-            let o = own-calls p.world host (Call.Sync file) d (slice_get p.world.clients host) refl (subst (λ n. slice_get (step p.world (Event.Call host (Call.Sync file))).clients n ≡ Some d) e there) in
+            let o = own-calls p.world host (Call.Sync file) d (slice_get p.world.clients host) refl
+            (subst (λ n. slice_get (step p.world (Event.Call host (Call.Sync file))).clients n ≡ Some d) e there) in
             let none = (all-get IsAnswered p.world.clients host o.0 o.1 answered).answered in
             subst (OnlyOpen (Call.Sync file)) (sym o.2) (called-only o.0 (Call.Sync file) none)
         case false differs =
             let apart : h ≢ host = λ e. let yes : (h == host) ≡ true = number-same h host e in absurd (cc) in
-            let none = (all-get IsAnswered p.world.clients h d (sym (other-calls p.world h host (Call.Sync file) apart (slice_get p.world.clients host)) ∙ there) answered).answered in
+            let none = (all-get IsAnswered p.world.clients h d (sym (other-calls p.world h host (Call.Sync file) apart (slice_get p.world.clients
+            host)) ∙ there) answered).answered in
             λ u is. none-some u (sym none ∙ is)
 
     lawful-then : IsLawful most head (play p (Event.Call host (Call.Sync file)))
     lawful-then = played-quiet most head p (Event.Call host (Call.Sync file)) tt refl l
 
     -- the call that is open once all is delivered would be a `sync`, and none is then
-    all-answered : IsSmall (all_delivered (play p (Event.Call host (Call.Sync file)))) → ((h : ℕ) → h < head.hosts → Covered most head h 0 p) → All IsAnswered (all_delivered (play p (Event.Call host (Call.Sync file)))).world.clients
+    all-answered : IsSmall (all_delivered (play p (Event.Call host (Call.Sync file)))) → ((h : ℕ) → h < head.hosts → Covered most head h 0 p)
+        → All IsAnswered (all_delivered (play p (Event.Call host (Call.Sync file)))).world.clients
     all-answered small covers = all-found IsAnswered (all_delivered (play p (Event.Call host (Call.Sync file)))).world.clients each
       where
         each : (h : ℕ) (c : Client) → slice_get (all_delivered (play p (Event.Call host (Call.Sync file)))).world.clients h ≡ Some c → IsAnswered c
         each h c at = by c.call refl
           where
             quiet : IsQuiet c
-            quiet = ends-quiet most head (play p (Event.Call host (Call.Sync file))) lawful-then (played-rising p (Event.Call host (Call.Sync file)) rising) small (λ n below. call-covers p l n host (Call.Sync file) (covers n below)) h c at
+            quiet = ends-quiet most head (play p (Event.Call host (Call.Sync file))) lawful-then (played-rising p (Event.Call host (Call.Sync file))
+                rising) small (λ n below. call-covers p l n host (Call.Sync file) (covers n below)) h c at
 
             only : OnlyOpen (Call.Sync file) c
             only = flow-keeps most head h (OnlyOpen (Call.Sync file))
@@ -175,11 +200,14 @@ syncs-answered-once most head events bounds within under_way count host file all
     let l = rounds most head (2 + count) base l0 in
     let rising = rounds-rising (2 + count) base (calmed-rising head events under_way all) in
     let then = play p (Event.Call host (Call.Sync file)) in
-    let after : IsSmall (play (calm_rounds (2 + count) base) (Event.Call host (Call.Sync file))) = flow-small (enough_deliveries (play (calm_rounds (2 + count) base) (Event.Call host (Call.Sync file)))) (play (calm_rounds (2 + count) base) (Event.Call host (Call.Sync file))) small in
+    let after : IsSmall (play (calm_rounds (2 + count) base) (Event.Call host (Call.Sync file))) =
+    flow-small (enough_deliveries (play (calm_rounds (2 + count) base) (Event.Call host (Call.Sync file)))) (play (calm_rounds (2 + count) base)
+    (Event.Call host (Call.Sync file))) small in
     let before : IsSmall (calm_rounds (2 + count) base) = small-before (calm_rounds (2 + count) base) (Event.Call host (Call.Sync file)) after in
     let split : calm_rounds (2 + count) base ≡ calm_rounds count (calm_rounds 2 base) = rounds-more 2 count base in
     let fits : IsSmall (calm_rounds count (calm_rounds 2 base)) = subst (λ (q : Play). IsSmall q) split before in
     let ends = all-answered most head (calm_rounds (2 + count) base) l rising answered host file small
     (λ h below. subst (λ (q : Play). Covered most head h 0 q) (sym split) (third-covers most head h count base l0 below fits)) in
     let over = round-over most head then (lawful-then most head p l rising answered host file) (played-rising p (Event.Call host (Call.Sync file)) rising) in
-    subst (λ (q : Play). All IsAnswered q.world.clients) over (answers-stay (all_delivered (play (calm_rounds (2 + count) base) (Event.Call host (Call.Sync file)))) 1 ends)
+    subst (λ (q : Play). All IsAnswered q.world.clients) over
+    (answers-stay (all_delivered (play (calm_rounds (2 + count) base) (Event.Call host (Call.Sync file)))) 1 ends)

@@ -1,5 +1,6 @@
 -- In every run no lease, no notice, no VACATED and no grant that a client can still take names a later tag than its host's row of the file has.
-use Rattle.std.proofs.Common.{◌≡◌, ◌≢◌, ◌≤◌, ◌<◌, ◌⊎◌, ℕ, ◌+◌, ◌==◌, ◌&&◌, ◌||◌, nat_lt, Bool, true, false, suc, List, [], ◌∷◌, Option, Some, None, length, refl, sym, subst, ap, ◌∙◌, arith, inl, inr}
+use Rattle.std.proofs.Common.{◌≡◌, ◌≢◌, ◌≤◌, ◌<◌, ◌⊎◌, ℕ, ◌+◌, ◌==◌, ◌&&◌, ◌||◌, nat_lt, Bool, true, false, suc, List, [], ◌∷◌, Option, Some, None}
+use Rattle.std.proofs.Common.{length, refl, sym, subst, ap, ◌∙◌, arith, inl, inr}
 use Rattle.std.specs.Prelude.{map, is_some, slice_get, slice_set}
 use Rattle.std.proofs.lemmas.Bool.{and_from}
 use Rattle.std.proofs.lemmas.Bool.Decides.{nat_tests}
@@ -30,7 +31,8 @@ use Rattle.walk_steps.proofs.Runs.{Runs, none-served}
 use Rattle.walk_steps.proofs.Mail.{old-told, sent-calls, other-asked}
 use Rattle.walk_steps.proofs.Packets.{In, in-append, in-get, Asked, Told, told-same, call-same}
 use Rattle.walk_steps.proofs.ServerSays.{IsSaid, said_reply, said_error, said_notice}
-use Rattle.walk_steps.proofs.Steps.{Changes, nothing, by_client, by_server, ClientActs, called, ticked, restarted, heard, ServerActs, received, ticks, crashes, run-goes}
+use Rattle.walk_steps.proofs.Steps.{Changes, nothing, by_client, by_server, ClientActs, called, ticked, restarted, heard, ServerActs, received, ticks}
+use Rattle.walk_steps.proofs.Steps.{crashes, run-goes}
 use Rattle.walk_steps.proofs.TagFacts.{IsDrawn, TagsFit}
 use Rattle.walk_steps.proofs.Worlds.{IsAt, run-holds, get-set-same, get-set-other, first-client, received-said, to-server, to-told}
 use Rattle.walk_steps.proofs.Replies.{replies-are}

@@ -34,7 +34,8 @@ use Rattle.nq_laws.proofs.SharedRounds.{At, Idle, rounds-of}
 use Rattle.nq_laws.proofs.SharedRounds as shared
 use Rattle.nq_laws.proofs.Step.{IsOpen, NoWish}
 use Rattle.nq_laws.proofs.SharedAnswered.{left-over}
-use Rattle.nq_laws.specs.UnwrittenFiles.{written_by, read_by, WritesNotTo, ReadsNot, WritesNothing, rounds_unwritten, UnwrittenReadsAnswered, UnwrittenFilesAnswered, WritelessInTime}
+use Rattle.nq_laws.specs.UnwrittenFiles.{written_by, read_by, WritesNotTo, ReadsNot, WritesNothing, rounds_unwritten, UnwrittenReadsAnswered}
+use Rattle.nq_laws.specs.UnwrittenFiles.{UnwrittenFilesAnswered, WritelessInTime}
 use Rattle.nq_laws.proofs.FiveRounds.{next, k0, k1, k2, k3, k4, begun, none-later}
 use Rattle.nq_laws.proofs.ReadEnds as readers
 use Rattle.nq_laws.proofs.Unwritten.{NoWriter}

@@ -116,5 +116,6 @@ module _ (most : ℕ) (head : Head) (p : Play) (l : IsLawful most head p) (serve
       let many : length (play_rounds 1 p).world.clients ≡ head.hosts = ap (λ (w : World). length w.clients) next.is_run
       ∙ client-count head (play_rounds 1 p).events in
       let before : length p.world.clients ≡ head.hosts = ap (λ (w : World). length w.clients) l.is_run ∙ client-count head p.events in
-      ticked most head a (FreeOf a) (FreeOf a) (free-ticked a) p (omega arith) (λ d there v g is of k r w. none d v g there is of k r w) c at u f has file h row
+      ticked most head a (FreeOf a) (FreeOf a) (free-ticked a) p (omega arith) (λ d there v g is of k r w. none d v g there is of k r w) c at u f has
+      file h row
       (record { found = rows-after f h row way.found; other = way.other; conflicts = way.conflicts })

@@ -3,7 +3,8 @@ use Rattle.std.proofs.Common.{◌≡◌, Bool, true, false, List, [], ◌∷◌,
 use Rattle.nq_base.specs.declared.Event.{Event}
 use Rattle.nq_model.specs.World.{Head, World, step, run}
 use Rattle.nq_laws.proofs.LikeWorlds.{Goes, stays, steps-alike, boots-like, unheard-like}
-use Rattle.nq_laws.specs.TornRuns.{Happening, whole, torn_before, torn_after, Span, TornWorld, brings_unsent, comes, unheard, numbers_made, torn_off, torn_step, torn_run, event_of, events_of, schedule, IsWorldOf, TornRunsAreRuns}
+use Rattle.nq_laws.specs.TornRuns.{Happening, whole, torn_before, torn_after, Span, TornWorld, brings_unsent, comes, unheard, numbers_made, torn_off}
+use Rattle.nq_laws.specs.TornRuns.{torn_step, torn_run, event_of, events_of, schedule, IsWorldOf, TornRunsAreRuns}
 
 -- the world of a schedule after an event of the torn run
 abbrev came : List Span → World → Event → World

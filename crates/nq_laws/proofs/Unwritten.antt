@@ -1,6 +1,7 @@
 -- One packet of a calm delivery while the server serves, where no `write` to a file is open: nobody comes to hold a writing row of the file, rows that are to
 -- go go on to do so, and who reads the file is put off for a writing row alone.
-use Rattle.std.proofs.Common.{◌≡◌, ◌≢◌, ◌≤◌, ◌<◌, ◌⊎◌, ℕ, ◌==◌, ◌++◌, Bool, true, false, List, [], ◌∷◌, Option, Some, None, is_some, nat_le, length, refl, sym, subst, ap, ◌∙◌, arith, inl, inr, append-nil}
+use Rattle.std.proofs.Common.{◌≡◌, ◌≢◌, ◌≤◌, ◌<◌, ◌⊎◌, ℕ, ◌==◌, ◌++◌, Bool, true, false, List, [], ◌∷◌, Option, Some, None, is_some, nat_le, length}
+use Rattle.std.proofs.Common.{refl, sym, subst, ap, ◌∙◌, arith, inl, inr, append-nil}
 use Rattle.std.specs.Prelude.{map, slice_get, slice_set}
 use Rattle.std.proofs.lemmas.Bool.{and_from}
 use Rattle.nq_base.specs.declared.Access.{Access}
@@ -665,7 +666,8 @@ module _ (most : ℕ) (head : Head) where
           not-cancelled : (c : Client) → slice_get p.world.clients h0 ≡ Some c → (l : Ticket) → Cancels h0 c l y → ⊥
           not-cancelled c at l z = would-hear c z.number z.file z.tag at (ap (λ (q : Packet). q.message) z.is) z.heard
 
-          unnamed : (n g : ℕ) (row : Row) → find_row g h0 p.world.server.table.rows ≡ Some row → y ≡ to_host h0 (call n (Request.Evicted row.who g row.tag)) → ⊥
+          unnamed : (n g : ℕ) (row : Row) → find_row g h0 p.world.server.table.rows ≡ Some row
+              → y ≡ to_host h0 (call n (Request.Evicted row.who g row.tag)) → ⊥
           unfolding HostedBelow
           unnamed n g row found says = by (slice_get p.world.clients h0) refl
             where
@@ -746,7 +748,8 @@ module _ (most : ℕ) (head : Head) where
             at-a-server : (y : Packet) → slice_get p.world.packets k ≡ Some y → y.to ≡ Party.Server
                 → step p.world (Event.Deliver k) ≡ after_server p.world (receive p.world.server (sending_host y.sender) (length p.world.packets)
                 (datagram_of y.message)) → IsSent y → Next (queue p) (step p.world (Event.Deliver k)) (queue (play p (Event.Deliver k)))
-            at-a-server y sent to goes (by_server host m e) = let two : Party.Client host ≡ Party.Server = ap (λ (z : Packet). z.to) (sym e) ∙ to in absurd (cc)
+            at-a-server y sent to goes (by_server host m e) = let two : Party.Client host ≡ Party.Server = ap (λ (z : Packet). z.to) (sym e) ∙ to in
+                absurd (cc)
             at-a-server y sent to goes (by_host b n r w e asks) = found (slice_get p.world.clients b) refl
               where
                 found : (o : Option Client) → slice_get p.world.clients b ≡ o → Next (queue p) (step p.world (Event.Deliver k)) (queue (play p

@@ -56,7 +56,8 @@ module _ (most : ℕ) (head : Head) (host : ℕ) (below : host < head.hosts) whe
     where
       idle : At most head host Idle (play_order order p).world
       idle c at =
-          let quiet : IsQuiet c = order-ends-quiet most head order p l whole.0 (whole-small order p (wholes-small orders (whole_round order p) small)) covers host
+          let quiet : IsQuiet c = order-ends-quiet most head order p l whole.0 (whole-small order p (wholes-small orders (whole_round order p) small))
+          covers host
           c at in
           let stored = quiet-stored most head c quiet (all c at) in
           record {

@@ -24,7 +24,8 @@ use Rattle.nq_model.proofs.FreshFits.{found-has, fencing-fits}
 use Rattle.nq_model.proofs.FreshWithin.{fencing-within}
 
 -- the file of a row that was told
-pub told-file : (kept : Kept) (id : ℕ) (row : FileRow) → row_of_found (find_file id kept.files) ≡ Some row → (f : File) × (find_file id kept.files ≡ Some f) × (row ≡ row_of f)
+pub told-file : (kept : Kept) (id : ℕ) (row : FileRow) → row_of_found (find_file id kept.files) ≡ Some row → (f : File)
+    × (find_file id kept.files ≡ Some f) × (row ≡ row_of f)
 told-file kept id row told = some-told (find_file id kept.files) row told
 
 row-fits : (kept : Kept) (f : File) → IsOrderly kept → find_file f.id kept.files ≡ Some f → FitsFile kept None (raised_row (row_of f) (row_of f).blocks)
@@ -32,13 +33,15 @@ unfolding fencing
 row-fits kept f orderly found = (fencing-fits kept f orderly found).file
 
 -- the change can be kept
-pub fencing-can : (kept : Kept) (id : ℕ) (row : FileRow) (change : Change) → change ≡ fencing_as row → IsOrderly kept → row_of_found (find_file id kept.files) ≡ Some row → Fits kept change
+pub fencing-can : (kept : Kept) (id : ℕ) (row : FileRow) (change : Change) → change ≡ fencing_as row → IsOrderly kept
+    → row_of_found (find_file id kept.files) ≡ Some row → Fits kept change
 fencing-can kept id row change is orderly told =
     let here = told-file kept id row told in
     let found : find_file here.0.id kept.files ≡ Some here.0 = ap (λ i. find_file i kept.files) (found-id id kept.files here.0 here.1) ∙ here.1 in
     subst (Fits kept) (sym is)
     (record {
-      file = file-capped kept None (raised_row row row.blocks) (subst (λ r. FitsFile kept None (raised_row r r.blocks)) (sym here.2) (row-fits kept here.0 orderly found));
+      file = file-capped kept None (raised_row row row.blocks) (subst (λ r. FitsFile kept None (raised_row r r.blocks)) (sym here.2)
+          (row-fits kept here.0 orderly found));
       block = tt;
       host = tt;
       heads = tt;
@@ -48,10 +51,12 @@ fencing-can kept id row change is orderly told =
 same-fencing : (row : FileRow) → row.rev + 1 ≤ last_number → fencing_as row ≡ fencing row
 unfolding fencing raised_row
 same-fencing row room =
-    ap (λ raised. record { file = Some raised; block = None; host = None; heads = None; removed = None }) (row-stays (record row { blocks = row.blocks; rev = row.rev + 1 }) room)
+    ap (λ raised. record { file = Some raised; block = None; host = None; heads = None; removed = None })
+    (row-stays (record row { blocks = row.blocks; rev = row.rev + 1 }) room)
 
 -- its numbers are within their bounds, where the revision can rise
-pub fencing-is-within : (kept : Kept) (id : ℕ) (row : FileRow) (change : Change) → change ≡ fencing_as row → IsWithinBounds kept → row_of_found (find_file id kept.files) ≡ Some row → nat_lt (row.rev + 1) rev_end ≡ true → IsChangeWithin kept change
+pub fencing-is-within : (kept : Kept) (id : ℕ) (row : FileRow) (change : Change) → change ≡ fencing_as row → IsWithinBounds kept
+    → row_of_found (find_file id kept.files) ≡ Some row → nat_lt (row.rev + 1) rev_end ≡ true → IsChangeWithin kept change
 fencing-is-within kept id row change is within told can =
     let here = told-file kept id row told in
     let rev = (found-has (IsFileWithin kept.next) id kept.files here.0 within.files here.1).rev in
@@ -59,7 +64,8 @@ fencing-is-within kept id row change is within told can =
     (fencing-within kept within id here.0 here.1 (subst (λ (r : FileRow). nat_lt (r.rev + 1) rev_end ≡ true) here.2 can))
 
 -- whether the revision of the kept file can rise is told by its row
-pub can-told : (kept : Kept) (id : ℕ) (row : FileRow) → row_of_found (find_file id kept.files) ≡ Some row → can_rise (find_file id kept.files) ≡ nat_lt (row.rev + 1) rev_end
+pub can-told : (kept : Kept) (id : ℕ) (row : FileRow) → row_of_found (find_file id kept.files) ≡ Some row → can_rise (find_file id kept.files)
+    ≡ nat_lt (row.rev + 1) rev_end
 can-told kept id row told =
     let here = told-file kept id row told in
     ap can_rise here.1 ∙ ap (λ (r : FileRow). nat_lt (r.rev + 1) rev_end) (sym here.2)
@@ -69,7 +75,8 @@ pub fenced-can : (kept : Kept) (id : ℕ) (b : Bool) → can_rise (find_file id 
 fenced-can kept id b is = ap (λ c. if c then fenced id kept else kept) is
 
 -- within the bounds it fences the file
-pub fencing-does : (kept : Kept) (id : ℕ) (row : FileRow) (change : Change) → change ≡ fencing_as row → IsWithinBounds kept → row_of_found (find_file id kept.files) ≡ Some row → applied kept change ≡ fenced id kept
+pub fencing-does : (kept : Kept) (id : ℕ) (row : FileRow) (change : Change) → change ≡ fencing_as row → IsWithinBounds kept
+    → row_of_found (find_file id kept.files) ≡ Some row → applied kept change ≡ fenced id kept
 fencing-does kept id row change is within told =
     let here = told-file kept id row told in
     let rev = (found-has (IsFileWithin kept.next) id kept.files here.0 within.files here.1).rev in
@@ -77,22 +84,22 @@ fencing-does kept id row change is within told =
     ∙ sym (applied-fencing kept (Some here.0) id here.1)
     ∙ ap (fence kept) (sym here.1)
 
--- where the file is not kept nothing is to be done
-pub fences-none : (kept : Kept) (id : ℕ) → find_file id kept.files ≡ None → fenced_if id kept ≡ kept
-fences-none kept id none = ap (λ o. if can_rise o then fence kept o else kept) none
-
-module _ (id : ℕ) (row : FileRow) (change : Change) (is : change ≡ fencing_as row) (can : nat_lt (row.rev + 1) rev_end ≡ true) (told between tells : Option Kept) (stays : between ≡ told) (here : ForSome told (λ kept. IsWithinBounds kept × (row_of_found (find_file id kept.files) ≡ Some row))) where
+module _ (id : ℕ) (row : FileRow) (change : Change) (is : change ≡ fencing_as row) (can : nat_lt (row.rev + 1) rev_end ≡ true)
+    (told between tells : Option Kept) (stays : between ≡ told) (here : ForSome told (λ kept. IsWithinBounds kept
+    × (row_of_found (find_file id kept.files) ≡ Some row))) where
   can-now : (kept : Kept) → told ≡ Some kept → can_rise (find_file id kept.files) ≡ true
   can-now kept e = can-told kept id row (here kept e).1 ∙ can
 
   does : (kept : Kept) → told ≡ Some kept → applied kept change ≡ fenced_if id kept
   does kept e = fencing-does kept id row change is (here kept e).0 (here kept e).1 ∙ sym (fenced-can kept id true (can-now kept e))
 
-  pub fences-by : (before middle now : ℕ) (done : Unit {0}) → middle ≡ before → Commits (Ok done) change between tells middle now → Fences id (Ok true) told tells before now
+  pub fences-by : (before middle now : ℕ) (done : Unit {0}) → middle ≡ before → Commits (Ok done) change between tells middle now
+      → Fences id (Ok true) told tells before now
   fences-by before middle now done same h =
       (λ kept e. (sym (can-now kept e), h.0 ∙ ap (told_after change) (stays ∙ e) ∙ ap (λ k. Some k) (does kept e)), h.1 ∙ same)
 
-  pub leaves-by : (A B : Type 0) (found : Option Kept) (kept : Kept) → told ≡ Some kept → A ⊎ B → (A → found ≡ Some kept) → (B → (found ≡ Some kept) ⊎ (found ≡ Some (applied kept change))) → (found ≡ Some kept) ⊎ (found ≡ Some (fenced_if id kept))
+  pub leaves-by : (A B : Type 0) (found : Option Kept) (kept : Kept) → told ≡ Some kept → A ⊎ B → (A → found ≡ Some kept)
+      → (B → (found ≡ Some kept) ⊎ (found ≡ Some (applied kept change))) → (found ≡ Some kept) ⊎ (found ≡ Some (fenced_if id kept))
   leaves-by A B found kept e (inl a) f g = inl (f a)
   leaves-by A B found kept e (inr b) f g = by (g b)
     where
@@ -108,5 +115,6 @@ due-there key now rows due none =
     cc
 
 -- what is told of it
-pub due-told : (key : RowKey) (now : ℕ) (rows : List Row) (row : Row) (told : Fence) → IsDueBy key now rows → find_row key.file key.host rows ≡ Some row → told ≡ fence_of row now → IfSome (find (is_due now) rows) (λ r. told ≡ fence_of r now)
+pub due-told : (key : RowKey) (now : ℕ) (rows : List Row) (row : Row) (told : Fence) → IsDueBy key now rows → find_row key.file key.host rows
+    ≡ Some row → told ≡ fence_of row now → IfSome (find (is_due now) rows) (λ r. told ≡ fence_of r now)
 due-told key now rows row told due found is = subst (λ o. IfSome o (λ r. told ≡ fence_of r now)) (sym (sym due.there ∙ found)) is

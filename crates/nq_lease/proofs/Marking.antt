@@ -1,5 +1,6 @@
 -- Rows that are marked as evicting.
-use Rattle.std.proofs.Common.{◌≡◌, ◌≤◌, ◌<◌, ◌==◌, ℕ, ◌+◌, Bool, true, false, List, [], ◌∷◌, ◌++◌, if◌then◌else◌, get_or, set, map, take, drop, length, refl, sym, subst, ap, ◌∙◌, arith}
+use Rattle.std.proofs.Common.{◌≡◌, ◌≤◌, ◌<◌, ◌==◌, ℕ, ◌+◌, Bool, true, false, List, [], ◌∷◌, ◌++◌, if◌then◌else◌, get_or, set, map, take, drop}
+use Rattle.std.proofs.Common.{length, refl, sym, subst, ap, ◌∙◌, arith}
 use Rattle.std.specs.List.{count_by, prefix_len}
 use Rattle.std.proofs.lemmas.List.{take-map, take-append-drop, length-map, set-get_or}
 use Rattle.std.proofs.lemmas.List.Edits.{map_over_more}
@@ -40,27 +41,36 @@ mark-other file host access r h = mark-no file host access r (other-file file ho
 
 -- ---- the loop over the rows of the file
 
-pub marks-begin : (file host : ℕ) (access : Access) (rows : List Row) (first : ℕ) → AreInOrder rows → first ≡ prefix_len (is_below file) rows → rows ≡ marked file host access (take first rows) ++ drop first rows
+pub marks-begin : (file host : ℕ) (access : Access) (rows : List Row) (first : ℕ) → AreInOrder rows → first ≡ prefix_len (is_below file) rows
+    → rows ≡ marked file host access (take first rows) ++ drop first rows
 marks-begin file host access rows first o is =
     let before = take-before (is_below file) (is_upto file) (is_of file) (mark file host access) (mark-other file host access) rows (parts-of file rows o) in
-    let same : map (mark file host access) (take (prefix_len (is_below file) rows) rows) ≡ take (prefix_len (is_below file) rows) rows = sym (take-map (mark file host access) (prefix_len (is_below file) rows) rows) ∙ before in
+    let same : map (mark file host access) (take (prefix_len (is_below file) rows) rows) ≡ take (prefix_len (is_below file) rows) rows =
+    sym (take-map (mark file host access) (prefix_len (is_below file) rows) rows) ∙ before in
     rw is (sym (ap (λ l. l ++ drop (prefix_len (is_below file) rows) rows) same ∙ take-append-drop (prefix_len (is_below file) rows) rows))
 
-pub marks-end : (file host : ℕ) (access : Access) (rows : List Row) (end : ℕ) → AreInOrder rows → end ≡ prefix_len (is_upto file) rows → marked file host access (take end rows) ++ drop end rows ≡ marked file host access rows
+pub marks-end : (file host : ℕ) (access : Access) (rows : List Row) (end : ℕ) → AreInOrder rows → end ≡ prefix_len (is_upto file) rows
+    → marked file host access (take end rows) ++ drop end rows ≡ marked file host access rows
 marks-end file host access rows end o is =
     let behind = drop-behind (is_below file) (is_upto file) (is_of file) (mark file host access) (mark-other file host access) rows (parts-of file rows o) in
     let e = prefix_len (is_upto file) rows in
     let f = mark file host access in
     rw is (ap (λ l. l ++ drop e rows) (sym (take-map f e rows)) ∙ ap (λ l. take e (map f rows) ++ l) (sym behind) ∙ take-append-drop e (map f rows))
 
-pub marks-one : (file host : ℕ) (access : Access) (rows seen : List Row) (place : ℕ) (row : Row) → place < length rows → seen ≡ marked file host access (take place rows) ++ drop place rows → row ≡ get_or seen place row → conflicts file host access row ≡ true → set seen place (record row { evicting = true }) ≡ marked file host access (take (place + 1) rows) ++ drop (place + 1) rows
+pub marks-one : (file host : ℕ) (access : Access) (rows seen : List Row) (place : ℕ) (row : Row) → place < length rows → seen ≡ marked file host
+    access (take place rows) ++ drop place rows → row ≡ get_or seen place row → conflicts file host access row ≡ true
+    → set seen place (record row { evicting = true }) ≡ marked file host access (take (place + 1) rows) ++ drop (place + 1) rows
 marks-one file host access rows seen place row within is at hit =
-    subst (λ r. set seen place r ≡ marked file host access (take (place + 1) rows) ++ drop (place + 1) rows) (mark-yes file host access row hit) (map_over_more (mark file host access) rows seen place row within is at)
+    subst (λ r. set seen place r ≡ marked file host access (take (place + 1) rows) ++ drop (place + 1) rows) (mark-yes file host access row hit)
+    (map_over_more (mark file host access) rows seen place row within is at)
 
-pub marks-none : (file host : ℕ) (access : Access) (rows seen : List Row) (place : ℕ) (row : Row) → place < length rows → seen ≡ marked file host access (take place rows) ++ drop place rows → row ≡ get_or seen place row → conflicts file host access row ≡ false → seen ≡ marked file host access (take (place + 1) rows) ++ drop (place + 1) rows
+pub marks-none : (file host : ℕ) (access : Access) (rows seen : List Row) (place : ℕ) (row : Row) → place < length rows → seen ≡ marked file host
+    access (take place rows) ++ drop place rows → row ≡ get_or seen place row → conflicts file host access row ≡ false → seen ≡ marked file host
+    access (take (place + 1) rows) ++ drop (place + 1) rows
 marks-none file host access rows seen place row within is at miss =
     sym (set-get_or seen place row) ∙ ap (set seen place) (sym at)
-    ∙ subst (λ r. set seen place r ≡ marked file host access (take (place + 1) rows) ++ drop (place + 1) rows) (mark-no file host access row miss) (map_over_more (mark file host access) rows seen place row within is at)
+    ∙ subst (λ r. set seen place r ≡ marked file host access (take (place + 1) rows) ++ drop (place + 1) rows) (mark-no file host access row miss)
+    (map_over_more (mark file host access) rows seen place row within is at)
 
 -- ---- what marks leave
 
@@ -85,7 +95,8 @@ before-as a b c d e f h = rw (e.file, e.who, f.file, f.who) h
 end-as : (a b : Row) → IsAs a b → end_of b ≡ end_of a
 end-as a b e = rw (e.mode, e.until, e.heard) refl
 
-marked-stands : (file host : ℕ) (access : Access) (row : Row) (rows : List Row) → StandsBefore row rows → StandsBefore (mark file host access row) (marked file host access rows)
+marked-stands : (file host : ℕ) (access : Access) (row : Row) (rows : List Row) → StandsBefore row rows → StandsBefore (mark file host access row)
+    (marked file host access rows)
 marked-stands file host access row [] h = tt
 marked-stands file host access row (r ∷ rows) h =
     (before-as row r _ _ (mark-as file host access row) (mark-as file host access r) h.0, marked-stands file host access row rows h.1)
@@ -96,15 +107,18 @@ marked-in-order file host access (r ∷ rows) h = (marked-stands file host acces
 
 ends-as : (file host : ℕ) (access : Access) (rows : List Row) → map end_of (marked file host access rows) ≡ map end_of rows
 ends-as file host access [] = refl
-ends-as file host access (r ∷ rows) = rw (end-as r (mark file host access r) (mark-as file host access r)) (ap (λ l. end_of r ∷ l) (ends-as file host access rows))
+ends-as file host access (r ∷ rows) = rw (end-as r (mark file host access r) (mark-as file host access r))
+    (ap (λ l. end_of r ∷ l) (ends-as file host access rows))
 
-counts-as : (file host : ℕ) (access : Access) (time : ℕ) (rows : List Row) → count_by (λ r. end_of r == time) (marked file host access rows) ≡ count_by (λ r. end_of r == time) rows
+counts-as : (file host : ℕ) (access : Access) (time : ℕ) (rows : List Row) → count_by (λ r. end_of r == time) (marked file host access rows)
+    ≡ count_by (λ r. end_of r == time) rows
 counts-as file host access time rows =
     sym (sum-of-map (λ t. if t == time then 1 else 0) end_of (marked file host access rows))
     ∙ ap (count_by (λ t. t == time)) (ends-as file host access rows)
     ∙ sum-of-map (λ t. if t == time then 1 else 0) end_of rows
 
-pub kept-marked : (file host : ℕ) (access : Access) (rows : List Row) (room : ℕ) (ends : List End) (ends_room room' : ℕ) → IsKept rows room ends ends_room → room ≤ room' → IsKept (marked file host access rows) room' ends ends_room
+pub kept-marked : (file host : ℕ) (access : Access) (rows : List Row) (room : ℕ) (ends : List End) (ends_room room' : ℕ) → IsKept rows room ends
+    ends_room → room ≤ room' → IsKept (marked file host access rows) room' ends ends_room
 kept-marked file host access rows room ends ends_room room' kept bound = record {
   ordered = marked-in-order file host access rows kept.ordered;
   few = let few = kept.few in omega (arith, length-map rows (mark file host access));

@@ -93,7 +93,8 @@ is-upto file r h = grind (arith, nat_tests)
 is-earlier : (file : ℕ) (r : Row) → nat_lt r.file file ≡ true → is_of file r ≡ false
 is-earlier file r h = grind (arith, nat_tests)
 
-all-behind : (file : ℕ) (row : Row) (rows : List Row) → nat_le row.file file ≡ false → StandsBefore row rows → Behind (is_below file) (is_upto file) (is_of file) rows
+all-behind : (file : ℕ) (row : Row) (rows : List Row) → nat_le row.file file ≡ false → StandsBefore row rows → Behind (is_below file) (is_upto file)
+    (is_of file) rows
 all-behind file row [] h s = tt
 all-behind file row (r ∷ rows) h s = (is-other file row r h s.0, all-behind file row rows h s.1)
 

@@ -1,5 +1,6 @@
 -- Rows in order, and where each stands.
-use Rattle.std.proofs.Common.{◌≡◌, ℕ, ◌+◌, ◌≤◌, ◌<◌, Bool, true, false, not, List, [], ◌∷◌, Some, None, if◌then◌else◌, suc, zero, get_or, set, length, refl, sym, subst, ap, ◌∙◌, inl, inr, arith}
+use Rattle.std.proofs.Common.{◌≡◌, ℕ, ◌+◌, ◌≤◌, ◌<◌, Bool, true, false, not, List, [], ◌∷◌, Some, None, if◌then◌else◌, suc, zero, get_or, set, length}
+use Rattle.std.proofs.Common.{refl, sym, subst, ap, ◌∙◌, inl, inr, arith}
 use Rattle.std.specs.List.{find, filter, prefix_len, insert}
 use Rattle.std.specs.List.Sorted.{IsPartitionedBy, IsPartitionPoint}
 use Rattle.std.specs.Fn.{Called, ComputesKey}
@@ -22,7 +23,8 @@ before-after a b c h k = grind (arith, nat_tests)
 before-is-other : (file host : ℕ) (r : Row) → is_before file host r ≡ true → is_row_of file host r ≡ false
 before-is-other file host r h = grind (arith, nat_tests)
 
-behind-is-behind : (file host : ℕ) (a b : Row) → row_before a b ≡ true → is_before file host a ≡ false → (is_before file host b ≡ false) × (is_row_of file host b ≡ false)
+behind-is-behind : (file host : ℕ) (a b : Row) → row_before a b ≡ true → is_before file host a ≡ false → (is_before file host b ≡ false)
+    × (is_row_of file host b ≡ false)
 behind-is-behind file host a b h k = (grind (arith, nat_tests), grind (arith, nat_tests))
 
 -- a row that stands before the place of another does not stand behind it
@@ -66,7 +68,8 @@ parted p closed (r ∷ rows) h (suc i) (suc j) d le lt k = parted p closed rows 
 
 -- ---- the place of a file and a host
 
-passed-behind : (file host : ℕ) (row : Row) (rows : List Row) → is_before file host row ≡ false → StandsBefore row rows → Passed (is_before file host) (is_row_of file host) rows
+passed-behind : (file host : ℕ) (row : Row) (rows : List Row) → is_before file host row ≡ false → StandsBefore row rows → Passed (is_before file host)
+    (is_row_of file host) rows
 passed-behind file host row [] b h = tt
 passed-behind file host row (r ∷ rows) b h =
     let e = behind-is-behind file host row r h.0 b in (e.0, e.1, passed-behind file host row rows b h.1)
@@ -106,7 +109,8 @@ insert-front : (row : Row) (p q : Row → Bool) → IsPlaceOf row p q → (rows 
 insert-front row p q is [] h = refl
 insert-front row p q is (r ∷ rows) h = insert-before row r rows (is.before r h.0 h.1)
 
-insert-split : (row : Row) (p q : Row → Bool) → IsPlaceOf row p q → (rows : List Row) → Split p q rows → find q rows ≡ None → insert_row row rows ≡ insert rows (prefix_len p rows) row
+insert-split : (row : Row) (p q : Row → Bool) → IsPlaceOf row p q → (rows : List Row) → Split p q rows → find q rows ≡ None → insert_row row rows
+    ≡ insert rows (prefix_len p rows) row
 insert-split row p q is [] s h = refl
 insert-split row p q is (r ∷ rows) (inl s) h =
     let rest : find q rows ≡ None = rw s.1 at h in
@@ -117,7 +121,8 @@ insert-split row p q is (r ∷ rows) (inr s) h = elim (decided (q r)) [
   | inr e ↦ rw s.0 (insert-before row r rows (is.before r s.0 e))
 ]
 
-set-split : (row : Row) (p q : Row → Bool) → IsPlaceOf row p q → (rows : List Row) (old : Row) → Split p q rows → find q rows ≡ Some old → insert_row row (filter (λ r. not (q r)) rows) ≡ set rows (prefix_len p rows) row
+set-split : (row : Row) (p q : Row → Bool) → IsPlaceOf row p q → (rows : List Row) (old : Row) → Split p q rows → find q rows ≡ Some old
+    → insert_row row (filter (λ r. not (q r)) rows) ≡ set rows (prefix_len p rows) row
 set-split row p q is [] old s h = cc
 set-split row p q is (r ∷ rows) old (inl s) h =
     let rest : find q rows ≡ Some old = rw s.1 at h in
@@ -132,13 +137,15 @@ place-of : (row : Row) → IsPlaceOf row (is_before row.file row.who.host) (is_r
 place-of row = record { behind = not-behind row; before = is-behind row }
 
 -- a row with a key that is not there is put in at its place
-pub put-new : (row : Row) (rows : List Row) → AreInOrder rows → find_row row.file row.who.host rows ≡ None → put_row row rows ≡ insert rows (prefix_len (is_before row.file row.who.host) rows) row
+pub put-new : (row : Row) (rows : List Row) → AreInOrder rows → find_row row.file row.who.host rows ≡ None → put_row row rows
+    ≡ insert rows (prefix_len (is_before row.file row.who.host) rows) row
 put-new row rows o none =
     ap (insert_row row) (filter-none (is_row_of row.file row.who.host) rows none)
     ∙ insert-split row _ _ (place-of row) rows (split-at row.file row.who.host rows o) none
 
 -- a row with a key that is there takes its place
-pub put-old : (row : Row) (rows : List Row) (old : Row) → AreInOrder rows → find_row row.file row.who.host rows ≡ Some old → put_row row rows ≡ set rows (prefix_len (is_before row.file row.who.host) rows) row
+pub put-old : (row : Row) (rows : List Row) (old : Row) → AreInOrder rows → find_row row.file row.who.host rows ≡ Some old → put_row row rows
+    ≡ set rows (prefix_len (is_before row.file row.who.host) rows) row
 put-old row rows old o some =
     set-split row _ _ (place-of row) rows old (split-at row.file row.who.host rows o) some
 
@@ -172,7 +179,9 @@ insert-stands a row (r ∷ rows) h s = step (row_before row r) (insert-stands a 
     step true rest = (h, s)
     step false rest = (s.0, rest)
 
-insert-step : (row r : Row) (rows : List Row) (b c : Bool) → row_before row r ≡ b → is_row_of row.file row.who.host r ≡ c → StandsBefore r rows → AreInOrder rows → (find_row row.file row.who.host rows ≡ None → AreInOrder (insert_row row rows)) → (if c then Some r else find_row row.file row.who.host rows) ≡ None → AreInOrder (if b then row ∷ r ∷ rows else r ∷ insert_row row rows)
+insert-step : (row r : Row) (rows : List Row) (b c : Bool) → row_before row r ≡ b → is_row_of row.file row.who.host r ≡ c → StandsBefore r rows
+    → AreInOrder rows → (find_row row.file row.who.host rows ≡ None → AreInOrder (insert_row row rows))
+    → (if c then Some r else find_row row.file row.who.host rows) ≡ None → AreInOrder (if b then row ∷ r ∷ rows else r ∷ insert_row row rows)
 insert-step row r rows true c e f s o rest none = ((e, stands-further row r rows e s), (s, o))
 insert-step row r rows false true e f s o rest none = cc
 insert-step row r rows false false e f s o rest none = (insert-stands r row rows (is-before-other row r e f) s, rest none)
@@ -194,7 +203,10 @@ put-in-order row rows o =
     insert-in-order row (drop_row row.file row.who.host rows) (filter-in-order _ rows o) (drop-finds-none (is_row_of row.file row.who.host) rows)
 
 -- what halving gives, where the test is closed
-pub place-from-clause : (p : Row → Bool) → IsClosed p → {F : Type 0} {g : Mut F (Bor Row × Unit {0}) Bool} {f : F} (rows : List Row) (place : ℕ) → AreInOrder rows → place ≤ length rows → ((q : Row → Bool) → ComputesKey g q f → IsPartitionedBy q rows → IsPartitionPoint (λ y. q y ≡ true) (λ y. q y ≡ false) rows place) → ((a : Bor Row × Unit {0}) (r : Bool) (f' : F) → Called g f a r f' → (r ≡ p a.0.now) × (f' ≡ f)) → place ≡ prefix_len p rows
+pub place-from-clause : (p : Row → Bool) → IsClosed p → {F : Type 0} {g : Mut F (Bor Row × Unit {0}) Bool} {f : F} (rows : List Row) (place : ℕ)
+    → AreInOrder rows → place ≤ length rows → ((q : Row → Bool) → ComputesKey g q f → IsPartitionedBy q rows → IsPartitionPoint (λ y. q y ≡ true)
+    (λ y. q y ≡ false) rows place) → ((a : Bor Row × Unit {0}) (r : Bool) (f' : F) → Called g f a r f' → (r ≡ p a.0.now) × (f' ≡ f))
+    → place ≡ prefix_len p rows
 place-from-clause p closed [] place o within clause says = omega arith
 place-from-clause p closed (d ∷ rows) place o within clause says =
     let point = IsPartitionPoint-from_clause p (d ∷ rows) place clause (parted p closed (d ∷ rows) o) says in
@@ -218,7 +230,8 @@ found-behind p a row (r ∷ rows) s h = elim (decided (p r)) [
 pub found-is-own : (p : Row → Bool) (row : Row) (rows : List Row) → AreInOrder rows → find p rows ≡ Some row → find_row row.file row.who.host rows ≡ Some row
 found-is-own p row [] o h = cc
 found-is-own p row (r ∷ rows) o h = elim (decided (p r)) [
-  | inl e ↦ let found : Some r ≡ Some row = rw e at h in let same : r ≡ row = cc in subst (λ x. find_row x.file x.who.host (r ∷ rows) ≡ Some x) same (here r rows)
+  | inl e ↦ let found : Some r ≡ Some row = rw e at h in let same : r ≡ row = cc in subst (λ x. find_row x.file x.who.host (r ∷ rows) ≡ Some x) same
+      (here r rows)
   | inr e ↦
       let rest : find p rows ≡ Some row = rw e at h in
       let other = other-key r row (found-behind p r row rows o.0 rest) in
@@ -232,7 +245,8 @@ found-is-own p row (r ∷ rows) o h = elim (decided (p r)) [
         step true e = refl
         step false e = cc
 
-    later : (row r : Row) (rows : List Row) → is_row_of row.file row.who.host r ≡ false → find_row row.file row.who.host rows ≡ Some row → find_row row.file row.who.host (r ∷ rows) ≡ Some row
+    later : (row r : Row) (rows : List Row) → is_row_of row.file row.who.host r ≡ false → find_row row.file row.who.host rows ≡ Some row
+        → find_row row.file row.who.host (r ∷ rows) ≡ Some row
     later row r rows e h = step (is_row_of row.file row.who.host r) e
       where
         step : (b : Bool) → b ≡ false → (if b then Some r else find_row row.file row.who.host rows) ≡ Some row

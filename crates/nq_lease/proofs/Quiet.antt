@@ -31,16 +31,19 @@ pub all-after : (now end : ℕ) (rows : List Row) → earliest rows ≡ Some end
 all-after now end [] h lt = tt
 all-after now end (row ∷ rows) h lt = step (earliest rows) (all-after-none now rows) (λ e x. all-after now e rows x) h
   where
-    step : (o : Option ℕ) → (o ≡ None → AllEndAfter now rows) → ((e : ℕ) → o ≡ Some e → now < e → AllEndAfter now rows) → Some (lesser (end_of row) o) ≡ Some end → AllEndAfter now (row ∷ rows)
+    step : (o : Option ℕ) → (o ≡ None → AllEndAfter now rows) → ((e : ℕ) → o ≡ Some e → now < e → AllEndAfter now rows) → Some (lesser (end_of row) o)
+        ≡ Some end → AllEndAfter now (row ∷ rows)
     step None none some e = let same : end_of row ≡ end = cc in (later-end now row (omega arith), none refl)
     step (Some other) none some e = let same : min (end_of row) other ≡ end = cc in (later-end now row (omega arith), some other refl (omega arith))
 
-not-over : (now : ℕ) (mode : Mode) (until heard : ℕ) → now < (if is_writing mode then max until heard + 5 else until) → not (is_writing mode) && nat_le until now ≡ false
+not-over : (now : ℕ) (mode : Mode) (until heard : ℕ) → now < (if is_writing mode then max until heard + 5 else until) → not (is_writing mode)
+    && nat_le until now ≡ false
 not-over now NonCaching until heard h = grind (arith, nat_tests)
 not-over now Reading until heard h = grind (arith, nat_tests)
 not-over now Writing until heard h = refl
 
-not-due : (now : ℕ) (mode : Mode) (until heard : ℕ) → now < (if is_writing mode then max until heard + 5 else until) → is_writing mode && nat_le (max until heard + 5) now ≡ false
+not-due : (now : ℕ) (mode : Mode) (until heard : ℕ) → now < (if is_writing mode then max until heard + 5 else until) → is_writing mode
+    && nat_le (max until heard + 5) now ≡ false
 not-due now NonCaching until heard h = refl
 not-due now Reading until heard h = refl
 not-due now Writing until heard h = grind (arith, nat_tests)
@@ -62,10 +65,12 @@ none-over now (row ∷ rows) h = step (is_over now row) (not-over now row.mode r
     step false e rest = ap (λ l. row ∷ l) rest
 
 -- the row that is found as due is the one of its file and host
-pub due-is-there : (now : ℕ) (rows : List Row) (key : Option RowKey) → AreInOrder rows → key ≡ option_map key_of (find (is_due now) rows) → IfSome key (λ k. find_row k.file k.host rows ≡ find (is_due now) rows)
+pub due-is-there : (now : ℕ) (rows : List Row) (key : Option RowKey) → AreInOrder rows → key ≡ option_map key_of (find (is_due now) rows)
+    → IfSome key (λ k. find_row k.file k.host rows ≡ find (is_due now) rows)
 due-is-there now rows key ordered e =
     rw e (step (find (is_due now) rows) (λ row h. found-is-own (is_due now) row rows ordered h))
   where
-    step : (o : Option Row) → ((row : Row) → o ≡ Some row → find_row row.file row.who.host rows ≡ Some row) → IfSome (option_map key_of o) (λ k. find_row k.file k.host rows ≡ o)
+    step : (o : Option Row) → ((row : Row) → o ≡ Some row → find_row row.file row.who.host rows ≡ Some row) → IfSome (option_map key_of o)
+        (λ k. find_row k.file k.host rows ≡ o)
     step None found = tt
     step (Some row) found = found row refl

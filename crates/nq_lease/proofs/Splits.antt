@@ -1,5 +1,6 @@
 -- Lists of which the first elements pass one test, perhaps the next one another, and the others neither.
-use Rattle.std.proofs.Common.{◌≡◌, ◌⊎◌, ℕ, ◌+◌, Bool, true, false, not, List, [], ◌∷◌, Option, Some, None, if◌then◌else◌, suc, refl, sym, ap, ◌∙◌, inl, inr, arith}
+use Rattle.std.proofs.Common.{◌≡◌, ◌⊎◌, ℕ, ◌+◌, Bool, true, false, not, List, [], ◌∷◌, Option, Some, None, if◌then◌else◌, suc, refl, sym, ap, ◌∙◌}
+use Rattle.std.proofs.Common.{inl, inr, arith}
 use Rattle.std.specs.List.{find, filter, prefix_len, remove, slice_get}
 
 -- none of these passes either test
@@ -43,7 +44,8 @@ filter-none q (x ∷ xs) h = elim (decided (q x)) [
 ]
 
 -- a filter that leaves out what is there once
-pub filter-split : {X : Type 0} (p q : X → Bool) (xs : List X) (y : X) → Split p q xs → find q xs ≡ Some y → filter (λ x. not (q x)) xs ≡ remove xs (prefix_len p xs)
+pub filter-split : {X : Type 0} (p q : X → Bool) (xs : List X) (y : X) → Split p q xs → find q xs ≡ Some y → filter (λ x. not (q x)) xs
+    ≡ remove xs (prefix_len p xs)
 filter-split p q [] y s h = cc
 filter-split p q (x ∷ xs) y (inl s) h =
     let rest : find q xs ≡ Some y = rw s.1 at h in

@@ -1,5 +1,6 @@
 -- Ends in order of time with how many rows end then, and the least of a list.
-use Rattle.std.proofs.Common.{◌≡◌, ◌≢◌, ◌⊎◌, ℕ, ◌+◌, ◌-◌, ◌≤◌, ◌<◌, Bool, true, false, ◌==◌, List, [], ◌∷◌, Option, Some, None, if◌then◌else◌, suc, get_or, set, map, length, min, refl, sym, subst, ap, ◌∙◌, inl, inr, arith}
+use Rattle.std.proofs.Common.{◌≡◌, ◌≢◌, ◌⊎◌, ℕ, ◌+◌, ◌-◌, ◌≤◌, ◌<◌, Bool, true, false, ◌==◌, List, [], ◌∷◌, Option, Some, None, if◌then◌else◌, suc}
+use Rattle.std.proofs.Common.{get_or, set, map, length, min, refl, sym, subst, ap, ◌∙◌, inl, inr, arith}
 use Rattle.std.specs.List.{All, count_by, sum_by, remove, insert, slice_get}
 use Rattle.std.specs.List.Sorted.{IsNonDecreasingBy}
 use Rattle.std.specs.Prelude.{nat_lt}
@@ -53,7 +54,8 @@ none-at time (e ∷ ends) d h =
     let other : (e.time == time) ≡ false = grind (arith, nat_tests) in
     sum_by-cons (rows_then time) e ends ∙ rw (other, rest) refl
 
-apart : (ends : List End) (time place : ℕ) (d : End) → IsNonDecreasingBy time_of ends → ((k : ℕ) → k < place → time_of (get_or ends k d) < time) → (place < length ends → time < time_of (get_or ends place d)) → rows_ending_at time ends ≡ 0
+apart : (ends : List End) (time place : ℕ) (d : End) → IsNonDecreasingBy time_of ends → ((k : ℕ) → k < place → time_of (get_or ends k d) < time)
+    → (place < length ends → time < time_of (get_or ends place d)) → rows_ending_at time ends ≡ 0
 apart ends time place d rise before behind =
     none-at time ends d (λ k lt e. elim (compared k place) [
       | inl below ↦ let less = before k below in absurd (omega arith)
@@ -61,7 +63,9 @@ apart ends time place d rise before behind =
     ])
 
 -- a time that is there stands at the first place that is not below it
-pub stands-at : (ends : List End) (time place : ℕ) → IsNonDecreasingBy time_of ends → ((k : ℕ) (d : End) → k < place → time_of (get_or ends k d) < time) → ((k : ℕ) (d : End) → place ≤ k → k < length ends → time ≤ time_of (get_or ends k d)) → 1 ≤ rows_ending_at time ends → (d : End) → (place < length ends) × (time_of (get_or ends place d) ≡ time)
+pub stands-at : (ends : List End) (time place : ℕ) → IsNonDecreasingBy time_of ends → ((k : ℕ) (d : End) → k < place → time_of (get_or ends k d)
+    < time) → ((k : ℕ) (d : End) → place ≤ k → k < length ends → time ≤ time_of (get_or ends k d)) → 1 ≤ rows_ending_at time ends → (d : End)
+    → (place < length ends) × (time_of (get_or ends place d) ≡ time)
 stands-at ends time place rise before behind there d = elim (compared place (length ends)) [
   | inl within ↦ elim (compared time (time_of (get_or ends place d))) [
     | inl above ↦ let none = apart ends time place d rise (λ k lt. before k d lt) (λ lt. above) in absurd (omega arith)
@@ -73,7 +77,8 @@ stands-at ends time place rise before behind there d = elim (compared place (len
 -- ---- a row less at an end
 
 -- an end of one time with one row more than another
-more-then : (time other : ℕ) (old new : End) → old.time ≡ time → new.time ≡ time → new.rows ≡ old.rows + 1 → rows_then other new ≡ rows_then other old + (if time == other then 1 else 0)
+more-then : (time other : ℕ) (old new : End) → old.time ≡ time → new.time ≡ time → new.rows ≡ old.rows + 1 → rows_then other new ≡ rows_then other old
+    + (if time == other then 1 else 0)
 more-then time other old new a b more = rw (a, b, more) (step (time == other))
   where
     step : (x : Bool) → (if x then old.rows + 1 else 0) ≡ (if x then old.rows else 0) + (if x then 1 else 0)
@@ -87,7 +92,9 @@ pub record StandsThere (ends : List End) (place time : ℕ) (old : End) : Type 0
   pub at : old.time ≡ time
 
 -- the place of a time, told of the ends as they were lent, is that of an end of this time
-pub is-within : (ends seen : List End) (time place : ℕ) → seen ≡ ends → IsNonDecreasingBy time_of ends → ((k : ℕ) (d : End) → k < place → time_of (get_or seen k d) < time) → ((k : ℕ) (d : End) → place ≤ k → k < length seen → time ≤ time_of (get_or seen k d)) → 1 ≤ rows_ending_at time ends → place < length ends
+pub is-within : (ends seen : List End) (time place : ℕ) → seen ≡ ends → IsNonDecreasingBy time_of ends → ((k : ℕ) (d : End) → k < place
+    → time_of (get_or seen k d) < time) → ((k : ℕ) (d : End) → place ≤ k → k < length seen → time ≤ time_of (get_or seen k d))
+    → 1 ≤ rows_ending_at time ends → place < length ends
 is-within ends seen time place same rise before behind there =
     let at = stands-at ends time place rise
     (λ k d lt. subst (λ l. time_of (get_or l k d) < time) same (before k d lt))
@@ -95,7 +102,9 @@ is-within ends seen time place same rise before behind there =
     there (record { time = 0; rows = 0 }) in
     at.0
 
-pub stands-there : (ends seen : List End) (time place : ℕ) (old : End) → seen ≡ ends → IsNonDecreasingBy time_of ends → ((k : ℕ) (d : End) → k < place → time_of (get_or seen k d) < time) → ((k : ℕ) (d : End) → place ≤ k → k < length seen → time ≤ time_of (get_or seen k d)) → 1 ≤ rows_ending_at time ends → old ≡ get_or ends place old → StandsThere ends place time old
+pub stands-there : (ends seen : List End) (time place : ℕ) (old : End) → seen ≡ ends → IsNonDecreasingBy time_of ends → ((k : ℕ) (d : End) → k < place
+    → time_of (get_or seen k d) < time) → ((k : ℕ) (d : End) → place ≤ k → k < length seen → time ≤ time_of (get_or seen k d))
+    → 1 ≤ rows_ending_at time ends → old ≡ get_or ends place old → StandsThere ends place time old
 stands-there ends seen time place old same rise before behind there is =
     let at = stands-at ends time place rise
     (λ k d lt. subst (λ l. time_of (get_or l k d) < time) same (before k d lt))
@@ -112,11 +121,13 @@ pub record IsMore (ends more : List End) (time : ℕ) : Type 0 where
   pub counts : (other : ℕ) → rows_ending_at other more ≡ rows_ending_at other ends + (if time == other then 1 else 0)
   pub all : rows_ending more ≡ rows_ending ends + 1
 
-set-sum : (f : End → ℕ) (ends : List End) (place time : ℕ) (old new : End) → StandsThere ends place time old → sum_by f (set ends place new) + f old ≡ sum_by f ends + f new
+set-sum : (f : End → ℕ) (ends : List End) (place time : ℕ) (old new : End) → StandsThere ends place time old → sum_by f (set ends place new) + f old
+    ≡ sum_by f ends + f new
 set-sum f ends place time old new there =
     subst (λ e. sum_by f (set ends place new) + f e ≡ sum_by f ends + f new) there.here (sum_by-set f ends place new old there.within)
 
-pub lowered : (ends : List End) (place time : ℕ) (old new : End) → StandsThere ends place time old → new.time ≡ time → old.rows ≡ new.rows + 1 → IsMore (set ends place new) ends time
+pub lowered : (ends : List End) (place time : ℕ) (old new : End) → StandsThere ends place time old → new.time ≡ time → old.rows ≡ new.rows + 1
+    → IsMore (set ends place new) ends time
 lowered ends place time old new there at rows = record {
   counts = λ other.
       let sum = set-sum (rows_then other) ends place time old new there in
@@ -127,7 +138,8 @@ lowered ends place time old new there at rows = record {
 
 -- ---- an end more
 
-some-inserted : (ends : List End) (place : ℕ) (e : End) → place ≤ length ends → 1 ≤ e.rows → All (λ e. 1 ≤ e.rows) ends → All (λ e. 1 ≤ e.rows) (insert ends place e)
+some-inserted : (ends : List End) (place : ℕ) (e : End) → place ≤ length ends → 1 ≤ e.rows → All (λ e. 1 ≤ e.rows) ends → All (λ e. 1 ≤ e.rows)
+    (insert ends place e)
 some-inserted ends place e within one some k d lt = elim (compared k place) [
   | inl below ↦
       let same = ap rows_of_end (get_or-insert_below ends place e d k below within) in
@@ -144,7 +156,9 @@ some-inserted ends place e within one some k d lt = elim (compared k place) [
 ]
 
 -- the place of a time, told of the ends as they were lent, is one for a new end
-pub inserted : (ends seen : List End) (place time : ℕ) → seen ≡ ends → AreEnds ends → place ≤ length seen → ((k : ℕ) (d : End) → k < place → time_of (get_or seen k d) < time) → ((k : ℕ) (d : End) → place ≤ k → k < length seen → time ≤ time_of (get_or seen k d)) → AreEnds (insert ends place (record { time = time; rows = 1 }))
+pub inserted : (ends seen : List End) (place time : ℕ) → seen ≡ ends → AreEnds ends → place ≤ length seen → ((k : ℕ) (d : End) → k < place
+    → time_of (get_or seen k d) < time) → ((k : ℕ) (d : End) → place ≤ k → k < length seen → time ≤ time_of (get_or seen k d))
+    → AreEnds (insert ends place (record { time = time; rows = 1 }))
 inserted ends seen place time same are within before behind =
     let inside : place ≤ length ends = subst (λ l. place ≤ length l) same within in
     record {
@@ -156,7 +170,8 @@ inserted ends seen place time same are within before behind =
 
 -- ---- an end less
 
-remove-sum : (f : End → ℕ) (ends : List End) (place time : ℕ) (old : End) → StandsThere ends place time old → sum_by f (remove ends place) + f old ≡ sum_by f ends
+remove-sum : (f : End → ℕ) (ends : List End) (place time : ℕ) (old : End) → StandsThere ends place time old → sum_by f (remove ends place) + f old
+    ≡ sum_by f ends
 remove-sum f ends place time old there =
     subst (λ e. sum_by f (remove ends place) + f e ≡ sum_by f ends) there.here (sum_by-remove f ends place old there.within)
 
@@ -284,7 +299,8 @@ first-is-earliest rows (first ∷ ends) are =
       among =
           let some = All-head (λ e. 1 ≤ e.rows) first ends are.well.some in
           let yes : (first.time == first.time) ≡ true = grind (arith, nat_tests) in
-          let here : rows_ending_at first.time (first ∷ ends) ≡ first.rows + rows_ending_at first.time ends = sum_by-cons (rows_then first.time) first ends ∙ rw yes refl in
+          let here : rows_ending_at first.time (first ∷ ends) ≡ first.rows + rows_ending_at first.time ends = sum_by-cons (rows_then first.time) first
+          ends ∙ rw yes refl in
           let same = are.same first.time in
           let counted = times-of-rows first.time rows in
           omega arith;

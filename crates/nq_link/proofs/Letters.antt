@@ -1,5 +1,6 @@
 -- Sending the datagrams of an outbox one after the other.
-use Rattle.std.proofs.Common.{◌≡◌, ◌<◌, ◌≤◌, ℕ, zero, suc, List, [], ◌∷◌, ◌++◌, Option, Some, None, length, take, drop, min, refl, sym, ap, ◌∙◌, append_assoc, arith}
+use Rattle.std.proofs.Common.{◌≡◌, ◌<◌, ◌≤◌, ℕ, zero, suc, List, [], ◌∷◌, ◌++◌, Option, Some, None, length, take, drop, min, refl, sym, ap, ◌∙◌}
+use Rattle.std.proofs.Common.{append_assoc, arith}
 use Rattle.std.specs.Prelude.{slice_get}
 use Rattle.nq_base.specs.declared.Party.{Party}
 use Rattle.nq_link.specs.Link.{Letters, Comes, TakesFirst, with_last}
@@ -86,5 +87,8 @@ first-cut most count origin waiting tells buffer filled long f = record {
 -- a datagram that stands at the front of a buffer was heard
 pub heard : (most count : ℕ) (origin : Party) (told tells : Option Letters) (buffer filled : List ℕ)
     → length buffer ≡ most → Comes (Came.Datagram count origin) told tells buffer filled → Hears most (Some (origin, take count filled)) told tells
-heard most count origin told tells buffer filled long comes =
-    (let short = few count filled in let within = comes.0 in omega arith, λ waiting is. first-cut most count origin waiting tells buffer filled long (comes.1 waiting is))
+heard most count origin told tells buffer filled long comes = (
+  let short = few count filled in let within = comes.0 in omega arith,
+  λ waiting is. first-cut most count origin waiting tells buffer filled long
+      (comes.1 waiting is),
+)

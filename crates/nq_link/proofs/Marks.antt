@@ -21,8 +21,18 @@ same_datagram bytes more mark is =
     let within = is.within in
     let front = cut_same bytes more mark.start mark.middle before (omega arith) in
     let back = cut_same bytes more mark.middle mark.end behind within in
-    ap (λ (cut : List ℕ). record { sender = mark.sender; to = mark.to; bytes = cut ++ (repeats mark.times mark.word ++ between (bytes ++ more) mark.middle mark.end) }) front
-    ∙ ap (λ (cut : List ℕ). record { sender = mark.sender; to = mark.to; bytes = between bytes mark.start mark.middle ++ (repeats mark.times mark.word ++ cut) }) back
+    ap (λ (cut : List ℕ). record {
+      sender = mark.sender;
+      to = mark.to;
+      bytes = cut ++ (repeats mark.times mark.word ++ between (bytes ++ more)
+          mark.middle mark.end);
+    }) front
+    ∙ ap (λ (cut : List ℕ). record {
+      sender = mark.sender;
+      to = mark.to;
+      bytes = between bytes mark.start mark.middle ++ (repeats mark.times mark.word
+          ++ cut);
+    }) back
 
 same_datagrams : (bytes more : List ℕ) (marks : List Mark) → All (IsWithin bytes) marks
     → map (datagram_at (bytes ++ more)) marks ≡ map (datagram_at bytes) marks
@@ -53,9 +63,15 @@ new_datagram bytes front back all mark added is =
     let start = added.start in
     let middle = added.middle in
     let long = length-append bytes front in
-    let first = cut_same (bytes ++ front) back mark.start mark.middle (omega (arith, start, middle, long)) (omega (arith, middle)) ∙ cut_new bytes front mark.start mark.middle start middle in
+    let first = cut_same (bytes ++ front) back mark.start mark.middle (omega (arith, start, middle, long)) (omega (arith, middle))
+    ∙ cut_new bytes front mark.start mark.middle start middle in
     let second = cut_new (bytes ++ front) back mark.middle mark.end middle added.end in
-    ap (λ (cut : List ℕ). record { sender = mark.sender; to = mark.to; bytes = cut ++ (repeats mark.times mark.word ++ between ((bytes ++ front) ++ back) mark.middle mark.end) }) first
+    ap (λ (cut : List ℕ). record {
+      sender = mark.sender;
+      to = mark.to;
+      bytes = cut ++ (repeats mark.times mark.word ++ between ((bytes ++ front)
+          ++ back) mark.middle mark.end);
+    }) first
     ∙ ap (λ (cut : List ℕ). record { sender = mark.sender; to = mark.to; bytes = front ++ (repeats mark.times mark.word ++ cut) }) second
     ∙ ap (λ (bytes : List ℕ). record { sender = mark.sender; to = mark.to; bytes = bytes }) (sym is)
 

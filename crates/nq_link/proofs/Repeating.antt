@@ -1,8 +1,7 @@
 -- Words that are repeated.
-use Rattle.std.proofs.Common.{◌≡◌, ℕ, ◌+◌, ◌-◌, ◌*◌, ◌/◌, ◌%◌, ◌≤◌, List, [], ◌∷◌, ◌++◌, length, take, drop, get_or, replicate, slice_set, zero, suc, refl, ap, sym, ◌∙◌, arith}
-use Rattle.std.proofs.lemmas.List.{take_all, take_at, take-take, take-append-drop, drop-drop, drop_more, append_assoc, length-append, length-take-le, length-drop, append-nil}
+use Rattle.std.proofs.Common.{◌≡◌, ℕ, ◌+◌, ◌-◌, ◌*◌, ◌≤◌, List, [], ◌∷◌, ◌++◌, length, take, drop, get_or, zero, suc, refl, ap, sym, ◌∙◌, arith}
+use Rattle.std.proofs.lemmas.List.{take-take, take-append-drop, drop-drop, drop_more, length-take-le, length-drop}
 use Rattle.std.proofs.Math.Seq.{take-add}
-use Rattle.std.specs.List.{copy_within}
 use Rattle.nq_xdr.specs.Words.{repeats}
 use Rattle.nq_link.specs.Runs.{IsRepeated}
 
@@ -53,17 +52,21 @@ run_of n a b c d rest room same =
 -- bytes of which some are the same as those four places further on are a word, repeated
 pub run_found : (bytes : List ℕ) (at times : ℕ) → 1 ≤ times → at + 4 * times ≤ length bytes
     → take (4 * times - 4) (drop at bytes) ≡ take (4 * times - 4) (drop (at + 4) bytes)
-    → bytes ≡ take at bytes ++ (repeats times (get_or bytes at 0 ∷ get_or bytes (at + 1) 0 ∷ get_or bytes (at + 2) 0 ∷ get_or bytes (at + 3) 0 ∷ []) ++ drop (at + 4 * times) bytes)
+    → bytes ≡ take at bytes ++ (repeats times (get_or bytes at 0 ∷ get_or bytes (at + 1) 0 ∷ get_or bytes (at + 2) 0 ∷ get_or bytes (at + 3) 0 ∷ [])
+    ++ drop (at + 4 * times) bytes)
 run_found bytes at zero some room same = absurd (omega (arith, some))
 run_found bytes at (suc n) some room same =
     let less : 4 * suc n - 4 ≡ 4 * n = omega arith in
     let there = word_at bytes at (omega arith) in
     let left = length-drop (at + 4) bytes in
     let same' = rw (less, there) at same in
-    let words = run_of n (get_or bytes at 0) (get_or bytes (at + 1) 0) (get_or bytes (at + 2) 0) (get_or bytes (at + 3) 0) (drop (at + 4) bytes) (omega (arith, left, room)) same' in
+    let words = run_of n (get_or bytes at 0) (get_or bytes (at + 1) 0) (get_or bytes (at + 2) 0) (get_or bytes (at + 3) 0) (drop (at + 4) bytes)
+    (omega (arith, left, room)) same' in
     let words' = ap (take (4 * suc n)) there ∙ words in
     sym (take-append-drop at bytes)
-    ∙ ap (λ xs. take at bytes ++ xs) (sym (take-append-drop (4 * suc n) (drop at bytes)) ∙ ap (λ xs. xs ++ drop (4 * suc n) (drop at bytes)) words' ∙ ap (λ xs. repeats (suc n) (get_or bytes at 0 ∷ get_or bytes (at + 1) 0 ∷ get_or bytes (at + 2) 0 ∷ get_or bytes (at + 3) 0 ∷ []) ++ xs) (drop-drop (4 * suc n) at bytes))
+    ∙ ap (λ xs. take at bytes ++ xs) (sym (take-append-drop (4 * suc n) (drop at bytes)) ∙ ap (λ xs. xs ++ drop (4 * suc n) (drop at bytes)) words'
+    ∙ ap (λ xs. repeats (suc n) (get_or bytes at 0 ∷ get_or bytes (at + 1) 0 ∷ get_or bytes (at + 2) 0 ∷ get_or bytes (at + 3) 0 ∷ []) ++ xs)
+    (drop-drop (4 * suc n) at bytes))
 
 -- ---- the same as four places further on
 

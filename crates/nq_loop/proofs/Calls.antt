@@ -1,5 +1,6 @@
 -- The calls of hosts.
-use Rattle.std.proofs.Common.{◌≡◌, ℕ, ◌+◌, ◌<◌, ◌≤◌, Bool, true, false, List, [], ◌∷◌, length, map, zero, suc, Ok, Option, Some, None, inl, inr, refl, sym, ap, subst, ◌∙◌, arith}
+use Rattle.std.proofs.Common.{◌≡◌, ℕ, ◌+◌, ◌<◌, ◌≤◌, Bool, true, false, List, [], ◌∷◌, length, map, zero, suc, Ok, Option, Some, None, inl, inr, refl}
+use Rattle.std.proofs.Common.{sym, ap, subst, ◌∙◌, arith}
 use Rattle.std.proofs.lemmas.Bool.{cases_eq, eq-eqb}
 use Rattle.std.proofs.lemmas.Bool.Decides.{nat_tests}
 use Rattle.std.proofs.lemmas.List.{get_or-set_same, get_or-set_other}
@@ -21,7 +22,8 @@ use Rattle.nq_link.proofs.Letters.{there}
 -- ---- counting
 
 -- an event that begins no call
-pub counts-on : (begun : List ℕ) (event : Event) (events : List Event) → ((host : ℕ) → begins host event ≡ 0) → Counts begun events → Counts begun (event ∷ events)
+pub counts-on : (begun : List ℕ) (event : Event) (events : List Event) → ((host : ℕ) → begins host event ≡ 0) → Counts begun events
+    → Counts begun (event ∷ events)
 counts-on begun event events none counts host =
     let sum : begun_in host events + begins host event ≡ begun_in host events = let nothing = none host in omega arith in
     counts host ∙ ap (λ n. min n 3) (sym sum)
@@ -41,16 +43,15 @@ counts-more begun host call events there counts other =
           let one = begins-here host other call same in
           let here = counts host in
           let sum : min (slice_index_or begun host 0 + 1) 3 ≡ min (begun_in host events + 1) 3 = omega arith in
-          let at : slice_index_or (slice_set begun host (min (slice_index_or begun host 0 + 1) 3)) host 0 ≡ min (begun_in host events + 1) 3 = get_or-set_same begun host (min (slice_index_or begun host 0 + 1) 3) 0 there ∙ sum in
-          subst (λ h. slice_index_or (slice_set begun host (min (slice_index_or begun host 0 + 1) 3)) h 0 ≡ min (begun_in h events + begins other (Event.Call host call)) 3) same (rw one at)
+          let at : slice_index_or (slice_set begun host (min (slice_index_or begun host 0 + 1) 3)) host 0 ≡ min (begun_in host events + 1) 3 =
+          get_or-set_same begun host (min (slice_index_or begun host 0 + 1) 3) 0 there ∙ sum in
+          subst (λ h. slice_index_or (slice_set begun host (min (slice_index_or begun host 0 + 1) 3)) h 0
+          ≡ min (begun_in h events + begins other (Event.Call host call)) 3) same (rw one at)
       | inr unlike ↦
           let none = begins-there host other call unlike in
-          rw none (get_or-set_other begun host other (min (slice_index_or begun host 0 + 1) 3) 0 (λ e. unlike (sym e)) ∙ counts other ∙ ap (λ n. min n 3) (omega arith))
+          rw none (get_or-set_other begun host other (min (slice_index_or begun host 0 + 1) 3) 0 (λ e. unlike (sym e)) ∙ counts other
+          ∙ ap (λ n. min n 3) (omega arith))
     ]
-
--- before the first call
-pub none-begun : (begun : List ℕ) → ((host : ℕ) → slice_index_or begun host 0 ≡ 0) → Counts begun []
-none-begun begun zeros host = zeros host
 
 -- ---- the next call
 
@@ -74,30 +75,39 @@ none-map : (call : Option UnderWay) → is_some (option_map call_of call) ≡ is
 none-map None = refl
 none-map (Some u) = refl
 
-busy-of : (client : Option Counted) (there : Counted) (found : Option Call) → client ≡ Some there → IfSome client (λ c. found ≡ option_map call_of c.client.call) → is_some found ≡ is_busy (option_map (λ c. c.client) client)
+busy-of : (client : Option Counted) (there : Counted) (found : Option Call) → client ≡ Some there → IfSome client (λ c. found ≡ option_map call_of
+    c.client.call) → is_some found ≡ is_busy (option_map (λ c. c.client) client)
 busy-of client there found same is =
     let here : found ≡ option_map call_of there.client.call = subst (λ o. IfSome o (λ c. found ≡ option_map call_of c.client.call)) same is in
     rw (same, here) (none-map there.client.call)
 
 -- what is told of the call under way at a host that is there
-pub busy-at : (clients : List Counted) (all : List Client) (host : ℕ) (found : Option Call) → map (λ c. c.client) clients ≡ all → host < length clients → IfSome (slice_get clients host) (λ c. found ≡ option_map call_of c.client.call) → is_some found ≡ is_busy (slice_get all host)
+pub busy-at : (clients : List Counted) (all : List Client) (host : ℕ) (found : Option Call) → map (λ c. c.client) clients ≡ all
+    → host < length clients → IfSome (slice_get clients host) (λ c. found ≡ option_map call_of c.client.call) → is_some found ≡ is_busy (slice_get all host)
 busy-at clients all host found same below is =
     let t = there clients host below in
-    busy-of (slice_get clients host) t.element found t.is is ∙ ap is_busy (sym (slice_get-map (λ c. c.client) clients host) ∙ ap (λ cs. slice_get cs host) same)
+    busy-of (slice_get clients host) t.element found t.is is ∙ ap is_busy (sym (slice_get-map (λ c. c.client) clients host)
+    ∙ ap (λ cs. slice_get cs host) same)
 
 pub none-due : (head : Head) (host : ℕ) (events : List Event) → is_busy (slice_get (run head events).clients host) ≡ true → call_due head host events ≡ None
 none-due head host events busy = rw busy refl
 
-pub due-is : (head : Head) (hosts host begun : ℕ) (events : List Event) (found : Option Call) → is_busy (slice_get (run head events).clients host) ≡ false → hosts ≡ head.hosts → begun ≡ min (begun_in host events) 3 → found ≡ call_behind hosts host begun
+pub due-is : (head : Head) (hosts host begun : ℕ) (events : List Event) (found : Option Call) → is_busy (slice_get (run head events).clients host)
+    ≡ false → hosts ≡ head.hosts → begun ≡ min (begun_in host events) 3 → found ≡ call_behind hosts host begun
     → call_due head host events ≡ option_map (Event.Call host) found
 due-is head hosts host begun events found idle same count is =
-    let calls : call_behind head.hosts host (begun_in host events) ≡ found = sym (is ∙ ap (λ n. call_behind n host begun) same ∙ ap (call_behind head.hosts host) count ∙ calls-same head.hosts host (begun_in host events)) in
+    let calls : call_behind head.hosts host (begun_in host events) ≡ found = sym (is ∙ ap (λ n. call_behind n host begun) same
+    ∙ ap (call_behind head.hosts host) count ∙ calls-same head.hosts host (begun_in host events)) in
     rw (idle, calls) refl
 
 -- ---- a call that begins, or none
 
-pub begins-none : {K : Type 0} (head : Head) (host : ℕ) (l : Loop K) → call_due head host (reverse l.ran) ≡ None → IsLooping head l → Loops head (Step.call host ∷ []) (Ok false) l l
-begins-none head host l none here = one-step head (Step.call host) (Ok false) l l (subst (λ due. GivesDue head due (Ok false) (moment_of l) (moment_of l)) (sym none) (refl, refl)) here
+pub begins-none : {K : Type 0} (head : Head) (host : ℕ) (l : Loop K) → call_due head host (reverse l.ran) ≡ None → IsLooping head l
+    → Loops head (Step.call host ∷ []) (Ok false) l l
+begins-none head host l none here = one-step head (Step.call host) (Ok false) l l (subst (λ due. GivesDue head due (Ok false) (moment_of l)
+    (moment_of l)) (sym none) (refl, refl)) here
 
-pub begins-one : {K : Type 0} (head : Head) (host : ℕ) (event : Event) (ended : Result Bool Halt) (old new : Loop K) → call_due head host (reverse old.ran) ≡ Some event → GivesTo head event ended old new → Loops head (Step.call host ∷ []) ended old new
-begins-one head host event ended old new due gives = one-step head (Step.call host) ended old new (subst (λ d. GivesDue head d ended (moment_of old) (moment_of new)) (sym due) gives.gives) gives.stands
+pub begins-one : {K : Type 0} (head : Head) (host : ℕ) (event : Event) (ended : Result Bool Halt) (old new : Loop K)
+    → call_due head host (reverse old.ran) ≡ Some event → GivesTo head event ended old new → Loops head (Step.call host ∷ []) ended old new
+begins-one head host event ended old new due gives = one-step head (Step.call host) ended old new
+    (subst (λ d. GivesDue head d ended (moment_of old) (moment_of new)) (sym due) gives.gives) gives.stands

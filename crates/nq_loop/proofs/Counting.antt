@@ -36,7 +36,8 @@ same-answer (Entry.B who) = refl
 same-answer (Entry.X boot now longest) = refl
 same-answer (Entry.Z who q file from to) = refl
 
-pub same-count : (is : Entry → Bool) (entries : List Entry) → ((entry : Entry) → is (plain entry) ≡ is entry) → count_by is (map plain entries) ≡ count_by is entries
+pub same-count : (is : Entry → Bool) (entries : List Entry) → ((entry : Entry) → is (plain entry) ≡ is entry) → count_by is (map plain entries)
+    ≡ count_by is entries
 same-count is [] same = refl
 same-count is (entry ∷ entries) same =
     let f : Entry → ℕ = λ e. cond (is e) 1 0 in
@@ -46,7 +47,8 @@ same-count is (entry ∷ entries) same =
     ∙ sym (sum_by-cons f entry entries)
 
 -- one entry more is counted
-pub one-more : (is : Entry → Bool) (entries : List Entry) (place count more : ℕ) (entry : Entry) → place < length entries → count ≡ count_by is (take place entries) → more ≡ cond (is entry) 1 0 → entry ≡ get_or entries place entry
+pub one-more : (is : Entry → Bool) (entries : List Entry) (place count more : ℕ) (entry : Entry) → place < length entries
+    → count ≡ count_by is (take place entries) → more ≡ cond (is entry) 1 0 → entry ≡ get_or entries place entry
     → count + more ≡ count_by is (take (place + 1) entries)
 one-more is entries place count more entry there so-far here at =
     let f : Entry → ℕ = λ e. cond (is e) 1 0 in

@@ -33,9 +33,11 @@ use Rattle.nq_world.specs.declared.Stepped.{Stepped}
 
 -- ---- what is told
 
-pub limited-tells : {K : Type 0} (end : Ending) (limit : Limit) (head : Head) (world : WorldOver K) (kept : Option Kept) (ran : List Event) (held now : Option (List ℕ)) (w w' : ℕ) → TellsStop end 0 (Stepped.Limit limit) held now w w'
+pub limited-tells : {K : Type 0} (end : Ending) (limit : Limit) (head : Head) (world : WorldOver K) (kept : Option Kept) (ran : List Event)
+    (held now : Option (List ℕ)) (w w' : ℕ) → TellsStop end 0 (Stepped.Limit limit) held now w w'
     → TellsEnd end (LoopTurn.Limit limit) head world kept ran held now w w'
-limited-tells Ending.Limit limit head world kept ran held now w w' tells = inr (inr (inr (inl (refl, record { limit = limit; reached = refl; printed = tells }))))
+limited-tells Ending.Limit limit head world kept ran held now w w' tells =
+    inr (inr (inr (inl (refl, record { limit = limit; reached = refl; printed = tells }))))
 limited-tells Ending.Memory limit head world kept ran held now w w' tells = inr (inr (inr (inr (refl, tt, tells))))
 limited-tells other limit head world kept ran held now w w' tells = absurd tells
 
@@ -66,7 +68,8 @@ are-looped LoopTurn.Keep head l stands = stands.looped
 are-looped LoopTurn.Memory head l stands = stands.looped
 are-looped (LoopTurn.Limit limit) head l stands = stands.looped
 
-is-whole : {K : Type 0} (hosts turns : ℕ) (text : List ℕ) (clock clock' : ClockTold) (links : List LinkTold) (l : Loop K) → Ran (beginning (loop_head hosts)) turns (between [] links clock) (now_at l clock') → IsLooping (beginning (loop_head hosts)) l
+is-whole : {K : Type 0} (hosts turns : ℕ) (text : List ℕ) (clock clock' : ClockTold) (links : List LinkTold) (l : Loop K)
+    → Ran (beginning (loop_head hosts)) turns (between [] links clock) (now_at l clock') → IsLooping (beginning (loop_head hosts)) l
     → SpellsSchedule (loop_head hosts) (map once l.ran) text → IsWhole hosts turns text (reverse l.ran) clock clock' links l.links
 is-whole hosts turns text clock clock' links l turned looping spelled =
     let played = plays-taken (loop_head hosts) l.ran looping.taken in
@@ -77,8 +80,10 @@ is-whole hosts turns text clock clock' links l turned looping spelled =
       lawful = played-runs-are-lawful (loop_head hosts) (map once l.ran) text (reverse l.ran) spelled played;
     }
 
-prints-loop : {K : Type 0} (end : Ending) (hosts turns : ℕ) (clock clock' : ClockTold) (links : List LinkTold) (l : Loop K) (held now : Option (List ℕ)) (w w' : ℕ) → Ran (beginning (loop_head hosts)) turns (between [] links clock) (now_at l clock')
-    → IsLooping (beginning (loop_head hosts)) l → PrintsSpelled end (loop_head hosts) l.ran held now w w' → PrintsLoop end hosts turns clock clock' links l.links held now w w'
+prints-loop : {K : Type 0} (end : Ending) (hosts turns : ℕ) (clock clock' : ClockTold) (links : List LinkTold) (l : Loop K)
+    (held now : Option (List ℕ)) (w w' : ℕ) → Ran (beginning (loop_head hosts)) turns (between [] links clock) (now_at l clock')
+    → IsLooping (beginning (loop_head hosts)) l → PrintsSpelled end (loop_head hosts) l.ran held now w w' → PrintsLoop end hosts turns clock clock'
+    links l.links held now w w'
 prints-loop end hosts turns clock clock' links l held now w w' turned looping prints = record {
   text = prints.text;
   events = reverse l.ran;
@@ -86,20 +91,27 @@ prints-loop end hosts turns clock clock' links l held now w w' turned looping pr
   printed = prints.printed;
 }
 
-by-end : (end : Ending) (hosts turns : ℕ) (clock clock' : ClockTold) (links links' : List LinkTold) (held now : Option (List ℕ)) (w w' : ℕ) → PrintsLoop end hosts turns clock clock' links links' held now w w' → (end ≡ Ending.Done) ⊎ ((end ≡ Ending.WriteFault) ⊎ (end ≡ Ending.Memory))
+by-end : (end : Ending) (hosts turns : ℕ) (clock clock' : ClockTold) (links links' : List LinkTold) (held now : Option (List ℕ)) (w w' : ℕ)
+    → PrintsLoop end hosts turns clock clock' links links' held now w w' → (end ≡ Ending.Done) ⊎ ((end ≡ Ending.WriteFault) ⊎ (end ≡ Ending.Memory))
     → LoopEnds end hosts turns clock clock' links links' held now w w'
 by-end end hosts turns clock clock' links links' held now w w' printed (inl done) =
-    subst (λ e. LoopEnds e hosts turns clock clock' links links' held now w w') (sym done) (subst (λ e. PrintsLoop e hosts turns clock clock' links links' held now w w') done printed)
+    subst (λ e. LoopEnds e hosts turns clock clock' links links' held now w w') (sym done) (subst (λ e. PrintsLoop e hosts turns clock clock' links
+    links' held now w w') done printed)
 by-end end hosts turns clock clock' links links' held now w w' printed (inr (inl failed)) =
-    subst (λ e. LoopEnds e hosts turns clock clock' links links' held now w w') (sym failed) (subst (λ e. PrintsLoop e hosts turns clock clock' links links' held now w w') failed printed)
+    subst (λ e. LoopEnds e hosts turns clock clock' links links' held now w w') (sym failed) (subst (λ e. PrintsLoop e hosts turns clock clock' links
+    links' held now w w') failed printed)
 by-end end hosts turns clock clock' links links' held now w w' printed (inr (inr wanting)) =
-    subst (λ e. LoopEnds e hosts turns clock clock' links links' held now w w') (sym wanting) (inr (inr (subst (λ e. PrintsLoop e hosts turns clock clock' links links' held now w w') wanting printed)))
+    subst (λ e. LoopEnds e hosts turns clock clock' links links' held now w w') (sym wanting)
+    (inr (inr (subst (λ e. PrintsLoop e hosts turns clock clock' links links' held now w w') wanting printed)))
 
-prints-by : (end : Ending) (hosts turns : ℕ) (clock clock' : ClockTold) (links links' : List LinkTold) (held now : Option (List ℕ)) (w w' : ℕ) → PrintsLoop end hosts turns clock clock' links links' held now w w' → LoopEnds end hosts turns clock clock' links links' held now w w'
+prints-by : (end : Ending) (hosts turns : ℕ) (clock clock' : ClockTold) (links links' : List LinkTold) (held now : Option (List ℕ)) (w w' : ℕ)
+    → PrintsLoop end hosts turns clock clock' links links' held now w w' → LoopEnds end hosts turns clock clock' links links' held now w w'
 prints-by end hosts turns clock clock' links links' held now w w' printed =
-    by-end end hosts turns clock clock' links links' held now w w' printed (bytes_end end (loop_text (loop_head hosts) printed.text printed.events) held now w w' printed.printed)
+    by-end end hosts turns clock clock' links links' held now w w' printed (bytes_end end (loop_text (loop_head hosts) printed.text printed.events)
+    held now w w' printed.printed)
 
-lacks : {K : Type 0} (end : Ending) (last : LoopTurn) (hosts turns : ℕ) (clock clock' : ClockTold) (links : List LinkTold) (l : Loop K) (held now : Option (List ℕ)) (w w' : ℕ) → TakesTurns (beginning (loop_head hosts)) turns last (between [] links clock) (now_at l clock')
+lacks : {K : Type 0} (end : Ending) (last : LoopTurn) (hosts turns : ℕ) (clock clock' : ClockTold) (links : List LinkTold) (l : Loop K)
+    (held now : Option (List ℕ)) (w w' : ℕ) → TakesTurns (beginning (loop_head hosts)) turns last (between [] links clock) (now_at l clock')
     → end ≡ Ending.Memory → MayLack last → now ≡ held → LoopEnds end hosts turns clock clock' links l.links held now w w'
 lacks end last hosts turns clock clock' links l held now w w' takes wanting may none =
     subst (λ e. LoopEnds e hosts turns clock clock' links l.links held now w w') (sym wanting)
@@ -113,19 +125,30 @@ may-lack LoopTurn.Keep ended = absurd ended
 may-lack LoopTurn.Memory ended = absurd ended
 may-lack (LoopTurn.Limit limit) ended = absurd ended
 
-stops-silently : {K : Type 0} (turn last : LoopTurn) (hosts turns : ℕ) (clock clock' : ClockTold) (links : List LinkTold) (l : Loop K) (held now : Option (List ℕ)) (w w' : ℕ)
-    → Stops (beginning (loop_head hosts)) turns turn (between [] links clock) (now_at l clock') → now ≡ held → w' ≡ w → StopsSilently turn hosts turns clock clock' links l.links held now w w'
-stops-silently turn last hosts turns clock clock' links l held now w w' stops none same = record { events = reverse l.ran; stops = stops; silent = none; count = same }
+stops-silently : {K : Type 0} (turn last : LoopTurn) (hosts turns : ℕ) (clock clock' : ClockTold) (links : List LinkTold) (l : Loop K)
+    (held now : Option (List ℕ)) (w w' : ℕ)
+    → Stops (beginning (loop_head hosts)) turns turn (between [] links clock) (now_at l clock') → now ≡ held → w' ≡ w → StopsSilently turn hosts turns
+    clock clock' links l.links held now w w'
+stops-silently turn last hosts turns clock clock' links l held now w w' stops none same = record {
+  events = reverse l.ran;
+  stops = stops;
+  silent =
+      none;
+  count = same;
+}
 
-pub ends : {K : Type 0} (end : Ending) (last : LoopTurn) (hosts turns : ℕ) (clock clock' : ClockTold) (links : List LinkTold) (l : Loop K) (held now : Option (List ℕ)) (w w' : ℕ) → TakesTurns (beginning (loop_head hosts)) turns last (between [] links clock) (now_at l clock')
-    → StandsBehind (beginning (loop_head hosts)) last l → TellsEnd end last (loop_head hosts) l.world l.kept l.ran held now w w' → LoopEnds end hosts turns clock clock' links l.links held now w w'
+pub ends : {K : Type 0} (end : Ending) (last : LoopTurn) (hosts turns : ℕ) (clock clock' : ClockTold) (links : List LinkTold) (l : Loop K)
+    (held now : Option (List ℕ)) (w w' : ℕ) → TakesTurns (beginning (loop_head hosts)) turns last (between [] links clock) (now_at l clock')
+    → StandsBehind (beginning (loop_head hosts)) last l → TellsEnd end last (loop_head hosts) l.world l.kept l.ran held now w w'
+    → LoopEnds end hosts turns clock clock' links l.links held now w w'
 ends end last hosts turns clock clock' links l held now w w' takes stands (inl printed) =
     let head = beginning (loop_head hosts) in
     let looping = is-looping last head l printed.0 stands in
     let turned = ran-all last head turns (between [] links clock) (now_at l clock') printed.0 takes in
     elim (printed.1 looping.plays) [
       | inl some ↦
-          prints-by end hosts turns clock clock' links l.links held now w w' (prints-loop end hosts turns clock clock' links l held now w w' turned looping some)
+          prints-by end hosts turns clock clock' links l.links held now w w' (prints-loop end hosts turns clock clock' links l held now w w' turned
+          looping some)
       | inr none ↦ lacks end last hosts turns clock clock' links l held now w w' takes none.0 (may-lack last printed.0) none.1
     ]
 ends end last hosts turns clock clock' links l held now w w' takes stands (inr (inl failed)) =
@@ -148,8 +171,10 @@ ends end last hosts turns clock clock' links l held now w w' takes stands (inr (
 
 -- ---- what is kept at the end
 
-keeps-ran : {K : Type 0} (hosts turns : ℕ) (clock clock' : ClockTold) (links : List LinkTold) (l : Loop K) (held now : Option (List ℕ)) (w w' : ℕ) → Ran (beginning (loop_head hosts)) turns (between [] links clock) (now_at l clock')
-    → IsLooping (beginning (loop_head hosts)) l → PrintsSpelled Ending.Done (loop_head hosts) l.ran held now w w' → KeepsLoop hosts turns clock clock' links l.links held now l.kept
+keeps-ran : {K : Type 0} (hosts turns : ℕ) (clock clock' : ClockTold) (links : List LinkTold) (l : Loop K) (held now : Option (List ℕ)) (w w' : ℕ)
+    → Ran (beginning (loop_head hosts)) turns (between [] links clock) (now_at l clock')
+    → IsLooping (beginning (loop_head hosts)) l → PrintsSpelled Ending.Done (loop_head hosts) l.ran held now w w' → KeepsLoop hosts turns clock clock'
+    links l.links held now l.kept
 keeps-ran hosts turns clock clock' links l held now w w' turned looping prints = record {
   text = prints.text;
   events = reverse l.ran;
@@ -158,15 +183,18 @@ keeps-ran hosts turns clock clock' links l held now w w' turned looping prints =
   keeps = looping.plays.keeps;
 }
 
-pub keeps-loop : {K : Type 0} (end : Ending) (last : LoopTurn) (hosts turns : ℕ) (clock clock' : ClockTold) (links : List LinkTold) (l : Loop K) (held now : Option (List ℕ)) (w w' : ℕ) → TakesTurns (beginning (loop_head hosts)) turns last (between [] links clock) (now_at l clock')
-    → StandsBehind (beginning (loop_head hosts)) last l → TellsEnd end last (loop_head hosts) l.world l.kept l.ran held now w w' → end ≡ Ending.Done → KeepsLoop hosts turns clock clock' links l.links held now l.kept
+pub keeps-loop : {K : Type 0} (end : Ending) (last : LoopTurn) (hosts turns : ℕ) (clock clock' : ClockTold) (links : List LinkTold) (l : Loop K)
+    (held now : Option (List ℕ)) (w w' : ℕ) → TakesTurns (beginning (loop_head hosts)) turns last (between [] links clock) (now_at l clock')
+    → StandsBehind (beginning (loop_head hosts)) last l → TellsEnd end last (loop_head hosts) l.world l.kept l.ran held now w w' → end ≡ Ending.Done
+    → KeepsLoop hosts turns clock clock' links l.links held now l.kept
 keeps-loop end last hosts turns clock clock' links l held now w w' takes stands (inl printed) done =
     let head = beginning (loop_head hosts) in
     let looping = is-looping last head l printed.0 stands in
     let turned = ran-all last head turns (between [] links clock) (now_at l clock') printed.0 takes in
     elim (printed.1 looping.plays) [
       | inl some ↦
-          keeps-ran hosts turns clock clock' links l held now w w' turned looping (subst (λ e. PrintsSpelled e (loop_head hosts) l.ran held now w w') done some)
+          keeps-ran hosts turns clock clock' links l held now w w' turned looping (subst (λ e. PrintsSpelled e (loop_head hosts) l.ran held now w w')
+          done some)
       | inr none ↦ let wanting = none.0 in absurd (cc)
     ]
 keeps-loop end last hosts turns clock clock' links l held now w w' takes stands (inr (inl failed)) done = let is = failed.0 in absurd (cc)
@@ -192,17 +220,20 @@ same-lacking LoopTurn.Keep before count may counts = absurd may
 same-lacking LoopTurn.Memory before count may counts = counts
 same-lacking (LoopTurn.Limit limit) before count may counts = counts
 
-counts-by : (end : Ending) (before count : ℕ) → count ≡ before → (end ≡ Ending.Done) ⊎ ((end ≡ Ending.WriteFault) ⊎ (end ≡ Ending.Memory)) → CountsKeeper end before count
+counts-by : (end : Ending) (before count : ℕ) → count ≡ before → (end ≡ Ending.Done) ⊎ ((end ≡ Ending.WriteFault) ⊎ (end ≡ Ending.Memory))
+    → CountsKeeper end before count
 counts-by end before count same (inl is) = rw is same
 counts-by end before count same (inr (inl is)) = rw is same
 counts-by end before count same (inr (inr is)) = rw is same
 
-counts-printed : (end : Ending) (head : Head) (ran : List Event) (held now : Option (List ℕ)) (w w' before count : ℕ) → PrintsRan end head ran held now w w' → count ≡ before → CountsKeeper end before count
+counts-printed : (end : Ending) (head : Head) (ran : List Event) (held now : Option (List ℕ)) (w w' before count : ℕ) → PrintsRan end head ran held
+    now w w' → count ≡ before → CountsKeeper end before count
 counts-printed end head ran held now w w' before count (inl printed) same =
     counts-by end before count same (bytes_end end (loop_text head printed.text (reverse ran)) held now w w' printed.printed)
 counts-printed end head ran held now w w' before count (inr none) same = counts-by end before count same (inr (inr none.0))
 
-pub counts-loop : {K : Type 0} (end : Ending) (last : LoopTurn) (hosts : ℕ) (l : Loop K) (held now : Option (List ℕ)) (w w' before count : ℕ) → StandsBehind (beginning (loop_head hosts)) last l
+pub counts-loop : {K : Type 0} (end : Ending) (last : LoopTurn) (hosts : ℕ) (l : Loop K) (held now : Option (List ℕ)) (w w' before count : ℕ)
+    → StandsBehind (beginning (loop_head hosts)) last l
     → TellsEnd end last (loop_head hosts) l.world l.kept l.ran held now w w' → CountsTurn last before count → CountsKeeper end before count
 counts-loop end last hosts l held now w w' before count stands (inl printed) counts =
     let looping = is-looping last (beginning (loop_head hosts)) l printed.0 stands in
@@ -218,7 +249,8 @@ counts-loop end last hosts l held now w w' before count stands (inr (inr (inr (i
 
 -- ---- before the first turn
 
-pub begins : {K : Type 0} (head : Beginning) (l : Loop K) → l.ran ≡ [] → Plays head [] l.world l.kept → Marks l.state.flags [] → Counts l.state.begun [] → IsLooping head l
+pub begins : {K : Type 0} (head : Beginning) (l : Loop K) → l.ran ≡ [] → Plays head [] l.world l.kept → Marks l.state.flags [] → Counts l.state.begun
+    [] → IsLooping head l
 begins head l none plays marks counts = record {
   plays = rw none plays;
   marks = rw none marks;

@@ -42,26 +42,31 @@ has-count hosts (Event.Crash term) looped = tt
 newest : {A : Type 0} (xs : List A) (x : A) → reverse (xs ++ x ∷ []) ≡ x ∷ reverse xs
 newest xs x = reverse-append xs (x ∷ [])
 
-all-with : (hosts : ℕ) (events : List Event) (event : Event) → AllByRecursion (IsLooped hosts) events → IsLooped hosts event → AllByRecursion (IsLooped hosts) (events ++ event ∷ [])
+all-with : (hosts : ℕ) (events : List Event) (event : Event) → AllByRecursion (IsLooped hosts) events → IsLooped hosts event
+    → AllByRecursion (IsLooped hosts) (events ++ event ∷ [])
 all-with hosts [] event all one = (one, tt)
 all-with hosts (e ∷ events) event all one = (all.0, all-with hosts events event all.1 one)
 
-gives : (head : Head) (event : Event) (sending : Result Unit Halt) (at after : Moment) → IsTaken head event sending at after → Gives head event (moved sending) at after
+gives : (head : Head) (event : Event) (sending : Result Unit Halt) (at after : Moment) → IsTaken head event sending at after
+    → Gives head event (moved sending) at after
 gives head event (Ok all) at after is = (refl, is)
 gives head event (Err Halt.Link) at after is = is
 gives head event (Err Halt.Memory) at after is = inr is
 gives head event (Err Halt.Keep) at after is = absurd is.sends
 gives head event (Err (Halt.Limit limit)) at after is = absurd is.sends
 
-stands : {K : Type 0} (head : Head) (sending : Result Unit Halt) (ds : List _) (at after : List LinkTold) (l : Loop K) → SendsAll sending ds at after → IsLooping head l → Stands head (moved sending) l
+stands : {K : Type 0} (head : Head) (sending : Result Unit Halt) (ds : List _) (at after : List LinkTold) (l : Loop K) → SendsAll sending ds at after
+    → IsLooping head l → Stands head (moved sending) l
 stands head (Ok all) ds at after l sends looping = looping
 stands head (Err Halt.Link) ds at after l sends looping = looping
 stands head (Err Halt.Memory) ds at after l sends looping = looping
 stands head (Err Halt.Keep) ds at after l sends looping = absurd sends
 stands head (Err (Halt.Limit limit)) ds at after l sends looping = absurd sends
 
-pub taken : {K : Type 0} (head : Head) (event : Event) (sending : Result Unit Halt) (sent : ℕ) (old new : Loop K) → IsLooping head old → stepped head (reverse old.ran) event ≡ done → Plays head (event ∷ reverse old.ran) new.world new.kept
-    → Marks new.state.flags (event ∷ reverse old.ran) → Counts new.state.begun (event ∷ reverse old.ran) → IsLooped head.hosts event → new.ran ≡ old.ran ++ event ∷ [] → sent ≡ length old.world.datagrams
+pub taken : {K : Type 0} (head : Head) (event : Event) (sending : Result Unit Halt) (sent : ℕ) (old new : Loop K) → IsLooping head old
+    → stepped head (reverse old.ran) event ≡ done → Plays head (event ∷ reverse old.ran) new.world new.kept
+    → Marks new.state.flags (event ∷ reverse old.ran) → Counts new.state.begun (event ∷ reverse old.ran) → IsLooped head.hosts event → new.ran
+    ≡ old.ran ++ event ∷ [] → sent ≡ length old.world.datagrams
     → SendsAll sending (drop sent new.world.datagrams) old.links new.links → GivesTo head event (moved sending) old new
 taken head event sending sent old new here lawful plays marks counts looped same many sends =
     let earlier = reverse old.ran in
@@ -76,14 +81,16 @@ taken head event sending sent old new here lawful plays marks counts looped same
     let count : sent ≡ length (datagrams_of (run head earlier)) = many ∙ ap length here.plays.shown.shows.datagrams in
     let all : new.world.datagrams ≡ datagrams_of (run head (event ∷ earlier)) = plays.shown.shows.datagrams in
     let out : SendsAll sending (sends_at head earlier event) old.links new.links =
-    subst (λ ds. SendsAll sending (drop (length (datagrams_of (run head earlier))) ds) old.links new.links) all (subst (λ n. SendsAll sending (drop n new.world.datagrams) old.links new.links) count sends) in
+    subst (λ ds. SendsAll sending (drop (length (datagrams_of (run head earlier))) ds) old.links new.links) all
+    (subst (λ n. SendsAll sending (drop n new.world.datagrams) old.links new.links) count sends) in
     let is : IsTaken head event sending (moment_of old) (moment_of new) = record { lawful = lawful; taken = back; sends = out } in
     record {
       gives = gives head event sending (moment_of old) (moment_of new) is;
       stands = stands head sending (drop sent new.world.datagrams) old.links new.links new sends looping;
     }
 
-pub counts-taken : (sending : Result Unit Halt) (ds : List _) (at after : List LinkTold) (before now : ℕ) → SendsAll sending ds at after → now ≡ before → CountsKeep (moved sending) before now
+pub counts-taken : (sending : Result Unit Halt) (ds : List _) (at after : List LinkTold) (before now : ℕ) → SendsAll sending ds at after
+    → now ≡ before → CountsKeep (moved sending) before now
 counts-taken (Ok all) ds at after before now sends same = same
 counts-taken (Err Halt.Link) ds at after before now sends same = same
 counts-taken (Err Halt.Memory) ds at after before now sends same = same
@@ -96,7 +103,8 @@ counts-taken (Err (Halt.Limit limit)) ds at after before now sends same = absurd
 abbrev over : {K : Type 0} → Loop K → WorldOver K → Option Kept → Loop K
 over l world kept = record l { world = world; kept = kept }
 
-goes-on : {K : Type 0} (head : Head) (old : Loop K) (world : WorldOver K) (kept : Option Kept) → IsLooping head old → IsAsBefore old.world world → kept ≡ old.kept → IsLooping head (over old world kept)
+goes-on : {K : Type 0} (head : Head) (old : Loop K) (world : WorldOver K) (kept : Option Kept) → IsLooping head old → IsAsBefore old.world world
+    → kept ≡ old.kept → IsLooping head (over old world kept)
 goes-on head old world kept here same told = record {
   plays = still-plays head (reverse old.ran) old.world world old.kept kept here.plays same told;
   marks = here.marks;
@@ -105,7 +113,8 @@ goes-on head old world kept here same told = record {
   looped = here.looped;
 }
 
-refused-so : {K : Type 0} (head : Head) (event : Event) (said : Stepped) (old : Loop K) (world : WorldOver K) (kept : Option Kept) → IsLooping head old → Steps head (reverse old.ran) event said old.world world old.kept kept → (said ≡ Stepped.Done → ⊥)
+refused-so : {K : Type 0} (head : Head) (event : Event) (said : Stepped) (old : Loop K) (world : WorldOver K) (kept : Option Kept)
+    → IsLooping head old → Steps head (reverse old.ran) event said old.world world old.kept kept → (said ≡ Stepped.Done → ⊥)
     → GivesTo head event (Err (halt_of said)) old (over old world kept)
 refused-so head event Stepped.Done old world kept here steps other = absurd (other refl)
 refused-so head event Stepped.NoPacket old world kept here steps other =
@@ -119,7 +128,8 @@ refused-so head event Stepped.Fault old world kept here steps other =
 refused-so head event Stepped.Memory old world kept here steps other =
     record { gives = (inl refl); stands = goes-on head old world kept here steps.1 steps.2 }
 
-pub refused : {K : Type 0} (head : Head) (event : Event) (said : Stepped) (old new : Loop K) → IsLooping head old → Steps head (reverse old.ran) event said old.world new.world old.kept new.kept → (said ≡ Stepped.Done → ⊥)
+pub refused : {K : Type 0} (head : Head) (event : Event) (said : Stepped) (old new : Loop K) → IsLooping head old → Steps head (reverse old.ran) event
+    said old.world new.world old.kept new.kept → (said ≡ Stepped.Done → ⊥)
     → new.state ≡ old.state → new.ran ≡ old.ran → new.links ≡ old.links → GivesTo head event (Err (halt_of said)) old new
 refused head event said old new here steps other state ran links =
     let loops = refused-so head event said old new.world new.kept here steps other in

@@ -41,8 +41,10 @@ told-missed : (s s' w w' : Option Letters) (f f' r r' : ℕ) → s' ≡ s → w'
 told-missed s s' w w' f f' r r' sent waiting receives = rw (sent, waiting, receives) refl
 
 -- what one receive on the link at a place brought
-pub brings : {L : Type 0} (sent waiting : L → Option Letters) (faults receives : L → ℕ) (links : List L) (place : ℕ) (old new : L) (came : Came) (buffer filled : List ℕ) → slice_get links place ≡ Some old → length buffer ≡ most_bytes → length filled ≡ length buffer
-    → Comes came (waiting old) (waiting new) buffer filled → sent new ≡ sent old → receives new ≡ count_up (receives old) → CountsReceive came (faults old) (faults new)
+pub brings : {L : Type 0} (sent waiting : L → Option Letters) (faults receives : L → ℕ) (links : List L) (place : ℕ) (old new : L) (came : Came)
+    (buffer filled : List ℕ) → slice_get links place ≡ Some old → length buffer ≡ most_bytes → length filled ≡ length buffer
+    → Comes came (waiting old) (waiting new) buffer filled → sent new ≡ sent old → receives new ≡ count_up (receives old)
+    → CountsReceive came (faults old) (faults new)
     → Brings came place (map (told_of sent waiting faults receives) links) (map (told_of sent waiting faults receives) (slice_set links place new)) filled
 brings sent waiting faults receives links place old new (Came.Datagram count origin) buffer filled there long kept comes same asked counts =
     let told = told_of sent waiting faults receives in
@@ -53,7 +55,8 @@ brings sent waiting faults receives links place old new (Came.Datagram count ori
         there = get-map told links place old there;
         waiting = waiting new;
         hears = heard most_bytes count origin (waiting old) (waiting new) buffer filled long comes;
-        heard = map-set-slice told links place new ∙ ap (λ l. slice_set (map told links) place l) (told-heard (sent old) (sent new) (waiting old) (waiting new) (faults old) (faults new) (receives old) (receives new) same asked counts);
+        heard = map-set-slice told links place new ∙ ap (λ l. slice_set (map told links) place l) (told-heard (sent old) (sent new) (waiting old)
+            (waiting new) (faults old) (faults new) (receives old) (receives new) same asked counts);
       },
     )
 brings sent waiting faults receives links place old new Came.Nothing buffer filled there long kept comes same asked counts =
@@ -63,7 +66,8 @@ brings sent waiting faults receives links place old new Came.Nothing buffer fill
       there = get-map told links place old there;
       waiting = waiting new;
       hears = comes;
-      heard = map-set-slice told links place new ∙ ap (λ l. slice_set (map told links) place l) (told-heard (sent old) (sent new) (waiting old) (waiting new) (faults old) (faults new) (receives old) (receives new) same asked counts);
+      heard = map-set-slice told links place new ∙ ap (λ l. slice_set (map told links) place l) (told-heard (sent old) (sent new) (waiting old)
+          (waiting new) (faults old) (faults new) (receives old) (receives new) same asked counts);
     }
 brings sent waiting faults receives links place old new Came.Failed buffer filled there long kept comes same asked counts =
     let told = told_of sent waiting faults receives in
@@ -72,7 +76,8 @@ brings sent waiting faults receives links place old new Came.Failed buffer fille
       there = get-map told links place old there;
       count = faults new;
       rose = counts;
-      missed = map-set-slice told links place new ∙ ap (λ l. slice_set (map told links) place l) (told-missed (sent old) (sent new) (waiting old) (waiting new) (faults old) (faults new) (receives old) (receives new) same comes asked);
+      missed = map-set-slice told links place new ∙ ap (λ l. slice_set (map told links) place l) (told-missed (sent old) (sent new) (waiting old)
+          (waiting new) (faults old) (faults new) (receives old) (receives new) same comes asked);
     }
 
 -- ---- the loop behind it
@@ -87,32 +92,45 @@ relinked head l links here = record {
   looped = here.looped;
 }
 
-pub none-came : {K : Type 0} (head : Head) (party : Party) (l : Loop K) (links : List LinkTold) → IsLooping head l → HearsAt (place_of party) None l.links links → Loops head (Step.receive party ∷ []) (Ok false) l (record l { links = links })
+pub none-came : {K : Type 0} (head : Head) (party : Party) (l : Loop K) (links : List LinkTold) → IsLooping head l → HearsAt (place_of party) None
+    l.links links → Loops head (Step.receive party ∷ []) (Ok false) l (record l { links = links })
 none-came head party l links here hears =
-    one-step head (Step.receive party) (Ok false) l (record l { links = links }) (inl (record { came = None; links = links; hears = hears; takes = (refl, refl) })) (relinked head l links here)
+    one-step head (Step.receive party) (Ok false) l (record l { links = links }) (inl (record {
+      came = None;
+      links = links;
+      hears = hears;
+      takes =
+          (refl, refl);
+    })) (relinked head l links here)
 
-pub none-heard : {K : Type 0} (head : Head) (party : Party) (l : Loop K) (links : List LinkTold) → IsLooping head l → MissesAt (place_of party) l.links links → Loops head (Step.receive party ∷ []) (Err Halt.Link) l (record l { links = links })
+pub none-heard : {K : Type 0} (head : Head) (party : Party) (l : Loop K) (links : List LinkTold) → IsLooping head l → MissesAt (place_of party)
+    l.links links → Loops head (Step.receive party ∷ []) (Err Halt.Link) l (record l { links = links })
 none-heard head party l links here fails =
-    one-step head (Step.receive party) (Err Halt.Link) l (record l { links = links }) (inr (record { why = refl; fails = fails; same = refl })) (relinked head l links here)
+    one-step head (Step.receive party) (Err Halt.Link) l (record l { links = links }) (inr (record { why = refl; fails = fails; same = refl }))
+    (relinked head l links here)
 
-pub one-came : {K : Type 0} (head : Head) (party : Party) (letter : Letter) (ended : Result Bool Halt) (old new : Loop K) (links : List LinkTold) → HearsAt (place_of party) (Some letter) old.links links
+pub one-came : {K : Type 0} (head : Head) (party : Party) (letter : Letter) (ended : Result Bool Halt) (old new : Loop K) (links : List LinkTold)
+    → HearsAt (place_of party) (Some letter) old.links links
     → TakesFrom head (came_to party letter) ended (record old { links = links }) new → Loops head (Step.receive party ∷ []) ended old new
 one-came head party letter ended old new links hears takes =
     one-step head (Step.receive party) ended old new (inl (record { came = Some letter; links = links; hears = hears; takes = takes.takes })) takes.stands
 
 -- ---- taking it in
 
-counted : {K : Type 0} (head : Head) (l : Loop K) (ds : List Datagram) (d : Datagram) (number : Option ℕ) → IsLooping head l → ds ≡ l.world.datagrams → CountsAs ds (reverse l.ran) d number → CountsAs (datagrams_of (run head (reverse l.ran))) (reverse l.ran) d number
+counted : {K : Type 0} (head : Head) (l : Loop K) (ds : List Datagram) (d : Datagram) (number : Option ℕ) → IsLooping head l → ds ≡ l.world.datagrams
+    → CountsAs ds (reverse l.ran) d number → CountsAs (datagrams_of (run head (reverse l.ran))) (reverse l.ran) d number
 counted head l ds d number here same counts = subst (λ xs. CountsAs xs (reverse l.ran) d number) (same ∙ here.plays.shown.shows.datagrams) counts
 
-pub takes-packet : {K : Type 0} (head : Head) (d : Datagram) (number : ℕ) (ds : List Datagram) (ended : Result Bool Halt) (old new : Loop K) → IsLooping head old → ds ≡ old.world.datagrams → CountsAs ds (reverse old.ran) d (Some number)
+pub takes-packet : {K : Type 0} (head : Head) (d : Datagram) (number : ℕ) (ds : List Datagram) (ended : Result Bool Halt) (old new : Loop K)
+    → IsLooping head old → ds ≡ old.world.datagrams → CountsAs ds (reverse old.ran) d (Some number)
     → GivesTo head (Event.Deliver number) ended old new → TakesFrom head d ended old new
 takes-packet head d number ds ended old new here same counts gives = record {
   takes = inl (record { number = Some number; counts = counted head old ds d (Some number) here same counts; delivers = gives.gives });
   stands = gives.stands;
 }
 
-pub drops-it : {K : Type 0} (head : Head) (d : Datagram) (ds : List Datagram) (l : Loop K) → IsLooping head l → ds ≡ l.world.datagrams → CountsAs ds (reverse l.ran) d None → TakesFrom head d (Ok true) l l
+pub drops-it : {K : Type 0} (head : Head) (d : Datagram) (ds : List Datagram) (l : Loop K) → IsLooping head l → ds ≡ l.world.datagrams
+    → CountsAs ds (reverse l.ran) d None → TakesFrom head d (Ok true) l l
 drops-it head d ds l here same counts = record {
   takes = inl (record { number = None; counts = counted head l ds d None here same counts; delivers = (refl, refl) });
   stands = here;

@@ -1,5 +1,6 @@
 -- How many calls the hosts of a loop began, and when one is due.
-use Rattle.std.proofs.Common.{◌≡◌, ◌≤◌, ◌<◌, ℕ, ◌+◌, ◌==◌, if◌then◌else◌, Bool, true, false, zero, suc, List, ◌∷◌, Option, Some, None, refl, sym, ap, ◌∙◌, arith}
+use Rattle.std.proofs.Common.{◌≡◌, ◌≤◌, ◌<◌, ℕ, ◌+◌, ◌==◌, if◌then◌else◌, Bool, true, false, zero, suc, List, ◌∷◌, Option, Some, None, refl, sym, ap}
+use Rattle.std.proofs.Common.{◌∙◌, arith}
 use Rattle.std.specs.Prelude.{option_map, slice_get}
 use Rattle.std.proofs.lemmas.Bool.Decides.{nat_tests}
 use Rattle.nq_base.specs.declared.Call.{Call}
@@ -39,7 +40,8 @@ none-more zero g op events low = refl
 none-more (suc hosts) g op events low = by (g == hosts) refl (none-more hosts g op events (omega arith))
   where
     by : (b : Bool) → (g == hosts) ≡ b → begun_all hosts (Event.Call g op ∷ events) ≡ begun_all hosts events
-        → begun_all hosts (Event.Call g op ∷ events) + (begun_in hosts events + begins hosts (Event.Call g op)) ≡ begun_all hosts events + begun_in hosts events
+        → begun_all hosts (Event.Call g op ∷ events) + (begun_in hosts events + begins hosts (Event.Call g op)) ≡ begun_all hosts events + begun_in
+        hosts events
     by true e rest = let same = same-number g hosts e in absurd (omega arith)
     by false e rest = let none = begins-other hosts g op e in omega arith
 

@@ -1,12 +1,14 @@
 -- A turn of a loop in which all comes in time: what it leaves of the calls, of the rounds since the last of them, and of the server's time.
-use Rattle.std.proofs.Common.{◌≡◌, ◌≤◌, ◌<◌, ◌⊎◌, ℕ, ◌+◌, ◌*◌, ◌==◌, Bool, true, false, zero, suc, List, [], ◌∷◌, Option, Some, None, Ok, length, refl, sym, subst, ap, ◌∙◌, arith, inl, inr, add-mul}
+use Rattle.std.proofs.Common.{◌≡◌, ◌≤◌, ◌<◌, ◌⊎◌, ℕ, ◌+◌, ◌*◌, ◌==◌, Bool, true, false, zero, suc, List, [], ◌∷◌, Option, Some, None, Ok, length}
+use Rattle.std.proofs.Common.{refl, sym, subst, ap, ◌∙◌, arith, inl, inr, add-mul}
 use Rattle.std.proofs.lemmas.Bool.{and_parts}
 use Rattle.std.proofs.lemmas.Bool.Decides.{nat_tests}
 use Rattle.nq_base.specs.declared.Call.{Call}
 use Rattle.nq_base.specs.declared.Event.{Event}
 use Rattle.nq_base.specs.declared.Party.{Party}
 use Rattle.nq_loop.specs.Counting.{begins, begun_in}
-use Rattle.nq_loop.specs.Looping.{Moment, GivesDue, Delivers, Takes, TakesIn, came_to, given, call, receive, Makes, call_due, round_steps, rounds_steps, call_steps, receive_steps}
+use Rattle.nq_loop.specs.Looping.{Moment, GivesDue, Delivers, Takes, TakesIn, came_to, given, call, receive, Makes, call_due, round_steps}
+use Rattle.nq_loop.specs.Looping.{rounds_steps, call_steps, receive_steps}
 use Rattle.nq_loop.specs.Steps.{MakesAll, each_below}
 use Rattle.nq_model.specs.Lines.{Play, play, play_hosts, play_rounds}
 use Rattle.nq_model.specs.Server.{Server}

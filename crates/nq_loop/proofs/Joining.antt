@@ -14,17 +14,26 @@ pub join-all : {S M : Type 0} (Makes : S → Result Bool Halt → M → M → Ty
     → MakesAll Makes front one at between → MakesAll Makes later other between after → MakesAll Makes (front ++ later) (one || other) at after
 join-all Makes [] later one other at between after first second =
     subst (λ m. MakesAll Makes later (one || other) m after) first.1 (subst (λ b. MakesAll Makes later (b || other) between after) (sym first.0) second)
-join-all Makes (step ∷ front) later one other at between after first second =
-    (first.0, first.1 || other, first.2, first.3, join-all Makes front later first.1 other first.2 between after first.4 second, ap (λ b. b || other) first.5 ∙ sym (or-assoc first.0 first.1 other))
+join-all Makes (step ∷ front) later one other at between after first second = (
+  first.0,
+  first.1 || other,
+  first.2,
+  first.3,
+  join-all Makes front later first.1 other first.2 between after first.4 second,
+  ap (λ b. b || other)
+      first.5 ∙ sym (or-assoc first.0 first.1 other),
+)
 
 -- one was
-pub one-made : {S M : Type 0} (Makes : S → Result Bool Halt → M → M → Type 0) (step : S) (moved : Bool) (at after : M) → Makes step (Ok moved) at after → MakesAll Makes (step ∷ []) moved at after
+pub one-made : {S M : Type 0} (Makes : S → Result Bool Halt → M → M → Type 0) (step : S) (moved : Bool) (at after : M) → Makes step (Ok moved) at
+    after → MakesAll Makes (step ∷ []) moved at after
 one-made Makes step true at after made = (true, false, after, made, (refl, refl), refl)
 one-made Makes step false at after made = (false, false, after, made, (refl, refl), refl)
 
 -- ---- the last of them stopped
 
-pub one-stops : {S M : Type 0} (Makes : S → Result Bool Halt → M → M → Type 0) (step : S) (why : Halt) (at after : M) → Makes step (Err why) at after → StopsAmong Makes (step ∷ []) why at after
+pub one-stops : {S M : Type 0} (Makes : S → Result Bool Halt → M → M → Type 0) (step : S) (why : Halt) (at after : M) → Makes step (Err why) at after
+    → StopsAmong Makes (step ∷ []) why at after
 one-stops Makes step why at after stops = record {
   front = [];
   next = step;
@@ -36,7 +45,8 @@ one-stops Makes step why at after stops = record {
   last = stops;
 }
 
-pub one-ends : {S M : Type 0} (Makes : S → Result Bool Halt → M → M → Type 0) (step : S) (ended : Result Bool Halt) (at after : M) → Makes step ended at after → MakesSteps Makes (step ∷ []) ended at after
+pub one-ends : {S M : Type 0} (Makes : S → Result Bool Halt → M → M → Type 0) (step : S) (ended : Result Bool Halt) (at after : M)
+    → Makes step ended at after → MakesSteps Makes (step ∷ []) ended at after
 one-ends Makes step (Ok moved) at after made = one-made Makes step moved at after made
 one-ends Makes step (Err why) at after made = one-stops Makes step why at after made
 
@@ -81,4 +91,5 @@ pub record IsFront {A : Type 0} (front all : List A) : Type 0 where
 
 pub stops-within : {S M : Type 0} (Makes : S → Result Bool Halt → M → M → Type 0) (front all : List S) (why : Halt) (at after : M)
     → IsFront front all → StopsAmong Makes front why at after → StopsAmong Makes all why at after
-stops-within Makes front all why at after is stops = subst (λ xs. StopsAmong Makes xs why at after) (sym is.parts) (stops-before Makes front is.later why at after stops)
+stops-within Makes front all why at after is stops = subst (λ xs. StopsAmong Makes xs why at after) (sym is.parts) (stops-before Makes front is.later
+    why at after stops)

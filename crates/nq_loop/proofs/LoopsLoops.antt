@@ -1,5 +1,6 @@
 -- Turn after turn: where each datagram arrives in time, all calls of all hosts are answered within so many ticks.
-use Rattle.std.proofs.Common.{◌≡◌, ◌≤◌, ◌<◌, ◌⊎◌, ℕ, ◌+◌, ◌*◌, ◌-◌, ◌++◌, not, min, nat_le, nat_lt, Bool, true, false, zero, suc, List, [], ◌∷◌, None, is_some, length, refl, sym, subst, ap, ◌∙◌, arith, inl, inr, add-mul, mul-le-mul_right}
+use Rattle.std.proofs.Common.{◌≡◌, ◌≤◌, ◌<◌, ◌⊎◌, ℕ, ◌+◌, ◌*◌, ◌-◌, ◌++◌, not, min, nat_le, nat_lt, Bool, true, false, zero, suc, List, [], ◌∷◌, None}
+use Rattle.std.proofs.Common.{is_some, length, refl, sym, subst, ap, ◌∙◌, arith, inl, inr, add-mul, mul-le-mul_right}
 use Rattle.std.specs.Prelude.{slice_get}
 use Rattle.std.proofs.lemmas.Bool.{and_from}
 use Rattle.std.proofs.lemmas.Bool.Decides.{nat_tests}
@@ -45,13 +46,15 @@ unfolding calmed
 world-is head [] = refl
 world-is head (event ∷ events) = ap (λ (w : World). step w event) (world-is head events)
 
-too-late : (now time allowed most_allowed all n soon each : ℕ) → now ≡ time → now ≤ allowed + n → allowed ≤ most_allowed → all ≡ most_allowed + 1 * each → n < soon
+too-late : (now time allowed most_allowed all n soon each : ℕ) → now ≡ time → now ≤ allowed + n → allowed ≤ most_allowed → all ≡ most_allowed
+    + 1 * each → n < soon
     → soon ≤ each → all ≤ time → ⊥
 too-late now time allowed most_allowed all n soon each same low few sum less under late = absurd (omega arith)
 
 module _ (most : ℕ) (head : Head) where
   -- no host is busy once so many rounds passed since the last call
-  module _ (events : List Event) (n : ℕ) (since : Since most head events n) (enough : served_rounds_for head.hosts ≤ n) (small : IsSmall (played head events)) where
+  module _ (events : List Event) (n : ℕ) (since : Since most head events n) (enough : served_rounds_for head.hosts ≤ n)
+      (small : IsSmall (played head events)) where
     none-busy : (h : ℕ) → h < head.hosts → is_busy (slice_get (run head events).clients h) ≡ false
     none-busy h low =
         let lawful : IsLawful most head (played head events) = lawful-now most head events n since.window in
@@ -174,7 +177,8 @@ module _ (most : ℕ) (head : Head) where
           too-late (played head events).world.server.now (run head events).server.now (begun_all head.hosts events * (served_rounds_for head.hosts + most_due))
           (3 * head.hosts * (served_rounds_for head.hosts + most_due)) ((3 * head.hosts + 1) * (served_rounds_for head.hosts + most_due)) b.rounds
           (served_rounds_for head.hosts) (served_rounds_for head.hosts + most_due) same b.since.time
-          (mul-le-mul_right (served_rounds_for head.hosts + most_due) few) (add-mul (3 * head.hosts) 1 (served_rounds_for head.hosts + most_due)) soon (omega arith) late
+          (mul-le-mul_right (served_rounds_for head.hosts + most_due) few) (add-mul (3 * head.hosts) 1 (served_rounds_for head.hosts + most_due)) soon
+          (omega arith) late
 
       by : (b.rounds < served_rounds_for head.hosts) ⊎ ((h : ℕ) → h < head.hosts → 3 ≤ begun_in h events) → all_answered head events ≡ true
       by (inl soon) = absurd (long soon)

@@ -20,11 +20,13 @@ newest : (event : Event) (events rest : List Event) → reverse events ++ event 
 newest event events rest =
     sym (append_assoc (reverse events) (event ∷ []) rest) ∙ ap (λ xs. xs ++ rest) (sym (reverse-append (event ∷ []) events))
 
-one-line : (head : Beginning) (most : ℕ) (event : Event) (earlier : List Event) → stepped head earlier event ≡ done → play_line head most (once event) earlier ≡ took (event ∷ earlier)
+one-line : (head : Beginning) (most : ℕ) (event : Event) (earlier : List Event) → stepped head earlier event ≡ done → play_line head most (once event)
+    earlier ≡ took (event ∷ earlier)
 unfolding play_event
 one-line head most event earlier is = ap (λ answer. and_then (answered earlier event answer) (repeated 0 (play_event head event))) is
 
-all-lines : (head : Beginning) (most number : ℕ) (events earlier : List Event) → Taken head earlier events → play_lines head most number (map once events) earlier ≡ Ended.ran (reverse events ++ earlier)
+all-lines : (head : Beginning) (most number : ℕ) (events earlier : List Event) → Taken head earlier events → play_lines head most number
+    (map once events) earlier ≡ Ended.ran (reverse events ++ earlier)
 all-lines head most number [] earlier taken = refl
 all-lines head most number (event ∷ events) earlier taken =
     ap (λ played. at_line number played (play_lines head most (number + 1) (map once events))) (one-line head most event earlier taken.0)
@@ -40,5 +42,6 @@ pub plays-taken : (head : Head) (events : List Event) → AreTaken (beginning he
 unfolding play
 plays-taken head events are =
     let taken : Taken (beginning head) [] events =
-    subst (λ es. Taken (beginning head) [] es) (append-nil (reverse (reverse events)) ∙ reverse-reverse events) (forward (beginning head) (reverse events) [] are tt) in
+    subst (λ es. Taken (beginning head) [] es) (append-nil (reverse (reverse events)) ∙ reverse-reverse events)
+    (forward (beginning head) (reverse events) [] are tt) in
     all-lines (beginning head) (most_events + 1) (length (head_lines head) + 1) events [] taken ∙ ap Ended.ran (append-nil (reverse events))

@@ -1,5 +1,6 @@
 -- Datagrams that are sent over links.
-use Rattle.std.proofs.Common.{◌≡◌, ℕ, ◌+◌, ◌-◌, ◌≤◌, List, [], ◌∷◌, ◌++◌, length, map, take, drop, zero, suc, Ok, Err, Option, Some, refl, sym, ap, subst, ◌∙◌, arith, append_assoc, length-drop}
+use Rattle.std.proofs.Common.{◌≡◌, ℕ, ◌+◌, ◌-◌, ◌≤◌, List, [], ◌∷◌, ◌++◌, length, map, take, drop, zero, suc, Ok, Err, Option, Some, refl, sym, ap}
+use Rattle.std.proofs.Common.{subst, ◌∙◌, arith, append_assoc, length-drop}
 use Rattle.std.proofs.lemmas.List.{take_all}
 use Rattle.std.specs.Prelude.{slice_get, slice_set}
 use Rattle.nq_base.specs.declared.Party.{Party}
@@ -50,12 +51,6 @@ parted [] place x there = absurd (cc)
 parted (y ∷ xs) zero x there = let one : y ≡ x = cc in ap (λ z. z ∷ xs) one
 parted (y ∷ xs) (suc place) x there = ap (λ ys. y ∷ ys) (parted xs place x there)
 
-take-drop-all : {A : Type 0} (xs : List A) (place : ℕ) → xs ≡ take place xs ++ drop place xs
-take-drop-all [] zero = refl
-take-drop-all [] (suc place) = refl
-take-drop-all (x ∷ xs) zero = refl
-take-drop-all (x ∷ xs) (suc place) = ap (λ ys. x ∷ ys) (take-drop-all xs place)
-
 -- ---- sending
 
 sent-append : (front later : List Datagram) (links : List LinkTold) → sent_all (front ++ later) links ≡ sent_all later (sent_all front links)
@@ -74,18 +69,22 @@ none-sent ds first at =
     let zeroth : first - first ≡ 0 = omega arith in
     rw zeroth refl
 
-here : (ds : List Datagram) (first number : ℕ) (d : Datagram) → first ≤ number → slice_get ds number ≡ Some d → slice_get (drop first ds) (number - first) ≡ Some d
+here : (ds : List Datagram) (first number : ℕ) (d : Datagram) → first ≤ number → slice_get ds number ≡ Some d → slice_get (drop first ds)
+    (number - first) ≡ Some d
 here ds first number d low there =
     let sum : first + (number - first) ≡ number = omega arith in
     get-drop ds first (number - first) ∙ ap (slice_get ds) sum ∙ there
 
-pub sent-more : (ds : List Datagram) (first number : ℕ) (d : Datagram) (at now new : List LinkTold) → first ≤ number → slice_get ds number ≡ Some d → SentUpTo ds first number at now
+pub sent-more : (ds : List Datagram) (first number : ℕ) (d : Datagram) (at now new : List LinkTold) → first ≤ number → slice_get ds number ≡ Some d
+    → SentUpTo ds first number at now
     → SendsAll (Ok tt) (d ∷ []) now new → SentUpTo ds first (number + 1) at new
 sent-more ds first number d at now new low there so_far sent =
     let further : (number + 1) - first ≡ suc (number - first) = omega arith in
-    rw (further, take-more (drop first ds) (number - first) d (here ds first number d low there)) (sent ∙ ap (sent_one d) so_far ∙ sym (sent-behind (take (number - first) (drop first ds)) d at))
+    rw (further, take-more (drop first ds) (number - first) d (here ds first number d low there)) (sent ∙ ap (sent_one d) so_far
+    ∙ sym (sent-behind (take (number - first) (drop first ds)) d at))
 
-pub all-sent : (ds : List Datagram) (first number : ℕ) (at now : List LinkTold) → length ds ≤ number → SentUpTo ds first number at now → SendsAll (Ok tt) (drop first ds) at now
+pub all-sent : (ds : List Datagram) (first number : ℕ) (at now : List LinkTold) → length ds ≤ number → SentUpTo ds first number at now
+    → SendsAll (Ok tt) (drop first ds) at now
 all-sent ds first number at now whole so_far =
     let many = length-drop first ds in
     let past : length (drop first ds) ≤ number - first = omega arith in
@@ -97,13 +96,15 @@ empty-front (f ∷ []) refused d later parts = absurd (cc)
 empty-front (f ∷ g ∷ front) refused d later parts = absurd (cc)
 
 -- the next of them was refused
-pub was-refused : (ds : List Datagram) (first number : ℕ) (d : Datagram) (at now new : List LinkTold) → first ≤ number → slice_get ds number ≡ Some d → SentUpTo ds first number at now
+pub was-refused : (ds : List Datagram) (first number : ℕ) (d : Datagram) (at now new : List LinkTold) → first ≤ number → slice_get ds number ≡ Some d
+    → SentUpTo ds first number at now
     → FailsSending (d ∷ []) now new → FailsSending (drop first ds) at new
 was-refused ds first number d at now new low there so_far fails =
     let none : fails.front ≡ [] = empty-front fails.front fails.refused d fails.later fails.parts in
     let one : d ∷ [] ≡ fails.refused ∷ fails.later = subst (λ f. d ∷ [] ≡ f ++ fails.refused ∷ fails.later) none fails.parts in
     let same : d ≡ fails.refused = cc in
-    let failed : FailsAt (place_of fails.refused.sender) now new = subst (λ f. FailsAt (place_of fails.refused.sender) (sent_all f now) new) none fails.fails in
+    let failed : FailsAt (place_of fails.refused.sender) now new = subst (λ f. FailsAt (place_of fails.refused.sender) (sent_all f now) new) none
+    fails.fails in
     record {
       front = take (number - first) (drop first ds);
       refused = d;
@@ -113,7 +114,8 @@ was-refused ds first number d at now new low there so_far fails =
     }
 
 -- memory was wanting for the next
-pub was-wanting : (ds : List Datagram) (first number : ℕ) (d : Datagram) (at now new : List LinkTold) → first ≤ number → slice_get ds number ≡ Some d → SentUpTo ds first number at now
+pub was-wanting : (ds : List Datagram) (first number : ℕ) (d : Datagram) (at now new : List LinkTold) → first ≤ number → slice_get ds number ≡ Some d
+    → SentUpTo ds first number at now
     → SendsFront (d ∷ []) now new → SendsFront (drop first ds) at new
 was-wanting ds first number d at now new low there so_far sends =
     let rest = drop first ds in
@@ -138,7 +140,8 @@ IsSent d s s' w w' f f' r r' =
     let new : LinkTold = record { sent = s'; waiting = w'; faults = f'; receives = r' } in
     new ≡ with_sent d old
 
-pub told-sent : (d : Datagram) (s s' w w' : Option Letters) (f f' r r' : ℕ) (to : Party) (bytes : List ℕ) → s' ≡ with_last s to bytes → to ≡ d.to → bytes ≡ d.bytes → w' ≡ w → r' ≡ r → f' ≡ f
+pub told-sent : (d : Datagram) (s s' w w' : Option Letters) (f f' r r' : ℕ) (to : Party) (bytes : List ℕ) → s' ≡ with_last s to bytes → to ≡ d.to
+    → bytes ≡ d.bytes → w' ≡ w → r' ≡ r → f' ≡ f
     → IsSent d s s' w w' f f' r r'
 told-sent d s s' w w' f f' r r' to bytes sent is same waiting receives count = rw (sent, waiting, receives, count, ← is, ← same) refl
 
@@ -153,7 +156,8 @@ pub told-failed : (s s' w w' : Option Letters) (f f' r r' : ℕ) → s' ≡ s �
 told-failed s s' w w' f f' r r' sent waiting receives = rw (sent, waiting, receives) refl
 
 -- it stopped at one of them
-pub stops-at : (why : Halt) (ds : List Datagram) (first number : ℕ) (d : Datagram) (at now new : List LinkTold) → first ≤ number → slice_get ds number ≡ Some d → SentUpTo ds first number at now
+pub stops-at : (why : Halt) (ds : List Datagram) (first number : ℕ) (d : Datagram) (at now new : List LinkTold) → first ≤ number → slice_get ds number
+    ≡ Some d → SentUpTo ds first number at now
     → SendsAll (Err why) (d ∷ []) now new → SendsAll (Err why) (drop first ds) at new
 stops-at Halt.Link ds first number d at now new low there so_far stops = was-refused ds first number d at now new low there so_far stops
 stops-at Halt.Memory ds first number d at now new low there so_far stops = was-wanting ds first number d at now new low there so_far stops

@@ -1,10 +1,12 @@
 -- What a turn adds to a run: events, each where there was room for it, and so many ticks of the server's clock at the most.
-use Rattle.std.proofs.Common.{◌≡◌, ◌≤◌, ◌<◌, ◌⊎◌, ℕ, ◌+◌, nat_lt, Bool, true, false, zero, suc, List, [], ◌∷◌, ◌++◌, Option, Some, None, Ok, length, refl, sym, subst, ap, ◌∙◌, arith, inl, inr, if◌then◌else◌}
+use Rattle.std.proofs.Common.{◌≡◌, ◌≤◌, ◌<◌, ◌⊎◌, ℕ, ◌+◌, nat_lt, Bool, true, false, zero, suc, List, [], ◌∷◌, ◌++◌, Option, Some, None, Ok, length}
+use Rattle.std.proofs.Common.{refl, sym, subst, ap, ◌∙◌, arith, inl, inr, if◌then◌else◌}
 use Rattle.std.proofs.lemmas.Bool.{and_parts}
 use Rattle.nq_base.specs.declared.Event.{Event}
 use Rattle.nq_base.specs.declared.Party.{Party}
 use Rattle.nq_base.specs.declared.SkewBroken.{SkewBroken}
-use Rattle.nq_loop.specs.Looping.{Moment, Gives, GivesDue, Delivers, Takes, TakesIn, came_to, given, call, receive, Makes, Step, call_due, round_steps, rounds_steps, rounds_due, call_steps, receive_steps}
+use Rattle.nq_loop.specs.Looping.{Moment, Gives, GivesDue, Delivers, Takes, TakesIn, came_to, given, call, receive, Makes, Step, call_due}
+use Rattle.nq_loop.specs.Looping.{round_steps, rounds_steps, rounds_due, call_steps, receive_steps}
 use Rattle.nq_loop.specs.Steps.{MakesAll, each_below}
 use Rattle.nq_model.specs.Client.{Client, ClientStep}
 use Rattle.nq_model.specs.Server.{Server, ServerStep, quiet, keeping_with, with_table}

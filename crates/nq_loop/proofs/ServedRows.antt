@@ -1,5 +1,6 @@
 -- The rows of a server stand apart, by induction over all that came to it.
-use Rattle.std.proofs.Common.{◌≡◌, ◌≤◌, ◌⊎◌, ℕ, Bool, true, false, List, [], ◌∷◌, Option, Some, None, if◌then◌else◌, length, refl, sym, subst, ◌∙◌, arith, inl, inr}
+use Rattle.std.proofs.Common.{◌≡◌, ◌≤◌, ◌⊎◌, ℕ, Bool, true, false, List, [], ◌∷◌, Option, Some, None, if◌then◌else◌, length, refl, sym, subst, ◌∙◌}
+use Rattle.std.proofs.Common.{arith, inl, inr}
 use Rattle.std.specs.Prelude.{IsSome}
 use Rattle.std.specs.List.{find, filter}
 use Rattle.nq_loop.specs.Serving.{Coming, datagram, ticks, crashes, Does, HasBooted, HasCome, IsServed, RowsApart, ServedRowsStandApart}
@@ -22,7 +23,8 @@ use Rattle.nq_server.specs.declared.Received.TheVariants as received
 use Rattle.nq_wire.specs.Outbox.{Datagrams}
 use Rattle.walk_steps.proofs.RowChanges.{HasUniqueKeys, of-key}
 use Rattle.walk_steps.proofs.TableFits.{no-rows-fit}
-use Rattle.walk_steps.proofs.ServerTables.{StandingFits, StandingFitsOf, NoneRecovering, NoneRecoveringOf, stands-receive, stands-tick, stands-boot, stands-crash, none-receive, none-tick, none-boot, none-crash}
+use Rattle.walk_steps.proofs.ServerTables.{StandingFits, StandingFitsOf, NoneRecovering, NoneRecoveringOf, stands-receive, stands-tick, stands-boot}
+use Rattle.walk_steps.proofs.ServerTables.{stands-crash, none-receive, none-tick, none-boot, none-crash}
 
 -- what is kept of the rows whatever comes
 record Apart (s : Server) : Type 0 where

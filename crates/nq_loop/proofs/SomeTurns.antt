@@ -1,5 +1,6 @@
 -- The three turns of a loop of one host: each step of them is made.
-use Rattle.std.proofs.Common.{◌≡◌, ◌≤◌, ◌<◌, ℕ, true, false, zero, suc, List, [], ◌∷◌, Option, Some, None, Ok, length, nat_le, refl, sym, subst, ap, ◌∙◌, arith, inl}
+use Rattle.std.proofs.Common.{◌≡◌, ◌≤◌, ◌<◌, ℕ, true, false, zero, suc, List, [], ◌∷◌, Option, Some, None, Ok, length, nat_le, refl, sym, subst, ap}
+use Rattle.std.proofs.Common.{◌∙◌, arith, inl}
 use Rattle.std.specs.Option.{unwrap_or}
 use Rattle.std.specs.Prelude.{slice_get}
 use Rattle.nq_base.specs.Block.{filled, zeros}

@@ -1,5 +1,6 @@
 -- A call that is open in the journal of a run is under way at its client. So where none is, each has its answer.
-use Rattle.std.proofs.Common.{◌≡◌, ◌==◌, ◌<◌, not, ℕ, Bool, true, false, zero, suc, Option, Some, None, List, [], ◌∷◌, is_some, length, nat_le, refl, sym, ap, ◌∙◌, subst, arith}
+use Rattle.std.proofs.Common.{◌≡◌, ◌==◌, ◌<◌, not, ℕ, Bool, true, false, zero, suc, Option, Some, None, List, [], ◌∷◌, is_some, length, nat_le, refl}
+use Rattle.std.proofs.Common.{sym, ap, ◌∙◌, subst, arith}
 use Rattle.std.specs.Prelude.{slice_get}
 use Rattle.std.proofs.lemmas.Bool.{and_parts}
 use Rattle.std.proofs.lemmas.Bool.Decides.{nat_tests}

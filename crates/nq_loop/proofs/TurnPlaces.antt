@@ -1,5 +1,6 @@
 -- The steps of a turn by their places.
-use Rattle.std.proofs.Common.{◌≡◌, ℕ, ◌+◌, ◌*◌, ◌/◌, ◌%◌, ◌<◌, ◌≤◌, true, false, List, [], ◌∷◌, ◌++◌, length, Some, zero, suc, inl, inr, refl, sym, ap, ap₂, subst, ◌∙◌, arith, add-one, add-mul, div-add-mod', length-append, mul-le-mul_right, suc-mul, zero-mul}
+use Rattle.std.proofs.Common.{◌≡◌, ℕ, ◌+◌, ◌*◌, ◌/◌, ◌%◌, ◌<◌, ◌≤◌, true, false, List, [], ◌∷◌, ◌++◌, length, Some, zero, suc, inl, inr, refl, sym}
+use Rattle.std.proofs.Common.{ap, ap₂, subst, ◌∙◌, arith, add-one, add-mul, div-add-mod', length-append, mul-le-mul_right, suc-mul, zero-mul}
 use Rattle.std.proofs.lemmas.Bool.{cases_lt, eq-eqb}
 use Rattle.std.proofs.lemmas.Bool.Decides.{nat_tests}
 use Rattle.std.proofs.lemmas.Nat.{mod_below, mul-le}
@@ -65,7 +66,8 @@ length-round hosts =
 length-rounds : (hosts rounds : ℕ) → length (rounds_steps hosts rounds) ≡ rounds * (hosts + 1)
 length-rounds hosts zero = sym (zero-mul (hosts + 1))
 length-rounds hosts (suc rounds) =
-    length-append (rounds_steps hosts rounds) (round_steps hosts) ∙ ap₂ (λ m n. m + n) (length-rounds hosts rounds) (length-round hosts) ∙ sym (suc-mul rounds (hosts + 1))
+    length-append (rounds_steps hosts rounds) (round_steps hosts) ∙ ap₂ (λ m n. m + n) (length-rounds hosts rounds) (length-round hosts)
+    ∙ sym (suc-mul rounds (hosts + 1))
 
 pub length-turn : (hosts rounds : ℕ) → length (turn_steps hosts rounds) ≡ step_count hosts rounds
 length-turn hosts rounds =
@@ -81,26 +83,32 @@ few_steps hosts rounds few short = mul-le rounds (hosts + 1) 60 65 short (omega 
 -- ---- the step at a place
 
 -- a step of a round
-in-rounds : (hosts rounds row host : ℕ) (step : Step) → row < rounds → slice_get (round_steps hosts) host ≡ Some step → slice_get (rounds_steps hosts rounds) (row * (hosts + 1) + host) ≡ Some step
+in-rounds : (hosts rounds row host : ℕ) (step : Step) → row < rounds → slice_get (round_steps hosts) host ≡ Some step
+    → slice_get (rounds_steps hosts rounds) (row * (hosts + 1) + host) ≡ Some step
 in-rounds hosts zero row host step before there = absurd (omega arith)
 in-rounds hosts (suc rounds) row host step before there =
     elim (cases_lt row rounds) [
-      | inl within ↦ get-left (rounds_steps hosts rounds) (round_steps hosts) (row * (hosts + 1) + host) step (in-rounds hosts rounds row host step within there)
+      | inl within ↦ get-left (rounds_steps hosts rounds) (round_steps hosts) (row * (hosts + 1) + host) step (in-rounds hosts rounds row host step
+          within there)
       | inr past ↦
           let last : row ≡ rounds = omega arith in
-          let place : row * (hosts + 1) + host ≡ length (rounds_steps hosts rounds) + host = ap (λ n. n + host) (ap (λ n. n * (hosts + 1)) last ∙ sym (length-rounds hosts rounds)) in
+          let place : row * (hosts + 1) + host ≡ length (rounds_steps hosts rounds) + host = ap (λ n. n + host) (ap (λ n. n * (hosts + 1)) last
+          ∙ sym (length-rounds hosts rounds)) in
           ap (slice_get (rounds_steps hosts rounds ++ round_steps hosts)) place ∙ get-right (rounds_steps hosts rounds) (round_steps hosts) host ∙ there
     ]
 
 -- a step of a turn, in a round
-in-turn : (hosts rounds row host : ℕ) (step : Step) → row < rounds → slice_get (round_steps hosts) host ≡ Some step → slice_get (turn_steps hosts rounds) (row * (hosts + 1) + host) ≡ Some step
+in-turn : (hosts rounds row host : ℕ) (step : Step) → row < rounds → slice_get (round_steps hosts) host ≡ Some step
+    → slice_get (turn_steps hosts rounds) (row * (hosts + 1) + host) ≡ Some step
 in-turn hosts rounds row host step before there =
-    get-left (rounds_steps hosts rounds) (call_steps hosts ++ receive_steps hosts) (row * (hosts + 1) + host) step (in-rounds hosts rounds row host step before there)
+    get-left (rounds_steps hosts rounds) (call_steps hosts ++ receive_steps hosts) (row * (hosts + 1) + host) step (in-rounds hosts rounds row host
+    step before there)
 
 -- behind the rounds
 past-rounds : (hosts rounds i : ℕ) → slice_get (turn_steps hosts rounds) (rounds * (hosts + 1) + i) ≡ slice_get (call_steps hosts ++ receive_steps hosts) i
 past-rounds hosts rounds i =
-    ap (λ n. slice_get (turn_steps hosts rounds) (n + i)) (sym (length-rounds hosts rounds)) ∙ get-right (rounds_steps hosts rounds) (call_steps hosts ++ receive_steps hosts) i
+    ap (λ n. slice_get (turn_steps hosts rounds) (n + i)) (sym (length-rounds hosts rounds)) ∙ get-right (rounds_steps hosts rounds) (call_steps hosts
+    ++ receive_steps hosts) i
 
 -- this is done in the step at a place, by one that is there
 pub record IsStepAt (hosts rounds place : ℕ) (deed : Deed) : Type 0 where
@@ -111,13 +119,15 @@ at-tick : (hosts rounds row host : ℕ) → row < rounds → host < hosts → Is
 at-tick hosts rounds row host before there =
     let tick : ℕ → Step = λ h. Step.given (Event.ClientTick h) in
     record {
-      step = in-turn hosts rounds row host (Step.given (Event.ClientTick host)) before (get-left (each_below hosts tick) (Step.given Event.ServerTick ∷ []) host (Step.given (Event.ClientTick host)) (get-each hosts host tick there));
+      step = in-turn hosts rounds row host (Step.given (Event.ClientTick host)) before (get-left (each_below hosts tick) (Step.given Event.ServerTick
+          ∷ []) host (Step.given (Event.ClientTick host)) (get-each hosts host tick there));
       among = there;
     }
 
 at-server-tick : (hosts rounds row : ℕ) → row < rounds → IsStepAt hosts rounds (row * (hosts + 1) + hosts) Deed.ServerTick
 at-server-tick hosts rounds row before = record {
-  step = in-turn hosts rounds row hosts (Step.given Event.ServerTick) before (get-next hosts (λ h. Step.given (Event.ClientTick h)) (Step.given Event.ServerTick) []);
+  step = in-turn hosts rounds row hosts (Step.given Event.ServerTick) before (get-next hosts (λ h. Step.given (Event.ClientTick h))
+      (Step.given Event.ServerTick) []);
   among = tt;
 }
 
@@ -139,7 +149,8 @@ at-host : (hosts rounds host : ℕ) → host < hosts → IsStepAt hosts rounds (
 at-host hosts rounds host there =
     let low : host + 1 < hosts + 1 = omega arith in
     record {
-      step = past-rounds hosts rounds (hosts + suc host) ∙ get-behind hosts (suc host) Step.call (receive_steps hosts) ∙ get-each hosts host (λ h. Step.receive (Party.Client h)) there;
+      step = past-rounds hosts rounds (hosts + suc host) ∙ get-behind hosts (suc host) Step.call (receive_steps hosts) ∙ get-each hosts host
+          (λ h. Step.receive (Party.Client h)) there;
       among = low;
     }
 
@@ -171,7 +182,8 @@ in-calls hosts rounds row host low at =
       | inr past ↦
           let no = lt-no host hosts past in
           let last : hosts ≡ host = omega arith in
-          rw (behind, is, no) (moved (Deed.Receive Party.Server) (subst (λ h. IsStepAt hosts rounds (rounds * (hosts + 1) + h) (Deed.Receive Party.Server)) last (at-server hosts rounds)))
+          rw (behind, is, no) (moved (Deed.Receive Party.Server) (subst (λ h. IsStepAt hosts rounds (rounds * (hosts + 1) + h)
+          (Deed.Receive Party.Server)) last (at-server hosts rounds)))
     ]
 
 -- the last row is the next one
@@ -184,7 +196,8 @@ last-row hosts rounds row host past below =
       | inr near ↦ omega arith
     ]
 
-in-last : (hosts rounds row host : ℕ) → rounds < row → row * (hosts + 1) + host < step_count hosts rounds → IsStepAt hosts rounds (row * (hosts + 1) + host) (deed_in hosts rounds row host)
+in-last : (hosts rounds row host : ℕ) → rounds < row → row * (hosts + 1) + host < step_count hosts rounds → IsStepAt hosts rounds (row * (hosts + 1)
+    + host) (deed_in hosts rounds row host)
 in-last hosts rounds row host past below =
     let behind = lt-no row rounds (omega arith) in
     let other = eq-no row rounds past in
@@ -193,7 +206,8 @@ in-last hosts rounds row host past below =
     let there : host < hosts = omega (arith, place, below) in
     rw (behind, other) (subst (λ n. IsStepAt hosts rounds n (Deed.Receive (Party.Client host))) place (at-host hosts rounds host there))
 
-in-row : (hosts rounds row host : ℕ) → host < hosts + 1 → row * (hosts + 1) + host < step_count hosts rounds → IsStepAt hosts rounds (row * (hosts + 1) + host) (deed_in hosts rounds row host)
+in-row : (hosts rounds row host : ℕ) → host < hosts + 1 → row * (hosts + 1) + host < step_count hosts rounds → IsStepAt hosts rounds
+    (row * (hosts + 1) + host) (deed_in hosts rounds row host)
 in-row hosts rounds row host low below =
     elim (cases_lt row rounds) [
       | inl before ↦ in-round hosts rounds row host low before
@@ -210,13 +224,16 @@ step-at hosts rounds place below =
     let host = place % (hosts + 1) in
     let split : row * (hosts + 1) + host ≡ place = div-add-mod' place (hosts + 1) in
     let low : host < hosts + 1 = mod_below place (hosts + 1) (omega arith) in
-    subst (λ n. IsStepAt hosts rounds n (deed_at hosts rounds place)) split (in-row hosts rounds row host low (subst (λ n. n < step_count hosts rounds) (sym split) below))
+    subst (λ n. IsStepAt hosts rounds n (deed_at hosts rounds place)) split (in-row hosts rounds row host low
+    (subst (λ n. n < step_count hosts rounds) (sym split) below))
 
 -- what is done at a place of the steps among so many hosts
-pub step-is : (hosts some rounds count place : ℕ) (deed : Deed) → some ≡ hosts → count ≡ step_count some rounds → place < count → deed ≡ deed_at some rounds place → IsStepAt hosts rounds place deed
+pub step-is : (hosts some rounds count place : ℕ) (deed : Deed) → some ≡ hosts → count ≡ step_count some rounds → place < count
+    → deed ≡ deed_at some rounds place → IsStepAt hosts rounds place deed
 step-is hosts some rounds count place deed same whole below is =
     let within = subst (λ n. place < n) whole below in
-    subst (λ d. IsStepAt hosts rounds place d) (sym is) (subst (λ n. IsStepAt n rounds place (deed_at some rounds place)) same (step-at some rounds place within))
+    subst (λ d. IsStepAt hosts rounds place d) (sym is) (subst (λ n. IsStepAt n rounds place (deed_at some rounds place)) same
+    (step-at some rounds place within))
 
 -- all of them are below a place behind the last
 pub all-below : (hosts some rounds count place : ℕ) → some ≡ hosts → count ≡ step_count some rounds → count ≤ place → length (turn_steps hosts rounds) ≤ place

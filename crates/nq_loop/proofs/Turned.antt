@@ -25,7 +25,8 @@ counts-so (Err Halt.Keep) before now counts = counts
 counts-so (Err Halt.Memory) before now counts = counts
 counts-so (Err (Halt.Limit limit)) before now counts = counts
 
-pub turned : {K : Type 0} (head : Head) (turn : LoopTurn) (ended : Result Bool Halt) (reading rounds time : ℕ) (clock clock' : ClockTold) (old new : Loop K) → turn ≡ turn_of ended → ReadsOnce reading clock clock' → rounds ≡ rounds_due time reading
+pub turned : {K : Type 0} (head : Head) (turn : LoopTurn) (ended : Result Bool Halt) (reading rounds time : ℕ) (clock clock' : ClockTold)
+    (old new : Loop K) → turn ≡ turn_of ended → ReadsOnce reading clock clock' → rounds ≡ rounds_due time reading
     → time ≡ old.world.server.beside.time → IsLooping head old → Loops head (turn_steps head.hosts rounds) ended old new → Turns head turn clock clock' old new
 turned head turn ended reading rounds time clock clock' old new answer read due shown here loops =
     let same : old.world.server.beside.time ≡ (run head (reverse old.ran)).server.now = ap (λ b. b.time) here.plays.holds in
@@ -41,7 +42,8 @@ turned head turn ended reading rounds time clock clock' old new answer read due 
       stands = subst (λ t. StandsBehind head t new) (sym answer) (stands-so head ended new loops.stands);
     }
 
-pub keeps-turn : (turn : LoopTurn) (ended : Result Bool Halt) (before now c c' h h' : ℕ) → turn ≡ turn_of ended → Keeps ended before now c c' h h' → KeepsTurn turn before now c c' h h'
+pub keeps-turn : (turn : LoopTurn) (ended : Result Bool Halt) (before now c c' h h' : ℕ) → turn ≡ turn_of ended → Keeps ended before now c c' h h'
+    → KeepsTurn turn before now c c' h h'
 keeps-turn turn ended before now c c' h h' answer keeps = record {
   faults = subst (λ t. CountsTurn t before now) (sym answer) (counts-so ended before now keeps.faults);
   clients_are = keeps.clients_are;

@@ -31,7 +31,8 @@ pub record Loop (K : Type 0) : Type 0 where
   pub links : List LinkTold
 
 -- the loop of these
-abbrev pub loop_of : {K L : Type 0} → (content : K → Option Kept) → (sent waiting : L → Option Letters) → (faults receives : L → ℕ) → WorldOver K → LoopCounts → (ran : List Event) → (links : List L) → Loop K
+abbrev pub loop_of : {K L : Type 0} → (content : K → Option Kept) → (sent waiting : L → Option Letters) → (faults receives : L → ℕ) → WorldOver K
+    → LoopCounts → (ran : List Event) → (links : List L) → Loop K
 loop_of content sent waiting faults receives world state ran links = record {
   world = world;
   kept = content world.server.keeper;

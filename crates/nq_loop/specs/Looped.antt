@@ -39,7 +39,8 @@ pub record IsWhole (hosts turns : ℕ) (text : List ℕ) (events : List Event) (
   pub lawful : IsLawful (beginning (loop_head hosts)) events
 
 -- a loop printed, by its end, its schedule, the journal of that schedule, and its counts
-pub record PrintsLoop (end : Ending) (hosts turns : ℕ) (clock clock' : ClockTold) (links links' : List LinkTold) (held now : Option (List ℕ)) (w w' : ℕ) : Type 0 where
+pub record PrintsLoop (end : Ending) (hosts turns : ℕ) (clock clock' : ClockTold) (links links' : List LinkTold) (held now : Option (List ℕ))
+    (w w' : ℕ) : Type 0 where
   pub text : List ℕ
   pub events : List Event
   pub whole : IsWhole hosts turns text events clock clock' links links'
@@ -53,7 +54,8 @@ pub record PrintsReached (hosts turns : ℕ) (clock clock' : ClockTold) (links l
   pub printed : PrintsLine (limit_line 0 (bound_of limit)) held now w w'
 
 -- a turn stopped with this answer, and nothing was printed
-pub record StopsSilently (turn : LoopTurn) (hosts turns : ℕ) (clock clock' : ClockTold) (links links' : List LinkTold) (held now : Option (List ℕ)) (w w' : ℕ) : Type 0 where
+pub record StopsSilently (turn : LoopTurn) (hosts turns : ℕ) (clock clock' : ClockTold) (links links' : List LinkTold) (held now : Option (List ℕ))
+    (w w' : ℕ) : Type 0 where
   pub events : List Event
   pub stops : Stops (beginning (loop_head hosts)) turns turn (between [] links clock) (between events links' clock')
   pub silent : now ≡ held
@@ -81,7 +83,8 @@ pub record BeginsNone (clock clock' : ClockTold) (links links' : List LinkTold) 
   pub count : w' ≡ w
 
 -- a loop printed all of that, and what its run keeps is told
-pub record KeepsLoop (hosts turns : ℕ) (clock clock' : ClockTold) (links links' : List LinkTold) (held now : Option (List ℕ)) (told : Option Kept) : Type 0 where
+pub record KeepsLoop (hosts turns : ℕ) (clock clock' : ClockTold) (links links' : List LinkTold) (held now : Option (List ℕ))
+    (told : Option Kept) : Type 0 where
   pub text : List ℕ
   pub events : List Event
   pub whole : IsWhole hosts turns text events clock clock' links links'
@@ -89,9 +92,11 @@ pub record KeepsLoop (hosts turns : ℕ) (clock clock' : ClockTold) (links links
   pub keeps : told ≡ Some (kept_of (loop_head hosts) events)
 
 -- what the words of a loop did, by the end. Where the keeper failed, it did so before the first turn or in the last
-abbrev pub LoopEnds : Ending → (hosts turns : ℕ) → (clock clock' : ClockTold) → (links links' : List LinkTold) → (held now : Option (List ℕ)) → (w w' : ℕ) → Type 0
+abbrev pub LoopEnds : Ending → (hosts turns : ℕ) → (clock clock' : ClockTold) → (links links' : List LinkTold) → (held now : Option (List ℕ))
+    → (w w' : ℕ) → Type 0
 LoopEnds Ending.Done hosts turns clock clock' links links' held now w w' = PrintsLoop Ending.Done hosts turns clock clock' links links' held now w w'
-LoopEnds Ending.WriteFault hosts turns clock clock' links links' held now w w' = PrintsLoop Ending.WriteFault hosts turns clock clock' links links' held now w w'
+LoopEnds Ending.WriteFault hosts turns clock clock' links links' held now w w' = PrintsLoop Ending.WriteFault hosts turns clock clock' links links'
+    held now w w'
 LoopEnds Ending.Memory hosts turns clock clock' links links' held now w w' =
     BeginsNone clock clock' links links' held now w w'
     ⊎ (LacksMemory hosts turns clock clock' links links' held now ⊎ PrintsLoop Ending.Memory hosts turns clock clock' links links' held now w w')
@@ -142,7 +147,8 @@ TellsStopped end last held now w w' =
     ⊎ ((end ≡ Ending.Memory) × MayLack last × (now ≡ held))))
 
 -- what telling the end of turns did, by the end and by the last of them
-abbrev pub TellsEnd : {K : Type 0} → Ending → LoopTurn → Head → WorldOver K → Option Kept → (ran : List Event) → (held now : Option (List ℕ)) → (w w' : ℕ) → Type 0
+abbrev pub TellsEnd : {K : Type 0} → Ending → LoopTurn → Head → WorldOver K → Option Kept → (ran : List Event) → (held now : Option (List ℕ))
+    → (w w' : ℕ) → Type 0
 TellsEnd end last head world kept ran held now w w' =
     (HasEnded last × (Plays (beginning head) (reverse ran) world kept → PrintsRan end head ran held now w w'))
     ⊎ TellsStopped end last held now w w'

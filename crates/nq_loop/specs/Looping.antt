@@ -1,6 +1,8 @@
 -- A turn of the loop, step by step, as it is told: by the events that were taken in, and by what the links tell. The events of a run are
 -- told with the newest first.
-use Rattle.std.specs.Prelude.{◌≡◌, ◌⊎◌, ℕ, ◌+◌, ◌-◌, ◌*◌, ◌/◌, ◌%◌, ◌==◌, ◌<◌, ◌≤◌, Bool, true, false, List, [], ◌∷◌, ◌++◌, Option, Some, None, Result, Ok, Err, is_some, drop, length, map, min, nat_lt, option_map, slice_get, slice_set, take, zero, suc, if◌then◌else◌}
+use Rattle.std.specs.Prelude.{◌≡◌, ◌⊎◌, ℕ, ◌+◌, ◌-◌, ◌*◌, ◌/◌, ◌%◌, ◌==◌, ◌<◌, ◌≤◌, Bool, true, false, List, [], ◌∷◌, ◌++◌, Option, Some, None}
+use Rattle.std.specs.Prelude.{Result, Ok, Err, is_some, drop, length, map, min, nat_lt, option_map, slice_get, slice_set, take, zero, suc}
+use Rattle.std.specs.Prelude.{if◌then◌else◌}
 use Rattle.nq_base.specs.Block.{filled}
 use Rattle.nq_base.specs.declared.Call.{Call}
 use Rattle.nq_base.specs.declared.Event.{Event}

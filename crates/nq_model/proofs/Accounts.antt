@@ -69,8 +69,10 @@ stores_or_loses entry write s l = s
 not_both : (write : Entry) (journal : List Entry) → AtMostOne (λ entry. Covers entry write) journal → IsStored journal write → ¬ IsLost journal write
 not_both write [] one stored lost = lost
 not_both write (entry ∷ before) one (inl stores) (inl loses) = stores_or_loses entry write stores loses
-not_both write (entry ∷ before) one (inl stores) (inr lost) = one.0 (stores_covers entry write stores) (exists-map _ _ before (λ other. loses_covers other write) lost)
-not_both write (entry ∷ before) one (inr stored) (inl loses) = one.0 (loses_covers entry write loses) (exists-map _ _ before (λ other. stores_covers other write) stored)
+not_both write (entry ∷ before) one (inl stores) (inr lost) = one.0 (stores_covers entry write stores)
+    (exists-map _ _ before (λ other. loses_covers other write) lost)
+not_both write (entry ∷ before) one (inr stored) (inl loses) = one.0 (loses_covers entry write loses)
+    (exists-map _ _ before (λ other. stores_covers other write) stored)
 not_both write (entry ∷ before) one (inr stored) (inr lost) = not_both write before one.1 stored lost
 
 pub stored_or_lost : StoredOrLost

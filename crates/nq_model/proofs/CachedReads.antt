@@ -8,7 +8,9 @@ use Rattle.nq_model.specs.ClientStep.{client_call, call_freely, sends_unless_cac
 use Rattle.nq_model.specs.Settle.{answers, reads_cached, after_read, cached_body, settle, settle_call, settle_read, ticket_is_for_call}
 
 -- a read under a lease that runs, of a block below the length that the client has
-read-hit : (t : ClientStep) (u : UnderWay) (file block : ℕ) (lease : Lease) (body : List ℕ) → lets_read t.client.now lease ≡ true → nat_le lease.blocks block ≡ false → cached_body t.client file block ≡ Some body → settle_read t u file block (Some lease) ≡ reads_cached t u file block body
+read-hit : (t : ClientStep) (u : UnderWay) (file block : ℕ) (lease : Lease) (body : List ℕ) → lets_read t.client.now lease ≡ true
+    → nat_le lease.blocks block ≡ false → cached_body t.client file block ≡ Some body → settle_read t u file block (Some lease) ≡ reads_cached t u
+    file block body
 read-hit t u file block lease body runs within there = rw (runs, within, there) refl
 
 -- a call under way whose request is not under way
@@ -16,7 +18,8 @@ settled : (t : ClientStep) (u : UnderWay) → t.client.call ≡ Some u → ticke
 settled t u under_way idle = rw (under_way, idle) refl
 
 -- after a cached read nothing is sent
-nothing-sent : (t : ClientStep) (u : UnderWay) (file block : ℕ) (body : List ℕ) → sends_unless_cached (reads_cached t u file block body) ≡ reads_cached t u file block body
+nothing-sent : (t : ClientStep) (u : UnderWay) (file block : ℕ) (body : List ℕ) → sends_unless_cached (reads_cached t u file block body)
+    ≡ reads_cached t u file block body
 unfolding reads_cached
 nothing-sent t u file block body = refl
 
@@ -55,19 +58,24 @@ not-above : (m n : ℕ) → m < n → nat_le n m ≡ false
 not-above m n h = grind (arith, nat_tests)
 
 -- the step that answers it
-answers-at-once : (c : Client) (op : Call) (file block : ℕ) (body : List ℕ) → AnswersAtOnce c op file block body (reads_cached (called c op) (begun_call c op) file block body)
+answers-at-once : (c : Client) (op : Call) (file block : ℕ) (body : List ℕ) → AnswersAtOnce c op file block body (reads_cached (called c op)
+    (begun_call c op) file block body)
 unfolding begins_call is_called reads_cached answers after_read
 answers-at-once c op file block body = record { silent = refl; entries = refl; answered = refl; client = refl }
 
-settled-read : (c : Client) (op : Call) (file block : ℕ) (lease : Lease) (body : List ℕ) → HasCached c file block lease body → settle_read (called c op) (begun_call c op) file block (lease_on file (called c op).client.leases) ≡ reads_cached (called c op) (begun_call c op) file block body
+settled-read : (c : Client) (op : Call) (file block : ℕ) (lease : Lease) (body : List ℕ) → HasCached c file block lease body
+    → settle_read (called c op) (begun_call c op) file block (lease_on file (called c op).client.leases) ≡ reads_cached (called c op)
+    (begun_call c op) file block body
 settled-read c op file block lease body h =
     let held : lease_on file (called c op).client.leases ≡ Some lease = rw called-leases h.held in
-    rw held (read-hit (called c op) (begun_call c op) file block lease body (rw called-now h.runs) (not-above block lease.blocks h.within) (rw called-body h.there))
+    rw held (read-hit (called c op) (begun_call c op) file block lease body (rw called-now h.runs) (not-above block lease.blocks h.within)
+    (rw called-body h.there))
 
 settled-call : (c : Client) (op : Call) → ticket_is_for_call c.ticket ≡ false → settle (called c op) ≡ settle_call (called c op) (begun_call c op) op
 settled-call c op idle = settled (called c op) (begun_call c op) (called-call c op) (rw called-ticket idle)
 
-pub read_at_once : (c : Client) (file block : ℕ) (lease : Lease) (body : List ℕ) → HasCached c file block lease body → ticket_is_for_call c.ticket ≡ false → AnswersAtOnce c (Call.Read file block) file block body (client_call c (Call.Read file block))
+pub read_at_once : (c : Client) (file block : ℕ) (lease : Lease) (body : List ℕ) → HasCached c file block lease body → ticket_is_for_call c.ticket
+    ≡ false → AnswersAtOnce c (Call.Read file block) file block body (client_call c (Call.Read file block))
 read_at_once c file block lease body h idle =
     let op : Call = Call.Read file block in
     let e : client_call c op ≡ reads_cached (called c op) (begun_call c op) file block body =
@@ -77,7 +85,8 @@ read_at_once c file block lease body h idle =
     in
     subst (λ t. AnswersAtOnce c op file block body t) (sym e) (answers-at-once c op file block body)
 
-pub fetch_at_once : (c : Client) (file block : ℕ) (lease : Lease) (body : List ℕ) → HasCached c file block lease body → ticket_is_for_call c.ticket ≡ false → AnswersAtOnce c (Call.Fetch file block) file block body (client_call c (Call.Fetch file block))
+pub fetch_at_once : (c : Client) (file block : ℕ) (lease : Lease) (body : List ℕ) → HasCached c file block lease body → ticket_is_for_call c.ticket
+    ≡ false → AnswersAtOnce c (Call.Fetch file block) file block body (client_call c (Call.Fetch file block))
 fetch_at_once c file block lease body h idle =
     let op : Call = Call.Fetch file block in
     let e : client_call c op ≡ reads_cached (called c op) (begun_call c op) file block body =

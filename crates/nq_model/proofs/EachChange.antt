@@ -18,14 +18,18 @@ use Rattle.nq_base.specs.declared.Tag.{Tag}
 use Rattle.nq_base.specs.declared.Want.{Want}
 use Rattle.nq_base.specs.declared.Who.{Who}
 use Rattle.nq_model.specs.Ask.{Reply, ask}
-use Rattle.nq_model.specs.Change.{IsWithinBounds, IsChangedOnce, IsChangeWithin, Fits, applied_if, fencing_of, row_of_found, change_of_heads, booted_heads, opened_heads}
+use Rattle.nq_model.specs.Change.{IsWithinBounds, IsChangedOnce, IsChangeWithin, Fits, applied_if, fencing_of, row_of_found, change_of_heads}
+use Rattle.nq_model.specs.Change.{booted_heads, opened_heads}
 use Rattle.nq_model.specs.ChangesOnce.{EachStepChangesOnce, RequestsAreDecided, BoundsAreKept, IsServerWithin, HasItsText}
 use Rattle.nq_model.specs.Decided.{is_decided_once, fresh_change, gate_of, decided, decided_step, fresh_step, HasText}
 use Rattle.nq_model.specs.Kept.{File, Kept, find_file, find_name, can_rise, host_row}
-use Rattle.nq_model.specs.Message.{Message, Datagram, Reason, reply, request, too_long, no_message, no_call, other_rpc, other_program, other_version, unknown_procedure, garbage_vacated, garbage, asker, wrong_host, old_incarnation}
+use Rattle.nq_model.specs.Message.{Message, Datagram, Reason, reply, request, too_long, no_message, no_call, other_rpc, other_program, other_version}
+use Rattle.nq_model.specs.Message.{unknown_procedure, garbage_vacated, garbage, asker, wrong_host, old_incarnation}
 use Rattle.nq_model.specs.Profile.{most_hosts, shortest_term, longest_term}
 use Rattle.nq_model.specs.Server.{Phase, serving, recovering, Server, ServerStep, drops, says, quiet, after_notices, keeping_with, with_table}
-use Rattle.nq_model.specs.ServerStep.{to_read, look_up, get_attr, read, read_block, read_asked, access_of, tells_later, serves, leases, lease_asked, get_lease, vacates, look, not_attached, admit, answer_request, receive, fence, ends_writing, end_due, end_writing, end_reading, is_due, opens, at_time, tick_in, tick, boot, crash}
+use Rattle.nq_model.specs.ServerStep.{to_read, look_up, get_attr, read, read_block, read_asked, access_of, tells_later, serves, leases, lease_asked}
+use Rattle.nq_model.specs.ServerStep.{get_lease, vacates, look, not_attached, admit, answer_request, receive, fence, ends_writing, end_due}
+use Rattle.nq_model.specs.ServerStep.{end_writing, end_reading, is_due, opens, at_time, tick_in, tick, boot, crash}
 use Rattle.nq_model.specs.Table.{Table}
 use Rattle.nq_model.proofs.AppliedChanges.{applied-fencing, applied-boot, applied-opening}
 use Rattle.nq_model.proofs.DecidedSteps.{admits-decided, receives-decided}
@@ -88,18 +92,21 @@ module _ (s : Server) (within : IsWithinBounds s.kept) (Given : Type 0) where
       (who : Who) (xid next : ℕ) (r : Request) → (Given → HasText r) → asker r ≡ Some who → is_decided_once r ≡ true → who.host < most_hosts
       → Once (admit s who xid next r (host_row s.kept who.host))
   admits-once who xid next r text by once few =
-      subst Once (sym (admits-decided s who xid next r by once (next-free s.kept (orderly-within s.kept within)))) (decided-once who xid r text by few (decided s.kept (gate_of s who r) r) refl)
+      subst Once (sym (admits-decided s who xid next r by once (next-free s.kept (orderly-within s.kept within)))) (decided-once who xid r text by few
+      (decided s.kept (gate_of s who r) r) refl)
 
   -- ---- requests that change nothing that is kept
 
-  read-asked : (who : Who) (xid next q : ℕ) (file : File) (block : ℕ) (body : List ℕ) (access : Access) (table : Table) (asked : Asked) → Once (read_asked s who xid next q file block body access table asked)
+  read-asked : (who : Who) (xid next q : ℕ) (file : File) (block : ℕ) (body : List ℕ) (access : Access) (table : Table) (asked : Asked)
+      → Once (read_asked s who xid next q file block body access table asked)
   unfolding tells_later serves after_notices with_table
   read-asked who xid next q file block body access table (Asked.TryLater clash) = (unchanged Given s.kept s.kept refl, refl)
   read-asked who xid next q file block body access table (Asked.Granted g) = (unchanged Given s.kept s.kept refl, refl)
   read-asked who xid next q file block body access table Asked.Free = (unchanged Given s.kept s.kept refl, refl)
   read-asked who xid next q file block body access table Asked.NoLease = (unchanged Given s.kept s.kept refl, refl)
 
-  read-once : (who : Who) (xid next q : ℕ) (file : File) (block : ℕ) (want : Option Want) (o : Option (List ℕ)) → Once (read_block s who xid next q file block want o)
+  read-once : (who : Who) (xid next q : ℕ) (file : File) (block : ℕ) (want : Option Want) (o : Option (List ℕ))
+      → Once (read_block s who xid next q file block want o)
   unfolding says
   read-once who xid next q file block want None = (unchanged Given s.kept s.kept refl, refl)
   read-once who xid next q file block want (Some body) =
@@ -167,7 +174,8 @@ module _ (s : Server) (within : IsWithinBounds s.kept) (Given : Type 0) where
   vacated-once who file tag = (unchanged Given s.kept s.kept refl, refl)
 
   -- a request of an incarnation, by how it compares with the kept one
-  asked-once : (who : Who) (xid next : ℕ) (r : Request) (kept_inc : ℕ) (t : ServerStep) → Once t → Once (if nat_lt who.inc kept_inc then drops s old_incarnation else (if nat_lt kept_inc who.inc then not_attached s who xid r else t))
+  asked-once : (who : Who) (xid next : ℕ) (r : Request) (kept_inc : ℕ) (t : ServerStep) → Once t → Once (if nat_lt who.inc kept_inc
+      then drops s old_incarnation else (if nat_lt kept_inc who.inc then not_attached s who xid r else t))
   asked-once who xid next r kept_inc t performed =
       choice Once (nat_lt who.inc kept_inc) _ _ (λ older. dropped-once old_incarnation) (λ no_older.
       choice Once (nat_lt kept_inc who.inc) _ _ (λ later. not-attached-once who xid r) (λ current. performed))
@@ -201,7 +209,8 @@ module _ (s : Server) (within : IsWithinBounds s.kept) (Given : Type 0) where
   answers-once : (sender xid next : ℕ) (r : Request) (o : Option Who) → (Given → HasText r) → asker r ≡ o → Once (answer_request s sender xid next r o)
   answers-once sender xid next r None text by = said-once sender (reply xid Answer.Null)
   answers-once sender xid next r (Some who) text by =
-      choice Once (who.host == sender && nat_lt who.host most_hosts) _ _ (λ of_host. requests-once who xid next r text by (below-most who sender of_host)) (λ other. dropped-once wrong_host)
+      choice Once (who.host == sender && nat_lt who.host most_hosts) _ _ (λ of_host. requests-once who xid next r text by
+      (below-most who sender of_host)) (λ other. dropped-once wrong_host)
 
   receives-once : (sender next : ℕ) (d : Datagram) → (Given → HasItsText d) → Once (receive s sender next d)
   receives-once sender next too_long text = dropped-once _
@@ -230,7 +239,8 @@ module _ (s : Server) (within : IsWithinBounds s.kept) (Given : Type 0) where
   due-once : (now : ℕ) (rows : List Row) (row : Row) → Once (end_due (at_time s now) rows row)
   unfolding at_time quiet with_table ends_writing keeping_with
   due-once now rows row =
-      choice Once (can_rise (find_file row.file s.kept.files)) _ _ (λ can. (fences-once row.file (find_file row.file s.kept.files) refl can, refl)) (λ last. (unchanged Given s.kept s.kept refl, refl))
+      choice Once (can_rise (find_file row.file s.kept.files)) _ _ (λ can. (fences-once row.file (find_file row.file s.kept.files) refl can, refl))
+      (λ last. (unchanged Given s.kept s.kept refl, refl))
 
   ends-once : (now : ℕ) (rows : List Row) (o : Option Row) → Once (end_writing (at_time s now) rows o)
   unfolding at_time quiet with_table
@@ -281,7 +291,8 @@ each-step-changes-once = record {
 }
 
 -- a server whose kept state is within its bounds, and whose longest term is one that there can be
-server-within : (s t : Server) (longest : ℕ) → IsWithinBounds t.kept → t.longest ≡ longest → shortest_term ≤ longest → longest ≤ longest_term → IsServerWithin t
+server-within : (s t : Server) (longest : ℕ) → IsWithinBounds t.kept → t.longest ≡ longest → shortest_term ≤ longest → longest ≤ longest_term
+    → IsServerWithin t
 server-within s t longest kept is long short = record { kept = kept; long = omega arith; short = omega arith }
 
 module _ (s : Server) (w : IsServerWithin s) where
@@ -298,7 +309,8 @@ module _ (s : Server) (w : IsServerWithin s) where
   crashed-within : (longest : ℕ) → s.kept.boot + 1 < 2 ^ 31 → shortest_term ≤ longest → longest ≤ longest_term → IsServerWithin (crash s longest).server
   unfolding crash boot
   crashed-within longest more long short =
-      server-within s (crash s longest).server longest (within-of ⊤ s.kept _ w.kept (crashes-once s w.kept ⊤ longest (λ given. (more, long, short))) tt) refl long short
+      server-within s (crash s longest).server longest (within-of ⊤ s.kept _ w.kept (crashes-once s w.kept ⊤ longest (λ given. (more, long, short)))
+      tt) refl long short
 
 -- each step from a kept state within its bounds leads to one within them
 pub bounds-are-kept : BoundsAreKept
@@ -310,4 +322,5 @@ bounds-are-kept = record {
 
 -- requests that are decided once are decided from the kept state and the gate
 pub requests-are-decided : RequestsAreDecided
-requests-are-decided s sender xid next r who by once same few within = receives-decided s sender xid next r who by once same few (next-free s.kept (orderly-within s.kept within))
+requests-are-decided s sender xid next r who by once same few within = receives-decided s sender xid next r who by once same few
+    (next-free s.kept (orderly-within s.kept within))

@@ -16,7 +16,15 @@ none-of loss entry later apart none (inr covers) = none covers
 
 pub ends-first : (loss : Entry) (who : Who) (file : ℕ) (before : List Entry) → EndsIn loss who file before → EndsFirst loss who file before
 ends-first loss who file [] h = absurd h
-ends-first loss who file (entry ∷ before) (inl ends) = record { later = []; ending = entry; earlier = before; splits = refl; ends = ends; none_after = λ none. none }
+ends-first loss who file (entry ∷ before) (inl ends) = record {
+  later = [];
+  ending = entry;
+  earlier = before;
+  splits = refl;
+  ends = ends;
+  none_after =
+      λ none. none;
+}
 ends-first loss who file (entry ∷ before) (inr h) =
     let f = ends-first loss who file before h.1 in
     record {

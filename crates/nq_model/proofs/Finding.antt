@@ -26,7 +26,8 @@ number-other m n h = grind (arith, nat_tests)
 pub is-other : (m n : ℕ) → (m == n) ≡ false → m ≢ n
 is-other m n h = grind (arith, nat_tests)
 
-find-passes-step : {A : Type 0} (p : A → Bool) (x y : A) (xs : List A) (b : Bool) → p y ≡ b → (find p xs ≡ Some x → p x ≡ true) → (if b then Some y else find p xs) ≡ Some x → p x ≡ true
+find-passes-step : {A : Type 0} (p : A → Bool) (x y : A) (xs : List A) (b : Bool) → p y ≡ b → (find p xs ≡ Some x → p x ≡ true)
+    → (if b then Some y else find p xs) ≡ Some x → p x ≡ true
 find-passes-step p x y xs true e rest f = let same : y ≡ x = cc in subst (λ z. p z ≡ true) same e
 find-passes-step p x y xs false e rest f = rest f
 
@@ -35,7 +36,8 @@ pub find-passes : {A : Type 0} (p : A → Bool) (x : A) (xs : List A) → find p
 find-passes p x [] h = cc
 find-passes p x (y ∷ xs) h = find-passes-step p x y xs (p y) refl (find-passes p x xs) h
 
-find-none-step : {A : Type 0} (p q : A → Bool) (x y : A) (xs : List A) (b c : Bool) → p y ≡ b → (find p xs ≡ None → find q xs ≡ Some x → p x ≡ false) → (if b then Some y else find p xs) ≡ None → (if c then Some y else find q xs) ≡ Some x → p x ≡ false
+find-none-step : {A : Type 0} (p q : A → Bool) (x y : A) (xs : List A) (b c : Bool) → p y ≡ b → (find p xs ≡ None → find q xs ≡ Some x → p x ≡ false)
+    → (if b then Some y else find p xs) ≡ None → (if c then Some y else find q xs) ≡ Some x → p x ≡ false
 find-none-step p q x y xs true c e rest h f = cc
 find-none-step p q x y xs false true e rest h f = let same : y ≡ x = cc in subst (λ z. p z ≡ false) same e
 find-none-step p q x y xs false false e rest h f = rest h f
@@ -46,7 +48,8 @@ find-none p q x [] h f = cc
 find-none p q x (y ∷ xs) h f = find-none-step p q x y xs (p y) (q y) refl (find-none p q x xs) h f
 
 -- a search after a filter whose test each element that is sought passes
-find-filter-step : {A : Type 0} (p q : A → Bool) (y : A) (xs : List A) (b c : Bool) → (b ≡ true → c ≡ true) → find p (filter q xs) ≡ find p xs → p y ≡ b → q y ≡ c → find p (if c then y ∷ filter q xs else filter q xs) ≡ (if b then Some y else find p xs)
+find-filter-step : {A : Type 0} (p q : A → Bool) (y : A) (xs : List A) (b c : Bool) → (b ≡ true → c ≡ true) → find p (filter q xs) ≡ find p xs
+    → p y ≡ b → q y ≡ c → find p (if c then y ∷ filter q xs else filter q xs) ≡ (if b then Some y else find p xs)
 find-filter-step p q y xs true true keeps rest e f = rw e refl
 find-filter-step p q y xs true false keeps rest e f = let bad : false ≡ true = keeps refl in cc
 find-filter-step p q y xs false true keeps rest e f = rw e rest
@@ -57,7 +60,8 @@ find-filter p q [] keeps = refl
 find-filter p q (y ∷ xs) keeps = find-filter-step p q y xs (p y) (q y) (keeps y) (find-filter p q xs keeps) refl refl
 
 -- a search after a filter that each element that is sought fails
-find-dropped-step : {A : Type 0} (p q : A → Bool) (y : A) (xs : List A) (c : Bool) → (p y ≡ true → c ≡ false) → find p (filter q xs) ≡ None → q y ≡ c → find p (if c then y ∷ filter q xs else filter q xs) ≡ None
+find-dropped-step : {A : Type 0} (p q : A → Bool) (y : A) (xs : List A) (c : Bool) → (p y ≡ true → c ≡ false) → find p (filter q xs) ≡ None → q y ≡ c
+    → find p (if c then y ∷ filter q xs else filter q xs) ≡ None
 find-dropped-step p q y xs true fails rest e = head (p y) refl
   where
     head : (b : Bool) → p y ≡ b → (if b then Some y else find p (filter q xs)) ≡ None
@@ -70,7 +74,8 @@ find-dropped p q [] fails = refl
 find-dropped p q (y ∷ xs) fails = find-dropped-step p q y xs (q y) (fails y) (find-dropped p q xs fails) refl
 
 -- a search after a change that the search does not see
-find-map-step : {A : Type 0} (p : A → Bool) (f : A → A) (y : A) (xs : List A) (b : Bool) → p y ≡ b → p (f y) ≡ p y → find p (map f xs) ≡ option_map f (find p xs) → (if p (f y) then Some (f y) else find p (map f xs)) ≡ option_map f (if b then Some y else find p xs)
+find-map-step : {A : Type 0} (p : A → Bool) (f : A → A) (y : A) (xs : List A) (b : Bool) → p y ≡ b → p (f y) ≡ p y → find p (map f xs) ≡ option_map f
+    (find p xs) → (if p (f y) then Some (f y) else find p (map f xs)) ≡ option_map f (if b then Some y else find p xs)
 find-map-step p f y xs true e same rest = rw (same, e) refl
 find-map-step p f y xs false e same rest = rw (same, e) rest
 
@@ -80,7 +85,8 @@ find-map p f (y ∷ xs) same = find-map-step p f y xs (p y) refl (same y) (find-
 
 -- ---- a filter of what passed another
 
-within-step : {A : Type 0} (p q : A → Bool) (y : A) (xs : List A) (b c : Bool) → (b ≡ true → c ≡ true) → filter p (filter q xs) ≡ filter p xs → p y ≡ b → filter p (if c then y ∷ filter q xs else filter q xs) ≡ (if b then y ∷ filter p xs else filter p xs)
+within-step : {A : Type 0} (p q : A → Bool) (y : A) (xs : List A) (b c : Bool) → (b ≡ true → c ≡ true) → filter p (filter q xs) ≡ filter p xs
+    → p y ≡ b → filter p (if c then y ∷ filter q xs else filter q xs) ≡ (if b then y ∷ filter p xs else filter p xs)
 within-step p q y xs true true keeps rest e = rw e (ap (λ ys. y ∷ ys) rest)
 within-step p q y xs true false keeps rest e = let bad : false ≡ true = keeps refl in cc
 within-step p q y xs false true keeps rest e = rw e rest
@@ -91,7 +97,8 @@ pub filter-within : {A : Type 0} (p q : A → Bool) (xs : List A) → ((x : A) �
 filter-within p q [] keeps = refl
 filter-within p q (y ∷ xs) keeps = within-step p q y xs (p y) (q y) (keeps y) (filter-within p q xs keeps) refl
 
-apart-step : {A : Type 0} (p q : A → Bool) (y : A) (xs : List A) (c : Bool) → (p y ≡ true → c ≡ false) → filter p (filter q xs) ≡ [] → filter p (if c then y ∷ filter q xs else filter q xs) ≡ []
+apart-step : {A : Type 0} (p q : A → Bool) (y : A) (xs : List A) (c : Bool) → (p y ≡ true → c ≡ false) → filter p (filter q xs) ≡ []
+    → filter p (if c then y ∷ filter q xs else filter q xs) ≡ []
 apart-step p q y xs true fails rest = head (p y) refl
   where
     head : (b : Bool) → p y ≡ b → (if b then y ∷ filter p (filter q xs) else filter p (filter q xs)) ≡ []
@@ -104,7 +111,8 @@ pub filter-apart : {A : Type 0} (p q : A → Bool) (xs : List A) → ((x : A) �
 filter-apart p q [] fails = refl
 filter-apart p q (y ∷ xs) fails = apart-step p q y xs (q y) (fails y) (filter-apart p q xs fails)
 
-swap-step : {A : Type 0} (p q : A → Bool) (y : A) (xs : List A) (b c : Bool) → p y ≡ b → q y ≡ c → filter p (filter q xs) ≡ filter q (filter p xs) → filter p (if c then y ∷ filter q xs else filter q xs) ≡ filter q (if b then y ∷ filter p xs else filter p xs)
+swap-step : {A : Type 0} (p q : A → Bool) (y : A) (xs : List A) (b c : Bool) → p y ≡ b → q y ≡ c → filter p (filter q xs) ≡ filter q (filter p xs)
+    → filter p (if c then y ∷ filter q xs else filter q xs) ≡ filter q (if b then y ∷ filter p xs else filter p xs)
 swap-step p q y xs true true e f rest = rw (e, f) (ap (λ ys. y ∷ ys) rest)
 swap-step p q y xs true false e f rest = rw f rest
 swap-step p q y xs false true e f rest = rw e rest

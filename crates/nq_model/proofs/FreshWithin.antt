@@ -14,8 +14,11 @@ use Rattle.nq_base.specs.declared.Request.{Request}
 use Rattle.nq_base.specs.declared.Request.TheVariants.{Attach, Create, Write, Resize, Remove}
 use Rattle.nq_base.specs.declared.Verdict.{Verdict}
 use Rattle.nq_base.specs.declared.Who.{Who}
-use Rattle.nq_model.specs.Change.{IsBody, IsFileWithin, IsWithinBounds, IsChangeWithin, AreHeadsWithin, row_of, row_of_found, raised_row, heads_of, space_of, fencing, change_of_heads, booted_heads, opened_heads}
-use Rattle.nq_model.specs.Decided.{no_effect, creation, block_write, length_change, removal, effect_of_create, effect_of_push, effect_of_write_in, effect_of_write, effect_of_write_recovering, effect_of_resize, effect_of_remove, effect_of, row_with, sequence_decided, attach_decided, or_fresh, decided, change_with, fresh_change, HasText}
+use Rattle.nq_model.specs.Change.{IsBody, IsFileWithin, IsWithinBounds, IsChangeWithin, AreHeadsWithin, row_of, row_of_found, raised_row, heads_of}
+use Rattle.nq_model.specs.Change.{space_of, fencing, change_of_heads, booted_heads, opened_heads}
+use Rattle.nq_model.specs.Decided.{no_effect, creation, block_write, length_change, removal, effect_of_create, effect_of_push, effect_of_write_in}
+use Rattle.nq_model.specs.Decided.{effect_of_write, effect_of_write_recovering, effect_of_resize, effect_of_remove, effect_of, row_with}
+use Rattle.nq_model.specs.Decided.{sequence_decided, attach_decided, or_fresh, decided, change_with, fresh_change, HasText}
 use Rattle.nq_model.specs.Kept.{File, Kept, blocks_of, blocks_in_all, find_file, find_name, can_be_kept, can_rise, host_row}
 use Rattle.nq_model.specs.Profile.{shortest_term, longest_term, most_files, most_blocks, most_blocks_of_file, most_ids, inc_end, seq_end, rev_end}
 use Rattle.nq_model.proofs.Finding.{choice}
@@ -33,7 +36,8 @@ below-ends row can = record { inc = grind (arith, nat_tests); seq = grind (arith
 -- only a request whose row can be kept is decided as fresh
 fresh-by :
     (verdict v : Verdict) (value n : ℕ) (older early same below can : Bool) (line : HostRow)
-    → or_fresh (if older then Some OldIncarnation else (if early then Some NotAttached else (if same then Some (Again line.verdict line.value) else (if below then Some Old else None)))) (if can then Fresh v n else OutOfBounds) ≡ Fresh verdict value
+    → or_fresh (if older then Some OldIncarnation else (if early then Some NotAttached else (if same then Some (Again line.verdict line.value)
+    else (if below then Some Old else None)))) (if can then Fresh v n else OutOfBounds) ≡ Fresh verdict value
     → can ≡ true
 fresh-by verdict v value n true early same below can line is = absurd (cc)
 fresh-by verdict v value n false true same below can line is = absurd (cc)
@@ -46,7 +50,8 @@ sequence-can :
     (who : Who) (seq : ℕ) (line : HostRow) (effect : Effect) (verdict : Verdict) (value : ℕ) → sequence_decided who seq line effect ≡ Fresh verdict value
     → can_be_kept (row_with who seq effect) ≡ true
 sequence-can who seq line effect verdict value is =
-    fresh-by verdict effect.verdict value effect.value (nat_lt who.inc line.inc) (nat_lt line.inc who.inc) (seq == line.seq) (nat_lt seq line.seq) (can_be_kept (row_with who seq effect)) line is
+    fresh-by verdict effect.verdict value effect.value (nat_lt who.inc line.inc) (nat_lt line.inc who.inc) (seq == line.seq) (nat_lt seq line.seq)
+    (can_be_kept (row_with who seq effect)) line is
 
 attached-by :
     (verdict v : Verdict) (value n : ℕ) (later older can : Bool) (line : HostRow)
@@ -62,7 +67,8 @@ attach-can :
     → can_be_kept (row_with who 0 (no_effect Verdict.Done)) ≡ true
 unfolding no_effect
 attach-can who line verdict value is =
-    attached-by verdict Verdict.Done value 0 (nat_lt line.inc who.inc) (nat_lt who.inc line.inc) (can_be_kept (row_with who 0 (no_effect Verdict.Done))) line is
+    attached-by verdict Verdict.Done value 0 (nat_lt line.inc who.inc) (nat_lt who.inc line.inc)
+    (can_be_kept (row_with who 0 (no_effect Verdict.Done))) line is
 
 -- the numbers of an effect are within their bounds
 record IsEffectWithin (kept : Kept) (effect : Effect) : Type 0 where
@@ -128,7 +134,8 @@ module _ (kept : Kept) (within : IsWithinBounds kept) where
   create-within name blocks named =
       choice StaysWithin (blocks == 0 || nat_lt most_blocks_of_file blocks) _ _ (λ bad. none-within Verdict.Invalid) (λ good.
       choice StaysWithin (is_some (find_name name kept.files)) _ _ (λ there. none-within Verdict.Exist) (λ free.
-      choice StaysWithin (nat_le most_files (length kept.files) || nat_lt most_blocks (blocks_in_all kept.files + blocks) || nat_le most_ids kept.next) _ _ (λ full. none-within Verdict.NoSpace) (λ room.
+      choice StaysWithin (nat_le most_files (length kept.files) || nat_lt most_blocks (blocks_in_all kept.files + blocks) || nat_le most_ids
+      kept.next) _ _ (λ full. none-within Verdict.NoSpace) (λ room.
       creation-within name blocks named (grind (arith, nat_tests)))))
 
   resize-within :
@@ -148,7 +155,8 @@ module _ (kept : Kept) (within : IsWithinBounds kept) where
       (opened file block : ℕ) (push : Option PushBase) (body : List ℕ) → IsBody body
       → StaysWithin (effect_of_write_recovering opened (row_of_found (find_file file kept.files)) block push body)
   recovering-within opened file block None body is_body = none-within Verdict.TryLater
-  recovering-within opened file block (Some base) body is_body = writes-within opened false true file block (Some base) body is_body (find_file file kept.files) refl
+  recovering-within opened file block (Some base) body is_body = writes-within opened false true file block (Some base) body is_body
+      (find_file file kept.files) refl
 
   effect-within : (gate : Gate) (r : Request) → HasText r → StaysWithin (effect_of kept gate r)
   effect-within gate (Attach w) text = none-within Verdict.Done
@@ -186,7 +194,8 @@ module _ (kept : Kept) (within : IsWithinBounds kept) where
       change-within w n effect (sequence-can w n (host_row kept w.host) effect verdict value is) (effect-within gate (Create w n name blocks) text)
   fresh-within gate (Write w n file block first last push body) verdict value is text =
       let effect : Effect = effect_of kept gate (Write w n file block first last push body) in
-      change-within w n effect (sequence-can w n (host_row kept w.host) effect verdict value is) (effect-within gate (Write w n file block first last push body) text)
+      change-within w n effect (sequence-can w n (host_row kept w.host) effect verdict value is) (effect-within gate (Write w n file block first last
+      push body) text)
   fresh-within gate (Resize w n q file blocks) verdict value is text =
       let effect : Effect = effect_of kept gate (Resize w n q file blocks) in
       change-within w n effect (sequence-can w n (host_row kept w.host) effect verdict value is) (effect-within gate (Resize w n q file blocks) text)
@@ -201,7 +210,8 @@ module _ (kept : Kept) (within : IsWithinBounds kept) where
   fencing-within id f found can = record { file = (named id f found, grind (arith, nat_tests)); block = tt; host = tt; heads = tt }
 
 -- the numbers after a boot, where one more boot is within the bound
-pub booted-within : (kept : Kept) (longest : ℕ) → IsWithinBounds kept → kept.boot + 1 < 2 ^ 31 → shortest_term ≤ longest → longest ≤ longest_term → IsChangeWithin kept (change_of_heads (booted_heads kept longest))
+pub booted-within : (kept : Kept) (longest : ℕ) → IsWithinBounds kept → kept.boot + 1 < 2 ^ 31 → shortest_term ≤ longest → longest ≤ longest_term
+    → IsChangeWithin kept (change_of_heads (booted_heads kept longest))
 unfolding change_of_heads
 booted-within kept longest within more long short = record {
   file = tt;
@@ -209,11 +219,19 @@ booted-within kept longest within more long short = record {
   host = tt;
   heads = choice (AreHeadsWithin kept.next) (kept.opened == 0) _ _
       (λ first. record { opened = omega arith; boot = more; long = long; short = short; ids = omega arith; few_ids = within.few_ids })
-      (λ later. record { opened = let before = within.opened in omega arith; boot = more; long = within.long; short = within.short; ids = omega arith; few_ids = within.few_ids });
+      (λ later. record {
+        opened = let before = within.opened in omega arith;
+        boot = more;
+        long = within.long;
+        short = within.short;
+        ids = omega arith;
+        few_ids = within.few_ids;
+      });
 }
 
 -- and after a recovery
-pub opened-within : (kept : Kept) (longest : ℕ) → IsWithinBounds kept → shortest_term ≤ longest → longest ≤ longest_term → IsChangeWithin kept (change_of_heads (opened_heads kept longest))
+pub opened-within : (kept : Kept) (longest : ℕ) → IsWithinBounds kept → shortest_term ≤ longest → longest ≤ longest_term
+    → IsChangeWithin kept (change_of_heads (opened_heads kept longest))
 unfolding change_of_heads opened_heads
 opened-within kept longest within long short = record {
   file = tt;

@@ -8,8 +8,12 @@ use Rattle.nq_base.specs.declared.Said.TheVariants.{OkBy}
 use Rattle.nq_base.specs.declared.Told.{Told}
 use Rattle.nq_base.specs.declared.Told.TheVariants.{Read, Fetch, Write, WriteSync, Attr, Sync, Resize, Remove}
 use Rattle.nq_base.specs.declared.Who.{Who}
-use Rattle.nq_model.specs.Journal.{Each, Exists, AtMostOne, Throughout, Somewhere, AtEachPlace, IsCall, IsAnswer, IsOpen, SpeaksOf, IsReadBy, IsAnswerBy, IsCounted, IsWriteOn, IsWriteBy, IsThrough, value_written, IsWithin, Covers, Stores, Loses, IsStored, IsLost, IsLastValue, last_value}
-use Rattle.nq_model.specs.JournalTest.{each, exists, number_of, at_most_one, throughout, somewhere, at_each_place, is_call, is_answer, is_open, speaks_of, is_read_by, is_answer_by, is_counted, is_write_on, is_write_by, is_through, is_within, covers, store_covers, loss_covers, is_stored, is_lost}
+use Rattle.nq_model.specs.Journal.{Each, Exists, AtMostOne, Throughout, Somewhere, AtEachPlace, IsCall, IsAnswer, IsOpen, SpeaksOf, IsReadBy}
+use Rattle.nq_model.specs.Journal.{IsAnswerBy, IsCounted, IsWriteOn, IsWriteBy, IsThrough, value_written, IsWithin, Covers, Stores, Loses, IsStored}
+use Rattle.nq_model.specs.Journal.{IsLost, IsLastValue, last_value}
+use Rattle.nq_model.specs.JournalTest.{each, exists, number_of, at_most_one, throughout, somewhere, at_each_place, is_call, is_answer, is_open}
+use Rattle.nq_model.specs.JournalTest.{speaks_of, is_read_by, is_answer_by, is_counted, is_write_on, is_write_by, is_through, is_within, covers}
+use Rattle.nq_model.specs.JournalTest.{store_covers, loss_covers, is_stored, is_lost}
 use mathlib.Core.Logic.{inl, inr}
 use Rattle.nq_model.specs.Tests.{Tells}
 use Rattle.nq_model.proofs.Telling.{yes, no, tells_alike, tells_and, tells_3, tells_5, tells_or, tells_not, tells_same, tells_le, not_told, not_so}
@@ -21,19 +25,24 @@ pub tells_each : {X : Type 0} {test : X → Bool} {Fact : X → Type 0} → ((x 
 tells_each tells [] = yes
 tells_each tells (x ∷ xs) = tells_and (tells x) (tells_each tells xs)
 
-pub tells_exists : {X : Type 0} {test : X → Bool} {Fact : X → Type 0} → ((x : X) → Tells (test x) (Fact x)) → (xs : List X) → Tells (exists test xs) (Exists Fact xs)
+pub tells_exists : {X : Type 0} {test : X → Bool} {Fact : X → Type 0} → ((x : X) → Tells (test x) (Fact x)) → (xs : List X) → Tells (exists test xs)
+    (Exists Fact xs)
 tells_exists tells [] = no
 tells_exists tells (x ∷ xs) = tells_or (tells x) (tells_exists tells xs)
 
-pub tells_throughout : {test : Entry → List Entry → Bool} {Fact : Entry → List Entry → Type 0} → ((entry : Entry) (before : List Entry) → Tells (test entry before) (Fact entry before)) → (journal : List Entry) → Tells (throughout test journal) (Throughout Fact journal)
+pub tells_throughout : {test : Entry → List Entry → Bool} {Fact : Entry → List Entry → Type 0} → ((entry : Entry) (before : List Entry)
+    → Tells (test entry before) (Fact entry before)) → (journal : List Entry) → Tells (throughout test journal) (Throughout Fact journal)
 tells_throughout tells [] = yes
 tells_throughout tells (entry ∷ before) = tells_and (tells entry before) (tells_throughout tells before)
 
-pub tells_somewhere : {test : Entry → List Entry → Bool} {Fact : Entry → List Entry → Type 0} → ((entry : Entry) (before : List Entry) → Tells (test entry before) (Fact entry before)) → (journal : List Entry) → Tells (somewhere test journal) (Somewhere Fact journal)
+pub tells_somewhere : {test : Entry → List Entry → Bool} {Fact : Entry → List Entry → Type 0} → ((entry : Entry) (before : List Entry)
+    → Tells (test entry before) (Fact entry before)) → (journal : List Entry) → Tells (somewhere test journal) (Somewhere Fact journal)
 tells_somewhere tells [] = no
 tells_somewhere tells (entry ∷ before) = tells_or (tells entry before) (tells_somewhere tells before)
 
-pub tells_at_each_place : {test : List Entry → Entry → List Entry → Bool} {Fact : List Entry → Entry → List Entry → Type 0} → ((after : List Entry) (entry : Entry) (before : List Entry) → Tells (test after entry before) (Fact after entry before)) → (after journal : List Entry) → Tells (at_each_place test after journal) (AtEachPlace Fact after journal)
+pub tells_at_each_place : {test : List Entry → Entry → List Entry → Bool} {Fact : List Entry → Entry → List Entry → Type 0}
+    → ((after : List Entry) (entry : Entry) (before : List Entry) → Tells (test after entry before) (Fact after entry before))
+    → (after journal : List Entry) → Tells (at_each_place test after journal) (AtEachPlace Fact after journal)
 tells_at_each_place tells after [] = yes
 tells_at_each_place tells after (entry ∷ before) = tells_and (tells after entry before) (tells_at_each_place tells (entry ∷ after) before)
 
@@ -41,7 +50,8 @@ tells_at_each_place tells after (entry ∷ before) = tells_and (tells after entr
 
 pub tells_who : {a b : Who} → Tells (same_who a b) (a ≡ b)
 tells_who {a} {b} = record {
-  sound = λ e. let h = and_parts (a.host == b.host) (a.inc == b.inc) e in let hosts = eqb-true a.host b.host h.0 in let incs = eqb-true a.inc b.inc h.1 in λ i. record { host = hosts i; inc = incs i };
+  sound = λ e. let h = and_parts (a.host == b.host) (a.inc == b.inc) e in let hosts = eqb-true a.host b.host h.0 in let incs = eqb-true a.inc b.inc
+      h.1 in λ i. record { host = hosts i; inc = incs i };
   complete = λ h. and_from (a.host == b.host) (a.inc == b.inc) (eq-eqb a.host b.host (λ i. (h i).host)) (eq-eqb a.inc b.inc (λ i. (h i).inc));
 }
 
@@ -96,7 +106,8 @@ pub tells_through : (entry : Entry) → Tells (is_through entry) (IsThrough entr
 tells_through (W who file block number value true) = yes
 tells_through other = no
 
-pub tells_within : (who : Who) (file block first last : ℕ) (entry : Entry) → Tells (is_within who file block first last entry) (IsWithin who file block first last entry)
+pub tells_within : (who : Who) (file block first last : ℕ) (entry : Entry) → Tells (is_within who file block first last entry)
+    (IsWithin who file block first last entry)
 tells_within who file block first last (W by f b number value false) = tells_5 tells_who tells_same tells_same tells_le tells_le
 tells_within who file block first last other = no
 
@@ -133,31 +144,37 @@ at_most : (b : Bool) (n : ℕ) → (b ≡ true → n ≡ 0) → n ≤ 1 → (if 
 at_most true n h l = let e : n ≡ 0 = h refl in omega arith
 at_most false n h l = l
 
-none_there : {X : Type 0} {test : X → Bool} {Fact : X → Type 0} → ((x : X) → Tells (test x) (Fact x)) → (xs : List X) → number_of test xs ≡ 0 → ¬ Exists Fact xs
+none_there : {X : Type 0} {test : X → Bool} {Fact : X → Type 0} → ((x : X) → Tells (test x) (Fact x)) → (xs : List X) → number_of test xs ≡ 0
+    → ¬ Exists Fact xs
 none_there tells [] e h = h
 none_there {test = test} tells (x ∷ xs) e (inl h) = not_told (tells x) (counts_none (test x) (number_of test xs) e).0 h
 none_there {test = test} tells (x ∷ xs) e (inr h) = none_there tells xs (counts_none (test x) (number_of test xs) e).1 h
 
-none_counted : {X : Type 0} {test : X → Bool} {Fact : X → Type 0} → ((x : X) → Tells (test x) (Fact x)) → (xs : List X) → ¬ Exists Fact xs → number_of test xs ≡ 0
+none_counted : {X : Type 0} {test : X → Bool} {Fact : X → Type 0} → ((x : X) → Tells (test x) (Fact x)) → (xs : List X) → ¬ Exists Fact xs
+    → number_of test xs ≡ 0
 none_counted tells [] h = refl
 none_counted {test = test} tells (x ∷ xs) h = rw (not_so (test x) (tells x) (λ f. h (inl f))) (none_counted tells xs (λ f. h (inr f)))
 
-one_there : {X : Type 0} {test : X → Bool} {Fact : X → Type 0} → ((x : X) → Tells (test x) (Fact x)) → (xs : List X) → number_of test xs ≤ 1 → AtMostOne Fact xs
+one_there : {X : Type 0} {test : X → Bool} {Fact : X → Type 0} → ((x : X) → Tells (test x) (Fact x)) → (xs : List X) → number_of test xs ≤ 1
+    → AtMostOne Fact xs
 one_there tells [] h = tt
 one_there {test = test} tells (x ∷ xs) h =
     let c = counts_one (test x) (number_of test xs) h in (λ f. none_there tells xs (c.0 ((tells x).complete f)), one_there tells xs c.1)
 
-one_counted : {X : Type 0} {test : X → Bool} {Fact : X → Type 0} → ((x : X) → Tells (test x) (Fact x)) → (xs : List X) → AtMostOne Fact xs → number_of test xs ≤ 1
+one_counted : {X : Type 0} {test : X → Bool} {Fact : X → Type 0} → ((x : X) → Tells (test x) (Fact x)) → (xs : List X) → AtMostOne Fact xs
+    → number_of test xs ≤ 1
 one_counted tells [] h = omega arith
 one_counted {test = test} tells (x ∷ xs) h =
     at_most (test x) (number_of test xs) (λ e. none_counted tells xs (h.0 ((tells x).sound e))) (one_counted tells xs h.1)
 
-pub tells_at_most_one : {X : Type 0} {test : X → Bool} {Fact : X → Type 0} → ((x : X) → Tells (test x) (Fact x)) → (xs : List X) → Tells (at_most_one test xs) (AtMostOne Fact xs)
+pub tells_at_most_one : {X : Type 0} {test : X → Bool} {Fact : X → Type 0} → ((x : X) → Tells (test x) (Fact x)) → (xs : List X)
+    → Tells (at_most_one test xs) (AtMostOne Fact xs)
 tells_at_most_one tells xs = tells_alike (one_there tells xs) (one_counted tells xs) tells_le
 
 -- ---- the last value
 
-last_at : (b : Bool) (value here further : ℕ) {P Q : Type 0} → Tells b P → Tells (value == further) Q → Tells (value == (if b then here else further)) ((P → value ≡ here) × (¬ P → Q))
+last_at : (b : Bool) (value here further : ℕ) {P Q : Type 0} → Tells b P → Tells (value == further) Q → Tells (value == (if b then here else further))
+    ((P → value ≡ here) × (¬ P → Q))
 last_at true value here further p q = record {
   sound = λ e. (λ h. tells_same.sound e, λ h. absurd (h (p.sound refl)));
   complete = λ h. tells_same.complete (h.0 (p.sound refl));
@@ -167,7 +184,8 @@ last_at false value here further p q = record {
   complete = λ h. q.complete (h.1 (not_told p refl));
 }
 
-pub tells_last_value : {test : Entry → Bool} {Fact : Entry → Type 0} → ((entry : Entry) → Tells (test entry) (Fact entry)) → (entries : List Entry) (value : ℕ) → Tells (value == last_value test entries) (IsLastValue Fact entries value)
+pub tells_last_value : {test : Entry → Bool} {Fact : Entry → Type 0} → ((entry : Entry) → Tells (test entry) (Fact entry)) → (entries : List Entry)
+    (value : ℕ) → Tells (value == last_value test entries) (IsLastValue Fact entries value)
 tells_last_value tells [] value = tells_same
 tells_last_value {test = test} tells (entry ∷ before) value =
     last_at (test entry) value (value_written entry) (last_value test before) (tells entry) (tells_last_value tells before value)

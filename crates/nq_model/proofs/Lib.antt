@@ -15,7 +15,6 @@ pub mod LegalTest
 pub mod Lists
 pub mod LossTests
 pub mod OrderedTest
-pub mod RowEnds
 pub mod SkewNames
 pub mod SkewTest
 pub mod SomeChange

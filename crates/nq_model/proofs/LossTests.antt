@@ -15,12 +15,15 @@ use Rattle.nq_model.specs.Fate.{IsFirstToCover, IsAccountedAt, IsAccounted}
 use Rattle.nq_model.specs.FateTest.{is_first_to_cover, is_accounted_at, is_accounted}
 use Rattle.nq_model.specs.CutOff.{Given, last_grant, IsStoreOver, IsLateEnd, IsLongWait, IsLateOpening, Ends, EndsFirst, IsCutOff, IsExcused}
 use Rattle.nq_model.specs.CutOffTest.{is_store_over, has_passed, is_late_end, is_long_wait, is_late_opening, ends, ends_first, is_cut_off, is_excused}
-use Rattle.nq_model.specs.Reported.{loss_told, IsNameOf, Names, IsReporting, IsBusyAnswer, MustReport, IsNamedNext, IsReportedIn, IsUnnamed, IsSameSpan, NameLosses, IsReportedAt, IsReported}
-use Rattle.nq_model.specs.ReportedTest.{is_name_of, names, is_reporting, is_busy_answer, must_report, is_named_next, is_reported_in, is_unnamed, is_same_span, name_losses, is_reported_at, is_reported}
+use Rattle.nq_model.specs.Reported.{loss_told, IsNameOf, Names, IsReporting, IsBusyAnswer, MustReport, IsNamedNext, IsReportedIn, IsUnnamed}
+use Rattle.nq_model.specs.Reported.{IsSameSpan, NameLosses, IsReportedAt, IsReported}
+use Rattle.nq_model.specs.ReportedTest.{is_name_of, names, is_reporting, is_busy_answer, must_report, is_named_next, is_reported_in, is_unnamed}
+use Rattle.nq_model.specs.ReportedTest.{is_same_span, name_losses, is_reported_at, is_reported}
 use Rattle.nq_model.specs.Tests.{Tells, TellsLaw}
 use Rattle.nq_model.proofs.Endings.{EndsIn, ends-first, ends-in}
 use Rattle.nq_model.proofs.Telling.{yes, no, tells_alike, tells_and, tells_3, tells_4, tells_or, tells_not, tells_implies, tells_same, tells_le}
-use Rattle.nq_model.proofs.JournalTests.{tells_each, tells_exists, tells_throughout, tells_at_each_place, tells_who, tells_answer, tells_covers, tells_loses, tells_speaks_of}
+use Rattle.nq_model.proofs.JournalTests.{tells_each, tells_exists, tells_throughout, tells_at_each_place, tells_who, tells_answer, tells_covers}
+use Rattle.nq_model.proofs.JournalTests.{tells_loses, tells_speaks_of}
 use Rattle.nq_model.proofs.OrderedTest.{tells_unless}
 
 -- ---- accounted
@@ -47,7 +50,8 @@ tells_passed : (now : ℕ) (grant : Option Given) → Tells (has_passed now gran
 tells_passed now None = no
 tells_passed now (Some grant) = tells_le
 
-tells_late_end : (before : List Entry) (who : Who) (file until heard now : ℕ) → Tells (is_late_end before who file until heard now) (IsLateEnd before who file until heard now)
+tells_late_end : (before : List Entry) (who : Who) (file until heard now : ℕ) → Tells (is_late_end before who file until heard now)
+    (IsLateEnd before who file until heard now)
 tells_late_end before who file until heard now =
     tells_alike
     (λ h. record { heard_over = h.0; until_over = h.1; grant_over = h.2; stores_over = h.3 })
@@ -58,7 +62,8 @@ tells_long_wait : (boot now : ℕ) (grant : Option Given) (entry : Entry) → Te
 tells_long_wait boot now (Some grant) (X b time longest) = tells_3 tells_same tells_le tells_le
 tells_long_wait boot now grant other = no
 
-tells_late_opening : (before : List Entry) (who : Who) (file boot now : ℕ) → Tells (is_late_opening before who file boot now) (IsLateOpening before who file boot now)
+tells_late_opening : (before : List Entry) (who : Who) (file boot now : ℕ) → Tells (is_late_opening before who file boot now)
+    (IsLateOpening before who file boot now)
 tells_late_opening before who file boot now =
     tells_alike
     (λ h. record { waited = h.0; stores_over = h.1 })
@@ -72,7 +77,8 @@ tells_ends who file other before = no
 
 tells_ends_in : (loss : Entry) (who : Who) (file : ℕ) (before : List Entry) → Tells (ends_first loss who file before) (EndsIn loss who file before)
 tells_ends_in loss who file [] = no
-tells_ends_in loss who file (entry ∷ before) = tells_or (tells_ends who file entry before) (tells_and (tells_not (tells_loses loss entry)) (tells_ends_in loss who file before))
+tells_ends_in loss who file (entry ∷ before) = tells_or (tells_ends who file entry before) (tells_and (tells_not (tells_loses loss entry))
+    (tells_ends_in loss who file before))
 
 tells_ends_first : (loss : Entry) (who : Who) (file : ℕ) (before : List Entry) → Tells (ends_first loss who file before) (EndsFirst loss who file before)
 tells_ends_first loss who file before = tells_alike (ends-first loss who file before) (ends-in loss who file before) (tells_ends_in loss who file before)
@@ -91,7 +97,8 @@ tells_name_of : (loss : Loss) (span : Span) → Tells (is_name_of loss span) (Is
 tells_name_of loss span = tells_3 tells_same tells_same tells_same
 
 pub tells_names : (whole : List Entry) (who : Who) (loss : Loss) (entry : Entry) → Tells (names whole who loss entry) (Names whole who loss entry)
-tells_names whole who loss (A by q (Lost spans)) = tells_3 tells_who (tells_speaks_of loss.file (call_of whole by q)) (tells_exists (tells_name_of loss) spans.items)
+tells_names whole who loss (A by q (Lost spans)) = tells_3 tells_who (tells_speaks_of loss.file (call_of whole by q))
+    (tells_exists (tells_name_of loss) spans.items)
 tells_names whole who loss other = no
 
 tells_reporting : (file : ℕ) (told : Told) → Tells (is_reporting file told) (IsReporting file told)
@@ -110,31 +117,38 @@ tells_must_report : (whole : List Entry) (who : Who) (file : ℕ) (entry : Entry
 tells_must_report whole who file (C by q told) = tells_3 tells_who (tells_reporting file told) (tells_not (tells_exists (tells_busy_answer who q) whole))
 tells_must_report whole who file other = no
 
-tells_named_next : (whole : List Entry) (who : Who) (loss : Loss) (entry : Entry) (after : List Entry) → Tells (is_named_next whole who loss entry after) (IsNamedNext whole who loss entry after)
+tells_named_next : (whole : List Entry) (who : Who) (loss : Loss) (entry : Entry) (after : List Entry)
+    → Tells (is_named_next whole who loss entry after) (IsNamedNext whole who loss entry after)
 tells_named_next whole who loss (C by q told) (next ∷ after) = tells_and (tells_answer by q next) (tells_names whole who loss next)
 tells_named_next whole who loss call after = no
 
-tells_reported_in : (whole : List Entry) (who : Who) (loss : Loss) (after : List Entry) → Tells (is_reported_in whole who loss after) (IsReportedIn whole who loss after)
+tells_reported_in : (whole : List Entry) (who : Who) (loss : Loss) (after : List Entry) → Tells (is_reported_in whole who loss after)
+    (IsReportedIn whole who loss after)
 tells_reported_in whole who loss [] = yes
 tells_reported_in whole who loss (entry ∷ after) =
     tells_and
     (tells_implies (tells_must_report whole who loss.file entry) (tells_named_next whole who loss entry after))
     (tells_unless (tells_must_report whole who loss.file entry) (tells_unless (tells_names whole who loss entry) (tells_reported_in whole who loss after)))
 
-tells_unnamed : (whole before : List Entry) (who : Who) (call : Option Told) (span : Span) (entry : Entry) → Tells (is_unnamed whole before who call span entry) (IsUnnamed whole before who call span entry)
+tells_unnamed : (whole before : List Entry) (who : Who) (call : Option Told) (span : Span) (entry : Entry)
+    → Tells (is_unnamed whole before who call span entry) (IsUnnamed whole before who call span entry)
 tells_unnamed whole before who call span (L by file block first last) =
-    tells_4 tells_who (tells_speaks_of file call) (tells_name_of (loss_told file block first last) span) (tells_not (tells_exists (tells_names whole who (loss_told file block first last)) before))
+    tells_4 tells_who (tells_speaks_of file call) (tells_name_of (loss_told file block first last) span)
+    (tells_not (tells_exists (tells_names whole who (loss_told file block first last)) before))
 tells_unnamed whole before who call span other = no
 
 tells_same_span : (a b : Span) → Tells (is_same_span a b) (IsSameSpan a b)
 tells_same_span a b = tells_3 tells_same tells_same tells_same
 
-tells_name_losses : (whole before : List Entry) (who : Who) (call : Option Told) (spans : List Span) → Tells (name_losses whole before who call spans) (NameLosses whole before who call spans)
+tells_name_losses : (whole before : List Entry) (who : Who) (call : Option Told) (spans : List Span) → Tells (name_losses whole before who call spans)
+    (NameLosses whole before who call spans)
 tells_name_losses whole before who call [] = yes
 tells_name_losses whole before who call (span ∷ spans) =
-    tells_3 (tells_exists (tells_unnamed whole before who call span) before) (tells_not (tells_exists (tells_same_span span) spans)) (tells_name_losses whole before who call spans)
+    tells_3 (tells_exists (tells_unnamed whole before who call span) before) (tells_not (tells_exists (tells_same_span span) spans))
+    (tells_name_losses whole before who call spans)
 
-tells_reported_at : (whole after : List Entry) (entry : Entry) (before : List Entry) → Tells (is_reported_at whole after entry before) (IsReportedAt whole after entry before)
+tells_reported_at : (whole after : List Entry) (entry : Entry) (before : List Entry) → Tells (is_reported_at whole after entry before)
+    (IsReportedAt whole after entry before)
 tells_reported_at whole after (L who file block first last) before = tells_reported_in whole who (loss_told file block first last) after
 tells_reported_at whole after (A who q (Lost spans)) before = tells_name_losses whole before who (call_of whole who q) spans.items
 tells_reported_at whole after other before = yes

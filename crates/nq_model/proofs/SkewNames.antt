@@ -1,6 +1,7 @@
 -- The test of skew is exact, and what is named where a tick breaks the rule is the lowest host and the part with the
 -- fewest ticks of its clock.
-use Rattle.std.proofs.Common.{◌≡◌, ◌<◌, ◌≤◌, ℕ, ◌+◌, ◌++◌, zero, suc, Bool, true, false, not, ◌||◌, List, [], ◌∷◌, refl, sym, ap, subst, ◌∙◌, arith, append_assoc, below_more}
+use Rattle.std.proofs.Common.{◌≡◌, ◌<◌, ◌≤◌, ℕ, ◌+◌, ◌++◌, zero, suc, Bool, true, false, not, ◌||◌, List, [], ◌∷◌, refl, sym, ap, subst, ◌∙◌, arith}
+use Rattle.std.proofs.Common.{append_assoc, below_more}
 use Rattle.std.specs.Prelude.{◌⊎◌, Option, Some, None, nat_le, if◌then◌else◌}
 use Rattle.std.proofs.lemmas.Bool.Decides.{nat_tests}
 use Rattle.std.proofs.lemmas.Bool.{and_parts, and_from}
@@ -17,7 +18,8 @@ use Rattle.nq_model.proofs.Telling.{tells_implies, tells_le}
 -- a part that keeps to the rule passes its test
 part-passes : (longest ticks server : ℕ) → (ticks ≤ longest → server ≤ ticks + skew) → part_within longest ticks server ≡ true
 part-passes longest ticks server h =
-    let told : Tells (not (nat_le ticks longest) || nat_le server (ticks + skew)) (ticks ≤ longest → server ≤ ticks + skew) = tells_implies tells_le tells_le in told.complete h
+    let told : Tells (not (nat_le ticks longest) || nat_le server (ticks + skew)) (ticks ≤ longest → server ≤ ticks + skew) = tells_implies tells_le
+    tells_le in told.complete h
 
 -- no part that begins here breaks the rule, where so many ticks were counted already
 KeepsFrom : (host longest ticks server : ℕ) → List Event → Type 0
@@ -31,12 +33,15 @@ at-once : (host longest ticks server : ℕ) (events : List Event) → KeepsFrom 
 unfolding KeepsFrom
 at-once host longest ticks server events h = part-passes longest ticks server (λ few. let said = h [] events refl (omega arith) in omega arith)
 
-one-on : (host longest ticks server : ℕ) (e : Event) (events : List Event) → KeepsFrom host longest ticks server (e ∷ events) → KeepsFrom host longest (is_tick_of host e + ticks) (is_server_tick e + server) events
+one-on : (host longest ticks server : ℕ) (e : Event) (events : List Event) → KeepsFrom host longest ticks server (e ∷ events) → KeepsFrom host longest
+    (is_tick_of host e + ticks) (is_server_tick e + server) events
 unfolding KeepsFrom
 one-on host longest ticks server e events h part after split few =
-    let said : server_ticks (e ∷ part) + server ≤ ticks_of host (e ∷ part) + ticks + skew = h (e ∷ part) after (ap (λ es. e ∷ es) split) (omega arith) in omega arith
+    let said : server_ticks (e ∷ part) + server ≤ ticks_of host (e ∷ part) + ticks + skew = h (e ∷ part) after (ap (λ es. e ∷ es) split)
+    (omega arith) in omega arith
 
-parts-pass : (host longest ticks server : ℕ) (events : List Event) → KeepsFrom host longest ticks server events → parts_within host longest ticks server events ≡ true
+parts-pass : (host longest ticks server : ℕ) (events : List Event) → KeepsFrom host longest ticks server events → parts_within host longest ticks
+    server events ≡ true
 parts-pass host longest ticks server [] h = at-once host longest ticks server [] h
 parts-pass host longest ticks server (e ∷ events) h =
     and_from
@@ -95,7 +100,8 @@ none-chosen : {A : Type 0} (test : Bool) (o : Option A) (x : A) → (if test the
 none-chosen true o x h = (refl, h)
 none-chosen false o x h = absurd (cc)
 
-some-chosen : {A : Type 0} (test : Bool) (o : Option A) (x y : A) → (if test then o else Some x) ≡ Some y → ((test ≡ true) × (o ≡ Some y)) ⊎ ((test ≡ false) × (x ≡ y))
+some-chosen : {A : Type 0} (test : Bool) (o : Option A) (x y : A) → (if test then o else Some x) ≡ Some y → ((test ≡ true) × (o ≡ Some y))
+    ⊎ ((test ≡ false) × (x ≡ y))
 some-chosen true o x y h = inl (refl, h)
 some-chosen false o x y h = inr (refl, cc)
 
@@ -104,17 +110,25 @@ passed true o x h n = n
 passed false o x h n = absurd (cc)
 
 -- nothing is named exactly where the test of parts passes
-none-named : (host longest client server : ℕ) (events : List Event) → broken_from host longest client server events ≡ None → parts_within host longest client server events ≡ true
-none-named host longest client server [] h = (none-chosen (part_within longest client server) None (record { host = host; server = server; client = client }) h).0
+none-named : (host longest client server : ℕ) (events : List Event) → broken_from host longest client server events ≡ None → parts_within host longest
+    client server events ≡ true
+none-named host longest client server [] h = (none-chosen (part_within longest client server) None (record {
+  host = host;
+  server = server;
+  client =
+      client;
+}) h).0
 none-named host longest client server (e ∷ events) h =
-    let both = none-chosen (part_within longest client server) (broken_from host longest (is_tick_of host e + client) (is_server_tick e + server) events) (record { host = host; server = server; client = client }) h in
+    let both = none-chosen (part_within longest client server) (broken_from host longest (is_tick_of host e + client) (is_server_tick e + server)
+    events) (record { host = host; server = server; client = client }) h in
     and_from
     (part_within longest client server)
     (parts_within host longest (is_tick_of host e + client) (is_server_tick e + server) events)
     both.0
     (none-named host longest (is_tick_of host e + client) (is_server_tick e + server) events both.1)
 
-names-none : (host longest client server : ℕ) (events : List Event) → parts_within host longest client server events ≡ true → broken_from host longest client server events ≡ None
+names-none : (host longest client server : ℕ) (events : List Event) → parts_within host longest client server events ≡ true → broken_from host longest
+    client server events ≡ None
 names-none host longest client server [] h = passed (part_within longest client server) None (record { host = host; server = server; client = client }) h refl
 names-none host longest client server (e ∷ events) h =
     let both = and_parts (part_within longest client server) (parts_within host longest (is_tick_of host e + client) (is_server_tick e + server) events) h in
@@ -128,7 +142,8 @@ names-none host longest client server (e ∷ events) h =
 -- no part that ends now breaks the rule
 none-breaks : (host longest : ℕ) (events part : List Event) → broken_from host longest 0 0 events ≡ None → EndsNow part events → Breaks host longest part → ⊥
 none-breaks host longest events part none ends breaks =
-    let passes : parts_within host longest 0 0 (part ++ ends.before) ≡ true = subst (λ es. parts_within host longest 0 0 es ≡ true) ends.split (none-named host longest 0 0 events none) in
+    let passes : parts_within host longest 0 0 (part ++ ends.before) ≡ true = subst (λ es. parts_within host longest 0 0 es ≡ true) ends.split
+    (none-named host longest 0 0 events none) in
     let few = breaks.few in
     let more = breaks.more in
     let keeps : server_ticks part + 0 ≤ ticks_of host part + 0 + skew = begins-here host longest 0 0 part ends.before passes (omega arith) in
@@ -144,13 +159,15 @@ record FoundFrom (host longest client server : ℕ) (events : List Event) (b : S
   server_is : b.server ≡ server_ticks part + server
   few : b.client ≤ longest
   more : b.client + skew < b.server
-  fewest : (other after : List Event) → events ≡ other ++ after → ticks_of host other + client ≤ longest → ticks_of host other + client + skew < server_ticks other + server → b.client ≤ ticks_of host other + client
+  fewest : (other after : List Event) → events ≡ other ++ after → ticks_of host other + client ≤ longest → ticks_of host other + client + skew
+      < server_ticks other + server → b.client ≤ ticks_of host other + client
 
 part-breaks : (longest client server : ℕ) → part_within longest client server ≡ false → (client ≤ longest) × (client + skew < server)
 part-breaks longest client server h = grind (arith, nat_tests)
 
 -- what breaks the rule at once has the fewest ticks
-found-here : (host longest client server : ℕ) (events : List Event) (b : SkewBroken) → part_within longest client server ≡ false → record { host = host; server = server; client = client } ≡ b → FoundFrom host longest client server events b
+found-here : (host longest client server : ℕ) (events : List Event) (b : SkewBroken) → part_within longest client server ≡ false
+    → record { host = host; server = server; client = client } ≡ b → FoundFrom host longest client server events b
 found-here host longest client server events b h is =
     let broken = part-breaks longest client server h in
     let few = broken.0 in
@@ -179,7 +196,8 @@ FewestFrom host longest client server count events =
     → ticks_of host other + client + skew < server_ticks other + server
     → count ≤ ticks_of host other + client
 
-fewest-later : (host longest client server count : ℕ) (e : Event) (events : List Event) → part_within longest client server ≡ true → FewestFrom host longest (is_tick_of host e + client) (is_server_tick e + server) count events → FewestFrom host longest client server count (e ∷ events)
+fewest-later : (host longest client server count : ℕ) (e : Event) (events : List Event) → part_within longest client server ≡ true
+    → FewestFrom host longest (is_tick_of host e + client) (is_server_tick e + server) count events → FewestFrom host longest client server count (e ∷ events)
 unfolding FewestFrom
 fewest-later host longest client server count e events h fewest [] after split few more =
     let keeps : server ≤ client + skew = part-says longest client server h (omega arith) in absurd (omega arith)
@@ -191,7 +209,8 @@ fewest-later host longest client server count e events h fewest (o ∷ other) af
     omega arith
 
 -- what breaks it later
-found-later : (host longest client server : ℕ) (e : Event) (events : List Event) (b : SkewBroken) → part_within longest client server ≡ true → FoundFrom host longest (is_tick_of host e + client) (is_server_tick e + server) events b → FoundFrom host longest client server (e ∷ events) b
+found-later : (host longest client server : ℕ) (e : Event) (events : List Event) (b : SkewBroken) → part_within longest client server ≡ true
+    → FoundFrom host longest (is_tick_of host e + client) (is_server_tick e + server) events b → FoundFrom host longest client server (e ∷ events) b
 unfolding FewestFrom
 found-later host longest client server e events b h found = record {
   part = e ∷ found.part;
@@ -205,15 +224,18 @@ found-later host longest client server e events b h found = record {
   fewest = fewest-later host longest client server b.client e events h found.fewest;
 }
 
-named-found : (host longest client server : ℕ) (events : List Event) (b : SkewBroken) → broken_from host longest client server events ≡ Some b → FoundFrom host longest client server events b
+named-found : (host longest client server : ℕ) (events : List Event) (b : SkewBroken) → broken_from host longest client server events ≡ Some b
+    → FoundFrom host longest client server events b
 named-found host longest client server [] b h =
     elim (some-chosen (part_within longest client server) None (record { host = host; server = server; client = client }) b h) [
       | inl (passes, none) ↦ absurd (cc)
       | inr (breaks, is) ↦ found-here host longest client server [] b breaks is
     ]
 named-found host longest client server (e ∷ events) b h =
-    elim (some-chosen (part_within longest client server) (broken_from host longest (is_tick_of host e + client) (is_server_tick e + server) events) (record { host = host; server = server; client = client }) b h) [
-      | inl (passes, later) ↦ found-later host longest client server e events b passes (named-found host longest (is_tick_of host e + client) (is_server_tick e + server) events b later)
+    elim (some-chosen (part_within longest client server) (broken_from host longest (is_tick_of host e + client) (is_server_tick e + server) events)
+    (record { host = host; server = server; client = client }) b h) [
+      | inl (passes, later) ↦ found-later host longest client server e events b passes (named-found host longest (is_tick_of host e + client)
+          (is_server_tick e + server) events b later)
       | inr (breaks, is) ↦ found-here host longest client server (e ∷ events) b breaks is
     ]
 
@@ -254,13 +276,15 @@ both-none : (a b : Option SkewBroken) → a ≡ None → b ≡ None → found_fi
 both-none None b h n = n
 both-none (Some a) b h n = absurd (cc)
 
-none-lowest : (hosts longest : ℕ) (events : List Event) → lowest_broken hosts longest events ≡ None → (host : ℕ) → host < hosts → broken_from host longest 0 0 events ≡ None
+none-lowest : (hosts longest : ℕ) (events : List Event) → lowest_broken hosts longest events ≡ None → (host : ℕ) → host < hosts
+    → broken_from host longest 0 0 events ≡ None
 none-lowest zero longest events h host below = absurd (omega arith)
 none-lowest (suc hosts) longest events h host below =
     let both = none-first (lowest_broken hosts longest events) (broken_from hosts longest 0 0 events) h in
     below_more (λ k. broken_from k longest 0 0 events ≡ None) hosts (none-lowest hosts longest events both.0) both.1 host (omega arith)
 
-lowest-none : (hosts longest : ℕ) (events : List Event) → ((host : ℕ) → host < hosts → broken_from host longest 0 0 events ≡ None) → lowest_broken hosts longest events ≡ None
+lowest-none : (hosts longest : ℕ) (events : List Event) → ((host : ℕ) → host < hosts → broken_from host longest 0 0 events ≡ None)
+    → lowest_broken hosts longest events ≡ None
 lowest-none zero longest events h = refl
 lowest-none (suc hosts) longest events h =
     both-none
@@ -283,19 +307,23 @@ lowest-named (suc hosts) longest events b h =
           record {
             below = omega arith;
             fewest = said.1;
-            lowest = λ host part lower ends breaks. none-breaks host longest events part (none-lowest hosts longest events none host (omega arith)) ends breaks;
+            lowest = λ host part lower ends breaks. none-breaks host longest events part (none-lowest hosts longest events none host (omega arith))
+                ends breaks;
           }
     ]
 
 -- one tick more
-keeps-on : (hosts longest : ℕ) (events : List Event) → IsWithinSkew hosts longest events → lowest_broken hosts longest (Event.ServerTick ∷ events) ≡ None → IsWithinSkew hosts longest (Event.ServerTick ∷ events)
+keeps-on : (hosts longest : ℕ) (events : List Event) → IsWithinSkew hosts longest events → lowest_broken hosts longest (Event.ServerTick ∷ events)
+    ≡ None → IsWithinSkew hosts longest (Event.ServerTick ∷ events)
 keeps-on hosts longest events within none [] part after split host below few =
-    let passes : parts_within host longest 0 0 (part ++ after) ≡ true = subst (λ es. parts_within host longest 0 0 es ≡ true) split (none-named host longest 0 0 (Event.ServerTick ∷ events) (none-lowest hosts longest (Event.ServerTick ∷ events) none host below)) in
+    let passes : parts_within host longest 0 0 (part ++ after) ≡ true = subst (λ es. parts_within host longest 0 0 es ≡ true) split
+    (none-named host longest 0 0 (Event.ServerTick ∷ events) (none-lowest hosts longest (Event.ServerTick ∷ events) none host below)) in
     let said : server_ticks part + 0 ≤ ticks_of host part + 0 + skew = begins-here host longest 0 0 part after passes (omega arith) in
     omega arith
 keeps-on hosts longest events within none (b ∷ before) part after split host below few = within before part after (cc) host below few
 
-one-more-tick : (host longest : ℕ) (events part before : List Event) → Keeps host longest events → Event.ServerTick ∷ events ≡ part ++ before → ticks_of host part ≤ longest → ticks_of host part + skew < server_ticks part → server_ticks part ≡ ticks_of host part + skew + 1
+one-more-tick : (host longest : ℕ) (events part before : List Event) → Keeps host longest events → Event.ServerTick ∷ events ≡ part ++ before
+    → ticks_of host part ≤ longest → ticks_of host part + skew < server_ticks part → server_ticks part ≡ ticks_of host part + skew + 1
 unfolding Keeps
 one-more-tick host longest events [] before keeps split few more = absurd (omega arith)
 one-more-tick host longest events (e ∷ part) before keeps split few more =
@@ -305,18 +333,22 @@ one-more-tick host longest events (e ∷ part) before keeps split few more =
     let said : server_ticks part ≤ ticks_of host part + skew = keeps [] part before (cc) (omega arith) in
     omega arith
 
-one-more : (hosts longest : ℕ) (events : List Event) (b : SkewBroken) → IsWithinSkew hosts longest events → IsLowest hosts longest (Event.ServerTick ∷ events) b → b.server ≡ b.client + skew + 1
+one-more : (hosts longest : ℕ) (events : List Event) (b : SkewBroken) → IsWithinSkew hosts longest events → IsLowest hosts longest (Event.ServerTick
+    ∷ events) b → b.server ≡ b.client + skew + 1
 one-more hosts longest events b within named =
     let fewest = named.fewest in
     let client = fewest.client in
     let server = fewest.server in
-    let said = one-more-tick b.host longest events fewest.part fewest.ends.before (of-host-keeps hosts longest events within b.host named.below) fewest.ends.split fewest.breaks.few fewest.breaks.more in
+    let said = one-more-tick b.host longest events fewest.part fewest.ends.before (of-host-keeps hosts longest events within b.host named.below)
+    fewest.ends.split fewest.breaks.few fewest.breaks.more in
     omega arith
 
 pub each-tick-is-judged : EachTickIsJudged
 each-tick-is-judged hosts longest events within = record {
   within = keeps-on hosts longest events within;
-  refused = λ still. lowest-none hosts longest (Event.ServerTick ∷ events) (λ host below. names-none host longest 0 0 (Event.ServerTick ∷ events) (parts-pass host longest 0 0 (Event.ServerTick ∷ events) (keeps-here host longest (Event.ServerTick ∷ events) (of-host-keeps hosts longest (Event.ServerTick ∷ events) still host below))));
+  refused = λ still. lowest-none hosts longest (Event.ServerTick ∷ events) (λ host below. names-none host longest 0 0 (Event.ServerTick ∷ events)
+      (parts-pass host longest 0 0 (Event.ServerTick ∷ events) (keeps-here host longest (Event.ServerTick ∷ events) (of-host-keeps hosts longest
+      (Event.ServerTick ∷ events) still host below))));
   named = λ b said. lowest-named hosts longest (Event.ServerTick ∷ events) b said;
   one_more = λ b said. one-more hosts longest events b within (lowest-named hosts longest (Event.ServerTick ∷ events) b said);
 }

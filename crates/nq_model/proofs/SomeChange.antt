@@ -50,7 +50,9 @@ within = record {
   apart = (All-nil _, refl, tt);
   few_files = omega arith;
   few_blocks = omega arith;
-  hosts = All-append IsHostWithin (replicate 1 first_row) (replicate 63 fresh_row) (All-replicate IsHostWithin 1 first_row (record { inc = omega arith; seq = omega arith; value = omega arith })) (All-replicate IsHostWithin 63 fresh_row (record { inc = omega arith; seq = omega arith; value = omega arith }));
+  hosts = All-append IsHostWithin (replicate 1 first_row) (replicate 63 fresh_row) (All-replicate IsHostWithin 1 first_row
+      (record { inc = omega arith; seq = omega arith; value = omega arith })) (All-replicate IsHostWithin 63 fresh_row
+      (record { inc = omega arith; seq = omega arith; value = omega arith }));
   all_hosts = refl;
   opened = omega arith;
   boot = omega arith;

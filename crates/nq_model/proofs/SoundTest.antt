@@ -13,4 +13,5 @@ tells_sound journal =
     tells_alike
     (λ h. record { legal = h.0.0; ordered = h.0.1; accounted = h.0.2; excused = h.0.3; reported = h.0.4; synchronized = h.1 })
     (λ h. ((h.legal, h.ordered, h.accounted, h.excused, h.reported), h.synchronized))
-    (tells_and (tells_5 (tells_legal journal) (tells_ordered journal) (tells_accounted journal) (tells_excused journal) (tells_reported journal)) (tells_synchronized journal))
+    (tells_and (tells_5 (tells_legal journal) (tells_ordered journal) (tells_accounted journal) (tells_excused journal) (tells_reported journal))
+    (tells_synchronized journal))

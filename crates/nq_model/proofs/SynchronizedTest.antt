@@ -11,33 +11,41 @@ use Rattle.nq_model.specs.Journal.{call_of}
 use Rattle.nq_model.specs.OfTheirCall.{Reads, IsOfItsCall, AreOfTheirCall}
 use Rattle.nq_model.specs.OfTheirCallTest.{reads, is_of_its_call, are_of_their_call}
 use Rattle.nq_model.specs.Synchronized.{IsPutKept, IsDelayedOn, IsNamedLoss, IsStoredOrTold, IsSettledResize, IsKept, IsKeptAt, IsSynchronized}
-use Rattle.nq_model.specs.SynchronizedTest.{is_put_kept, is_delayed_on, is_named_loss, is_stored_or_told, is_settled_resize, is_kept, is_kept_at, is_synchronized}
+use Rattle.nq_model.specs.SynchronizedTest.{is_put_kept, is_delayed_on, is_named_loss, is_stored_or_told, is_settled_resize, is_kept, is_kept_at}
+use Rattle.nq_model.specs.SynchronizedTest.{is_synchronized}
 use Rattle.nq_model.specs.Reported.{loss_told}
 use Rattle.nq_model.specs.Tests.{Tells, TellsLaw}
 use Rattle.nq_model.proofs.Telling.{yes, no, tells_and, tells_3, tells_or, tells_implies, tells_same}
-use Rattle.nq_model.proofs.JournalTests.{tells_each, tells_exists, tells_throughout, tells_somewhere, tells_who, tells_open, tells_write_by, tells_through, tells_stored, tells_loses, tells_counted}
+use Rattle.nq_model.proofs.JournalTests.{tells_each, tells_exists, tells_throughout, tells_somewhere, tells_who, tells_open, tells_write_by}
+use Rattle.nq_model.proofs.JournalTests.{tells_through, tells_stored, tells_loses, tells_counted}
 use Rattle.nq_model.proofs.LossTests.{tells_names}
 
 -- ---- synchronized
 
-tells_put_kept : (answered : List Entry) (who : Who) (q : ℕ) (write : Entry) (before : List Entry) → Tells (is_put_kept answered who q write before) (IsPutKept answered who q write before)
-tells_put_kept answered who q write before = tells_3 (tells_write_by who write) (tells_open before who q) (tells_or (tells_through write) (tells_stored answered write))
+tells_put_kept : (answered : List Entry) (who : Who) (q : ℕ) (write : Entry) (before : List Entry) → Tells (is_put_kept answered who q write before)
+    (IsPutKept answered who q write before)
+tells_put_kept answered who q write before = tells_3 (tells_write_by who write) (tells_open before who q) (tells_or (tells_through write)
+    (tells_stored answered write))
 
 tells_delayed_on : (who : Who) (file : ℕ) (entry : Entry) → Tells (is_delayed_on who file entry) (IsDelayedOn who file entry)
 tells_delayed_on who file (W by f block number value false) = tells_and tells_who tells_same
 tells_delayed_on who file other = no
 
-tells_named_loss : (whole answered : List Entry) (write entry : Entry) → Tells (is_named_loss whole answered write entry) (IsNamedLoss whole answered write entry)
+tells_named_loss : (whole answered : List Entry) (write entry : Entry) → Tells (is_named_loss whole answered write entry) (IsNamedLoss whole answered
+    write entry)
 tells_named_loss whole answered write (L who file block first last) =
     tells_and (tells_loses (L who file block first last) write) (tells_exists (tells_names whole who (loss_told file block first last)) answered)
 tells_named_loss whole answered write other = no
 
-tells_stored_or_told : (whole stores answered : List Entry) (who : Who) (file : ℕ) (write : Entry) → Tells (not (is_delayed_on who file write) || is_stored_or_told whole stores answered write) (IsDelayedOn who file write → IsStoredOrTold whole stores answered write)
+tells_stored_or_told : (whole stores answered : List Entry) (who : Who) (file : ℕ) (write : Entry) → Tells (not (is_delayed_on who file write)
+    || is_stored_or_told whole stores answered write) (IsDelayedOn who file write → IsStoredOrTold whole stores answered write)
 tells_stored_or_told whole stores answered who file write =
     tells_implies (tells_delayed_on who file write) (tells_or (tells_stored stores write) (tells_exists (tells_named_loss whole answered write) whole))
 
-tells_settled_resize : (whole answered : List Entry) (who : Who) (q file : ℕ) (entry : Entry) (before : List Entry) → Tells (is_settled_resize whole answered who q file entry before) (IsSettledResize whole answered who q file entry before)
-tells_settled_resize whole answered who q file (Z by n f from to) before = tells_3 tells_who tells_same (tells_each (tells_stored_or_told whole before answered who file) answered)
+tells_settled_resize : (whole answered : List Entry) (who : Who) (q file : ℕ) (entry : Entry) (before : List Entry)
+    → Tells (is_settled_resize whole answered who q file entry before) (IsSettledResize whole answered who q file entry before)
+tells_settled_resize whole answered who q file (Z by n f from to) before = tells_3 tells_who tells_same
+    (tells_each (tells_stored_or_told whole before answered who file) answered)
 tells_settled_resize whole answered who q file other before = no
 
 tells_kept : (whole before : List Entry) (who : Who) (q : ℕ) (call : Option Told) → Tells (is_kept whole before who q call) (IsKept whole before who q call)
@@ -64,7 +72,8 @@ tells_reads file block (Some (Fetch f b)) = tells_and tells_same tells_same
 tells_reads file block other = no
 
 tells_of_its_call : (whole : List Entry) (entry : Entry) → Tells (is_of_its_call whole entry) (IsOfItsCall whole entry)
-tells_of_its_call whole (R who q file block value served) = tells_implies (tells_counted whole (R who q file block value served)) (tells_reads file block (call_of whole who q))
+tells_of_its_call whole (R who q file block value served) = tells_implies (tells_counted whole (R who q file block value served))
+    (tells_reads file block (call_of whole who q))
 tells_of_its_call whole other = yes
 
 pub tells_of_their_call : TellsLaw are_of_their_call AreOfTheirCall

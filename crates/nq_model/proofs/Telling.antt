@@ -27,7 +27,8 @@ tells_3 p q r = tells_alike (λ h. (h.0.0, h.0.1, h.1)) (λ h. ((h.0, h.1), h.2)
 pub tells_4 : {a b c d : Bool} {P Q R S : Type 0} → Tells a P → Tells b Q → Tells c R → Tells d S → Tells (a && b && c && d) (P × Q × R × S)
 tells_4 p q r s = tells_alike (λ h. (h.0.0, h.0.1, h.0.2, h.1)) (λ h. ((h.0, h.1, h.2), h.3)) (tells_and (tells_3 p q r) s)
 
-pub tells_5 : {a b c d e : Bool} {P Q R S T : Type 0} → Tells a P → Tells b Q → Tells c R → Tells d S → Tells e T → Tells (a && b && c && d && e) (P × Q × R × S × T)
+pub tells_5 : {a b c d e : Bool} {P Q R S T : Type 0} → Tells a P → Tells b Q → Tells c R → Tells d S → Tells e T → Tells (a && b && c && d && e)
+    (P × Q × R × S × T)
 tells_5 p q r s t = tells_alike (λ h. (h.0.0, h.0.1, h.0.2, h.0.3, h.1)) (λ h. ((h.0, h.1, h.2, h.3), h.4)) (tells_and (tells_4 p q r s) t)
 
 pub tells_or : {a b : Bool} {P Q : Type 0} → Tells a P → Tells b Q → Tells (a || b) (P ⊎ Q)

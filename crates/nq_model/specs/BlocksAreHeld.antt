@@ -10,7 +10,8 @@ use Rattle.nq_model.specs.World.{World, run}
 -- Z cut off, or 0 where there is none. Beyond a file's length nothing is held, and its length is the one of the last Z on
 -- it
 pub record KeptBlocksAreHeld (w : World) : Type 0 where
-  pub values : (id : ℕ) (f : File) (block : ℕ) (body : List ℕ) → find_file id w.server.kept.files ≡ Some f → slice_get f.bodies block ≡ Some body → value_of body ≡ held_value w.journal id block
+  pub values : (id : ℕ) (f : File) (block : ℕ) (body : List ℕ) → find_file id w.server.kept.files ≡ Some f → slice_get f.bodies block ≡ Some body
+      → value_of body ≡ held_value w.journal id block
   pub past : (id : ℕ) (f : File) (block : ℕ) → find_file id w.server.kept.files ≡ Some f → blocks_of f ≤ block → held_value w.journal id block ≡ 0
   pub lengths : (id : ℕ) (f : File) (blocks : ℕ) → find_file id w.server.kept.files ≡ Some f → last_length w.journal id ≡ Some blocks → blocks_of f ≡ blocks
 

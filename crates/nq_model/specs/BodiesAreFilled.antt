@@ -8,7 +8,7 @@ use Rattle.nq_base.specs.declared.Reply.{Reply}
 use Rattle.nq_base.specs.declared.Request.{Request}
 use Rattle.nq_model.specs.Client.{Client, Ticket, UnderWay}
 use Rattle.nq_model.specs.Journal.{Each}
-use Rattle.nq_model.specs.Message.{Message, call, reply, error, Packet}
+use Rattle.nq_model.specs.Message.{Message, call, reply, error}
 use Rattle.nq_model.specs.World.{Head, World, run}
 
 -- a body is filled: it repeats one word, that of its value

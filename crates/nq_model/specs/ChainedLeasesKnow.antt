@@ -16,7 +16,8 @@ use Rattle.nq_model.specs.World.{World, run}
 pub record KnowsHeld (w : World) (host : ℕ) (c : Client) (lease : Lease) (row : Row) : Type 0 where
   pub revision : Revision
   pub known : revision_of lease.file c.revisions ≡ Some revision
-  pub knows : KnowsFile w.server.kept (host_row w.server.kept host) row.mode lease.mode lease.file revision.rev lease.blocks (has_done_write (host_row w.server.kept host) c.who.inc lease.file c.ticket)
+  pub knows : KnowsFile w.server.kept (host_row w.server.kept host) row.mode lease.mode lease.file revision.rev lease.blocks
+      (has_done_write (host_row w.server.kept host) c.who.inc lease.file c.ticket)
 
 -- so it is with each caching lease that a client holds and that is chained, whether the lease runs or not
 abbrev pub HeldKnow : World → Type 0

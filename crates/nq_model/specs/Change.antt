@@ -1,5 +1,6 @@
 -- Changes of the kept state. Whatever a step of the server keeps, it keeps in one change, which is whole or nothing.
-use Rattle.std.specs.Prelude.{◌≡◌, ◌≤◌, ◌<◌, ◌^◌, ℕ, ◌+◌, ◌==◌, List, [], ◌∷◌, ◌++◌, Option, Some, None, All, IfSome, IsSome, find, length, nat_lt, slice_set, if◌then◌else◌}
+use Rattle.std.specs.Prelude.{◌≡◌, ◌≤◌, ◌<◌, ◌^◌, ℕ, ◌+◌, ◌==◌, List, [], ◌∷◌, ◌++◌, Option, Some, None, All, IfSome, IsSome, find, length, nat_lt}
+use Rattle.std.specs.Prelude.{slice_set, if◌then◌else◌}
 use Rattle.nq_base.specs.Name.{IsName}
 use Rattle.nq_base.specs.declared.BlockChange.{BlockChange}
 use Rattle.nq_base.specs.declared.Change.{Change}

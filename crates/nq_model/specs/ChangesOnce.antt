@@ -48,7 +48,8 @@ HasItsText other = Unit {0}
 pub record BoundsAreKept : Type 0 where
   pub receives : (s : Server) (sender next : ℕ) (d : Datagram) → IsServerWithin s → HasItsText d → IsServerWithin (receive s sender next d).server
   pub ticks : (s : Server) (now : ℕ) → IsServerWithin s → IsServerWithin (tick s now).server
-  pub crashes : (s : Server) (longest : ℕ) → IsServerWithin s → s.kept.boot + 1 < 2 ^ 31 → shortest_term ≤ longest → longest ≤ longest_term → IsServerWithin (crash s longest).server
+  pub crashes : (s : Server) (longest : ℕ) → IsServerWithin s → s.kept.boot + 1 < 2 ^ 31 → shortest_term ≤ longest → longest ≤ longest_term
+      → IsServerWithin (crash s longest).server
 
 -- that these laws speak of something: from a kept state within its bounds, over which a server boots and serves, a request is
 -- done, and is kept with its effect; when it comes again it is answered again

@@ -18,7 +18,8 @@ has_passed now (Some grant) = nat_le (grant.time + grant.term + skew + write_sla
 
 abbrev pub is_late_end : (before : List Entry) (who : Who) (file until heard now : ℕ) → Bool
 is_late_end before who file until heard now =
-    nat_le (heard + write_slack) now && nat_le (until + write_slack) now && has_passed now (last_grant before who file) && each (is_store_over who file now) before
+    nat_le (heard + write_slack) now && nat_le (until + write_slack) now && has_passed now (last_grant before who file)
+    && each (is_store_over who file now) before
 
 abbrev pub is_long_wait : (boot now : ℕ) → Option Given → Entry → Bool
 is_long_wait boot now (Some grant) (X b time longest) = (b == boot) && nat_le grant.term longest && nat_le (time + longest + skew + write_slack) now

@@ -1,6 +1,7 @@
 -- Requests that are decided once: CREATE, WRITE, RESIZE and REMOVE. The verdict is kept with its effect in one
 -- change, so a copy of the request that comes later is answered and not executed again.
-use Rattle.std.specs.Prelude.{ℕ, ◌+◌, ◌-◌, ◌%◌, ◌==◌, Bool, true, ◌&&◌, ◌||◌, List, [], ◌∷◌, ◌++◌, Option, Some, None, filter, length, max, nat_lt, nat_le, is_some, if◌then◌else◌}
+use Rattle.std.specs.Prelude.{ℕ, ◌+◌, ◌-◌, ◌%◌, ◌==◌, Bool, true, ◌&&◌, ◌||◌, List, [], ◌∷◌, ◌++◌, Option, Some, None, filter, length, max, nat_lt}
+use Rattle.std.specs.Prelude.{nat_le, is_some, if◌then◌else◌}
 use Rattle.nq_base.specs.Block.{value_of}
 use Rattle.nq_base.specs.declared.Access.{Access}
 use Rattle.nq_base.specs.declared.Asked.{Asked}
@@ -17,10 +18,12 @@ use Rattle.nq_base.specs.declared.Verdict.{Verdict}
 use Rattle.nq_base.specs.declared.Verdict.TheVariants.{Done, Fenced, Exist, NoSpace, Invalid, Stale, TryLater}
 use Rattle.nq_base.specs.declared.Who.{Who}
 use Rattle.nq_model.specs.Ask.{Reply, ask, conflicts}
-use Rattle.nq_model.specs.Kept.{File, blocks_of, blocks_in_all, find_file, find_name, replace_file, drop_file, written_file, resized_file, with_files, with_new_file, with_row, can_be_kept}
+use Rattle.nq_model.specs.Kept.{File, blocks_of, blocks_in_all, find_file, find_name, replace_file, drop_file, written_file, resized_file, with_files}
+use Rattle.nq_model.specs.Kept.{with_new_file, with_row, can_be_kept}
 use Rattle.nq_model.specs.Message.{Packet, out_of_bounds, reply}
 use Rattle.nq_model.specs.Profile.{write_slack, most_files, most_blocks, most_blocks_of_file, most_ids}
-use Rattle.nq_model.specs.Server.{Phase, serving, recovering, Server, ServerStep, taken, to_host, drops, refuses, replies, notices, after_notices, keeping, keeping_with}
+use Rattle.nq_model.specs.Server.{Phase, serving, recovering, Server, ServerStep, taken, to_host, drops, refuses, replies, notices, after_notices}
+use Rattle.nq_model.specs.Server.{keeping, keeping_with}
 use Rattle.nq_model.specs.Table.{Table, is_writing, find_row, put_row, drop_rows_of, with_rows}
 
 -- a decision: the server with the effect but without the host's row, the notices that it sends, its entries, and what
@@ -182,7 +185,8 @@ decide_write s who (Some file) block first last push body =
     if nat_le (blocks_of file) block then decides s Invalid else decide_write_in s who file block first last push body
 
 -- a push while recovering: it is stored where it rests on the boot that served last and on the kept revision
-abbrev pub decide_push_recovering : Server → (until : ℕ) (last : Option Table) → Who → Option File → (block first final : ℕ) → PushBase → (body : List ℕ) → Decision
+abbrev pub decide_push_recovering : Server → (until : ℕ) (last : Option Table) → Who → Option File → (block first final : ℕ) → PushBase
+    → (body : List ℕ) → Decision
 decide_push_recovering s until last who None block first final base body = decides s Stale
 decide_push_recovering s until last who (Some file) block first final base body =
     if nat_le (blocks_of file) block
@@ -192,7 +196,8 @@ decide_push_recovering s until last who (Some file) block first final base body 
     else decides s Fenced)
 
 -- a WRITE while recovering: one that goes through is put off
-abbrev pub decide_write_recovering : Server → (until : ℕ) (last : Option Table) → Who → (file block first final : ℕ) → Option PushBase → (body : List ℕ) → Decision
+abbrev pub decide_write_recovering : Server → (until : ℕ) (last : Option Table) → Who → (file block first final : ℕ) → Option PushBase
+    → (body : List ℕ) → Decision
 decide_write_recovering s until last who file block first final None body = decides s TryLater
 decide_write_recovering s until last who file block first final (Some base) body =
     decide_push_recovering s until last who (find_file file s.kept.files) block first final base body

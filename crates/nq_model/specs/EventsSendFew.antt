@@ -1,5 +1,5 @@
 -- An event sends few packets, in every run.
-use Rattle.std.specs.Prelude.{ℕ, ◌+◌, ◌≤◌, List, length}
+use Rattle.std.specs.Prelude.{◌+◌, ◌≤◌, List, length}
 use Rattle.nq_base.specs.declared.Event.{Event}
 use Rattle.nq_model.specs.Stepped.{most_sends}
 use Rattle.nq_model.specs.World.{Head, run, step}

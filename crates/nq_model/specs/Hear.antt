@@ -1,5 +1,6 @@
 -- What a client makes of a datagram: the reply to its request, or a notice.
-use Rattle.std.specs.Prelude.{ℕ, ◌+◌, ◌==◌, Bool, true, false, not, ◌&&◌, List, [], ◌∷◌, ◌++◌, Option, Some, None, map, filter, reverse, is_some, if◌then◌else◌}
+use Rattle.std.specs.Prelude.{ℕ, ◌+◌, ◌==◌, Bool, true, false, not, ◌&&◌, List, [], ◌∷◌, ◌++◌, Option, Some, None, map, filter, reverse, is_some}
+use Rattle.std.specs.Prelude.{if◌then◌else◌}
 use Rattle.nq_base.specs.declared.Answer.{Answer}
 use Rattle.nq_base.specs.declared.Call.{Call}
 use Rattle.nq_base.specs.declared.Call.TheVariants.{WriteSync, Sync, Resize, Remove}
@@ -14,7 +15,9 @@ use Rattle.nq_base.specs.declared.Tag.{Tag}
 use Rattle.nq_base.specs.declared.Value.{Value}
 use Rattle.nq_base.specs.declared.Want.{Want}
 use Rattle.nq_base.specs.declared.Who.{Who}
-use Rattle.nq_model.specs.Client.{Lease, Notice, UnderWay, Job, attaching, for_call, renewing, pushing, Ticket, Client, ClientStep, Clean, Revision, begun, in_state, lease_on, drop_lease, put_lease, notice_on, drop_notice, put_notice, add_losses, is_push_of, dirty_at, is_clean, other_dirty, put_clean, purge, revision_of, put_revision, is_revision, is_revision_before}
+use Rattle.nq_model.specs.Client.{Lease, Notice, UnderWay, Job, attaching, for_call, renewing, pushing, Ticket, Client, ClientStep, Clean, Revision}
+use Rattle.nq_model.specs.Client.{begun, in_state, lease_on, drop_lease, put_lease, notice_on, drop_notice, put_notice, add_losses, is_push_of}
+use Rattle.nq_model.specs.Client.{dirty_at, is_clean, other_dirty, put_clean, purge, revision_of, put_revision, is_revision, is_revision_before}
 use Rattle.nq_model.specs.Message.{Message, call, reply, error}
 use Rattle.nq_model.specs.Profile.{patience}
 use Rattle.nq_model.specs.Send.{send_next}

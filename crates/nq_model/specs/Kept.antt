@@ -1,5 +1,6 @@
 -- What the server keeps over its boots: files, one row for each host, and the numbers of its boots.
-use Rattle.std.specs.Prelude.{ℕ, ◌+◌, ◌==◌, Bool, true, not, ◌&&◌, nat_lt, List, [], ◌∷◌, ◌++◌, Option, Some, None, find, filter, map, sum_by, length, take, replicate, slice_get, slice_set, unwrap_or, if◌then◌else◌}
+use Rattle.std.specs.Prelude.{ℕ, ◌+◌, ◌==◌, Bool, true, not, ◌&&◌, nat_lt, List, [], ◌∷◌, ◌++◌, Option, Some, None, find, filter, map, sum_by, length}
+use Rattle.std.specs.Prelude.{take, replicate, slice_get, slice_set, unwrap_or, if◌then◌else◌}
 use Rattle.nq_base.specs.Block.{zeros}
 use Rattle.nq_base.specs.declared.HostRow.{HostRow}
 use Rattle.nq_base.specs.declared.Verdict.{Verdict}

@@ -41,7 +41,8 @@ abbrev pub is_legal_answer : (whole : List Entry) (who : Who) (q value : ℕ) �
 is_legal_answer whole who q value = exists (is_counted_with whole who q value) whole && at_most_one (is_counted_by whole who q) whole
 
 abbrev pub is_legal_at : (whole : List Entry) → Entry → (before : List Entry) → Bool
-is_legal_at whole (R who q file block value served) before = not (is_counted whole (R who q file block value served)) || is_legal_read whole before who q file block value
+is_legal_at whole (R who q file block value served) before = not (is_counted whole (R who q file block value served)) || is_legal_read whole before
+    who q file block value
 is_legal_at whole (A who q (OkValue value)) before = not (is_reading (call_of whole who q)) || is_legal_answer whole who q value
 is_legal_at whole (A who q (OkBy value packet)) before = not (is_reading (call_of whole who q)) || is_legal_answer whole who q value
 is_legal_at whole other before = true

@@ -49,9 +49,12 @@ pub record IsOpenRequest (w : World) (host place xid : ℕ) (r : Request) (who :
 -- an open request of a client that runs is the one that the client has under way. Each host has one open request at most,
 -- and copies of it, whether its incarnation still runs or not. No incarnation after the kept one has asked with a sequence
 pub record OpensOne (w : World) : Type 0 where
-  pub under_way : (host place xid : ℕ) (c : Client) (r : Request) (seq : ℕ) → slice_get w.clients host ≡ Some c → IsOpenRequest w host place xid r c.who seq → IsUnderWay c xid r
-  pub one : (host i j x y : ℕ) (r s : Request) (who other : Who) (m n : ℕ) → IsOpenRequest w host i x r who m → IsOpenRequest w host j y s other n → (x ≡ y) × (r ≡ s)
-  pub none_after : (place host xid : ℕ) (r : Request) (who : Who) (seq : ℕ) → Asks w.packets place host xid r who seq → (host_row w.server.kept host).inc < who.inc → ⊥
+  pub under_way : (host place xid : ℕ) (c : Client) (r : Request) (seq : ℕ) → slice_get w.clients host ≡ Some c → IsOpenRequest w host place xid r
+      c.who seq → IsUnderWay c xid r
+  pub one : (host i j x y : ℕ) (r s : Request) (who other : Who) (m n : ℕ) → IsOpenRequest w host i x r who m → IsOpenRequest w host j y s other n
+      → (x ≡ y) × (r ≡ s)
+  pub none_after : (place host xid : ℕ) (r : Request) (who : Who) (seq : ℕ) → Asks w.packets place host xid r who seq
+      → (host_row w.server.kept host).inc < who.inc → ⊥
 
 -- after every schedule within skew
 abbrev pub OneOpenInEveryRun : Type 0
@@ -85,8 +88,10 @@ pub record WasSentBefore (head : Head) (events : List Event) (place host : ℕ) 
 -- each reply comes after a request that it answers. A reply that a client can still take, since it has the number of the
 -- request under way and names the running incarnation, comes after the client first sent that request
 pub record RepliesAfter (head : Head) (events : List Event) : Type 0 where
-  pub each : (place host xid : ℕ) (a : Reply) → slice_get (run head events).packets place ≡ Some (to_host host (reply xid a)) → AnswersRequest (run head events).packets place host xid a
-  pub to_own : (place host : ℕ) (c : Client) (t : Ticket) (a : Reply) → slice_get (run head events).clients host ≡ Some c → c.ticket ≡ Some t → slice_get (run head events).packets place ≡ Some (to_host host (reply t.xid a)) → inc_of a ≡ c.who.inc → WasSentBefore head events place host t
+  pub each : (place host xid : ℕ) (a : Reply) → slice_get (run head events).packets place ≡ Some (to_host host (reply xid a))
+      → AnswersRequest (run head events).packets place host xid a
+  pub to_own : (place host : ℕ) (c : Client) (t : Ticket) (a : Reply) → slice_get (run head events).clients host ≡ Some c → c.ticket ≡ Some t
+      → slice_get (run head events).packets place ≡ Some (to_host host (reply t.xid a)) → inc_of a ≡ c.who.inc → WasSentBefore head events place host t
 
 -- after every schedule
 abbrev pub RepliesComeAfter : Type 0

@@ -57,7 +57,8 @@ open_call before who (other ∷ entries) = open_call before who entries
 abbrev pub is_write_of : (before : List Entry) (who : Who) (file block number value : ℕ) → Option ℕ → Bool
 is_write_of before who file block number value None = false
 is_write_of before who file block number value (Some q) =
-    each (is_no_other before who q) before && writes file block value (call_of before who q) && throughout (is_before_call who q) before && not (exists (is_numbered who number) before)
+    each (is_no_other before who q) before && writes file block value (call_of before who q) && throughout (is_before_call who q) before
+    && not (exists (is_numbered who number) before)
 
 abbrev pub is_write_in_order : (before : List Entry) (who : Who) (file block number value : ℕ) → Bool
 is_write_in_order before who file block number value = is_write_of before who file block number value (open_call before who before)
@@ -81,7 +82,8 @@ abbrev pub is_in_order : (whole after : List Entry) → Entry → (before : List
 is_in_order whole after (C who q told) before = is_call_in_order after before who q
 is_in_order whole after (W who file block number value through) before = is_write_in_order before who file block number value
 is_in_order whole after (Z who q file from to) before = is_resize_in_order before who q file to
-is_in_order whole after (R who q file block value served) before = not (is_counted whole (R who q file block value served)) || is_read_in_order whole before who q
+is_in_order whole after (R who q file block value served) before = not (is_counted whole (R who q file block value served)) || is_read_in_order whole
+    before who q
 is_in_order whole after (A who q said) before = not (exists (is_answer who q) before)
 is_in_order whole after other before = true
 

@@ -7,7 +7,8 @@ use Rattle.nq_base.specs.declared.Row.{Row}
 use Rattle.nq_base.specs.declared.Who.{Who}
 use Rattle.nq_model.specs.Decide.{decide, row_after}
 use Rattle.nq_model.specs.Kept.{can_be_kept, host_row}
-use Rattle.nq_model.specs.Message.{Packet, Datagram, other_rpc, other_program, other_version, unknown_procedure, garbage, request, reply, error, RpcError, asker, sequence_of}
+use Rattle.nq_model.specs.Message.{Packet, Datagram, other_rpc, other_program, other_version, unknown_procedure, garbage, request, reply, error}
+use Rattle.nq_model.specs.Message.{RpcError, asker, sequence_of}
 use Rattle.nq_model.specs.Profile.{most_hosts}
 use Rattle.nq_model.specs.Server.{Server, to_host, notices}
 use Rattle.nq_model.specs.ServerStep.{receive, row_of_attach}

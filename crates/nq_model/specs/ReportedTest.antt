@@ -51,7 +51,8 @@ is_reported_in whole who loss after =
 
 abbrev pub is_unnamed : (whole before : List Entry) (who : Who) (call : Option Told) (span : Span) → Entry → Bool
 is_unnamed whole before who call span (L by file block first last) =
-    same_who by who && speaks_of file call && is_name_of (loss_told file block first last) span && not (exists (names whole who (loss_told file block first last)) before)
+    same_who by who && speaks_of file call && is_name_of (loss_told file block first last) span
+    && not (exists (names whole who (loss_told file block first last)) before)
 is_unnamed whole before who call span other = false
 
 abbrev pub is_same_span : (a b : Span) → Bool
@@ -59,7 +60,8 @@ is_same_span a b = (a.block == b.block) && (a.first == b.first) && (a.last == b.
 
 abbrev pub name_losses : (whole before : List Entry) (who : Who) (call : Option Told) → List Span → Bool
 name_losses whole before who call [] = true
-name_losses whole before who call (span ∷ spans) = exists (is_unnamed whole before who call span) before && not (exists (is_same_span span) spans) && name_losses whole before who call spans
+name_losses whole before who call (span ∷ spans) = exists (is_unnamed whole before who call span) before && not (exists (is_same_span span) spans)
+    && name_losses whole before who call spans
 
 abbrev pub is_reported_at : (whole after : List Entry) → Entry → (before : List Entry) → Bool
 is_reported_at whole after (L who file block first last) before = is_reported_in whole who (loss_told file block first last) after

@@ -58,10 +58,14 @@ pub record IsOfRevision (first : ℕ → ℕ) (journal : List Entry) (c : Client
 -- each revision that a client knows was reached, and each of its clean blocks has the value of the file at that revision. A
 -- push under way rests on the revision that its client knows. What a reply tells that a client can still take is true
 pub record CleanBlocksHaveTheirRevision (first : ℕ → ℕ) (w : World) : Type 0 where
-  pub known : (host : ℕ) (c : Client) (file : ℕ) (r : Revision) → slice_get w.clients host ≡ Some c → revision_of file c.revisions ≡ Some r → IsReached w.journal file r.rev
-  pub clean : (host : ℕ) (c : Client) (file block : ℕ) (k : Clean) → slice_get w.clients host ≡ Some c → clean_at file block c.clean ≡ Some k → IsOfRevision first w.journal c file block k
-  pub based : (host : ℕ) (c : Client) (t : Ticket) (who : Who) (seq file block f l : ℕ) (push : PushBase) (body : List ℕ) → slice_get w.clients host ≡ Some c → c.ticket ≡ Some t → t.request ≡ Write who seq file block f l (Some push) body → push.base ≡ revision_or_zero (revision_of file c.revisions)
-  pub told : (host : ℕ) (c : Client) (t : Ticket) (place : ℕ) (a : Reply) → slice_get w.clients host ≡ Some c → c.ticket ≡ Some t → slice_get w.packets place ≡ Some (to_host host (reply t.xid a)) → inc_of a ≡ c.who.inc → TellsContents first w.journal t.request a
+  pub known : (host : ℕ) (c : Client) (file : ℕ) (r : Revision) → slice_get w.clients host ≡ Some c → revision_of file c.revisions ≡ Some r
+      → IsReached w.journal file r.rev
+  pub clean : (host : ℕ) (c : Client) (file block : ℕ) (k : Clean) → slice_get w.clients host ≡ Some c → clean_at file block c.clean ≡ Some k
+      → IsOfRevision first w.journal c file block k
+  pub based : (host : ℕ) (c : Client) (t : Ticket) (who : Who) (seq file block f l : ℕ) (push : PushBase) (body : List ℕ) → slice_get w.clients host
+      ≡ Some c → c.ticket ≡ Some t → t.request ≡ Write who seq file block f l (Some push) body → push.base ≡ revision_or_zero (revision_of file c.revisions)
+  pub told : (host : ℕ) (c : Client) (t : Ticket) (place : ℕ) (a : Reply) → slice_get w.clients host ≡ Some c → c.ticket ≡ Some t
+      → slice_get w.packets place ≡ Some (to_host host (reply t.xid a)) → inc_of a ≡ c.who.inc → TellsContents first w.journal t.request a
 
 -- this holds after every schedule within skew
 abbrev pub CleanBlocksHaveTheirRevisionInEveryRun : Type 0
@@ -71,8 +75,10 @@ CleanBlocksHaveTheirRevisionInEveryRun = InEveryRun (λ head events. CleanBlocks
 
 -- the delayed writes that a client has carry the value of the last of them, and so does each push that was ever sent
 pub record PushesCarryTheirLastWrite (w : World) : Type 0 where
-  pub waiting : (host : ℕ) (c : Client) (file block : ℕ) (p : Push) → slice_get w.clients host ≡ Some c → dirty_at file block c.dirty ≡ Some p → delayed_value w.journal c.who file block p.last ≡ Some (value_of p.body)
-  pub sent : (place host xid : ℕ) (who : Who) (seq file block f l : ℕ) (push : PushBase) (body : List ℕ) → slice_get w.packets place ≡ Some (from_host host (call xid (Write who seq file block f l (Some push) body))) → delayed_value w.journal who file block l ≡ Some (value_of body)
+  pub waiting : (host : ℕ) (c : Client) (file block : ℕ) (p : Push) → slice_get w.clients host ≡ Some c → dirty_at file block c.dirty ≡ Some p
+      → delayed_value w.journal c.who file block p.last ≡ Some (value_of p.body)
+  pub sent : (place host xid : ℕ) (who : Who) (seq file block f l : ℕ) (push : PushBase) (body : List ℕ) → slice_get w.packets place
+      ≡ Some (from_host host (call xid (Write who seq file block f l (Some push) body))) → delayed_value w.journal who file block l ≡ Some (value_of body)
 
 -- this holds after every schedule within skew
 abbrev pub PushesCarryTheirLastWriteInEveryRun : Type 0

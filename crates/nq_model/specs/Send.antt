@@ -1,5 +1,6 @@
 -- The next request: what a client sends where none is under way.
-use Rattle.std.specs.Prelude.{ℕ, ◌+◌, Bool, true, false, not, ◌&&◌, ◌||◌, List, [], ◌∷◌, ◌++◌, Option, Some, None, map, filter, nat_lt, nat_le, is_some, if◌then◌else◌}
+use Rattle.std.specs.Prelude.{ℕ, ◌+◌, Bool, true, false, not, ◌&&◌, ◌||◌, List, [], ◌∷◌, ◌++◌, Option, Some, None, map, filter, nat_lt, nat_le}
+use Rattle.std.specs.Prelude.{is_some, if◌then◌else◌}
 use Rattle.nq_base.specs.declared.Call.{Call}
 use Rattle.nq_base.specs.declared.Call.TheVariants.{Create, Lookup, Attr, Read, Fetch, Write, WriteSync, Sync, Resize, Remove}
 use Rattle.nq_base.specs.declared.Mode.{Mode}
@@ -7,7 +8,9 @@ use Rattle.nq_base.specs.declared.Push.{Push}
 use Rattle.nq_base.specs.declared.PushBase.{PushBase}
 use Rattle.nq_base.specs.declared.Request.{Request}
 use Rattle.nq_base.specs.declared.Want.{Want}
-use Rattle.nq_model.specs.Client.{Lease, Notice, UnderWay, Job, for_call, renewing, pushing, Client, ClientStep, Revision, in_state, file_of_lease, file_of_notice, lease_on, drop_lease, notice_on, first_dirty, drop_dirty, is_clean_in, is_clean, purge, revision_of, revision_or_zero, is_live, renew_due}
+use Rattle.nq_model.specs.Client.{Lease, Notice, UnderWay, Job, for_call, renewing, pushing, Client, ClientStep, Revision, in_state, file_of_lease}
+use Rattle.nq_model.specs.Client.{file_of_notice, lease_on, drop_lease, notice_on, first_dirty, drop_dirty, is_clean_in, is_clean, purge, revision_of}
+use Rattle.nq_model.specs.Client.{revision_or_zero, is_live, renew_due}
 use Rattle.nq_model.specs.Message.{call}
 use Rattle.nq_model.specs.Profile.{renewal}
 use Rattle.nq_model.specs.Table.{caches, is_writing}

@@ -1,5 +1,6 @@
 -- The server's step: a datagram, a tick, a crash (Macklem 1994).
-use Rattle.std.specs.Prelude.{ℕ, ◌+◌, ◌==◌, Bool, true, false, not, ◌&&◌, List, [], ◌∷◌, ◌++◌, Option, Some, None, filter, find, length, max, nat_lt, nat_le, slice_get, if◌then◌else◌}
+use Rattle.std.specs.Prelude.{ℕ, ◌+◌, ◌==◌, Bool, true, false, not, ◌&&◌, List, [], ◌∷◌, ◌++◌, Option, Some, None, filter, find, length, max, nat_lt}
+use Rattle.std.specs.Prelude.{nat_le, slice_get, if◌then◌else◌}
 use Rattle.nq_base.specs.Block.{value_of}
 use Rattle.nq_base.specs.declared.Access.{Access}
 use Rattle.nq_base.specs.declared.Asked.{Asked}
@@ -19,9 +20,13 @@ use Rattle.nq_base.specs.declared.Who.{Who}
 use Rattle.nq_model.specs.Ask.{Reply, ask}
 use Rattle.nq_model.specs.Decide.{decided_once, in_the_way}
 use Rattle.nq_model.specs.Kept.{File, Kept, blocks_of, find_file, find_name, replace_file, fenced_file, with_files, with_row, can_be_kept, can_rise, host_row}
-use Rattle.nq_model.specs.Message.{reply, error, Datagram, too_long, no_message, no_call, other_rpc, other_program, other_version, unknown_procedure, garbage_vacated, garbage, request, rpc_mismatch, program_unavailable, program_mismatch, procedure_unavailable, garbage_arguments, was_too_long, was_no_message, was_no_call, wrong_host, old_incarnation, out_of_bounds, no_reply_owed, asker}
+use Rattle.nq_model.specs.Message.{reply, error, Datagram, too_long, no_message, no_call, other_rpc, other_program, other_version, unknown_procedure}
+use Rattle.nq_model.specs.Message.{garbage_vacated, garbage, request, rpc_mismatch, program_unavailable, program_mismatch, procedure_unavailable}
+use Rattle.nq_model.specs.Message.{garbage_arguments, was_too_long, was_no_message, was_no_call, wrong_host, old_incarnation, out_of_bounds}
+use Rattle.nq_model.specs.Message.{no_reply_owed, asker}
 use Rattle.nq_model.specs.Profile.{skew, write_slack, most_hosts}
-use Rattle.nq_model.specs.Server.{Phase, serving, recovering, Server, ServerStep, taken, to_host, quiet, drops, says, replies, refuses, notices, after_notices, keeping_with, with_table, last_in}
+use Rattle.nq_model.specs.Server.{Phase, serving, recovering, Server, ServerStep, taken, to_host, quiet, drops, says, replies, refuses, notices}
+use Rattle.nq_model.specs.Server.{after_notices, keeping_with, with_table, last_in}
 use Rattle.nq_model.specs.Table.{Table, is_writing, same_tag, find_row, drop_row, drop_host, with_rows, empty_table}
 
 -- the row with which an incarnation begins

@@ -9,7 +9,9 @@ use Rattle.nq_base.specs.declared.Entry.{Entry}
 use Rattle.nq_base.specs.declared.Push.{Push}
 use Rattle.nq_base.specs.declared.Said.{Said}
 use Rattle.nq_base.specs.declared.Value.{Value}
-use Rattle.nq_model.specs.Client.{Lease, Clean, UnderWay, Job, attaching, for_call, renewing, pushing, Ticket, Client, ClientStep, in_state, noting, lease_on, notice_on, losses_of, other_losses, is_push_at, dirty_at, push_passes, is_clean, clean_at, drop_clean, lets_read, lets_write, used_lease, loss_list, span_list}
+use Rattle.nq_model.specs.Client.{Lease, Clean, UnderWay, Job, attaching, for_call, renewing, pushing, Ticket, Client, ClientStep, in_state, noting}
+use Rattle.nq_model.specs.Client.{lease_on, notice_on, losses_of, other_losses, is_push_at, dirty_at, push_passes, is_clean, clean_at, drop_clean}
+use Rattle.nq_model.specs.Client.{lets_read, lets_write, used_lease, loss_list, span_list}
 use Rattle.nq_model.specs.Profile.{most_dirty}
 
 -- how a journal tells what an answer brings; a read that the server served names its packet

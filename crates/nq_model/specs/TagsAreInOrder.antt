@@ -21,12 +21,17 @@ use Rattle.nq_model.specs.Bounds.{KeepsBounds}
 -- VACATED, in an EVICTED, or in a grant, as its own tag or the first of its chain. Or a row that stands has it, as its
 -- latest or first
 pub data IsKnown (w : World) (tag : Tag) : Type 0 where
-  of_lease : (host file : ℕ) (c : Client) (lease : Lease) → slice_get w.clients host ≡ Some c → lease_on file c.leases ≡ Some lease → lease.tag ≡ tag → IsKnown w tag
+  of_lease : (host file : ℕ) (c : Client) (lease : Lease) → slice_get w.clients host ≡ Some c → lease_on file c.leases ≡ Some lease → lease.tag ≡ tag
+      → IsKnown w tag
   of_notice : (host file : ℕ) (c : Client) (n : Notice) → slice_get w.clients host ≡ Some c → notice_on file c.notices ≡ Some n → n.tag ≡ tag → IsKnown w tag
-  of_vacated : (k : ℕ) (p : Packet) (xid : ℕ) (who : Who) (file : ℕ) → slice_get w.packets k ≡ Some p → p.message ≡ call xid (Request.Vacated who file tag) → IsKnown w tag
-  of_evicted : (k : ℕ) (p : Packet) (xid : ℕ) (who : Who) (file : ℕ) → slice_get w.packets k ≡ Some p → p.message ≡ call xid (Request.Evicted who file tag) → IsKnown w tag
-  of_grant : (k : ℕ) (p : Packet) (xid : ℕ) (answer : Reply) (g : Grant) → slice_get w.packets k ≡ Some p → p.message ≡ reply xid answer → grant_in answer ≡ Some g → g.tag ≡ tag → IsKnown w tag
-  of_grant_chain : (k : ℕ) (p : Packet) (xid : ℕ) (answer : Reply) (g : Grant) → slice_get w.packets k ≡ Some p → p.message ≡ reply xid answer → grant_in answer ≡ Some g → g.since ≡ tag → IsKnown w tag
+  of_vacated : (k : ℕ) (p : Packet) (xid : ℕ) (who : Who) (file : ℕ) → slice_get w.packets k ≡ Some p → p.message
+      ≡ call xid (Request.Vacated who file tag) → IsKnown w tag
+  of_evicted : (k : ℕ) (p : Packet) (xid : ℕ) (who : Who) (file : ℕ) → slice_get w.packets k ≡ Some p → p.message
+      ≡ call xid (Request.Evicted who file tag) → IsKnown w tag
+  of_grant : (k : ℕ) (p : Packet) (xid : ℕ) (answer : Reply) (g : Grant) → slice_get w.packets k ≡ Some p → p.message ≡ reply xid answer
+      → grant_in answer ≡ Some g → g.tag ≡ tag → IsKnown w tag
+  of_grant_chain : (k : ℕ) (p : Packet) (xid : ℕ) (answer : Reply) (g : Grant) → slice_get w.packets k ≡ Some p → p.message ≡ reply xid answer
+      → grant_in answer ≡ Some g → g.since ≡ tag → IsKnown w tag
   of_row : (file host : ℕ) (row : Row) → find_row file host (standing w.server).rows ≡ Some row → row.tag ≡ tag → IsKnown w tag
   of_chain : (file host : ℕ) (row : Row) → find_row file host (standing w.server).rows ≡ Some row → row.since ≡ tag → IsKnown w tag
 

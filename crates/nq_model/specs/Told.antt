@@ -65,7 +65,8 @@ abbrev pub IsChangeBy : List Entry → (value : ℕ) → Request → Type 0
 IsChangeBy journal value (Write who seq file block f l None body) =
     change_at journal file value ≡ Some (Entry.W who file block f (value_of body) true)
 IsChangeBy journal value (Write who seq file block f l (Some push) body) =
-    (value ≡ push.base + 1) × (delayed_value journal who file block l ≡ Some (value_of body)) × IsChangeAs journal (λ now. Entry.S who file block f l now) file value
+    (value ≡ push.base + 1) × (delayed_value journal who file block l ≡ Some (value_of body)) × IsChangeAs journal (λ now. Entry.S who file block f l
+    now) file value
 IsChangeBy journal value (Resize who seq q file blocks) = IsChangeAs journal (λ from. Entry.Z who q file from blocks) file value
 IsChangeBy journal value other = ⊤
 

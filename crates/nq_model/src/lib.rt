@@ -9,9 +9,7 @@ mod clocks;
 mod journals;
 
 pub use cached::{cached_at_once, has_cached_is_exact};
-pub use changes::{
-    bounds_are_kept, changes_are_met, each_step_changes_once, requests_are_decided,
-};
+pub use changes::{bounds_are_kept, changes_are_met, each_step_changes_once, requests_are_decided};
 pub use clocks::{each_tick_is_judged, skew_test_is_exact, skew_test_is_sound};
 pub use journals::{
     accounted_test_is_exact, excused_test_is_exact, legal_test_is_exact,

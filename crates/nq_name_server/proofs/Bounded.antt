@@ -1,5 +1,6 @@
 -- What travels is of packets that the inner world sent, and there is at least as much of it. The inner events are no more than the events.
-use Rattle.std.proofs.Common.{◌≡◌, ◌≤◌, ◌<◌, ◌⊎◌, inl, inr, ℕ, zero, suc, ◌+◌, ◌-◌, ◌==◌, Bool, true, false, not, ◌&&◌, List, [], ◌∷◌, ◌++◌, length, drop, Option, Some, None, if◌then◌else◌, refl, sym, ap, subst, arith, length-append}
+use Rattle.std.proofs.Common.{◌≡◌, ◌≤◌, ◌<◌, ◌⊎◌, inl, inr, ℕ, zero, suc, ◌+◌, ◌-◌, ◌==◌, Bool, true, false, not, ◌&&◌, List, [], ◌∷◌, ◌++◌, length}
+use Rattle.std.proofs.Common.{drop, Option, Some, None, if◌then◌else◌, refl, sym, ap, subst, arith, length-append}
 use Rattle.std.proofs.lemmas.List.{length-drop}
 use Rattle.std.specs.Prelude.{slice_get}
 use Rattle.nq_base.specs.declared.Event.{Event}
@@ -19,7 +20,9 @@ use Rattle.nq_name_server.specs.Served.{leaf_behind}
 use Rattle.nq_name_server.specs.Serving.{Serves, ToHost, holds_up, puts_off, reads_dir, vacates}
 use Rattle.nq_name_server.specs.declared.run.event.NameEvent.{NameEvent}
 use Rattle.nq_name_server.specs.Outer.{Outer, Outside, outside_start}
-use Rattle.nq_name_server.specs.Outside.{Changes, asks_as, beside, changes_as, delivers, heard_by, held_or, inner, inside, is_changing, lists, outside_run, outside_step, passes, reads_in, renewed, sends, sends_all, sends_from, sends_these, served_as, served_read, served_vacated, serves, takes, to_host, to_server}
+use Rattle.nq_name_server.specs.Outside.{Changes, asks_as, beside, changes_as, delivers, heard_by, held_or, inner, inside, is_changing, lists}
+use Rattle.nq_name_server.specs.Outside.{outside_run, outside_step, passes, reads_in, renewed, sends, sends_all, sends_from, sends_these, served_as}
+use Rattle.nq_name_server.specs.Outside.{served_read, served_vacated, serves, takes, to_host, to_server}
 use Rattle.nq_name_server.proofs.Inner.{Core, inner-ran}
 use Rattle.nq_name_server.proofs.Growing.{grows}
 
@@ -86,7 +89,10 @@ next-these (d ∷ ds) o n next =
 served-next : (o : Outside) (s : Serves) → IsFine o → Next (length o.ran) (served_as o s)
 unfolding served_as
 served-next o s fine =
-    next-these s.sends (record o { served = s.served }) (length o.ran) (record { fine = record { bounded = fine.bounded; many = fine.many }; few = omega arith })
+    next-these s.sends (record o { served = s.served }) (length o.ran) (record {
+      fine = record { bounded = fine.bounded; many = fine.many };
+      few = omega arith;
+    })
 
 from-next : (o : Outside) (n host : ℕ) (sent : Option (List ℕ)) → Next n o → Next n (sends_from o host sent)
 from-next o n host None next = next
@@ -109,7 +115,8 @@ unfolding sends
 many-all o number [] = omega arith
 many-all o number (p ∷ ps) =
     let one : length (o.sent ++ inside number p ∷ []) ≡ length o.sent + 1 = length-append o.sent (inside number p ∷ []) in
-    let rest : length (sends_all (sends o (inside number p)) (number + 1) ps).sent ≡ length (o.sent ++ inside number p ∷ []) + length ps = many-all (sends o (inside number p)) (number + 1) ps in
+    let rest : length (sends_all (sends o (inside number p)) (number + 1) ps).sent ≡ length (o.sent ++ inside number p ∷ []) + length ps =
+    many-all (sends o (inside number p)) (number + 1) ps in
     omega arith
 
 renewed-sent : (o : Outside) (event : Event) (w : World) → (renewed o event w).sent ≡ o.sent
@@ -131,7 +138,8 @@ inner-next o event fine =
     let events : (inner o event).ran ≡ event ∷ o.ran = ap (λ i. i.1) on in
     let grown : before ≤ length w.packets = grows o.world event in
     let rest : length more ≡ length w.packets - before = length-drop before w.packets in
-    let here : AreBelow (length w.packets) r.sent = subst (AreBelow (length w.packets)) (sym (renewed-sent o event w)) (more-below before (length w.packets) o.sent grown fine.bounded) in
+    let here : AreBelow (length w.packets) r.sent = subst (AreBelow (length w.packets)) (sym (renewed-sent o event w))
+    (more-below before (length w.packets) o.sent grown fine.bounded) in
     let bounded : AreBelow (length w.packets) (inner o event).sent = below-all r (length w.packets) before more (omega arith) here in
     let sent : length (inner o event).sent ≡ length r.sent + length more = many-all r before more in
     let same : length r.sent ≡ length o.sent = ap length (renewed-sent o event w) in
@@ -167,12 +175,14 @@ choice n false x y first second = second
 vacated-next : (o : Outside) (host : ℕ) (t : Option DirTag) → IsFine o → Next (length o.ran) (served_vacated o host t)
 vacated-next o host None fine = stays o fine
 vacated-next o host (Some t) fine =
-    choice (length o.ran) (t.who.host == host) (record o { served = vacates o.served t }) o (record { fine = record { bounded = fine.bounded; many = fine.many }; few = omega arith }) (stays o fine)
+    choice (length o.ran) (t.who.host == host) (record o { served = vacates o.served t }) o
+    (record { fine = record { bounded = fine.bounded; many = fine.many }; few = omega arith }) (stays o fine)
 
 read-next : (o : Outside) (host : ℕ) (bytes : List ℕ) (r : Option ReadDir) → IsFine o → Next (length o.ran) (served_read o host bytes r)
 read-next o host bytes None fine = vacated-next o host (dir_vacated_in bytes) fine
 read-next o host bytes (Some r) fine =
-    choice (length o.ran) (r.who.host == host && r.who.inc == (host_row o.world.server.kept host).inc) (reads_in o r o.world.server.phase) o (reads-in-next o r o.world.server.phase fine) (stays o fine)
+    choice (length o.ran) (r.who.host == host && r.who.inc == (host_row o.world.server.kept host).inc) (reads_in o r o.world.server.phase) o
+    (reads-in-next o r o.world.server.phase fine) (stays o fine)
 
 serves-next : (o : Outside) (host : ℕ) (p : Outer) (is : Option ℕ) → IsFine o → Next (length o.ran) (serves o host p is)
 serves-next o host p None fine = read-next o host p.bytes (read_dir_in p.bytes) fine
@@ -205,7 +215,8 @@ lists-next : (o : Outside) (host : ℕ) (prefix : List ℕ) (n : Option Names) (
 lists-next o host prefix None c fine = stays o fine
 lists-next o host prefix (Some n) None fine = stays o fine
 lists-next o host prefix (Some n) (Some c) fine =
-    choice (length o.ran) (c.attached && not (is_changing c.call)) (asks_as o host (lists_dir n prefix c.term c.now)) o (asks-next o host (lists_dir n prefix c.term c.now) fine) (stays o fine)
+    choice (length o.ran) (c.attached && not (is_changing c.call)) (asks_as o host (lists_dir n prefix c.term c.now)) o
+    (asks-next o host (lists_dir n prefix c.term c.now) fine) (stays o fine)
 
 -- ---- one event, and a schedule
 
@@ -234,5 +245,6 @@ pub few-run : (head : Head) (events : List NameEvent) → length (outside_run he
 few-run head [] = let none : length (outside_start head).ran ≡ 0 = begins-none head in omega arith
 few-run head (event ∷ earlier) =
     let before : length (outside_run head earlier).ran ≤ length earlier = few-run head earlier in
-    let next : length (outside_run head (event ∷ earlier)).ran ≤ length (outside_run head earlier).ran + 1 = (step-next (outside_run head earlier) event (runs-fine head earlier)).few in
+    let next : length (outside_run head (event ∷ earlier)).ran ≤ length (outside_run head earlier).ran + 1 =
+    (step-next (outside_run head earlier) event (runs-fine head earlier)).few in
     omega arith

@@ -1,5 +1,6 @@
 -- Files in order of their ids, read one behind the other.
-use Rattle.std.proofs.Common.{◌≡◌, ◌≢◌, ◌<◌, ◌≤◌, ℕ, zero, suc, ◌+◌, ◌-◌, ◌==◌, Bool, true, false, List, [], ◌∷◌, ◌++◌, Option, Some, None, if◌then◌else◌, take, length, refl, sym, subst, ap, ◌∙◌, arith, inl, inr, length-append, append_assoc, append-nil}
+use Rattle.std.proofs.Common.{◌≡◌, ◌≢◌, ◌<◌, ◌≤◌, ℕ, zero, suc, ◌+◌, ◌-◌, ◌==◌, Bool, true, false, List, [], ◌∷◌, ◌++◌, Option, Some, None}
+use Rattle.std.proofs.Common.{if◌then◌else◌, take, length, refl, sym, subst, ap, ◌∙◌, arith, inl, inr, length-append, append_assoc, append-nil}
 use Rattle.std.specs.Prelude.{All, nat_lt}
 use Rattle.std.proofs.lemmas.List.Elements.{All-head, All-tail}
 use Rattle.std.proofs.lemmas.Bool.Decides.{nat_tests}
@@ -60,7 +61,8 @@ found-above after (f ∷ files) g found = elim (decided (nat_lt after f.id)) [
 tail-above : (a : ℕ) (f : File) (files : List File) → All (λ (x : File). a < x.id) (f ∷ files) → All (λ (x : File). a < x.id) files
 tail-above a f files above = All-tail (λ (x : File). a < x.id) f files above
 
-same-behind : (prefix : List ℕ) (a b : ℕ) (files : List File) → All (λ (x : File). a < x.id) files → All (λ (x : File). b < x.id) files → names_behind prefix a files ≡ names_behind prefix b files
+same-behind : (prefix : List ℕ) (a b : ℕ) (files : List File) → All (λ (x : File). a < x.id) files → All (λ (x : File). b < x.id) files
+    → names_behind prefix a files ≡ names_behind prefix b files
 same-behind prefix a b [] first second = refl
 same-behind prefix a b (f ∷ files) first second =
     let rest = same-behind prefix a b files (tail-above a f files first) (tail-above b f files second) in
@@ -82,7 +84,8 @@ NextBehind prefix after files g =
     (same_bytes (directory g.name) prefix ≡ true → names_behind prefix after files ≡ name_of g ∷ names_behind prefix g.id files)
     × (same_bytes (directory g.name) prefix ≡ false → names_behind prefix after files ≡ names_behind prefix g.id files)
 
-first-behind : (prefix : List ℕ) (after : ℕ) (f : File) (files : List File) → All (λ (x : File). f.id < x.id) files → after < f.id → NextBehind prefix after (f ∷ files) f
+first-behind : (prefix : List ℕ) (after : ℕ) (f : File) (files : List File) → All (λ (x : File). f.id < x.id) files → after < f.id
+    → NextBehind prefix after (f ∷ files) f
 first-behind prefix after f files above less =
     let one : nat_lt after f.id ≡ true = grind (arith, nat_tests) in
     let own : nat_lt f.id f.id ≡ false = grind (arith, nat_tests) in
@@ -117,13 +120,15 @@ take-whole (suc most) (x ∷ xs) less = ap (λ l. x ∷ l) (take-whole most xs (
 whole-page : (most : ℕ) (names : List FileName) → length names ≤ most → (take most names ≡ names) × (nat_lt most (length names) ≡ false)
 whole-page most names few = (take-whole most names few, grind (arith, nat_tests))
 
-full-page : (most : ℕ) (names : List FileName) (e : FileName) (rest : List FileName) → length names ≡ most → (take most (names ++ e ∷ rest) ≡ names) × (nat_lt most (length (names ++ e ∷ rest)) ≡ true)
+full-page : (most : ℕ) (names : List FileName) (e : FileName) (rest : List FileName) → length names ≡ most → (take most (names ++ e ∷ rest) ≡ names)
+    × (nat_lt most (length (names ++ e ∷ rest)) ≡ true)
 full-page most names e rest all =
     let many : length (names ++ e ∷ rest) ≡ length names + length (e ∷ rest) = length-append names (e ∷ rest) in
     (ap (λ n. take n (names ++ e ∷ rest)) (sym all) ∙ take-front names (e ∷ rest), grind (arith, nat_tests))
 
 pub ends : (prefix : List ℕ) (start : ℕ) (names : List FileName) (last : ℕ) (kept : Kept) → IsNext kept last None → length names ≤ most_names
-    → names_behind prefix start kept.files ≡ names ++ names_behind prefix last kept.files → record { names = names; more = false } ≡ leaf_behind prefix start kept.files
+    → names_behind prefix start kept.files ≡ names ++ names_behind prefix last kept.files → record { names = names; more = false }
+    ≡ leaf_behind prefix start kept.files
 ends prefix start names last kept next few far =
     let rest : names_behind prefix last kept.files ≡ [] = none-behind prefix last kept.files (row-none (file_after last kept.files) next) in
     let all : names_behind prefix start kept.files ≡ names = far ∙ ap (λ l. names ++ l) rest ∙ append-nil names in
@@ -239,7 +244,8 @@ pub removes-none : (who : Who) (file : ℕ) (kept : Kept) → IsWithinBounds kep
 removes-none who file kept within next =
     sym (ap (changes_of who) (found-behind file kept within ∙ ap (of-id file) (row-none (file_after (file - 1) kept.files) next)))
 
-pub removes-other : (who : Who) (file : ℕ) (kept : Kept) (r : FileRow) → IsWithinBounds kept → IsNext kept (file - 1) (Some r) → r.id ≢ file → None ≡ changes_of who (find_file file kept.files)
+pub removes-other : (who : Who) (file : ℕ) (kept : Kept) (r : FileRow) → IsWithinBounds kept → IsNext kept (file - 1) (Some r) → r.id ≢ file
+    → None ≡ changes_of who (find_file file kept.files)
 removes-other who file kept r within next other =
     let f = row-some (file_after (file - 1) kept.files) r next in
     let apart : f.0.id ≢ file = λ e. other (ap (λ (x : FileRow). x.id) f.1.1 ∙ e) in
@@ -249,7 +255,8 @@ removes-other who file kept r within next other =
 abbrev changing : Who → List ℕ → Option Changes
 changing who prefix = Some (record { who = who; prefix = prefix })
 
-pub removes-own : (who : Who) (file : ℕ) (prefix : List ℕ) (kept : Kept) (r : FileRow) → prefix ≡ directory r.name → IsWithinBounds kept → IsNext kept (file - 1) (Some r) → r.id ≡ file
+pub removes-own : (who : Who) (file : ℕ) (prefix : List ℕ) (kept : Kept) (r : FileRow) → prefix ≡ directory r.name → IsWithinBounds kept
+    → IsNext kept (file - 1) (Some r) → r.id ≡ file
     → Some (record { who = who; prefix = prefix }) ≡ changes_of who (find_file file kept.files)
 removes-own who file prefix kept r named within next same =
     let f = row-some (file_after (file - 1) kept.files) r next in

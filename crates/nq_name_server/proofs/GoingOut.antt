@@ -72,7 +72,8 @@ sends-shown w ran a p none at =
 
 -- ---- by whether there was memory
 
-pub flush_all : {A E : Type 0} (r : Result A E) (a b : AroundOver) → OnOk r (b ≡ flushed_one a) → OnErr r (b ≡ a) → (w : World) (ran : List Event) → shown w ran b ≡ shown w ran a
+pub flush_all : {A E : Type 0} (r : Result A E) (a b : AroundOver) → OnOk r (b ≡ flushed_one a) → OnErr r (b ≡ a) → (w : World) (ran : List Event)
+    → shown w ran b ≡ shown w ran a
 flush_all (Ok x) a b sent refused w ran = ap (shown w ran) sent ∙ flushes w ran a a.due refl
 flush_all (Err e) a b sent refused w ran = ap (shown w ran) refused
 

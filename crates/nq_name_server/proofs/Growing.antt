@@ -9,7 +9,8 @@ use Rattle.nq_model.specs.Hear.{hear}
 use Rattle.nq_model.specs.Message.{Message, Packet, datagram_of}
 use Rattle.nq_model.specs.Server.{ServerStep}
 use Rattle.nq_model.specs.ServerStep.{receive, tick, crash}
-use Rattle.nq_model.specs.World.{World, after_client, after_hearing, after_server, at_client, deliver, deliver_to, deliver_to_client, from_host, sending_host, step}
+use Rattle.nq_model.specs.World.{World, after_client, after_hearing, after_server, at_client, deliver, deliver_to, deliver_to_client, from_host}
+use Rattle.nq_model.specs.World.{sending_host, step}
 
 abbrev Grows : World → World → Type 0
 Grows w v = length w.packets ≤ length v.packets

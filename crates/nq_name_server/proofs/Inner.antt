@@ -1,5 +1,6 @@
 -- The inner world is the run of the inner events, and to ask for a list is no event of it.
-use Rattle.std.proofs.Common.{◌≡◌, ℕ, ◌+◌, ◌==◌, ◌&&◌, not, Bool, true, false, List, [], ◌∷◌, Option, Some, None, refl, sym, ap, ◌∙◌, subst, length, drop, if◌then◌else◌}
+use Rattle.std.proofs.Common.{◌≡◌, ℕ, ◌+◌, ◌==◌, ◌&&◌, not, Bool, true, false, List, [], ◌∷◌, Option, Some, None, refl, sym, ap, ◌∙◌, subst, length}
+use Rattle.std.proofs.Common.{drop, if◌then◌else◌}
 use Rattle.std.specs.Prelude.{slice_get, slice_set}
 use Rattle.nq_base.specs.declared.Event.{Event}
 use Rattle.nq_base.specs.declared.Party.{Party}
@@ -18,7 +19,9 @@ use Rattle.nq_name_server.specs.Served.{leaf_behind}
 use Rattle.nq_name_server.specs.Serving.{Serves, ToHost, holds_up, puts_off, reads_dir, vacates}
 use Rattle.nq_name_server.specs.declared.run.event.NameEvent.{NameEvent}
 use Rattle.nq_name_server.specs.Outer.{Outer, Outside, outside_start}
-use Rattle.nq_name_server.specs.Outside.{Changes, beside, changes_as, delivers, asks_as, heard_by, held_or, inner, inside, is_changing, lists, outside_run, outside_step, passes, reads, reads_in, renewed, sends, sends_all, sends_from, sends_these, served_as, served_read, served_vacated, serves, takes, to_host, to_server, vacates_own}
+use Rattle.nq_name_server.specs.Outside.{Changes, beside, changes_as, delivers, asks_as, heard_by, held_or, inner, inside, is_changing, lists}
+use Rattle.nq_name_server.specs.Outside.{outside_run, outside_step, passes, reads, reads_in, renewed, sends, sends_all, sends_from, sends_these}
+use Rattle.nq_name_server.specs.Outside.{served_as, served_read, served_vacated, serves, takes, to_host, to_server}
 use Rattle.nq_name_server.specs.Theorem.{ListsChangeNothing, RunsInside}
 
 -- ---- what is sent changes nothing inside
@@ -68,7 +71,10 @@ inner-ran o event =
 -- ---- a delivery
 
 -- A delivery runs the delivery of an inner packet, or leaves the inner world as it is. What is shown of both holds after it.
-module _ (o : Outside) (Q : World × List Event → Type 0) (stays : Q (Core o)) (goes : (number : ℕ) → Q (step o.world (Event.Deliver number), Event.Deliver number ∷ o.ran)) where
+module _ (o : Outside) (Q : World × List Event → Type 0) (stays : Q (Core o)) (goes : (number : ℕ) → Q (
+  step o.world (Event.Deliver number),
+  Event.Deliver number ∷ o.ran,
+)) where
   quiet : (u : Outside) → Core u ≡ Core o → Q (Core u)
   quiet u same = subst Q (sym same) stays
 
@@ -84,8 +90,10 @@ module _ (o : Outside) (Q : World × List Event → Type 0) (stays : Q (Core o))
   passing number (Some c) = holding number (holds_up o.served c.who c.prefix)
 
   reading-in : (r : ReadDir) (phase : Phase) → Q (Core (reads_in o r phase))
-  reading-in r serving = quiet (served_as o (reads_dir o.served r (leaf_behind r.prefix r.after o.world.server.kept.files))) (core-served o (reads_dir o.served r (leaf_behind r.prefix r.after o.world.server.kept.files)))
-  reading-in r (recovering until heard last) = quiet (served_as o (record { served = o.served; sends = puts_off r ∷ [] })) (core-served o (record { served = o.served; sends = puts_off r ∷ [] }))
+  reading-in r serving = quiet (served_as o (reads_dir o.served r (leaf_behind r.prefix r.after o.world.server.kept.files)))
+      (core-served o (reads_dir o.served r (leaf_behind r.prefix r.after o.world.server.kept.files)))
+  reading-in r (recovering until heard last) = quiet (served_as o (record { served = o.served; sends = puts_off r ∷ [] }))
+      (core-served o (record { served = o.served; sends = puts_off r ∷ [] }))
 
   either : (b : Bool) (u : Outside) → Q (Core u) → Q (Core (if b then u else o))
   either true u h = h
@@ -93,7 +101,8 @@ module _ (o : Outside) (Q : World × List Event → Type 0) (stays : Q (Core o))
 
   reading : (host : ℕ) (r : ReadDir) → Q (Core (reads o host r))
   reading host r =
-      either (r.who.host == host && r.who.inc == (host_row o.world.server.kept host).inc) (reads_in o r o.world.server.phase) (reading-in r o.world.server.phase)
+      either (r.who.host == host && r.who.inc == (host_row o.world.server.kept host).inc) (reads_in o r o.world.server.phase)
+      (reading-in r o.world.server.phase)
 
   vacating : (host : ℕ) (t : Option DirTag) → Q (Core (served_vacated o host t))
   vacating host None = stays
@@ -136,7 +145,8 @@ either-core o u false same = refl
 
 pub core-listing : (o : Outside) (host : ℕ) (prefix : List ℕ) (n : Option Names) (c : Option Client) → Core (lists o host prefix n c) ≡ Core o
 core-listing o host prefix (Some n) (Some c) =
-    either-core o (asks_as o host (lists_dir n prefix c.term c.now)) (c.attached && not (is_changing c.call)) (core-asked o host (lists_dir n prefix c.term c.now))
+    either-core o (asks_as o host (lists_dir n prefix c.term c.now)) (c.attached && not (is_changing c.call))
+    (core-asked o host (lists_dir n prefix c.term c.now))
 core-listing o host prefix None c = refl
 core-listing o host prefix (Some n) None = refl
 
@@ -153,8 +163,10 @@ runs-on : (head : Head) (o : Outside) (event : Event) → Runs head (Core o) →
 runs-on head o event h = subst (Runs head) (sym (inner-ran o event)) (ap (λ v. step v event) h)
 
 stepping : (head : Head) (o : Outside) (event : NameEvent) → Runs head (Core o) → Runs head (Core (outside_step o event))
-stepping head o (NameEvent.List host prefix) h = subst (Runs head) (sym (core-listing o host prefix (slice_get o.sides host) (slice_get o.world.clients host))) h
-stepping head o (NameEvent.Plain (Event.Deliver number)) h = delivery-cases o (Runs head) h (λ k. ap (λ v. step v (Event.Deliver k)) h) (slice_get o.sent number)
+stepping head o (NameEvent.List host prefix) h = subst (Runs head) (sym (core-listing o host prefix (slice_get o.sides host)
+    (slice_get o.world.clients host))) h
+stepping head o (NameEvent.Plain (Event.Deliver number)) h = delivery-cases o (Runs head) h (λ k. ap (λ v. step v (Event.Deliver k)) h)
+    (slice_get o.sent number)
 stepping head o (NameEvent.Plain (Event.Call host op)) h = runs-on head o (Event.Call host op) h
 stepping head o (NameEvent.Plain Event.ServerTick) h = runs-on head o Event.ServerTick h
 stepping head o (NameEvent.Plain (Event.ClientTick host)) h = runs-on head o (Event.ClientTick host) h

@@ -1,5 +1,6 @@
 -- What a server makes of a READDIRLOOK, in the order of the code.
-use Rattle.std.proofs.Common.{◌≡◌, ◌+◌, ◌%◌, ◌==◌, ℕ, suc, Bool, true, false, not, ◌&&◌, List, [], ◌∷◌, ◌++◌, Option, Some, None, if◌then◌else◌, length, refl, sym, ap, subst, ◌∙◌, arith, append_assoc}
+use Rattle.std.proofs.Common.{◌≡◌, ◌+◌, ◌%◌, ◌==◌, ℕ, suc, Bool, true, false, not, ◌&&◌, List, [], ◌∷◌, ◌++◌, Option, Some, None, if◌then◌else◌}
+use Rattle.std.proofs.Common.{length, refl, sym, ap, subst, ◌∙◌, arith, append_assoc}
 use Rattle.std.specs.Prelude.{nat_lt}
 use Rattle.std.proofs.lemmas.Bool.{eq-eqb}
 use Rattle.std.proofs.lemmas.Bool.Decides.{nat_tests}
@@ -20,7 +21,9 @@ use Rattle.nq_wire.specs.Outbox.{Datagrams}
 use Rattle.nq_wire.specs.Parts.{grant_bytes, optional}
 use Rattle.nq_name_server.specs.Sending.{IsServed, all_sent, sent}
 use Rattle.nq_name_server.specs.Served.{Served, Leaf, most_directories, number_of}
-use Rattle.nq_name_server.specs.Serving.{AreReady, ToHost, answers, entered, evicting, for_asker, leased, lists_for, notice_after, notices, number_for, number_or_next, own_again, own_told, puts_off, reads_as, reads_dir, reads_numbered, replied, tells}
+use Rattle.nq_name_server.specs.Serving.{AreReady, ToHost, answers, entered, evicting, for_asker, leased, lists_for, notice_after, notices}
+use Rattle.nq_name_server.specs.Serving.{number_for, number_or_next, own_again, own_told, puts_off, reads_as, reads_dir, reads_numbered, replied}
+use Rattle.nq_name_server.specs.Serving.{tells}
 
 -- ---- numbers of directories
 
@@ -36,7 +39,8 @@ numbered s r leaf number is = step (number_of r.prefix s.directories) refl is
         rw other refl
 
     next : (b : Bool) → (if b then Some (length s.directories) else None) ≡ Some number
-        → (if b then reads_numbered (record s { directories = s.directories ++ r.prefix ∷ [] }) r leaf (length s.directories) else answers s r s.table leaf None) ≡ reads_numbered (record s { directories = entered number r.prefix s.directories }) r leaf number
+        → (if b then reads_numbered (record s { directories = s.directories ++ r.prefix ∷ [] }) r leaf (length s.directories) else answers s r s.table
+        leaf None) ≡ reads_numbered (record s { directories = entered number r.prefix s.directories }) r leaf number
     next true e =
         let same : length s.directories ≡ number = cc in
         let last = eq-eqb number (length s.directories) (sym same) in
@@ -57,7 +61,8 @@ pub none_is_left : (s : Served) (r : ReadDir) (leaf : Leaf) → number_for s r.p
 none_is_left s r leaf is = step (number_of r.prefix s.directories) is
   where
     next : (b : Bool) → (if b then Some (length s.directories) else None) ≡ None
-        → (if b then reads_numbered (record s { directories = s.directories ++ r.prefix ∷ [] }) r leaf (length s.directories) else answers s r s.table leaf None) ≡ answers s r s.table leaf None
+        → (if b then reads_numbered (record s { directories = s.directories ++ r.prefix ∷ [] }) r leaf (length s.directories) else answers s r s.table
+        leaf None) ≡ answers s r s.table leaf None
     next true e = absurd (cc)
     next false e = refl
 
@@ -90,7 +95,11 @@ notices-length prefix xid (row ∷ rows) = ap suc (notices-length prefix ((xid +
 replies : (s : Served) (r : ReadDir) (table : Table) (leaf : Leaf) (own : List Row) (asked : Asked)
     → leased s r table leaf own asked ≡ replied (record s { table = table }) r leaf (notices r.prefix s.notice own) asked
 replies s r table leaf own (Asked.TryLater clash) =
-    ap (λ n. record { served = record s { table = table; notice = notice_after s.notice n }; sends = notices r.prefix s.notice own ++ puts_off r ∷ [] }) (notices-length r.prefix s.notice own)
+    ap (λ n. record {
+      served = record s { table = table; notice = notice_after s.notice n };
+      sends = notices r.prefix s.notice own ++ puts_off r
+          ∷ [];
+    }) (notices-length r.prefix s.notice own)
 replies s r table leaf own (Asked.Granted grant) = refl
 replies s r table leaf own Asked.NoLease = refl
 replies s r table leaf own Asked.Free = refl
@@ -98,7 +107,11 @@ replies s r table leaf own Asked.Free = refl
 -- a READDIRLOOK of a directory with a number, as the code answers it
 answered : (s : Served) (r : ReadDir) (leaf : Leaf) (number : ℕ) (before : List ToHost) → number_for s r.prefix ≡ Some number
     → before ≡ notices r.prefix s.notice (own_told r.who (find_row number r.who.host s.table.rows))
-    → reads_dir s r leaf ≡ replied (record s { table = (ask (for_asker s.table r.who number) (lists_for s r number)).table; directories = entered number r.prefix s.directories }) r leaf before (ask (for_asker s.table r.who number) (lists_for s r number)).asked
+    → reads_dir s r leaf ≡ replied (record s {
+      table = (ask (for_asker s.table r.who number) (lists_for s r number)).table;
+      directories =
+          entered number r.prefix s.directories;
+    }) r leaf before (ask (for_asker s.table r.who number) (lists_for s r number)).asked
 unfolding with_rows
 answered s r leaf number before is told =
     let entered-in = record s { directories = entered number r.prefix s.directories } in
@@ -107,7 +120,8 @@ answered s r leaf number before is told =
     let own = find_row number r.who.host s.table.rows in
     numbered s r leaf number is
     ∙ replies entered-in r after.table leaf (evicting (find_row number r.who.host (own_again r.who number own s.table.rows))) after.asked
-    ∙ ap (λ b. replied (record entered-in { table = after.table }) r leaf b after.asked) (ap (notices r.prefix s.notice) (own-said r.who number s.table.rows own refl) ∙ sym told)
+    ∙ ap (λ b. replied (record entered-in { table = after.table }) r leaf b after.asked) (ap (notices r.prefix s.notice)
+    (own-said r.who number s.table.rows own refl) ∙ sym told)
 
 -- ---- what is sent
 
@@ -137,7 +151,8 @@ given s new r leaf begun put-off grant out out' ready same sends = record {
 }
 
 -- the page with a lease
-pub granted_page : (s new : Served) (r : ReadDir) (leaf : Leaf) (begun put-off : List ℕ) (before : List ToHost) (asked : Asked) (grant : Grant) (out out' : Datagrams)
+pub granted_page : (s new : Served) (r : ReadDir) (leaf : Leaf) (begun put-off : List ℕ) (before : List ToHost) (asked : Asked) (grant : Grant)
+    (out out' : Datagrams)
     → asked ≡ Asked.Granted grant → AreReady r leaf begun put-off → new ≡ s
     → out'.datagrams ≡ out.datagrams ++ (Party.Client r.who.host, begun ++ optional grant_bytes (Some grant)) ∷ []
     → IsServed (replied s r leaf before asked) new out out'
@@ -160,14 +175,19 @@ full_page s new r leaf begun put-off before asked out out' is ready same sends =
     subst (λ a. IsServed (replied s r leaf before a) new out out') (sym is) (given s new r leaf begun put-off None out out' ready same sends)
 
 -- the reply that puts off, behind what is told before
-pub waited : (s new : Served) (r : ReadDir) (leaf : Leaf) (begun put-off : List ℕ) (before : List ToHost) (asked : Asked) (clash : Clash) (out out' : Datagrams)
+pub waited : (s new : Served) (r : ReadDir) (leaf : Leaf) (begun put-off : List ℕ) (before : List ToHost) (asked : Asked) (clash : Clash)
+    (out out' : Datagrams)
     → asked ≡ Asked.TryLater clash → AreReady r leaf begun put-off → new ≡ record s { notice = notice_after s.notice (length before) }
     → out'.datagrams ≡ out.datagrams ++ all_sent before ++ (Party.Client r.who.host, put-off) ∷ []
     → IsServed (replied s r leaf before asked) new out out'
 waited s new r leaf begun put-off before asked clash out out' is ready counts sends =
     let all = sent-both before (puts_off r ∷ []) ∙ ap (λ d. all_sent before ++ d ∷ []) (put-off-is r leaf begun put-off ready) in
     let last = append_assoc out.datagrams (all_sent before) ((Party.Client r.who.host, put-off) ∷ []) in
-    let both : IsServed (replied s r leaf before (Asked.TryLater clash)) new out out' = record { served = counts; sends = sends ∙ last ∙ sym (ap (λ l. out.datagrams ++ l) all) } in
+    let both : IsServed (replied s r leaf before (Asked.TryLater clash)) new out out' = record {
+      served = counts;
+      sends = sends ∙ last
+          ∙ sym (ap (λ l. out.datagrams ++ l) all);
+    } in
     subst (λ a. IsServed (replied s r leaf before a) new out out') (sym is) both
 
 pub ruleset replying = (waited)

@@ -20,7 +20,8 @@ asked o host None = refl
 asked o host (Some bytes) = refl
 
 -- a host that asks
-pub asked_shows : (w : World) (ran : List Event) (a : AroundOver) (host : ℕ) (asks : Asks) → once_sent w ran (asked_as a host asks) ≡ asks_as (over w ran a) host asks
+pub asked_shows : (w : World) (ran : List Event) (a : AroundOver) (host : ℕ) (asks : Asks) → once_sent w ran (asked_as a host asks)
+    ≡ asks_as (over w ran a) host asks
 unfolding asks_as
 asked_shows w ran a host asks = asked (over w ran (asked_as a host asks)) host asks.sends
 
@@ -52,7 +53,8 @@ asks_on (Err e) a b host prefix term now less made = tt
 
 pub hears_on : {A E : Type 0} (r : Result A E) (a b : AroundOver) (host : ℕ) (bytes : List ℕ) (term now : ℕ) → host < length a.sides
     → OnOk r ((n : Names) → slice_get a.sides host ≡ Some n → b ≡ asked_as a host (heard n bytes term now))
-    → OnOk r ((w : World) (ran : List Event) (c : Client) → c.term ≡ term → c.now ≡ now → once_sent w ran b ≡ heard_by (over w ran a) host bytes (slice_get a.sides host) (Some c))
+    → OnOk r ((w : World) (ran : List Event) (c : Client) → c.term ≡ term → c.now ≡ now → once_sent w ran b ≡ heard_by (over w ran a) host bytes
+    (slice_get a.sides host) (Some c))
 hears_on (Ok x) a b host bytes term now less made = λ w ran c its-term its-now.
     let n = there a.sides host less in
     let o = over w ran a in

@@ -1,5 +1,6 @@
 -- Those who read a directory are told one by one.
-use Rattle.std.proofs.Common.{◌≡◌, ◌+◌, ◌%◌, ◌<◌, ℕ, suc, true, false, List, [], ◌∷◌, if◌then◌else◌, ◌++◌, drop, get_or, length, sym, ap, ◌∙◌, add-one, append_assoc, arith, drop-cons}
+use Rattle.std.proofs.Common.{◌≡◌, ◌+◌, ◌%◌, ◌<◌, ℕ, suc, true, false, List, [], ◌∷◌, if◌then◌else◌, ◌++◌, drop, get_or, length, sym, ap, ◌∙◌}
+use Rattle.std.proofs.Common.{add-one, append_assoc, arith, drop-cons}
 use Rattle.nq_base.specs.declared.Access.{Access}
 use Rattle.nq_base.specs.declared.Party.{Party}
 use Rattle.nq_base.specs.declared.Row.{Row}
@@ -9,11 +10,14 @@ use Rattle.nq_name_server.specs.Sending.{all_sent, sent}
 use Rattle.nq_name_server.specs.Serving.{notice_after, notice_to, notices, readers}
 
 module _ (prefix : List ℕ) (number host : ℕ) (rows : List Row) (i : ℕ) (row : Row) (within : i < length rows) (is : row ≡ get_or rows i row) where
-  next-row : readers number host (drop i rows) ≡ (if conflicts number host Access.Write row then row ∷ readers number host (drop (i + 1) rows) else readers number host (drop (i + 1) rows))
+  next-row : readers number host (drop i rows) ≡ (if conflicts number host Access.Write row then row ∷ readers number host (drop (i + 1) rows)
+      else readers number host (drop (i + 1) rows))
   next-row =
       ap (readers number host) (drop-cons rows i row within)
-      ∙ ap (λ r. if conflicts number host Access.Write r then r ∷ readers number host (drop (suc i) rows) else readers number host (drop (suc i) rows)) (sym is)
-      ∙ ap (λ n. if conflicts number host Access.Write row then row ∷ readers number host (drop n rows) else readers number host (drop n rows)) (sym (add-one i))
+      ∙ ap (λ r. if conflicts number host Access.Write r then r ∷ readers number host (drop (suc i) rows) else readers number host
+      (drop (suc i) rows)) (sym is)
+      ∙ ap (λ n. if conflicts number host Access.Write row then row ∷ readers number host (drop n rows) else readers number host (drop n rows))
+      (sym (add-one i))
 
   -- this one is told
   told-row : conflicts number host Access.Write row ≡ true → readers number host (drop i rows) ≡ row ∷ readers number host (drop (i + 1) rows)

@@ -9,10 +9,12 @@ use Rattle.nq_directory.specs.declared.listing.messages.ReadDir.{ReadDir}
 use Rattle.nq_model.specs.Table.{Table}
 use Rattle.nq_name_server.specs.Sending.{IsHeld, IsServed}
 use Rattle.nq_name_server.specs.Served.{Leaf, Served, most_directories, number_of}
-use Rattle.nq_name_server.specs.Serving.{Serves, answers, gives_up, holds_as, holds_for, holds_up, leased, reads_as, reads_dir, reads_numbered, readers, vacates}
+use Rattle.nq_name_server.specs.Serving.{Serves, answers, gives_up, holds_as, holds_for, holds_up, leased, reads_as, reads_dir, reads_numbered}
+use Rattle.nq_name_server.specs.Serving.{readers, vacates}
 use Rattle.nq_wire.specs.Outbox.{Datagrams}
 
-leased-time : (s : Served) (r : ReadDir) (table : Table) (leaf : Leaf) (own : List Row) (asked : Asked) → (leased s r table leaf own asked).served.time ≡ s.time
+leased-time : (s : Served) (r : ReadDir) (table : Table) (leaf : Leaf) (own : List Row) (asked : Asked)
+    → (leased s r table leaf own asked).served.time ≡ s.time
 leased-time s r table leaf own (Asked.TryLater clash) = refl
 leased-time s r table leaf own (Asked.Granted grant) = refl
 leased-time s r table leaf own Asked.NoLease = refl
@@ -49,7 +51,8 @@ held-as true s new out out' who prefix None h = absurd h
 held-as false s new out out' who prefix None h = ap (λ (x : Served). x.time) h.served
 held-as held s new out out' who prefix (Some number) h = held-rows held s new out out' who prefix number (readers number who.host s.table.rows) h
 
-pub time_held : (held : Bool) (s new : Served) (out out' : Datagrams) (who : Who) (prefix : List ℕ) → IsHeld held (holds_up s who prefix) s new out out' → new.time ≡ s.time
+pub time_held : (held : Bool) (s new : Served) (out out' : Datagrams) (who : Who) (prefix : List ℕ) → IsHeld held (holds_up s who prefix) s new out
+    out' → new.time ≡ s.time
 time_held held s new out out' who prefix h = held-as held s new out out' who prefix (number_of prefix s.directories) h
 
 -- ---- lists that are given up

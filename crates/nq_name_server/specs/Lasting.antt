@@ -1,6 +1,6 @@
 -- Why a host that knows of a name knows what the server keeps: while the lease of a list runs, the server has a reading row on the
 -- directory that outlives it, or it recovers for longer than that; and the list has what is kept of its directory.
-use Rattle.std.specs.Prelude.{◌≡◌, ◌≤◌, ◌<◌, ℕ, ◌-◌, List, [], Option, Some, None, slice_get}
+use Rattle.std.specs.Prelude.{◌≡◌, ◌≤◌, ◌<◌, ℕ, ◌-◌, List, Option, Some, None, slice_get}
 use Rattle.nq_base.specs.declared.Event.{Event}
 use Rattle.nq_base.specs.declared.Mode.{Mode}
 use Rattle.nq_base.specs.declared.Who.{Who}
@@ -9,7 +9,7 @@ use Rattle.nq_directory.specs.Prefix.{directory}
 use Rattle.nq_model.specs.Client.{Client, Lease}
 use Rattle.nq_model.specs.Kept.{File, find_name}
 use Rattle.nq_model.specs.LeaseInterval.{Claim, HasFitting, claim_of, cover_end}
-use Rattle.nq_model.specs.Server.{Phase, serving, recovering, Server}
+use Rattle.nq_model.specs.Server.{Phase, serving, recovering}
 use Rattle.nq_directory.specs.NameCacheNames.{DirList, Names, list_of}
 use Rattle.nq_name_server.specs.Served.{Served, number_of}
 use Rattle.nq_model.specs.World.{Head}

@@ -1,5 +1,6 @@
 -- The step of a world with leased directories, and the events of the inner world that it runs.
-use Rattle.std.specs.Prelude.{ℕ, ◌+◌, ◌==◌, ◌&&◌, not, Bool, true, false, List, [], ◌∷◌, ◌++◌, Option, Some, None, length, drop, slice_get, slice_set, if◌then◌else◌}
+use Rattle.std.specs.Prelude.{ℕ, ◌+◌, ◌==◌, ◌&&◌, not, Bool, true, false, List, [], ◌∷◌, ◌++◌, Option, Some, None, length, drop, slice_get, slice_set}
+use Rattle.std.specs.Prelude.{if◌then◌else◌}
 use Rattle.nq_base.specs.declared.Call.{Call}
 use Rattle.nq_base.specs.declared.Event.{Event}
 use Rattle.nq_base.specs.declared.Party.{Party}
@@ -19,7 +20,7 @@ use Rattle.nq_model.specs.World.{Head, World, step}
 use Rattle.nq_directory.specs.declared.name_cache.found.Found.{Found}
 use Rattle.nq_directory.specs.Asking.{Asks, heard, lists_dir}
 use Rattle.nq_directory.specs.NameCacheNames.{Names, before_call, finds, new_names}
-use Rattle.nq_name_server.specs.Served.{Served, leaf_behind}
+use Rattle.nq_name_server.specs.Served.{leaf_behind}
 use Rattle.nq_name_server.specs.Serving.{Serves, ToHost, holds_up, puts_off, reads_dir, ticks, vacates}
 use Rattle.nq_name_server.specs.declared.run.event.NameEvent.{NameEvent}
 use Rattle.nq_name_server.specs.Outer.{Outer, Outside, of_boot, outside_start}

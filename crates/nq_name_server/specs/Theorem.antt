@@ -1,15 +1,15 @@
 -- What is promised of a world with leased directories.
-use Rattle.std.specs.Prelude.{◌≡◌, ◌≢◌, ◌≤◌, ℕ, List, [], ◌∷◌, Option, Some, None, length}
+use Rattle.std.specs.Prelude.{◌≡◌, ◌≢◌, ◌≤◌, ℕ, List, Option, Some, None, length}
 use Rattle.walk_steps.specs.Within.{AreGiven, IsHeadWithin}
 use Rattle.nq_directory.specs.Prefix.{IsPrefix}
 use Rattle.nq_model.specs.Journal.{Each}
 use Rattle.nq_model.specs.Kept.{File, find_name}
 use Rattle.nq_model.specs.Skew.{IsWithinSkew}
 use Rattle.nq_model.specs.Stepped.{most_events}
-use Rattle.nq_model.specs.World.{Head, World, run}
+use Rattle.nq_model.specs.World.{Head, run}
 use Rattle.nq_directory.specs.declared.name_cache.found.Found.{Found}
 use Rattle.nq_name_server.specs.declared.run.event.NameEvent.{NameEvent}
-use Rattle.nq_name_server.specs.Outer.{Outer, Outside}
+use Rattle.nq_name_server.specs.Outer.{Outside}
 use Rattle.nq_name_server.specs.Outside.{found, outside_run, outside_step}
 use Rattle.nq_model.specs.Bounds.{KeepsBounds}
 

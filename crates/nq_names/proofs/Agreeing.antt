@@ -7,7 +7,8 @@ use Rattle.nq_base.specs.declared.SkewBroken.{SkewBroken}
 use Rattle.nq_model.proofs.SkewNames.{each-tick-is-judged}
 use Rattle.nq_model.specs.Skew.{IsWithinSkew}
 use Rattle.nq_model.specs.SkewBroken.{skew_broken}
-use Rattle.nq_model.specs.Stepped.{Stepped as Answer, done, no_packet, out_of_skew, too_many_events, too_many_packets, most_events, most_sent, stepped, tested, tested_room, tested_skew}
+use Rattle.nq_model.specs.Stepped.{Stepped as Answer, done, no_packet, out_of_skew, too_many_events, too_many_packets, most_events, most_sent}
+use Rattle.nq_model.specs.Stepped.{stepped, tested, tested_room, tested_skew}
 use Rattle.nq_model.specs.World.{Head, run}
 use Rattle.nq_name_server.specs.declared.run.event.NameEvent.{NameEvent}
 use Rattle.nq_name_server.specs.Outer.{Outer, Outside}
@@ -45,7 +46,8 @@ room-done sent left =
     let none : nat_lt most_sent sent ≡ false = room-left (nat_lt most_sent sent) left in
     ap (λ b. if b then too_many_packets else done) none
 
-skew-agrees : (packets sent : ℕ) (broken : Option SkewBroken) → packets ≤ sent → IsLeft (tested_skew sent broken) → tested_skew packets broken ≡ tested_skew sent broken
+skew-agrees : (packets sent : ℕ) (broken : Option SkewBroken) → packets ≤ sent → IsLeft (tested_skew sent broken) → tested_skew packets broken
+    ≡ tested_skew sent broken
 skew-agrees packets sent None less left = room-agrees packets sent less left
 skew-agrees packets sent (Some broken) less left = refl
 
@@ -63,7 +65,8 @@ abbrev pub NoDelivery : Event → Type 0
 NoDelivery (Event.Deliver k) = ⊥
 NoDelivery other = Unit {0}
 
-tests-agree : (head : Head) (o : Outside) (event : Event) (packets : ℕ) → NoDelivery event → packets ≤ length o.sent → IsLeft (tested_outside head o (NameEvent.Plain event)) → tested head o.ran packets event ≡ tested_outside head o (NameEvent.Plain event)
+tests-agree : (head : Head) (o : Outside) (event : Event) (packets : ℕ) → NoDelivery event → packets ≤ length o.sent
+    → IsLeft (tested_outside head o (NameEvent.Plain event)) → tested head o.ran packets event ≡ tested_outside head o (NameEvent.Plain event)
 tests-agree head o (Event.Call host op) packets free less left = room-agrees packets (length o.sent) less left
 tests-agree head o (Event.Deliver k) packets free less left = absurd free
 tests-agree head o Event.ServerTick packets free less left = skew-agrees packets (length o.sent) (skew_broken head.hosts head.longest o.ran) less left
@@ -75,25 +78,31 @@ packets-run : (head : Head) (events : List NameEvent) → length (run head (outs
 packets-run head events =
     subst (λ w. length w.packets ≤ length (outside_run head events).sent) (runs-inside head events) (runs-fine head events).many
 
-few-inner : (head : Head) (events : List NameEvent) → nat_lt (length events) most_events ≡ true → nat_lt (length (outside_run head events).ran) most_events ≡ true
+few-inner : (head : Head) (events : List NameEvent) → nat_lt (length events) most_events ≡ true → nat_lt (length (outside_run head events).ran)
+    most_events ≡ true
 few-inner head events few = less-more (length (outside_run head events).ran) (length events) most_events (few-run head events) few
 
-pub inner-agrees : (head : Head) (events : List NameEvent) (event : Event) → NoDelivery event → IsLeft (stepped_outside head events (NameEvent.Plain event)) → stepped head (outside_run head events).ran event ≡ stepped_outside head events (NameEvent.Plain event)
+pub inner-agrees : (head : Head) (events : List NameEvent) (event : Event) → NoDelivery event
+    → IsLeft (stepped_outside head events (NameEvent.Plain event)) → stepped head (outside_run head events).ran event ≡ stepped_outside head events
+    (NameEvent.Plain event)
 inner-agrees head events event free left =
     let o = outside_run head events in
     let first = left-first (nat_lt (length events) most_events) (tested_outside head o (NameEvent.Plain event)) left in
-    both-few (nat_lt (length events) most_events) (nat_lt (length o.ran) most_events) (tested_outside head o (NameEvent.Plain event)) (tested head o.ran (length (run head o.ran).packets) event)
+    both-few (nat_lt (length events) most_events) (nat_lt (length o.ran) most_events) (tested_outside head o (NameEvent.Plain event))
+    (tested head o.ran (length (run head o.ran).packets) event)
     first.0 (few-inner head events first.0) (tests-agree head o event (length (run head o.ran).packets) free (packets-run head events) first.1)
 
 -- ---- what is left and breaks no rule on skew was to be taken
 
-pub list-done : (head : Head) (events : List NameEvent) (host : ℕ) (prefix : List ℕ) → IsLeft (stepped_outside head events (NameEvent.List host prefix)) → stepped_outside head events (NameEvent.List host prefix) ≡ done
+pub list-done : (head : Head) (events : List NameEvent) (host : ℕ) (prefix : List ℕ)
+    → IsLeft (stepped_outside head events (NameEvent.List host prefix)) → stepped_outside head events (NameEvent.List host prefix) ≡ done
 list-done head events host prefix left =
     let o = outside_run head events in
     let first = left-first (nat_lt (length events) most_events) (tested_room (length o.sent)) left in
     ap (λ t. if t then tested_room (length o.sent) else too_many_events) first.0 ∙ room-done (length o.sent) first.1
 
-pub deliver-done : (head : Head) (events : List NameEvent) (k : ℕ) → IsLeft (stepped_outside head events (NameEvent.Plain (Event.Deliver k))) → stepped_outside head events (NameEvent.Plain (Event.Deliver k)) ≡ done
+pub deliver-done : (head : Head) (events : List NameEvent) (k : ℕ) → IsLeft (stepped_outside head events (NameEvent.Plain (Event.Deliver k)))
+    → stepped_outside head events (NameEvent.Plain (Event.Deliver k)) ≡ done
 deliver-done head events k left =
     let o = outside_run head events in
     let there = nat_lt k (length o.sent) in
@@ -106,7 +115,8 @@ deliver-done head events k left =
 -- ---- a delivery
 
 -- the delivery of an inner packet for which a packet stands that travels
-pub deliver-agrees : (head : Head) (events : List NameEvent) (n k : ℕ) (p : Outer) → slice_get (outside_run head events).sent n ≡ Some p → p.is ≡ Some k → IsLeft (stepped_outside head events (NameEvent.Plain (Event.Deliver n)))
+pub deliver-agrees : (head : Head) (events : List NameEvent) (n k : ℕ) (p : Outer) → slice_get (outside_run head events).sent n ≡ Some p
+    → p.is ≡ Some k → IsLeft (stepped_outside head events (NameEvent.Plain (Event.Deliver n)))
     → stepped head (outside_run head events).ran (Event.Deliver k) ≡ stepped_outside head events (NameEvent.Plain (Event.Deliver n))
 deliver-agrees head events n k p there stands left =
     let o = outside_run head events in
@@ -142,7 +152,8 @@ pub no-skew-room : (sent : ℕ) (b : SkewBroken) → tested_room sent ≡ out_of
 no-skew-room sent b is = room-no-skew (nat_lt most_sent sent) b is
 
 -- a tick that keeps the rule, and one that breaks it
-pub tick-lawful : (hosts longest sent : ℕ) (earlier : List Event) (said : Stepped) → IsWithinSkew hosts longest earlier → IsWithinSkew hosts longest (Event.ServerTick ∷ earlier) → said ≡ answer_of (tested_room sent) → IsTested said (tested_skew sent (skew_broken hosts longest earlier))
+pub tick-lawful : (hosts longest sent : ℕ) (earlier : List Event) (said : Stepped) → IsWithinSkew hosts longest earlier → IsWithinSkew hosts longest
+    (Event.ServerTick ∷ earlier) → said ≡ answer_of (tested_room sent) → IsTested said (tested_skew sent (skew_broken hosts longest earlier))
 tick-lawful hosts longest sent earlier said within next is =
     let none : skew_broken hosts longest earlier ≡ None = (each-tick-is-judged hosts longest earlier within).refused next in
     subst (λ b. IsTested said (tested_skew sent b)) (sym none) (tested-is said (tested_room sent) is (no-skew-room sent))
@@ -151,5 +162,7 @@ tick-left : (sent : ℕ) (b : Option SkewBroken) → (b ≡ None → ⊥) → Is
 tick-left sent None free = absurd (free refl)
 tick-left sent (Some b) free = tt
 
-pub tick-unlawful : (hosts longest sent : ℕ) (earlier : List Event) → IsWithinSkew hosts longest earlier → (IsWithinSkew hosts longest (Event.ServerTick ∷ earlier) → ⊥) → IsTested Stepped.Done (tested_skew sent (skew_broken hosts longest earlier))
-tick-unlawful hosts longest sent earlier within not = tick-left sent (skew_broken hosts longest earlier) (λ none. not ((each-tick-is-judged hosts longest earlier within).within none))
+pub tick-unlawful : (hosts longest sent : ℕ) (earlier : List Event) → IsWithinSkew hosts longest earlier
+    → (IsWithinSkew hosts longest (Event.ServerTick ∷ earlier) → ⊥) → IsTested Stepped.Done (tested_skew sent (skew_broken hosts longest earlier))
+tick-unlawful hosts longest sent earlier within not = tick-left sent (skew_broken hosts longest earlier)
+    (λ none. not ((each-tick-is-judged hosts longest earlier within).within none))

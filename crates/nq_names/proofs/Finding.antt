@@ -14,7 +14,8 @@ use Rattle.nq_names.proofs.Hearing.{client-there}
 use Rattle.nq_names.proofs.Reaching.{reached-sides, reached-world}
 use Rattle.nq_names.specs.Playing.{NamesOver, Reaches}
 
-pub found-outside : {K : Type 0} (head : Head) (events : List NameEvent) (w : NamesOver K) (told : Option Kept) (host : ℕ) (name : List ℕ) (now : ℕ) (r : Found) → Reaches head events w told
+pub found-outside : {K : Type 0} (head : Head) (events : List NameEvent) (w : NamesOver K) (told : Option Kept) (host : ℕ) (name : List ℕ) (now : ℕ)
+    (r : Found) → Reaches head events w told
     → host < length w.inner.clients → IfSome (slice_get w.inner.clients host) (λ c. now ≡ c.client.now)
     → ((c : Client) → c.now ≡ now → r ≡ found_by name (slice_get w.around.sides host) (Some c))
     → r ≡ found (outside_run head events) host name
@@ -26,12 +27,14 @@ found-outside head events w told host name now r reached below time finds =
     finds c (sym is)
     ∙ ap (λ (l : List Names). found_by name (slice_get l host) (Some c)) (reached-sides head events w told reached)
     ∙ ap (found_by name (slice_get (outside_run head events).sides host)) (sym client)
-    ∙ ap (λ (v : World). found_by name (slice_get (outside_run head events).sides host) (slice_get v.clients host)) (sym (reached-world head events w told reached))
+    ∙ ap (λ (v : World). found_by name (slice_get (outside_run head events).sides host) (slice_get v.clients host))
+    (sym (reached-world head events w told reached))
 
 same-kept : (a b : Kept) → Some a ≡ Some b → a ≡ b
 same-kept a b is = cc
 
-pub found-kept : {K : Type 0} (head : Head) (events : List NameEvent) (w : NamesOver K) (kept : Kept) (host : ℕ) (name : List ℕ) (r : Found) → Reaches head events w (Some kept)
+pub found-kept : {K : Type 0} (head : Head) (events : List NameEvent) (w : NamesOver K) (kept : Kept) (host : ℕ) (name : List ℕ) (r : Found)
+    → Reaches head events w (Some kept)
     → r ≡ found (outside_run head events) host name → r ≢ Found.Unknown → r ≡ kept_as (find_name name kept.files)
 found-kept head events w kept host name r reached is known =
     is ∙ reached.keeps.finds host name (λ e. known (is ∙ e))

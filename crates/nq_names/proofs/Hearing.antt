@@ -36,26 +36,34 @@ changing_none (Some u) is = absurd (cc)
 
 -- ---- taking in
 
-pub heard-there : (w : World) (clients : List Counted) (o : Outside) (host : ℕ) (bytes : List ℕ) (n : Option Names) (to : Outside) → w.clients ≡ clients_in clients → host < length clients
-    → ((c : Counted) → slice_get clients host ≡ Some c → to ≡ heard_by o host bytes n (Some c.client)) → to ≡ heard_by o host bytes n (slice_get w.clients host)
+pub heard-there : (w : World) (clients : List Counted) (o : Outside) (host : ℕ) (bytes : List ℕ) (n : Option Names) (to : Outside) → w.clients
+    ≡ clients_in clients → host < length clients
+    → ((c : Counted) → slice_get clients host ≡ Some c → to ≡ heard_by o host bytes n (Some c.client)) → to ≡ heard_by o host bytes n
+    (slice_get w.clients host)
 heard-there w clients o host bytes n to are less heard =
     let x = there clients host less in
-    let at : slice_get w.clients host ≡ Some x.0.client = ap (λ l. slice_get l host) are ∙ slice_get-map (λ y. y.client) clients host ∙ ap (option_map (λ y. y.client)) x.1 in
+    let at : slice_get w.clients host ≡ Some x.0.client = ap (λ l. slice_get l host) are ∙ slice_get-map (λ y. y.client) clients host
+    ∙ ap (option_map (λ y. y.client)) x.1 in
     heard x.0 x.1 ∙ ap (heard_by o host bytes n) (sym at)
 
 pub heard_on : {A E : Type 0} (r : Result A E) (clients : List Counted) (a b : AroundOver) (host : ℕ) (bytes : List ℕ) → host < length clients
-    → OnOk r ((w : World) (ran : List Event) (c : Counted) → slice_get clients host ≡ Some c → once_sent w ran b ≡ heard_by (over w ran a) host bytes (slice_get a.sides host) (Some c.client))
-    → OnOk r ((w : World) (ran : List Event) → w.clients ≡ clients_in clients → once_sent w ran b ≡ heard_by (over w ran a) host bytes (slice_get a.sides host) (slice_get w.clients host))
-heard_on (Ok x) clients a b host bytes less heard = λ w ran are. heard-there w clients (over w ran a) host bytes (slice_get a.sides host) (once_sent w ran b) are less (heard w ran)
+    → OnOk r ((w : World) (ran : List Event) (c : Counted) → slice_get clients host ≡ Some c → once_sent w ran b ≡ heard_by (over w ran a) host bytes
+    (slice_get a.sides host) (Some c.client))
+    → OnOk r ((w : World) (ran : List Event) → w.clients ≡ clients_in clients → once_sent w ran b ≡ heard_by (over w ran a) host bytes
+    (slice_get a.sides host) (slice_get w.clients host))
+heard_on (Ok x) clients a b host bytes less heard = λ w ran are. heard-there w clients (over w ran a) host bytes (slice_get a.sides host)
+    (once_sent w ran b) are less (heard w ran)
 heard_on (Err e) clients a b host bytes less heard = tt
 
 heard-none : (o : Outside) (host : ℕ) (bytes : List ℕ) (n : Option Names) → heard_by o host bytes n None ≡ o
 heard-none o host bytes None = refl
 heard-none o host bytes (Some n) = refl
 
-pub heard_nowhere : (w : World) (ran : List Event) (clients : List Counted) (a : AroundOver) (host : ℕ) (bytes : List ℕ) → a.due ≡ [] → w.clients ≡ clients_in clients → length clients ≤ host
+pub heard_nowhere : (w : World) (ran : List Event) (clients : List Counted) (a : AroundOver) (host : ℕ) (bytes : List ℕ) → a.due ≡ [] → w.clients
+    ≡ clients_in clients → length clients ≤ host
     → once_sent w ran a ≡ heard_by (over w ran a) host bytes (slice_get a.sides host) (slice_get w.clients host)
 heard_nowhere w ran clients a host bytes none are past =
     let many : length w.clients ≡ length clients = ap length are ∙ length-map clients (λ y. y.client) in
     let gone : slice_get w.clients host ≡ None = slice_get_past w.clients host (omega arith) in
-    none-due w ran a none ∙ sym (ap (heard_by (over w ran a) host bytes (slice_get a.sides host)) gone ∙ heard-none (over w ran a) host bytes (slice_get a.sides host))
+    none-due w ran a none ∙ sym (ap (heard_by (over w ran a) host bytes (slice_get a.sides host)) gone ∙ heard-none (over w ran a) host bytes
+    (slice_get a.sides host))

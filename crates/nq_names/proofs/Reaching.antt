@@ -36,10 +36,12 @@ use Rattle.nq_name_server.proofs.GoingOut.{none-due, there}
 use Rattle.nq_name_server.specs.Around.{AroundOver, new_around, once_sent, over, shown, with_due}
 use Rattle.nq_names.proofs.Agreeing.{left-first}
 use Rattle.nq_name_server.proofs.Growing.{grows}
-use Rattle.nq_names.specs.Playing.{IsKept, IsLeft, IsReady, IsSettled, Leads, NamesOver, PlaysOutside, Reaches, RunsInner, renewed_around, stepped_outside, tested_outside}
+use Rattle.nq_names.specs.Playing.{IsKept, IsLeft, IsReady, IsSettled, Leads, NamesOver, PlaysOutside, Reaches, RunsInner, renewed_around}
+use Rattle.nq_names.specs.Playing.{stepped_outside, tested_outside}
 
 -- there are as many datagrams as packets
-pub as-many : {K : Type 0} (head : Head) (events : List Event) (w : WorldOver K) (told : Option Kept) → Plays head events w told → length w.datagrams ≡ length (run head events).packets
+pub as-many : {K : Type 0} (head : Head) (events : List Event) (w : WorldOver K) (told : Option Kept) → Plays head events w told → length w.datagrams
+    ≡ length (run head events).packets
 as-many head events w told plays = ap length plays.shown.shows.datagrams ∙ length-map (run head events).packets datagram
 
 reverse-more : {X : Type 0} (xs : List X) (x : X) → reverse (xs ++ x ∷ []) ≡ x ∷ reverse xs
@@ -64,13 +66,16 @@ all-core o number (p ∷ ps) = all-core (sends o (inside number p)) (number + 1)
 pub shown-core : (w : World) (ran : List Event) (a : AroundOver) → Core (shown w ran a) ≡ (w, ran)
 shown-core w ran a = all-core (once_sent w ran a) a.gone (drop a.gone w.packets) ∙ due-core a.sender a.due (over w ran a)
 
-pub reached-core : {K : Type 0} (head : Head) (events : List NameEvent) (w : NamesOver K) (told : Option Kept) → Reaches head events w told → Core (outside_run head events) ≡ (run head (reverse w.ran), reverse w.ran)
+pub reached-core : {K : Type 0} (head : Head) (events : List NameEvent) (w : NamesOver K) (told : Option Kept) → Reaches head events w told
+    → Core (outside_run head events) ≡ (run head (reverse w.ran), reverse w.ran)
 reached-core head events w told r = ap Core (sym r.shows) ∙ shown-core (run head (reverse w.ran)) (reverse w.ran) w.around
 
-pub reached-ran : {K : Type 0} (head : Head) (events : List NameEvent) (w : NamesOver K) (told : Option Kept) → Reaches head events w told → (outside_run head events).ran ≡ reverse w.ran
+pub reached-ran : {K : Type 0} (head : Head) (events : List NameEvent) (w : NamesOver K) (told : Option Kept) → Reaches head events w told
+    → (outside_run head events).ran ≡ reverse w.ran
 reached-ran head events w told r = ap (λ i. i.1) (reached-core head events w told r)
 
-pub reached-world : {K : Type 0} (head : Head) (events : List NameEvent) (w : NamesOver K) (told : Option Kept) → Reaches head events w told → (outside_run head events).world ≡ run head (reverse w.ran)
+pub reached-world : {K : Type 0} (head : Head) (events : List NameEvent) (w : NamesOver K) (told : Option Kept) → Reaches head events w told
+    → (outside_run head events).world ≡ run head (reverse w.ran)
 reached-world head events w told r = ap (λ i. i.0) (reached-core head events w told r)
 
 -- ---- what hosts keep of names
@@ -85,10 +90,12 @@ unfolding sends
 all-sides o number [] = refl
 all-sides o number (p ∷ ps) = all-sides (sends o (inside number p)) (number + 1) ps
 
-pub reached-sides : {K : Type 0} (head : Head) (events : List NameEvent) (w : NamesOver K) (told : Option Kept) → Reaches head events w told → w.around.sides ≡ (outside_run head events).sides
+pub reached-sides : {K : Type 0} (head : Head) (events : List NameEvent) (w : NamesOver K) (told : Option Kept) → Reaches head events w told
+    → w.around.sides ≡ (outside_run head events).sides
 reached-sides head events w told r =
     let v = run head (reverse w.ran) in
-    sym (all-sides (once_sent v (reverse w.ran) w.around) w.around.gone (drop w.around.gone v.packets) ∙ due-sides w.around.sender w.around.due (over v (reverse w.ran) w.around))
+    sym (all-sides (once_sent v (reverse w.ran) w.around) w.around.gone (drop w.around.gone v.packets) ∙ due-sides w.around.sender w.around.due
+    (over v (reverse w.ran) w.around))
     ∙ ap (λ (o : Outside). o.sides) r.shows
 
 -- ---- where all has gone out, what stands around is the run's
@@ -98,13 +105,16 @@ settled-shows w ran a n settled many =
     let all : length w.packets ≤ a.gone = (let e = settled.all_gone in omega arith) in
     ap (λ ps. sends_all (once_sent w ran a) a.gone ps) (drop_all a.gone w.packets all) ∙ none-due w ran a settled.none_due
 
-pub reached-over : {K : Type 0} (head : Head) (events : List NameEvent) (w : NamesOver K) (told : Option Kept) → IsReady w → Reaches head events w told → outside_run head events ≡ over (run head (reverse w.ran)) (reverse w.ran) w.around
+pub reached-over : {K : Type 0} (head : Head) (events : List NameEvent) (w : NamesOver K) (told : Option Kept) → IsReady w → Reaches head events w
+    told → outside_run head events ≡ over (run head (reverse w.ran)) (reverse w.ran) w.around
 reached-over head events w told ready r =
-    sym r.shows ∙ settled-shows (run head (reverse w.ran)) (reverse w.ran) w.around (length w.inner.datagrams) ready (as-many head (reverse w.ran) w.inner told r.inner)
+    sym r.shows ∙ settled-shows (run head (reverse w.ran)) (reverse w.ran) w.around (length w.inner.datagrams) ready (as-many head (reverse w.ran)
+    w.inner told r.inner)
 
 -- ---- as before
 
-pub reaches-same : {K : Type 0} (head : Head) (events : List NameEvent) (old new : NamesOver K) (told tells : Option Kept) → Reaches head events old told → Plays head (reverse old.ran) new.inner tells → new.ran ≡ old.ran → new.around ≡ old.around → Reaches head events new tells
+pub reaches-same : {K : Type 0} (head : Head) (events : List NameEvent) (old new : NamesOver K) (told tells : Option Kept) → Reaches head events old
+    told → Plays head (reverse old.ran) new.inner tells → new.ran ≡ old.ran → new.around ≡ old.around → Reaches head events new tells
 reaches-same head events old new told tells r plays ran around =
     let first : length old.inner.datagrams ≡ length (run head (reverse old.ran)).packets = as-many head (reverse old.ran) old.inner told r.inner in
     let then : length new.inner.datagrams ≡ length (run head (reverse old.ran)).packets = as-many head (reverse old.ran) new.inner tells plays in
@@ -141,15 +151,19 @@ one-fewer : (n most : ℕ) → nat_lt n most ≡ true → n + 1 ≤ most
 one-fewer n most is = grind (arith, nat_tests)
 
 -- so does the run with an event more that was to be taken
-kept-more : {K : Type 0} (head : Head) (events : List NameEvent) (event : NameEvent) (w : WorldOver K) (ran : List Event) (told : Option Kept) → Plays head ran w told
-    → (outside_run head (event ∷ events)).ran ≡ ran → IsKept head events → BringsPrefix event → IsLeft (stepped_outside head events event) → IsKept head (event ∷ events)
+kept-more : {K : Type 0} (head : Head) (events : List NameEvent) (event : NameEvent) (w : WorldOver K) (ran : List Event) (told : Option Kept)
+    → Plays head ran w told
+    → (outside_run head (event ∷ events)).ran ≡ ran → IsKept head events → BringsPrefix event → IsLeft (stepped_outside head events event)
+    → IsKept head (event ∷ events)
 kept-more head events event w ran told plays is keeps brings left =
-    let few : nat_lt (length events) most_events ≡ true = (left-first (nat_lt (length events) most_events) (tested_outside head (outside_run head events) event) left).0 in
+    let few : nat_lt (length events) most_events ≡ true = (left-first (nat_lt (length events) most_events)
+    (tested_outside head (outside_run head events) event) left).0 in
     let one : length events + 1 ≤ most_events = one-fewer (length events) most_events few in
     kept-run head (event ∷ events) w ran told plays is (omega arith) (brings, keeps.schedule.prefixes)
 
 -- an event that is none of the inner world
-pub reaches-beside : {K : Type 0} (head : Head) (events : List NameEvent) (event : NameEvent) (old new : NamesOver K) (told tells : Option Kept) → IsReady old → Reaches head events old told
+pub reaches-beside : {K : Type 0} (head : Head) (events : List NameEvent) (event : NameEvent) (old new : NamesOver K) (told tells : Option Kept)
+    → IsReady old → Reaches head events old told
     → Plays head (reverse old.ran) new.inner tells → new.ran ≡ old.ran → new.around.gone ≡ old.around.gone
     → once_sent (run head (reverse old.ran)) (reverse old.ran) new.around ≡ outside_step (over (run head (reverse old.ran)) (reverse old.ran) old.around) event
     → BringsPrefix event → IsLeft (stepped_outside head events event)
@@ -162,7 +176,8 @@ reaches-beside head events event old new told tells ready r plays ran gone leads
     let all : length old.inner.datagrams ≡ old.around.gone = ready.all_gone in
     let none : drop new.around.gone w.packets ≡ [] = ap (λ n. drop n w.packets) (gone ∙ sym all ∙ many) ∙ nothing-left w.packets in
     let here : shown w rn new.around ≡ once_sent w rn new.around = ap (λ ps. sends_all (once_sent w rn new.around) new.around.gone ps) none in
-    let next : shown w rn new.around ≡ outside_run head (event ∷ events) = here ∙ leads ∙ ap (λ o. outside_step o event) (sym (reached-over head events old told ready r)) in
+    let next : shown w rn new.around ≡ outside_run head (event ∷ events) = here ∙ leads ∙ ap (λ o. outside_step o event)
+    (sym (reached-over head events old told ready r)) in
     let events-are : (outside_run head (event ∷ events)).ran ≡ rn = ap (λ (o : Outside). o.ran) (sym next) ∙ ap (λ i. i.1) (shown-core w rn new.around) in
     record {
       inner = subst (λ l. Plays head (reverse l) new.inner tells) (sym ran) plays;
@@ -173,7 +188,8 @@ reaches-beside head events event old new told tells ready r plays ran gone leads
 
 -- ---- an event of the inner world
 
-renewed-over : (event : Event) (w v : World) (ran : List Event) (a : AroundOver) → over v (event ∷ ran) (renewed_around event v a) ≡ renewed (over w ran a) event v
+renewed-over : (event : Event) (w v : World) (ran : List Event) (a : AroundOver) → over v (event ∷ ran) (renewed_around event v a)
+    ≡ renewed (over w ran a) event v
 renewed-over (Event.Call host op) w v ran a = refl
 renewed-over (Event.Deliver k) w v ran a = refl
 renewed-over Event.ServerTick w v ran a = refl
@@ -197,7 +213,8 @@ renewed-gone (Event.ClientTick host) v a = refl
 renewed-gone (Event.Restart host) v a = refl
 renewed-gone (Event.Crash longest) v a = refl
 
-inner-shown : (event : Event) (w : World) (ran : List Event) (a : AroundOver) → a.due ≡ [] → a.gone ≡ length w.packets → shown (step w event) (event ∷ ran) (renewed_around event (step w event) a) ≡ inner (over w ran a) event
+inner-shown : (event : Event) (w : World) (ran : List Event) (a : AroundOver) → a.due ≡ [] → a.gone ≡ length w.packets → shown (step w event)
+    (event ∷ ran) (renewed_around event (step w event) a) ≡ inner (over w ran a) event
 inner-shown event w ran a none gone =
     let v = step w event in
     let b = renewed_around event v a in
@@ -207,8 +224,10 @@ inner-shown event w ran a none gone =
     ∙ ap (λ k. sends_all (over v (event ∷ ran) b) k (drop k v.packets)) n
     ∙ ap (λ o. sends_all o (length w.packets) (drop (length w.packets) v.packets)) (renewed-over event w v ran a)
 
-pub reaches-inner : {K : Type 0} (head : Head) (events : List NameEvent) (event : NameEvent) (e : Event) (old new : NamesOver K) (told tells : Option Kept) → IsReady old → Reaches head events old told
-    → outside_step (over (run head (reverse old.ran)) (reverse old.ran) old.around) event ≡ inner (over (run head (reverse old.ran)) (reverse old.ran) old.around) e
+pub reaches-inner : {K : Type 0} (head : Head) (events : List NameEvent) (event : NameEvent) (e : Event) (old new : NamesOver K)
+    (told tells : Option Kept) → IsReady old → Reaches head events old told
+    → outside_step (over (run head (reverse old.ran)) (reverse old.ran) old.around) event ≡ inner (over (run head (reverse old.ran)) (reverse old.ran)
+    old.around) e
     → Plays head (e ∷ reverse old.ran) new.inner tells → new.ran ≡ old.ran ++ e ∷ []
     → new.around ≡ renewed_around e (step (run head (reverse old.ran)) e) old.around
     → BringsPrefix event → IsLeft (stepped_outside head events event)
@@ -220,9 +239,12 @@ reaches-inner head events event e old new told tells ready r leads plays ran aro
     let more : reverse new.ran ≡ e ∷ rn = ap reverse ran ∙ reverse-more old.ran e in
     let many : length old.inner.datagrams ≡ length w.packets = as-many head rn old.inner told r.inner in
     let gone : old.around.gone ≡ length w.packets = sym ready.all_gone ∙ many in
-    let here : shown v (e ∷ rn) new.around ≡ inner (over w rn old.around) e = ap (shown v (e ∷ rn)) around ∙ inner-shown e w rn old.around ready.none_due gone in
-    let next : shown v (e ∷ rn) new.around ≡ outside_run head (event ∷ events) = here ∙ sym leads ∙ ap (λ o. outside_step o event) (sym (reached-over head events old told ready r)) in
-    let events-are : (outside_run head (event ∷ events)).ran ≡ e ∷ rn = ap (λ (o : Outside). o.ran) (sym next) ∙ ap (λ i. i.1) (shown-core v (e ∷ rn) new.around) in
+    let here : shown v (e ∷ rn) new.around ≡ inner (over w rn old.around) e = ap (shown v (e ∷ rn)) around ∙ inner-shown e w rn old.around
+    ready.none_due gone in
+    let next : shown v (e ∷ rn) new.around ≡ outside_run head (event ∷ events) = here ∙ sym leads ∙ ap (λ o. outside_step o event)
+    (sym (reached-over head events old told ready r)) in
+    let events-are : (outside_run head (event ∷ events)).ran ≡ e ∷ rn = ap (λ (o : Outside). o.ran) (sym next)
+    ∙ ap (λ i. i.1) (shown-core v (e ∷ rn) new.around) in
     let now : length new.inner.datagrams ≡ length v.packets = as-many head (e ∷ rn) new.inner tells plays in
     let grown : length w.packets ≤ length v.packets = grows w e in
     let went : new.around.gone ≡ length w.packets = ap (λ (b : AroundOver). b.gone) around ∙ renewed-gone e v old.around ∙ gone in
@@ -234,9 +256,11 @@ reaches-inner head events event e old new told tells ready r leads plays ran aro
     }
 
 -- what running an inner event leads to, by its answer
-pub inner-leads : {K : Type 0} (head : Head) (events : List NameEvent) (event : NameEvent) (e : Event) (said : Stepped) (old new : NamesOver K) (told tells : Option Kept) → IsReady old → Reaches head events old told
+pub inner-leads : {K : Type 0} (head : Head) (events : List NameEvent) (event : NameEvent) (e : Event) (said : Stepped) (old new : NamesOver K)
+    (told tells : Option Kept) → IsReady old → Reaches head events old told
     → stepped head (reverse old.ran) e ≡ stepped_outside head events event
-    → outside_step (over (run head (reverse old.ran)) (reverse old.ran) old.around) event ≡ inner (over (run head (reverse old.ran)) (reverse old.ran) old.around) e
+    → outside_step (over (run head (reverse old.ran)) (reverse old.ran) old.around) event ≡ inner (over (run head (reverse old.ran)) (reverse old.ran)
+    old.around) e
     → BringsPrefix event → IsLeft (stepped_outside head events event)
     → RunsInner head e said old new told tells
     → Leads head events event said told tells (λ es kept. Reaches head es new kept)
@@ -267,7 +291,8 @@ settled-plays head events w a told same gone p =
       counted = p.counted;
     }
 
-pub settled-on : {A E : Type 0} (r : Result A E) (n : ℕ) (packets : ℕ) (a : AroundOver) → packets ≡ n → OnOk r (a.due ≡ []) → OnOk r (packets ≤ a.gone) → a.gone ≤ n → OnOk r (IsSettled n a)
+pub settled-on : {A E : Type 0} (r : Result A E) (n : ℕ) (packets : ℕ) (a : AroundOver) → packets ≡ n → OnOk r (a.due ≡ [])
+    → OnOk r (packets ≤ a.gone) → a.gone ≤ n → OnOk r (IsSettled n a)
 settled-on (Ok x) n packets a same none all gone = record { none_due = none; all_gone = omega arith }
 settled-on (Err e) n packets a same none all gone = tt
 
@@ -284,7 +309,8 @@ start-packets : (head : Head) → (start head).packets ≡ []
 unfolding start
 start-packets head = refl
 
-begins-outside : (head : Head) (served : Served) (sides : List Names) → served ≡ of_boot (start head) → sides ≡ map (λ (c : Client). new_names c.who) (start head).clients → over (start head) [] (new_around served sides) ≡ outside_start head
+begins-outside : (head : Head) (served : Served) (sides : List Names) → served ≡ of_boot (start head) → sides ≡ map (λ (c : Client). new_names c.who)
+    (start head).clients → over (start head) [] (new_around served sides) ≡ outside_start head
 unfolding outside_start
 begins-outside head served sides s n = rw (s, n) refl
 
@@ -296,7 +322,8 @@ nothing-ran head = refl
 abbrev pub first-leases : {K : Type 0} → WorldOver K → Served
 first-leases w = new_served w.server.beside.table.boot w.server.beside.longest w.server.beside.time
 
-pub begins-plays : {K : Type 0} (head : Head) (w : WorldOver K) (told : Option Kept) → Plays head [] w told → PlaysOutside head [] (record { inner = w; around = new_around (first-leases w) (first-sides w.clients); ran = []; events = 0 }) told
+pub begins-plays : {K : Type 0} (head : Head) (w : WorldOver K) (told : Option Kept) → Plays head [] w told → PlaysOutside head []
+    (record { inner = w; around = new_around (first-leases w) (first-sides w.clients); ran = []; events = 0 }) told
 begins-plays head w told plays =
     let a = new_around (first-leases w) (first-sides w.clients) in
     let served : first-leases w ≡ of_boot (start head) = ap (λ b. new_served b.table.boot b.longest b.time) plays.holds in
@@ -305,14 +332,17 @@ begins-plays head w told plays =
     record {
       reaches = record {
         inner = plays;
-        shows = ap (λ ps. sends_all (over (start head) [] a) 0 ps) (start-packets head) ∙ begins-outside head (first-leases w) (first-sides w.clients) served sides;
+        shows = ap (λ ps. sends_all (over (start head) [] a) 0 ps) (start-packets head) ∙ begins-outside head (first-leases w) (first-sides w.clients)
+            served sides;
         gone = omega arith;
         keeps = kept-run head [] w [] told plays (nothing-ran head) (omega arith) tt;
       };
       counted = refl;
     }
 
-pub sides_more : (clients : List Counted) (host : ℕ) (sides more : List Names) (side : Names) → sides ≡ map (λ c. new_names c.client.who) (take host clients) → host < length clients → IfSome (slice_get clients host) (λ c. side ≡ new_names c.client.who) → more ≡ sides ++ side ∷ [] → more ≡ map (λ c. new_names c.client.who) (take (host + 1) clients)
+pub sides_more : (clients : List Counted) (host : ℕ) (sides more : List Names) (side : Names) → sides ≡ map (λ c. new_names c.client.who)
+    (take host clients) → host < length clients → IfSome (slice_get clients host) (λ c. side ≡ new_names c.client.who) → more ≡ sides ++ side ∷ []
+    → more ≡ map (λ c. new_names c.client.who) (take (host + 1) clients)
 sides_more clients host sides more side are less is more-is =
     let x = there clients host less in
     let first : Counted → Names = λ c. new_names c.client.who in
@@ -321,5 +351,6 @@ sides_more clients host sides more side are less is more-is =
     ∙ ap (λ s. map first (take host clients) ++ s ∷ []) (same ∙ ap first (sym (get_or_from_slice_get clients host x.0 x.0 x.1)))
     ∙ sym (map_more first clients host x.0 less)
 
-pub sides_all : (clients : List Counted) (hosts : ℕ) (sides : List Names) → length clients ≤ hosts → sides ≡ map (λ c. new_names c.client.who) (take hosts clients) → sides ≡ map (λ c. new_names c.client.who) clients
+pub sides_all : (clients : List Counted) (hosts : ℕ) (sides : List Names) → length clients ≤ hosts → sides ≡ map (λ c. new_names c.client.who)
+    (take hosts clients) → sides ≡ map (λ c. new_names c.client.who) clients
 sides_all clients hosts sides all are = are ∙ ap (map (λ (c : Counted). new_names c.client.who)) (take_all hosts clients all)

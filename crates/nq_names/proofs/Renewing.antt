@@ -38,7 +38,8 @@ table-boot : (kept opened : ℕ) (phase : Phase) (table : Table) → BootsFit ke
 table-boot kept opened serving table b = b.table_boot
 table-boot kept opened (recovering until heard last) table b = b.table_boot
 
-crash-served : (s : Server) (longest : ℕ) → ((crash s longest).server.table.boot ≡ s.kept.boot + 1) × ((crash s longest).server.longest ≡ longest) × ((crash s longest).server.now ≡ s.now)
+crash-served : (s : Server) (longest : ℕ) → ((crash s longest).server.table.boot ≡ s.kept.boot + 1) × ((crash s longest).server.longest ≡ longest)
+    × ((crash s longest).server.now ≡ s.now)
 unfolding crash boot empty_table
 crash-served s longest = (refl, refl, refl)
 
@@ -64,7 +65,8 @@ crash-leases head events w told longest plays =
 -- a tick of the server's clock
 pub runs-ticked : {K : Type 0} (head : Head) (time : ℕ) (old mid new : NamesOver K) (told tells : Option Kept) → Plays head (reverse old.ran) old.inner told
     → RunsTo head Event.ServerTick Stepped.Done old mid told tells old.around → mid.around ≡ old.around
-    → time ≡ old.inner.server.beside.time + 1 → new.around ≡ record mid.around { served = ticks mid.around.served time } → new.inner ≡ mid.inner → new.ran ≡ mid.ran
+    → time ≡ old.inner.server.beside.time + 1 → new.around ≡ record mid.around { served = ticks mid.around.served time } → new.inner ≡ mid.inner
+    → new.ran ≡ mid.ran
     → RunsInner head Event.ServerTick Stepped.Done old new told tells
 runs-ticked head time old mid new told tells plays r same next around inner ran =
     let rn = reverse old.ran in
@@ -72,18 +74,21 @@ runs-ticked head time old mid new told tells plays r same next around inner ran 
       r.0,
       subst (λ i. Plays head (Event.ServerTick ∷ rn) i tells) (sym inner) r.1,
       ran ∙ r.2,
-      around ∙ ap (λ (a : AroundOver). record a { served = ticks a.served time }) same ∙ ap (λ t. record old.around { served = ticks old.around.served t }) now,
+      around ∙ ap (λ (a : AroundOver). record a { served = ticks a.served time }) same
+          ∙ ap (λ t. record old.around { served = ticks old.around.served t }) now,
     )
 
 -- a crash
-pub runs-crashed : {K : Type 0} (head : Head) (longest time : ℕ) (server : Served) (old mid new : NamesOver K) (told tells : Option Kept) → Plays head (reverse old.ran) old.inner told
+pub runs-crashed : {K : Type 0} (head : Head) (longest time : ℕ) (server : Served) (old mid new : NamesOver K) (told tells : Option Kept)
+    → Plays head (reverse old.ran) old.inner told
     → RunsTo head (Event.Crash longest) Stepped.Done old mid told tells old.around → mid.around ≡ old.around
     → server ≡ new_served (old.inner.server.beside.table.boot + 1) longest time → time ≡ old.inner.server.beside.time
     → new.around ≡ record mid.around { served = server } → new.inner ≡ mid.inner → new.ran ≡ mid.ran
     → RunsInner head (Event.Crash longest) Stepped.Done old new told tells
 runs-crashed head longest time server old mid new told tells plays r same is at around inner ran =
     let rn = reverse old.ran in
-    let made : server ≡ new_served (old.inner.server.beside.table.boot + 1) longest old.inner.server.beside.time = is ∙ ap (new_served (old.inner.server.beside.table.boot + 1) longest) at in (
+    let made : server ≡ new_served (old.inner.server.beside.table.boot + 1) longest old.inner.server.beside.time = is
+    ∙ ap (new_served (old.inner.server.beside.table.boot + 1) longest) at in (
       r.0,
       subst (λ i. Plays head (Event.Crash longest ∷ rn) i tells) (sym inner) r.1,
       ran ∙ r.2,

@@ -23,13 +23,15 @@ use Rattle.nq_names.specs.Taking.{HoldsUp, IsAsBeforeOutside, IsHeldFor, TakesBe
 
 -- ---- a world that is as before, but for its keeper
 
-still : {K : Type 0} (head : Head) (old new : NamesOver K) (told tells : Option Kept) → Plays head (reverse old.ran) old.inner told → IsAsBeforeOutside old new → tells ≡ told → Plays head (reverse old.ran) new.inner tells
+still : {K : Type 0} (head : Head) (old new : NamesOver K) (told tells : Option Kept) → Plays head (reverse old.ran) old.inner told
+    → IsAsBeforeOutside old new → tells ≡ told → Plays head (reverse old.ran) new.inner tells
 still head old new told tells plays before same = still-plays head (reverse old.ran) old.inner new.inner told tells plays before.inner same
 
 -- ---- something was done beside the inner world
 
 -- something that stands around changed
-pub beside-made : {K : Type 0} (head : Head) (w new : NamesOver K) (told : Option Kept) (to : Outside) → Plays head (reverse w.ran) w.inner told → new.inner ≡ w.inner → new.ran ≡ w.ran → new.around.gone ≡ w.around.gone
+pub beside-made : {K : Type 0} (head : Head) (w new : NamesOver K) (told : Option Kept) (to : Outside) → Plays head (reverse w.ran) w.inner told
+    → new.inner ≡ w.inner → new.ran ≡ w.ran → new.around.gone ≡ w.around.gone
     → once_sent (run head (reverse w.ran)) (reverse w.ran) new.around ≡ to → TakesBeside head Stepped.Done w new told told to
 beside-made head w new told to plays inner ran gone leads = record {
   plays = subst (λ i. Plays head (reverse w.ran) i told) (sym inner) plays;
@@ -41,18 +43,22 @@ beside-made head w new told to plays inner ran gone leads = record {
 -- ---- READDIRLOOK
 
 -- the phase of the server
-pub phase-is : {K : Type 0} (head : Head) (events : List Event) (w : WorldOver K) (told : Option Kept) → Plays head events w told → w.server.beside.phase ≡ (run head events).server.phase
+pub phase-is : {K : Type 0} (head : Head) (events : List Event) (w : WorldOver K) (told : Option Kept) → Plays head events w told
+    → w.server.beside.phase ≡ (run head events).server.phase
 phase-is head events w told plays = ap (λ (b : Beside). b.phase) plays.holds
 
-reads-in-serving : (o : Outside) (r : ReadDir) (phase : Phase) → phase ≡ serving → reads_in o r phase ≡ served_as o (reads_dir o.served r (leaf_behind r.prefix r.after o.world.server.kept.files))
+reads-in-serving : (o : Outside) (r : ReadDir) (phase : Phase) → phase ≡ serving → reads_in o r phase
+    ≡ served_as o (reads_dir o.served r (leaf_behind r.prefix r.after o.world.server.kept.files))
 reads-in-serving o r phase is = ap (reads_in o r) is
 
-reads-in-recovering : (o : Outside) (r : ReadDir) (phase : Phase) → phase ≢ serving → reads_in o r phase ≡ served_as o (record { served = o.served; sends = puts_off r ∷ [] })
+reads-in-recovering : (o : Outside) (r : ReadDir) (phase : Phase) → phase ≢ serving → reads_in o r phase
+    ≡ served_as o (record { served = o.served; sends = puts_off r ∷ [] })
 reads-in-recovering o r serving other = absurd (other refl)
 reads-in-recovering o r (recovering until heard last) other = refl
 
 -- a page that is given
-pub answered-page : {K : Type 0} (head : Head) (old mid new : NamesOver K) (told tells : Option Kept) (r : ReadDir) (leaf : Leaf) → Plays head (reverse old.ran) old.inner told → old.inner.server.beside.phase ≡ serving
+pub answered-page : {K : Type 0} (head : Head) (old mid new : NamesOver K) (told tells : Option Kept) (r : ReadDir) (leaf : Leaf)
+    → Plays head (reverse old.ran) old.inner told → old.inner.server.beside.phase ≡ serving
     → IsAsBeforeOutside old mid → tells ≡ told → ForSome told (λ kept. leaf ≡ leaf_behind r.prefix r.after kept.files)
     → new ≡ record mid { around = served_by mid.around (reads_dir mid.around.served r leaf) }
     → TakesBeside head Stepped.Done old new told tells (reads_in (outside_of head old) r (run head (reverse old.ran)).server.phase)
@@ -74,7 +80,8 @@ answered-page head old mid new told tells r leaf plays phase before same page is
           ∙ sym (reads-in-serving o r v.server.phase serves);
     })
 
-pub put-off : {K : Type 0} (head : Head) (old new : NamesOver K) (told : Option Kept) (r : ReadDir) → Plays head (reverse old.ran) old.inner told → old.inner.server.beside.phase ≢ serving
+pub put-off : {K : Type 0} (head : Head) (old new : NamesOver K) (told : Option Kept) (r : ReadDir) → Plays head (reverse old.ran) old.inner told
+    → old.inner.server.beside.phase ≢ serving
     → new.inner ≡ old.inner → new.ran ≡ old.ran → new.around ≡ served_by old.around (record { served = old.around.served; sends = puts_off r ∷ [] })
     → TakesBeside head Stepped.Done old new told told (reads_in (outside_of head old) r (run head (reverse old.ran)).server.phase)
 put-off head old new told r plays phase inner ran is =
@@ -87,10 +94,12 @@ put-off head old new told r plays phase inner ran is =
 
 -- ---- requests that change a directory
 
-passes-as : (o : Outside) (number : ℕ) (changes : Option Changes) (c : Changes) (s : Option Serves) → changes ≡ Some c → holds_up o.served c.who c.prefix ≡ s → passes o number changes ≡ held_or o number s
+passes-as : (o : Outside) (number : ℕ) (changes : Option Changes) (c : Changes) (s : Option Serves) → changes ≡ Some c → holds_up o.served c.who
+    c.prefix ≡ s → passes o number changes ≡ held_or o number s
 passes-as o number changes c s is holds = ap (passes o number) is ∙ ap (held_or o number) holds
 
-held-by : {K : Type 0} (head : Head) (held : Bool) (s : Option Serves) (c : Changes) (changes : Option Changes) (old mid new : NamesOver K) (told tells : Option Kept) → Plays head (reverse old.ran) old.inner told
+held-by : {K : Type 0} (head : Head) (held : Bool) (s : Option Serves) (c : Changes) (changes : Option Changes) (old mid new : NamesOver K)
+    (told tells : Option Kept) → Plays head (reverse old.ran) old.inner told
     → changes ≡ Some c → holds_up mid.around.served c.who c.prefix ≡ s → IsHeldUp held s mid.around new.around
     → IsAsBeforeOutside old mid → tells ≡ told → new.inner ≡ mid.inner → new.ran ≡ mid.ran → new.events ≡ mid.events
     → HoldsUp head (Ok held) changes old new told tells
@@ -105,16 +114,24 @@ held-by head true (Some s) c changes old mid new told tells plays is holds h bef
       plays = subst (λ i. Plays head rn i tells) (sym inner) (still head old mid told tells plays before same);
       ran = ran ∙ before.ran;
       gone = ap (λ (a : AroundOver). a.gone) h ∙ ap (λ (a : AroundOver). a.gone) before.around;
-      leads = ap (once_sent v rn) h ∙ ap (λ a. once_sent v rn (served_by a s)) before.around ∙ served_shows v rn old.around s ∙ sym (passes-as o number changes c (Some s) is up);
+      leads = ap (once_sent v rn) h ∙ ap (λ a. once_sent v rn (served_by a s)) before.around ∙ served_shows v rn old.around s
+          ∙ sym (passes-as o number changes c (Some s) is up);
     }
 held-by head false None c changes old mid new told tells plays is holds h before same inner ran events =
     let up : holds_up old.around.served c.who c.prefix ≡ None = subst (λ (a : AroundOver). holds_up a.served c.who c.prefix ≡ None) before.around holds in (
-      record { inner = subst (IsAsBefore old.inner) (sym inner) before.inner; around = h ∙ before.around; ran = ran ∙ before.ran; events = events ∙ before.events },
+      record {
+        inner = subst (IsAsBefore old.inner) (sym inner) before.inner;
+        around = h ∙ before.around;
+        ran = ran ∙ before.ran;
+        events = events
+            ∙ before.events;
+      },
       same,
       λ number. sym (passes-as (outside_of head old) number changes c None is up),
     )
 
-pub held-up : {K : Type 0} (head : Head) (held : Bool) (c : Changes) (changes : Kept → Option Changes) (old mid new : NamesOver K) (told tells : Option Kept) → Plays head (reverse old.ran) old.inner told
+pub held-up : {K : Type 0} (head : Head) (held : Bool) (c : Changes) (changes : Kept → Option Changes) (old mid new : NamesOver K)
+    (told tells : Option Kept) → Plays head (reverse old.ran) old.inner told
     → ForSome told (λ kept. Some c ≡ changes kept) → IsHeldFor held c mid new
     → IsAsBeforeOutside old mid → tells ≡ told → new.inner ≡ mid.inner → new.ran ≡ mid.ran → new.events ≡ mid.events
     → HoldsUp head (Ok held) (changes (run head (reverse old.ran)).server.kept) old new told tells

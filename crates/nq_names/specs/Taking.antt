@@ -85,7 +85,8 @@ IsHeldFor held changes old new = IsHeldUp held (holds_up old.around.served chang
 -- ---- reading what is kept
 
 -- What reading what is kept did: the world is as before, but for its keeper, which told the same as long as it did not fail.
-abbrev pub ReadsKept : {K A : Type 0} → (content : K → Option Kept) → (faults : K → ℕ) → (follows : K → K → Type 0) → Result A KeepFault → (old new : NamesOver K) → Type 0
+abbrev pub ReadsKept : {K A : Type 0} → (content : K → Option Kept) → (faults : K → ℕ) → (follows : K → K → Type 0) → Result A KeepFault
+    → (old new : NamesOver K) → Type 0
 ReadsKept content faults follows result old new =
     IsAsBeforeOutside old new
     × Reads result (content old.inner.server.keeper) (content new.inner.server.keeper) (faults old.inner.server.keeper) (faults new.inner.server.keeper)

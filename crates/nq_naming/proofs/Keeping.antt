@@ -23,26 +23,30 @@ use Rattle.nq_name_server.specs.declared.run.event.NameEvent.{NameEvent}
 use Rattle.nq_model.specs.Stepped.{done, most_events}
 use Rattle.nq_model.specs.World.{Head as Beginning}
 use Rattle.nq_replay.specs.AsidesPlaying.{Ended, Played, took, refused, at_line, ran, stopped}
-use Rattle.nq_naming.specs.Playing.{Moment, Sought, first_moment, with_finds, play, play_event, play_flow, play_line, play_lines, play_plain, play_round, play_ticks}
+use Rattle.nq_naming.specs.Playing.{Moment, Sought, first_moment, with_finds, play, play_event, play_flow, play_line, play_lines, play_plain}
+use Rattle.nq_naming.specs.Playing.{play_round, play_ticks}
 
 pub keeps-ticks : (P : List NameEvent → Type 0) (head : Beginning) (host count : ℕ) → host + count ≤ head.hosts
     → ((h : ℕ) → h < head.hosts → Keeps P (play_event head (NameEvent.Plain (Event.ClientTick h)))) → Keeps P (play_ticks head host count)
 keeps-ticks P head host zero less keeps events here = here
 keeps-ticks P head host (suc count) less keeps events here =
-    ends-then P (play_event head (NameEvent.Plain (Event.ClientTick host)) events) (play_ticks head (host + 1) count) (keeps host (omega arith) events here) (keeps-ticks P head (host + 1) count (omega arith) keeps)
+    ends-then P (play_event head (NameEvent.Plain (Event.ClientTick host)) events) (play_ticks head (host + 1) count) (keeps host (omega arith) events
+    here) (keeps-ticks P head (host + 1) count (omega arith) keeps)
 
 pub keeps-round : (P : List NameEvent → Type 0) (head : Beginning)
     → ((h : ℕ) → h < head.hosts → Keeps P (play_event head (NameEvent.Plain (Event.ClientTick h))))
     → Keeps P (play_event head (NameEvent.Plain Event.ServerTick)) → Keeps P (play_round head)
 unfolding play_round
 keeps-round P head ticks tick events here =
-    ends-then P (play_ticks head 0 head.hosts events) (play_event head (NameEvent.Plain Event.ServerTick)) (keeps-ticks P head 0 head.hosts (omega arith) ticks events here) tick
+    ends-then P (play_ticks head 0 head.hosts events) (play_event head (NameEvent.Plain Event.ServerTick)) (keeps-ticks P head 0 head.hosts
+    (omega arith) ticks events here) tick
 
 pub keeps-flow : (P : List NameEvent → Type 0) (head : Beginning) (most : ℕ) → ((k : ℕ) → Keeps P (play_event head (NameEvent.Plain (Event.Deliver k))))
     → Keeps P (play_flow head most)
 keeps-flow P head zero keeps events here = tt
 keeps-flow P head (suc most) keeps events here =
-    ends-packet P _ events _ here (λ k. ends-then P (play_event head (NameEvent.Plain (Event.Deliver k)) events) (λ es. play_flow head most es) (keeps k events here) (keeps-flow P head most keeps))
+    ends-packet P _ events _ here (λ k. ends-then P (play_event head (NameEvent.Plain (Event.Deliver k)) events) (λ es. play_flow head most es)
+    (keeps k events here) (keeps-flow P head most keeps))
 
 -- where each event keeps it, lines of schedules do
 module _ (P : List NameEvent → Type 0) (head : Beginning) (more : (event : NameEvent) (events : List NameEvent) → P events → P (event ∷ events)) where
@@ -53,7 +57,8 @@ module _ (P : List NameEvent → Type 0) (head : Beginning) (more : (event : Nam
   pub keeps-plain : (most : ℕ) (line : Line) → Keeps P (play_plain head most line)
   keeps-plain most (Line.Events event times) = keeps-repeated P times (play_event head (NameEvent.Plain event)) (keeps-event (NameEvent.Plain event))
   keeps-plain most (Line.Round times) =
-      keeps-repeated P times (play_round head) (keeps-round P head (λ h less. keeps-event (NameEvent.Plain (Event.ClientTick h))) (keeps-event (NameEvent.Plain Event.ServerTick)))
+      keeps-repeated P times (play_round head) (keeps-round P head (λ h less. keeps-event (NameEvent.Plain (Event.ClientTick h)))
+      (keeps-event (NameEvent.Plain Event.ServerTick)))
   keeps-plain most Line.Flow = keeps-flow P head most (λ k. keeps-event (NameEvent.Plain (Event.Deliver k)))
   keeps-plain most Line.End = λ events here. here
 
@@ -77,11 +82,13 @@ ends_finds P finds (refused answer) here = tt
 module _ (head : Head) (second : head.version ≡ 2) where
   keeps_event : (event : Event) → IsTellable head event → Keeps (AreTold head) (play_event (beginning head) (NameEvent.Plain event))
   unfolding play_event
-  keeps_event event is events so = ends-answered (AreTold head) events (NameEvent.Plain event) (stepped_outside (beginning head) events (NameEvent.Plain event)) (λ done. (is, so))
+  keeps_event event is events so = ends-answered (AreTold head) events (NameEvent.Plain event) (stepped_outside (beginning head) events
+      (NameEvent.Plain event)) (λ done. (is, so))
 
   keeps_list : (host : ℕ) (prefix : List ℕ) → Keeps (AreTold head) (play_event (beginning head) (NameEvent.List host prefix))
   unfolding play_event
-  keeps_list host prefix events so = ends-answered (AreTold head) events (NameEvent.List host prefix) (stepped_outside (beginning head) events (NameEvent.List host prefix)) (λ done. (tt, so))
+  keeps_list host prefix events so = ends-answered (AreTold head) events (NameEvent.List host prefix) (stepped_outside (beginning head) events
+      (NameEvent.List host prefix)) (λ done. (tt, so))
 
   keeps_line : (most : ℕ) (line : Line) (text : List ℕ) → SpellsLine head line text → Keeps (AreTold head) (play_plain (beginning head) most line)
   keeps_line most (Line.Events event times) text spelled =
@@ -93,7 +100,8 @@ module _ (head : Head) (second : head.version ≡ 2) where
   keeps_line most Line.End text spelled = λ events so. so
 
   keeps_aside : (most : ℕ) (aside : Aside) (m : Moment) → AreTold head m.events → EndsAt (AreTold head) (play_line (beginning head) most (beside aside) m)
-  keeps_aside most (Aside.List host prefix) m so = ends_finds (AreTold head) m.finds (play_event (beginning head) (NameEvent.List host prefix) m.events) (keeps_list host prefix m.events so)
+  keeps_aside most (Aside.List host prefix) m so = ends_finds (AreTold head) m.finds (play_event (beginning head) (NameEvent.List host prefix)
+      m.events) (keeps_list host prefix m.events so)
   keeps_aside most (Aside.Find host name) m so = so
 
   ran_on : (line : ℕ) (played : Played Moment) (next : Moment → Ended Moment) (n : Moment) → EndsAt (AreTold head) played
@@ -121,11 +129,13 @@ module _ (head : Head) (second : head.version ≡ 2) where
   pub events_told : (asides : List (Option Aside)) (lines : List Line) (text : List ℕ) (m : Moment) → SpellsSchedule head lines text
       → play head (mixed asides lines) ≡ ran m → AreTold head m.events
   unfolding play
-  events_told asides lines text m spelled is = lines_told (most_events + 1) (length (head_lines head) + 1) asides lines spelled.1.1.0 first_moment m spelled.1.1.1 tt is
+  events_told asides lines text m spelled is = lines_told (most_events + 1) (length (head_lines head) + 1) asides lines spelled.1.1.0 first_moment m
+      spelled.1.1.1 tt is
 
 -- ---- so can all inner events
 
-came_told : {K : Type 0} (head : Head) (asides : List (Option Aside)) (lines : List Line) (text : List ℕ) (w : NamesOver K) (told : Option Kept) (found : List ℕ) (due : Ended Moment) → head.version ≡ 2 → SpellsSchedule head lines text → play head (mixed asides lines) ≡ due
+came_told : {K : Type 0} (head : Head) (asides : List (Option Aside)) (lines : List Line) (text : List ℕ) (w : NamesOver K) (told : Option Kept)
+    (found : List ℕ) (due : Ended Moment) → head.version ≡ 2 → SpellsSchedule head lines text → play head (mixed asides lines) ≡ due
     → RanTo due (λ m. IsAtEnd (beginning head) m w told found) → IsTold head w told
 came_told head asides lines text w told found (ran m) second spelled is at = record {
   moment = m;
@@ -135,7 +145,9 @@ came_told head asides lines text w told found (ran m) second spelled is at = rec
 came_told head asides lines text w told found (stopped line answer) second spelled is at = absurd at
 
 -- a schedule with lists that was played to its end
-pub played_told : {K : Type 0} (head : Head) (asides : List (Option Aside)) (lines : List Line) (text : List ℕ) (played : Went) (w : NamesOver K) (told : Option Kept) (found : List ℕ) → head.version ≡ 2 → SpellsSchedule head lines text
+pub played_told : {K : Type 0} (head : Head) (asides : List (Option Aside)) (lines : List Line) (text : List ℕ) (played : Went) (w : NamesOver K)
+    (told : Option Kept) (found : List ℕ) → head.version ≡ 2 → SpellsSchedule head lines text
     → Comes played (play head (mixed asides lines)) (λ m. IsAtEnd (beginning head) m w told found) → played ≡ Went.All → IsTold head w told
-played_told head asides lines text Went.All w told found second spelled comes is = came_told head asides lines text w told found (play head (mixed asides lines)) second spelled refl comes
+played_told head asides lines text Went.All w told found second spelled comes is = came_told head asides lines text w told found
+    (play head (mixed asides lines)) second spelled refl comes
 played_told head asides lines text (Went.Stopped line answer) w told found second spelled comes is = absurd (cc)

@@ -36,7 +36,8 @@ finds-on : (head : Head) (events es : List NameEvent) (finds : List Sought) → 
 finds-on head events es [] on all = tt
 finds-on head events es (s ∷ finds) on all = (true-on head events es s on all.0, finds-on head events es finds on all.1)
 
-module _ {K : Type 0} (head : Head) (m : Moment) (w : NamesOver K) (told : Option Kept) (flags : List Bool) (text : List ℕ) (said_so : text ≡ lines_of head m.finds) (true_so : FindsAreTrue head m) where
+module _ {K : Type 0} (head : Head) (m : Moment) (w : NamesOver K) (told : Option Kept) (flags : List Bool) (text : List ℕ) (said_so : text
+    ≡ lines_of head m.finds) (true_so : FindsAreTrue head m) where
   -- events were played behind this moment
   events-on : (said : Stepped) (due : Due (List NameEvent)) → Ends (GoesOn m.events) due → Goes said due (λ es. IsAt head es w told flags)
       → Goes said (with_finds m.finds due) (λ n. IsAtMoment head n w told flags text)
@@ -63,14 +64,16 @@ pub event-on : (head : Head) (event : NameEvent) (events : List NameEvent) → E
 event-on head event events = keeps-event (GoesOn events) head (more-on events) event events ([], refl)
 
 -- a line of a schedule
-pub plain-moment : {K : Type 0} (head : Head) (m : Moment) (old new : NamesOver K) (told tells : Option Kept) (flags flags' : List Bool) (text : List ℕ) (said : Stepped) (most : ℕ) (line : Line) → IsAtMoment head m old told flags text
+pub plain-moment : {K : Type 0} (head : Head) (m : Moment) (old new : NamesOver K) (told tells : Option Kept) (flags flags' : List Bool)
+    (text : List ℕ) (said : Stepped) (most : ℕ) (line : Line) → IsAtMoment head m old told flags text
     → Goes said (play_plain head most line m.events) (λ es. IsAt head es new tells flags')
     → Goes said (with_finds m.finds (play_plain head most line m.events)) (λ n. IsAtMoment head n new tells flags' text)
 plain-moment head m old new told tells flags flags' text said most line is goes =
     events-on head m new tells flags' text is.said is.finds said (play_plain head most line m.events) (plain-on head most line m.events) goes
 
 -- a list
-pub list-moment : {K : Type 0} (head : Head) (m : Moment) (old new : NamesOver K) (told tells : Option Kept) (flags flags' : List Bool) (text : List ℕ) (said : Stepped) (event : NameEvent) → IsAtMoment head m old told flags text
+pub list-moment : {K : Type 0} (head : Head) (m : Moment) (old new : NamesOver K) (told tells : Option Kept) (flags flags' : List Bool)
+    (text : List ℕ) (said : Stepped) (event : NameEvent) → IsAtMoment head m old told flags text
     → Goes said (play_event head event m.events) (λ es. IsAt head es new tells flags')
     → Goes said (with_finds m.finds (play_event head event m.events)) (λ n. IsAtMoment head n new tells flags' text)
 list-moment head m old new told tells flags flags' text said event is goes =
@@ -78,7 +81,8 @@ list-moment head m old new told tells flags flags' text said event is goes =
 
 -- ---- a find
 
-pub find-moment : {K : Type 0} (head : Head) (m : Moment) (w : NamesOver K) (told : Option Kept) (flags : List Bool) (text text' : List ℕ) (host : ℕ) (name : List ℕ) (events : ℕ) (known : Found) → IsAtMoment head m w told flags text
+pub find-moment : {K : Type 0} (head : Head) (m : Moment) (w : NamesOver K) (told : Option Kept) (flags : List Bool) (text text' : List ℕ) (host : ℕ)
+    (name : List ℕ) (events : ℕ) (known : Found) → IsAtMoment head m w told flags text
     → known ≡ found (outside_run head m.events) host name → events ≡ length (outside_run head m.events).ran
     → text' ≡ text ++ find_line host name events known
     → IsAtMoment head (with_find m host name) w told flags text'

@@ -31,7 +31,8 @@ then-then : (first : Due (List NameEvent)) (second third : List NameEvent → Du
 then-then (took events) second third = refl
 then-then (refused answer) second third = refl
 
-pub round-step : (head : Head) (hosts : ℕ) (events : List NameEvent) (rest : List NameEvent → Due (List NameEvent)) (due : Due (List NameEvent)) → head.hosts ≡ hosts
+pub round-step : (head : Head) (hosts : ℕ) (events : List NameEvent) (rest : List NameEvent → Due (List NameEvent)) (due : Due (List NameEvent))
+    → head.hosts ≡ hosts
     → and_then (play_round head events) rest ≡ due
     → and_then (play_ticks head 0 hosts events) (λ es. and_then (play_event head (NameEvent.Plain Event.ServerTick) es) rest) ≡ due
 unfolding play_round
@@ -39,7 +40,8 @@ round-step head hosts events rest due same is =
     rw (← same) (sym (then-then (play_ticks head 0 head.hosts events) (play_event head (NameEvent.Plain Event.ServerTick)) rest) ∙ is)
 
 flow-step : (head : Head) (most turn : ℕ) (events : List NameEvent) (due : Due (List NameEvent)) → turn < most → play_flow head (most - turn) events ≡ due
-    → with_packet (next_packet head events) events (λ packet. and_then (play_event head (NameEvent.Plain (Event.Deliver packet)) events) (λ es. play_flow head (most - (turn + 1)) es)) ≡ due
+    → with_packet (next_packet head events) events (λ packet. and_then (play_event head (NameEvent.Plain (Event.Deliver packet)) events)
+    (λ es. play_flow head (most - (turn + 1)) es)) ≡ due
 flow-step head most turn events due below same =
     let further : most - turn ≡ suc (most - (turn + 1)) = omega arith in
     rw further at same
@@ -63,4 +65,5 @@ flow-some head most turn packet events due next below same is some =
 pub as-played : (head : ScriptHead) (lines : List NamesLine) (most first : ℕ) → most ≡ most_events + 1 → first ≡ length (head_lines head) + 1
     → play_lines (beginning head) most first lines first_moment ≡ play head lines
 unfolding play
-as-played head lines most first all behind = ap (λ n. play_lines (beginning head) n first lines first_moment) all ∙ ap (λ n. play_lines (beginning head) (most_events + 1) n lines first_moment) behind
+as-played head lines most first all behind = ap (λ n. play_lines (beginning head) n first lines first_moment) all
+    ∙ ap (λ n. play_lines (beginning head) (most_events + 1) n lines first_moment) behind

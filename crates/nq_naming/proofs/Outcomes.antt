@@ -23,11 +23,35 @@ use Rattle.nq_world.specs.declared.Stepped.{Stepped}
 
 text_of_run : (end : Ending) (head : Head) (m : Moment) (text : List ℕ) (held now : Option (List ℕ)) (w w' : ℕ) → RunsNames text head m
     → EndsNamesPlayed end head (ran m) held now w w' → EndsNamesText end text held now w w'
-text_of_run Ending.Done head m text held now w w' runs (inl p) = record { head = head; moment = m; runs = runs; bytes = p.bytes; are = p.are; printed = p.printed }
+text_of_run Ending.Done head m text held now w w' runs (inl p) = record {
+  head = head;
+  moment = m;
+  runs = runs;
+  bytes = p.bytes;
+  are = p.are;
+  printed = p.printed;
+}
 text_of_run Ending.Done head m text held now w w' runs (inr none) = let e = none.0 in absurd (cc)
-text_of_run Ending.WriteFault head m text held now w w' runs (inl p) = (record { head = head; moment = m; runs = runs; bytes = p.bytes; are = p.are; printed = p.printed.0 }, p.printed.1)
+text_of_run Ending.WriteFault head m text held now w w' runs (inl p) = (
+  record {
+    head = head;
+    moment = m;
+    runs = runs;
+    bytes = p.bytes;
+    are = p.are;
+    printed = p.printed.0;
+  },
+  p.printed.1,
+)
 text_of_run Ending.WriteFault head m text held now w w' runs (inr none) = let e = none.0 in absurd (cc)
-text_of_run Ending.Memory head m text held now w w' runs (inl p) = inr (record { head = head; moment = m; runs = runs; bytes = p.bytes; are = p.are; printed = p.printed })
+text_of_run Ending.Memory head m text held now w w' runs (inl p) = inr (record {
+  head = head;
+  moment = m;
+  runs = runs;
+  bytes = p.bytes;
+  are = p.are;
+  printed = p.printed;
+})
 text_of_run Ending.Memory head m text held now w w' runs (inr none) = inl none.1
 text_of_run other head m text held now w w' runs (inl p) = absurd p.printed
 text_of_run other head m text held now w w' runs (inr none) = let e = none.0 in absurd (cc)
@@ -72,8 +96,10 @@ text_of_stop end head line too_many_packets text held now w w' stops tells = tex
 -- a schedule that was read
 text_of_due : (end : Ending) (head : Head) (lines : List NamesLine) (due : Ended Moment) (text : List ℕ) (held now : Option (List ℕ)) (w w' : ℕ)
     → SpellsNames head lines text → play head lines ≡ due → EndsNamesPlayed end head due held now w w' → EndsNamesText end text held now w w'
-text_of_due end head lines (ran m) text held now w w' spelled is ends = text_of_run end head m text held now w w' (record { lines = lines; spelled = spelled; played = is }) ends
-text_of_due end head lines (stopped line answer) text held now w w' spelled is ends = text_of_stop end head line answer text held now w w' (record { head = head; lines = lines; spelled = spelled; stopped = is }) ends
+text_of_due end head lines (ran m) text held now w w' spelled is ends = text_of_run end head m text held now w w'
+    (record { lines = lines; spelled = spelled; played = is }) ends
+text_of_due end head lines (stopped line answer) text held now w w' spelled is ends = text_of_stop end head line answer text held now w w'
+    (record { head = head; lines = lines; spelled = spelled; stopped = is }) ends
 
 pub text_of_schedule : (end : Ending) (head : Head) (lines : List NamesLine) (text : List ℕ) (held now : Option (List ℕ)) (w w' : ℕ)
     → SpellsNames head lines text → EndsNamesPlayed end head (play head lines) held now w w' → EndsNamesText end text held now w w'
@@ -119,11 +145,13 @@ is_due head h lines ls due same is = rw (same.0, same.1) is
 
 pub ends_script : (end : Ending) (head : Head) (lines : List NamesLine) (number : ℕ) (held now : Option (List ℕ)) (w w' : ℕ)
     → EndsNamesPlayed end head (play head lines) held now w w' → play head lines ≡ stopped number no_packet → IsUnlessFault end Ending.Script 0 0 w w'
-ends_script end head lines number held now w w' ends is = script_unless end number held now w w' (subst (λ due. EndsNamesPlayed end head due held now w w') is ends)
+ends_script end head lines number held now w w' ends is = script_unless end number held now w w' (subst (λ due. EndsNamesPlayed end head due held now
+    w w') is ends)
 
 pub ends_skew : (end : Ending) (head : Head) (lines : List NamesLine) (number : ℕ) (broken : SkewBroken) (held now : Option (List ℕ)) (w w' : ℕ)
     → EndsNamesPlayed end head (play head lines) held now w w' → play head lines ≡ stopped number (out_of_skew broken) → IsUnlessFault end Ending.Skew 0 0 w w'
-ends_skew end head lines number broken held now w w' ends is = skew_unless end number broken held now w w' (subst (λ due. EndsNamesPlayed end head due held now w w') is ends)
+ends_skew end head lines number broken held now w w' ends is = skew_unless end number broken held now w w'
+    (subst (λ due. EndsNamesPlayed end head due held now w w') is ends)
 
 pub ends_passing : (end : Ending) (head : Head) (lines : List NamesLine) (text : List ℕ) (number : ℕ) (bound : Bound) (held now : Option (List ℕ)) (w w' : ℕ)
     → EndsNamesPlayed end head (play head lines) held now w w'
@@ -131,9 +159,11 @@ pub ends_passing : (end : Ending) (head : Head) (lines : List NamesLine) (text :
     → IsUnlessFault end Ending.Limit 0 0 w w'
 ends_passing end head lines text number Bound.Bytes held now w w' ends only passes = absurd passes
 ends_passing end head lines text number Bound.Events held now w w' ends only passes =
-    limit_unless end number Limit.Events held now w w' (subst (λ due. EndsNamesPlayed end head due held now w w') (is_due head passes.head lines passes.lines _ (only passes.head passes.lines passes.spelled) passes.stopped) ends)
+    limit_unless end number Limit.Events held now w w' (subst (λ due. EndsNamesPlayed end head due held now w w') (is_due head passes.head lines
+    passes.lines _ (only passes.head passes.lines passes.spelled) passes.stopped) ends)
 ends_passing end head lines text number Bound.Packets held now w w' ends only passes =
-    limit_unless end number Limit.Packets held now w w' (subst (λ due. EndsNamesPlayed end head due held now w w') (is_due head passes.head lines passes.lines _ (only passes.head passes.lines passes.spelled) passes.stopped) ends)
+    limit_unless end number Limit.Packets held now w w' (subst (λ due. EndsNamesPlayed end head due held now w w') (is_due head passes.head lines
+    passes.lines _ (only passes.head passes.lines passes.spelled) passes.stopped) ends)
 
 pub ends_faulty : (end : Ending) (head : Head) (lines : List NamesLine) (text : List ℕ) (number : ℕ) (held now : Option (List ℕ)) (w w' : ℕ)
     → EndsNamesPlayed end head (play head lines) held now w w'
@@ -201,7 +231,8 @@ pub stop_ends : (end : Ending) (head : Head) (line : ℕ) (said : Stepped) (due 
     → Comes (Played.Stopped line said) due P → TellsStop end line said held now w w' → EndsNamesPlayed end head due held now w w'
 stop_ends end head line Stepped.Done due P held now w w' comes tells = absurd comes
 stop_ends end head line Stepped.NoPacket due P held now w w' comes tells = stop_at end head line Stepped.NoPacket due held now w w' comes tells
-stop_ends end head line (Stepped.SkewBroken broken) due P held now w w' comes tells = stop_at end head line (Stepped.SkewBroken broken) due held now w w' comes tells
+stop_ends end head line (Stepped.SkewBroken broken) due P held now w w' comes tells = stop_at end head line (Stepped.SkewBroken broken) due held now w
+    w' comes tells
 stop_ends end head line (Stepped.Limit limit) due P held now w w' comes tells = stop_at end head line (Stepped.Limit limit) due held now w w' comes tells
 stop_ends end head line Stepped.Fault due P held now w w' comes tells = stop_memory end head due held now w w' (silent-fault end line held now w w' tells)
 stop_ends end head line Stepped.Memory due P held now w w' comes tells = stop_memory end head due held now w w' (silent-memory end line held now w w' tells)

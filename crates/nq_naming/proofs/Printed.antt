@@ -28,7 +28,8 @@ lawful head events w told plays =
     record { bounds = is.bounds; skew = is.skew }
 
 -- the bytes that are printed of it
-pub is-printed : {K : Type 0} (head : Head) (m : Moment) (w : NamesOver K) (told : Option Kept) (ran : List Event) (entries : List Entry) (text found : List ℕ) → IsAtEnd (beginning head) m w told found
+pub is-printed : {K : Type 0} (head : Head) (m : Moment) (w : NamesOver K) (told : Option Kept) (ran : List Event) (entries : List Entry)
+    (text found : List ℕ) → IsAtEnd (beginning head) m w told found
     → reverse ran ≡ (end_of head m).ran → map plain entries ≡ reverse (end_of head m).world.journal
     → SpellsSchedule head (map once ran) text
     → IsPrinted head m (text ++ (journal_text 2 entries ++ found))

@@ -78,7 +78,11 @@ of-host-by hosts line None (Some v) aside few lists finds says =
     subst (IsOfHost hosts) (same_Some (Aside.Find v.0 v.1) aside says) ((has-parts (codes "find ") name_of hosts line v finds).below few)
 of-host-by hosts line (Some v) f aside few lists finds says =
     let parts = has-parts (codes "list ") prefix_of hosts line v lists in
-    subst (IsOfHost hosts) (same_Some (Aside.List v.0 v.1) aside says) (parts.below few, short-by parts.word v.1 (bytes_eq parts.word (codes "/")) refl parts.wrote)
+    subst (IsOfHost hosts) (same_Some (Aside.List v.0 v.1) aside says) (
+      parts.below few,
+      short-by parts.word v.1 (bytes_eq parts.word (codes "/"))
+          refl parts.wrote,
+    )
 
 pub is-of-host : (hosts : ℕ) (line : List ℕ) (aside : Aside) → hosts ≤ 64 → aside_of hosts line ≡ Some aside → IsOfHost hosts aside
 unfolding aside_of

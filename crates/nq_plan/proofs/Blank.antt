@@ -1,5 +1,6 @@
 -- A record that is closed and blank: an open finds the disk as it is.
-use Rattle.std.proofs.Common.{◌≡◌, ◌≤◌, ◌+◌, ◌-◌, ◌==◌, ◌++◌, ℕ, Bool, true, false, List, [], ◌∷◌, Ok, length, get_or, take, drop, if◌then◌else◌, refl, sym, ap, ◌∙◌, arith, length-append}
+use Rattle.std.proofs.Common.{◌≡◌, ◌≤◌, ◌+◌, ◌-◌, ◌==◌, ◌++◌, ℕ, Bool, true, false, List, [], ◌∷◌, Ok, length, get_or, take, drop, if◌then◌else◌}
+use Rattle.std.proofs.Common.{refl, sym, ap, ◌∙◌, arith, length-append}
 use Rattle.std.specs.Prelude.{replicate}
 use Rattle.std.proofs.Math.Seq.{drop-append-add}
 use Rattle.std.proofs.lemmas.List.{append-nil, drop_at, take_at, length-replicate}
@@ -10,7 +11,8 @@ use Rattle.nq_disk.specs.Whole.{found}
 use Rattle.nq_disk.specs.declared.redo.area.Area.{Area}
 
 -- bytes that are written where others end
-pub written-on : (place : ℕ) (front bytes behind : List ℕ) → length front ≡ place → 1 ≤ length bytes → written place bytes (front ++ behind) ≡ front ++ (bytes ++ drop (length bytes) behind)
+pub written-on : (place : ℕ) (front bytes behind : List ℕ) → length front ≡ place → 1 ≤ length bytes → written place bytes (front ++ behind) ≡ front
+    ++ (bytes ++ drop (length bytes) behind)
 unfolding written
 written-on place front [] behind at some = absurd (omega arith)
 written-on place front (byte ∷ bytes) behind at some =
@@ -31,7 +33,8 @@ is-no-one : (n : ℕ) → n ≡ 0 → (n == 1) ≡ false
 is-no-one n e = ap (λ (i : ℕ). i == 1) e
 
 -- zeros where the record stands are as they are once the record is blanked
-pub blanked-zeros : (place size : ℕ) (front behind : List ℕ) → length front ≡ place → 1 ≤ size → blanked place size (front ++ (zeros_of size ++ behind)) ≡ front ++ (zeros_of size ++ behind)
+pub blanked-zeros : (place size : ℕ) (front behind : List ℕ) → length front ≡ place → 1 ≤ size
+    → blanked place size (front ++ (zeros_of size ++ behind)) ≡ front ++ (zeros_of size ++ behind)
 unfolding blanked zeros_of
 blanked-zeros place size front behind at some =
     let own = replicate size 0 in
@@ -44,5 +47,6 @@ blanked-zeros place size front behind at some =
 pub found-as-is : (area : Area) (bytes : List ℕ) → get_or bytes area.place 0 ≡ 0 → blanked area.place area.size bytes ≡ bytes → found area bytes ≡ Ok bytes
 unfolding opened
 found-as-is area bytes shut blank =
-    when-false (get_or bytes area.place 0 == 1) (replayed area.place area.size bytes (wrong_field area.place area.size area.bound (length bytes) (record_at area.place area.size bytes))) (Ok (blanked area.place area.size bytes)) (is-no-one (get_or bytes area.place 0) shut)
+    when-false (get_or bytes area.place 0 == 1) (replayed area.place area.size bytes (wrong_field area.place area.size area.bound (length bytes)
+    (record_at area.place area.size bytes))) (Ok (blanked area.place area.size bytes)) (is-no-one (get_or bytes area.place 0) shut)
     ∙ ap (λ (b : List ℕ). Ok b) blank

@@ -7,7 +7,8 @@ use Rattle.nq_image.specs.Whole.{has_image_name}
 use Rattle.nq_image.specs.Writing.{zeros_of}
 use Rattle.nq_image.proofs.Emptying.{zeros-join}
 
-pub in-three : (a b c : ℕ) (first behind : List ℕ) → first ++ (zeros_of (a + (b + c)) ++ behind) ≡ (first ++ zeros_of a) ++ (zeros_of b ++ (zeros_of c ++ behind))
+pub in-three : (a b c : ℕ) (first behind : List ℕ) → first ++ (zeros_of (a + (b + c)) ++ behind) ≡ (first ++ zeros_of a)
+    ++ (zeros_of b ++ (zeros_of c ++ behind))
 in-three a b c first behind =
     ap (λ (z : List ℕ). first ++ (z ++ behind)) (sym (zeros-join a (b + c)))
     ∙ ap (λ (z : List ℕ). first ++ ((zeros_of a ++ z) ++ behind)) (sym (zeros-join b c))

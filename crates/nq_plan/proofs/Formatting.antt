@@ -1,5 +1,6 @@
 -- A disk is written over with zeros, chunk after chunk, and then with the first bytes of the image.
-use Rattle.std.proofs.Common.{◌≡◌, ◌≤◌, ◌<◌, ◌+◌, ◌*◌, ◌&&◌, ◌++◌, ℕ, Bool, true, false, List, [], Option, Some, None, Result, Ok, Err, length, get_or, drop, if◌then◌else◌, refl, sym, ap, subst, ◌∙◌, arith, length-append}
+use Rattle.std.proofs.Common.{◌≡◌, ◌≤◌, ◌<◌, ◌+◌, ◌*◌, ◌&&◌, ◌++◌, ℕ, Bool, true, false, List, [], Option, Some, None, Result, Ok, Err, length}
+use Rattle.std.proofs.Common.{get_or, drop, if◌then◌else◌, refl, sym, ap, subst, ◌∙◌, arith, length-append}
 use Rattle.std.specs.Prelude.{nat_le, OnOk}
 use Rattle.std.proofs.lemmas.Bool.Decides.{nat_tests}
 use Rattle.std.proofs.lemmas.List.{append_assoc, drop-drop, drop_at, get_or-append_right, get_or_append_left, get_or-replicate}
@@ -26,7 +27,8 @@ unfolding zeros_of
 zeros-none old = refl
 
 -- one chunk more
-pub zeros-on : (chunk : ℕ) (zeros old : List ℕ) → length zeros ≡ 4096 → zeros ≡ zeros_of 4096 → written (4096 * chunk) zeros (zeros_of (4096 * chunk) ++ drop (4096 * chunk) old) ≡ zeros_of (4096 * (chunk + 1)) ++ drop (4096 * (chunk + 1)) old
+pub zeros-on : (chunk : ℕ) (zeros old : List ℕ) → length zeros ≡ 4096 → zeros ≡ zeros_of 4096 → written (4096 * chunk) zeros (zeros_of (4096 * chunk)
+    ++ drop (4096 * chunk) old) ≡ zeros_of (4096 * (chunk + 1)) ++ drop (4096 * (chunk + 1)) old
 zeros-on chunk zeros old long are =
     let done = 4096 * chunk in
     let behind = drop done old in
@@ -72,7 +74,8 @@ is-le m n h = grind (arith, nat_tests)
 stands-as-read : (bytes : List ℕ) → 40960 ≤ length bytes → has_image_name bytes ≡ true → found image_area bytes ≡ Ok bytes → stands_as bytes ≡ opened bytes
 unfolding stands_as
 stands-as-read bytes long name is =
-    when-true (begins_as_image bytes) (settled_as (found image_area bytes)) None (both-true (nat_le 40960 (length bytes)) (has_image_name bytes) (is-le 40960 (length bytes) long) name)
+    when-true (begins_as_image bytes) (settled_as (found image_area bytes)) None (both-true (nat_le 40960 (length bytes)) (has_image_name bytes)
+    (is-le 40960 (length bytes) long) name)
     ∙ ap settled_as is
 
 pub for-nothing : (behind : List ℕ) → StandsForNothing (first_of_nothing ++ (zeros_of 1093608 ++ behind))
@@ -82,7 +85,13 @@ for-nothing behind =
     let rest = zeros_of 1052672 ++ behind in
     let apart : bytes ≡ front ++ (zeros_of 12288 ++ rest) = in-three 28648 12288 1052672 first_of_nothing behind in
     let long-front : length front ≡ 28672 = length-append first_of_nothing (zeros_of 28648) ∙ ap (λ (n : ℕ). 24 + n) (length-zeros 28648) in
-    let long : 40960 ≤ length bytes = omega (arith, length-append first_of_nothing (zeros_of 1093608 ++ behind), length-append (zeros_of 1093608) behind, length-zeros 1093608) in
+    let long : 40960 ≤ length bytes = omega (
+      arith,
+      length-append first_of_nothing (zeros_of 1093608 ++ behind),
+      length-append (zeros_of 1093608)
+          behind,
+      length-zeros 1093608,
+    ) in
     let shut : get_or bytes 28672 0 ≡ 0 =
     get_or-append_right first_of_nothing (zeros_of 1093608 ++ behind) 24 28672 0 refl (omega arith)
     ∙ get_or_append_left (zeros_of 1093608) behind 0 28648 (omega (arith, length-zeros 1093608))
@@ -102,7 +111,8 @@ pub then-ok : (result : Result Unit DiskFault) (P : Type 0) → result ≡ Ok tt
 then-ok result P is known = subst (λ (r : Result Unit DiskFault). OnOk r P) is known
 
 -- zeros are written, then the first bytes, and then a sync leaves nothing else
-pub formatted : (zeros first last : Option (List ℕ)) (may_leave : List ℕ → Type 0) (rest : List ℕ) → zeros ≡ Some (zeros_of 1093632 ++ rest) → first ≡ told_after 0 first_of_nothing zeros → last ≡ first → IsAllThatIsLeft first may_leave → TellsNothing last × Each may_leave StandsForNothing
+pub formatted : (zeros first last : Option (List ℕ)) (may_leave : List ℕ → Type 0) (rest : List ℕ) → zeros ≡ Some (zeros_of 1093632 ++ rest)
+    → first ≡ told_after 0 first_of_nothing zeros → last ≡ first → IsAllThatIsLeft first may_leave → TellsNothing last × Each may_leave StandsForNothing
 formatted zeros first last may_leave rest z f l all =
     let bytes = first_of_nothing ++ (zeros_of 1093608 ++ rest) in
     let is : first ≡ Some bytes = f ∙ ap (told_after 0 first_of_nothing) z ∙ ap (λ (b : List ℕ). Some b) (first-on rest) in

@@ -1,7 +1,7 @@
 -- What is found in an image of version 2, from its parts.
-use Rattle.std.proofs.Common.{◌≡◌, ◌≤◌, ◌+◌, ℕ, Bool, true, false, List, [], ◌++◌, Option, Result, Ok, Err, drop, length, take, if◌then◌else◌, refl, sym, ap, subst, ◌∙◌, arith}
+use Rattle.std.proofs.Common.{◌≡◌, ◌≤◌, ◌+◌, ℕ, Bool, List, [], ◌++◌, Option, Result, Ok, Err, drop, length, take, if◌then◌else◌, refl, sym, ap}
+use Rattle.std.proofs.Common.{subst, ◌∙◌, arith}
 use Rattle.std.proofs.lemmas.List.{append-nil, drop_all, take_all}
-use Rattle.nq_base.specs.declared.HostRow.{HostRow}
 use Rattle.nq_image.specs.Check.{tested}
 use Rattle.nq_image.specs.Heads.{front_checks, front_of}
 use Rattle.nq_image.specs.Hosts.{hosts_checks, hosts_of}
@@ -66,7 +66,8 @@ module _ (bytes head window : List ℕ) (front : Front) (size : ℕ) (parts : Ar
   front-read : image_two none bytes ≡ (rows_in Version.Two bytes >>= λ rows. with-rows rows)
   unfolding image_two
   front-read =
-      goes (tested (front_checks (piece 0 64 bytes)) (front_of (piece 0 64 bytes))) front (λ f. (rows_in Version.Two bytes >>= λ rows. (tables_in f rows.slots none bytes >>= λ tables. Ok (record { front = f; rows = rows; tables = tables })))) parts.front_is
+      goes (tested (front_checks (piece 0 64 bytes)) (front_of (piece 0 64 bytes))) front (λ f. (rows_in Version.Two bytes >>= λ rows.
+      (tables_in f rows.slots none bytes >>= λ tables. Ok (record { front = f; rows = rows; tables = tables })))) parts.front_is
 
   rows-here : rows_in Version.Two head ≡ rows_in Version.Two bytes
   rows-here = ap (rows_in Version.Two) parts.head_is ∙ rows-of-first bytes
@@ -107,7 +108,8 @@ module _ (bytes head window : List ℕ) (front : Front) (size : ℕ) (parts : Ar
       pub ids-wrong : (p : ℕ) → ids_in (place + 1048576) front.next rows.slots bytes ≡ Err p → image_two none bytes ≡ Err p
       ids-wrong p is = tables-wrong p (blocks-read ∙ stops (ids_in (place + 1048576) front.next rows.slots bytes) p (λ ids. with-ids blocks ids) is)
 
-      module _ (ids : List ℕ) (ids_are : ids_in (place + 1048576) front.next rows.slots bytes ≡ Ok ids) (marks : List Bool) (marks_are : marks ≡ marks-told) where
+      module _ (ids : List ℕ) (ids_are : ids_in (place + 1048576) front.next rows.slots bytes ≡ Ok ids) (marks : List Bool) (marks_are : marks
+          ≡ marks-told) where
         ids-read : tables_in front rows.slots none bytes ≡ with-ids blocks ids
         ids-read = blocks-read ∙ goes (ids_in (place + 1048576) front.next rows.slots bytes) ids (λ i. with-ids blocks i) ids_are
 
@@ -115,7 +117,8 @@ module _ (bytes head window : List ℕ) (front : Front) (size : ℕ) (parts : Ar
         held-here = ap (λ (n : ℕ). held n marks) parts.size_is ∙ ap (held (length bytes)) marks_are
 
         pub held-wrong : (p : ℕ) → held size marks ≡ Err p → image_two none bytes ≡ Err p
-        held-wrong p is = tables-wrong p (ids-read ∙ stops (held (length bytes) marks-told) p (λ holds. Ok (record { ids = ids; blocks = blocks; marks = marks-told })) (sym held-here ∙ is))
+        held-wrong p is = tables-wrong p (ids-read ∙ stops (held (length bytes) marks-told) p
+            (λ holds. Ok (record { ids = ids; blocks = blocks; marks = marks-told })) (sym held-here ∙ is))
 
         abbrev found : FoundTwo
         found = record { front = front; rows = rows; tables = record { ids = ids; blocks = blocks; marks = marks-told } }
@@ -131,7 +134,8 @@ module _ (bytes head window : List ℕ) (front : Front) (size : ℕ) (parts : Ar
           marks = marks;
         }
 
-        pub all-read : (files : List (Option PlacedFile)) → held size marks ≡ Ok tt → files ≡ rows_of 0 rows.slots ids blocks → (f : FoundTwo) × (image_two none bytes ≡ Ok f) × (read-so files ≡ held_in bytes f)
+        pub all-read : (files : List (Option PlacedFile)) → held size marks ≡ Ok tt → files ≡ rows_of 0 rows.slots ids blocks → (f : FoundTwo)
+            × (image_two none bytes ≡ Ok f) × (read-so files ≡ held_in bytes f)
         all-read files is files_are =
             let value = tested-value (tables_checks front.tables place rows.slots none bytes) (tables_blocks place rows.slots bytes) blocks blocks_are in
             let With : List (Option PlacedFile) → List Bool → HeldTables = λ l m. record {
@@ -146,19 +150,24 @@ module _ (bytes head window : List ℕ) (front : Front) (size : ℕ) (parts : Ar
               found,
               rows-read
                   ∙ goes (tables_in front rows.slots none bytes) found.tables (λ tables. with-tables rows tables)
-                  (ids-read ∙ goes (held (length bytes) marks-told) tt (λ holds. Ok (record { ids = ids; blocks = blocks; marks = marks-told })) (sym held-here ∙ is)),
-              ap (λ (l : List (Option PlacedFile)). With l marks) (files_are ∙ ap (rows_of 0 rows.slots ids) (sym value) ∙ rows-are rows.slots 0 place ids bytes)
+                  (ids-read ∙ goes (held (length bytes) marks-told) tt (λ holds. Ok (record { ids = ids; blocks = blocks; marks = marks-told }))
+                  (sym held-here ∙ is)),
+              ap (λ (l : List (Option PlacedFile)). With l marks) (files_are ∙ ap (rows_of 0 rows.slots ids) (sym value) ∙ rows-are rows.slots 0 place
+                  ids bytes)
                   ∙ ap (λ (m : List Bool). With (standing_in bytes found).rows m) marks_are,
             )
 
 -- ---- what a read answers
 
-pub holds-on : {X Y : Type 0} (view : X → Y) (bytes : List ℕ) (answer : Result HeldTables ImageFault) (fault : ImageFault) (told : Result Y ℕ) (whole : Result FoundTwo ℕ) → answer ≡ Err fault → Reads view (Err fault) told → ((p : ℕ) → told ≡ Err p → whole ≡ Err p) → HoldsIn bytes answer whole
-holds-on view bytes answer (BadField place) told whole is reads wrong = let P : Result HeldTables ImageFault → Type 0 = λ a. HoldsIn bytes a whole in subst P (sym is) (wrong place reads)
+pub holds-on : {X Y : Type 0} (view : X → Y) (bytes : List ℕ) (answer : Result HeldTables ImageFault) (fault : ImageFault) (told : Result Y ℕ)
+    (whole : Result FoundTwo ℕ) → answer ≡ Err fault → Reads view (Err fault) told → ((p : ℕ) → told ≡ Err p → whole ≡ Err p) → HoldsIn bytes answer whole
+holds-on view bytes answer (BadField place) told whole is reads wrong = let P : Result HeldTables ImageFault → Type 0 = λ a. HoldsIn bytes a whole in
+    subst P (sym is) (wrong place reads)
 holds-on view bytes answer NotAnImage told whole is reads wrong = absurd reads
 holds-on view bytes answer Memory told whole is reads wrong = let P : Result HeldTables ImageFault → Type 0 = λ a. HoldsIn bytes a whole in subst P (sym is) tt
 
-pub holds-wrong : (bytes : List ℕ) (answer : Result HeldTables ImageFault) (place : ℕ) (whole : Result FoundTwo ℕ) → answer ≡ Err (BadField place) → whole ≡ Err place → HoldsIn bytes answer whole
+pub holds-wrong : (bytes : List ℕ) (answer : Result HeldTables ImageFault) (place : ℕ) (whole : Result FoundTwo ℕ) → answer ≡ Err (BadField place)
+    → whole ≡ Err place → HoldsIn bytes answer whole
 holds-wrong bytes answer at whole is wrong = let P : Result HeldTables ImageFault → Type 0 = λ a. HoldsIn bytes a whole in subst P (sym is) wrong
 
 -- ---- marks
@@ -166,4 +175,5 @@ holds-wrong bytes answer at whole is wrong = let P : Result HeldTables ImageFaul
 -- a vector whose elements were written as a slice has what was written
 pub written-back : (size : ℕ) (now before : List Bool) → length now ≡ length before → length before ≤ size → take size (now ++ drop (length now) before) ≡ now
 written-back size now before same le =
-    ap (λ (d : List Bool). take size (now ++ d)) (drop_all (length now) before (omega arith)) ∙ ap (λ (l : List Bool). take size l) (append-nil now) ∙ take_all size now (omega arith)
+    ap (λ (d : List Bool). take size (now ++ d)) (drop_all (length now) before (omega arith)) ∙ ap (λ (l : List Bool). take size l) (append-nil now)
+    ∙ take_all size now (omega arith)

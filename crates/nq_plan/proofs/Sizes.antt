@@ -1,7 +1,5 @@
 -- How long the parts of an image are that a change writes.
-use Rattle.std.proofs.Common.{◌≡◌, ◌≤◌, ◌<◌, ◌+◌, ◌-◌, ◌*◌, ◌^◌, ◌++◌, ℕ, List, [], ◌∷◌, length, refl, arith, length-append}
-use Rattle.std.specs.Int.{w32, w64, to_be_bytes}
-use Rattle.std.specs.Prelude.{replicate}
+use Rattle.std.proofs.Common.{◌≡◌, ◌+◌, ◌-◌, ◌*◌, ◌++◌, ℕ, List, [], ◌∷◌, length, refl, arith, length-append}
 use Rattle.std.proofs.lemmas.List.{length-replicate}
 use Rattle.nq_base.specs.declared.Heads.{Heads}
 use Rattle.nq_base.specs.declared.HostRow.{HostRow}
@@ -26,7 +24,13 @@ length-numbers blocks rev = refl
 pub length-row : (name : List ℕ) (blocks rev : ℕ) → length (row_bytes name blocks rev) ≡ 32 + length name + (64 - length name)
 unfolding row_bytes
 length-row name blocks rev =
-    omega (arith, length-append name (zeros_of (64 - length name)), length-append (name ++ zeros_of (64 - length name)) (numbers_bytes blocks rev), length-zeros (64 - length name), length-numbers blocks rev)
+    omega (
+      arith,
+      length-append name (zeros_of (64 - length name)),
+      length-append (name ++ zeros_of (64 - length name)) (numbers_bytes blocks rev),
+      length-zeros (64 - length name),
+      length-numbers blocks rev,
+    )
 
 pub length-entries : (blocks : List ℕ) → length (entries_of blocks) ≡ 4 * length blocks
 unfolding entries_of

@@ -1,6 +1,7 @@
 -- Steps of the loops over ids, marks, words and free blocks.
-use Rattle.std.proofs.Common.{◌≡◌, ◌≤◌, ◌<◌, ◌+◌, ◌-◌, ◌++◌, ℕ, zero, suc, Bool, true, false, List, [], ◌∷◌, Option, Some, None, length, get_or, take, drop, if◌then◌else◌, refl, sym, ap, ◌∙◌, arith, length-append}
-use Rattle.std.specs.Prelude.{filter, slice_set}
+use Rattle.std.proofs.Common.{◌≡◌, ◌≤◌, ◌<◌, ◌+◌, ◌-◌, ◌++◌, ℕ, zero, suc, Bool, true, false, List, [], ◌∷◌, Option, length, get_or, take, drop}
+use Rattle.std.proofs.Common.{if◌then◌else◌, refl, sym, ap, ◌∙◌, arith, length-append}
+use Rattle.std.specs.Prelude.{filter}
 use Rattle.std.proofs.lemmas.List.{append_assoc, append-nil, at_drop_more, at_drop_all}
 use Rattle.nq_base.specs.Block.{repeated, word}
 use Rattle.nq_image.specs.Kept.{numbers_from}
@@ -12,25 +13,23 @@ use Rattle.nq_plan.specs.Settling.{marked_all}
 
 -- ---- the least id above another
 
-pub id-passes : (after i : ℕ) (row : Option PlacedFile) (best : Option ℕ) (rows : List (Option PlacedFile)) (whole : Option ℕ) → i < length rows → row ≡ get_or rows i row → nearest after best (drop i rows) ≡ whole → nearest after (nearer after (row_id row) best) (drop (i + 1) rows) ≡ whole
+pub id-passes : (after i : ℕ) (row : Option PlacedFile) (best : Option ℕ) (rows : List (Option PlacedFile)) (whole : Option ℕ) → i < length rows
+    → row ≡ get_or rows i row → nearest after best (drop i rows) ≡ whole → nearest after (nearer after (row_id row) best) (drop (i + 1) rows) ≡ whole
 id-passes after i row best rows whole lt is so =
-    let step : nearest after best (drop i rows) ≡ nearest after (nearer after (row_id (get_or rows i row)) best) (drop (i + 1) rows) = at_drop_more (nearest after best) rows i row lt in
+    let step : nearest after best (drop i rows) ≡ nearest after (nearer after (row_id (get_or rows i row)) best) (drop (i + 1) rows) =
+    at_drop_more (nearest after best) rows i row lt in
     ap (λ (r : Option PlacedFile). nearest after (nearer after (row_id r) best) (drop (i + 1) rows)) is ∙ sym step ∙ so
 
-pub no-id-left : (after i : ℕ) (best : Option ℕ) (rows : List (Option PlacedFile)) (whole : Option ℕ) → length rows ≤ i → nearest after best (drop i rows) ≡ whole → best ≡ whole
+pub no-id-left : (after i : ℕ) (best : Option ℕ) (rows : List (Option PlacedFile)) (whole : Option ℕ) → length rows ≤ i
+    → nearest after best (drop i rows) ≡ whole → best ≡ whole
 no-id-left after i best rows whole le so =
     let step : nearest after best (drop i rows) ≡ best = at_drop_all (nearest after best) rows i le in
     sym step ∙ so
 
 -- ---- marks
 
-pub mark-passes : (given : Bool) (i block : ℕ) (blocks : List ℕ) (marks whole : List Bool) → i < length blocks → block ≡ get_or blocks i 0 → marked_all given (drop i blocks) marks ≡ whole → marked_all given (drop (i + 1) blocks) (slice_set marks block given) ≡ whole
-mark-passes given i block blocks marks whole lt is so =
-    let F : List ℕ → List Bool = λ bs. marked_all given bs marks in
-    let step : F (drop i blocks) ≡ marked_all given (drop (i + 1) blocks) (slice_set marks (get_or blocks i 0) given) = at_drop_more F blocks i 0 lt in
-    ap (λ (n : ℕ). marked_all given (drop (i + 1) blocks) (slice_set marks n given)) is ∙ sym step ∙ so
-
-pub no-block-left : (given : Bool) (i : ℕ) (blocks : List ℕ) (marks whole : List Bool) → length blocks ≤ i → marked_all given (drop i blocks) marks ≡ whole → marks ≡ whole
+pub no-block-left : (given : Bool) (i : ℕ) (blocks : List ℕ) (marks whole : List Bool) → length blocks ≤ i → marked_all given (drop i blocks) marks
+    ≡ whole → marks ≡ whole
 no-block-left given i blocks marks whole le so =
     let F : List ℕ → List Bool = λ bs. marked_all given bs marks in
     let step : F (drop i blocks) ≡ marks = at_drop_all F blocks i le in
@@ -38,15 +37,11 @@ no-block-left given i blocks marks whole le so =
 
 -- ---- words
 
-pub word-passes : (count i value : ℕ) (bytes whole : List ℕ) → i < count → bytes ++ repeated (count - i) value ≡ whole → (bytes ++ word value) ++ repeated (count - (i + 1)) value ≡ whole
+pub word-passes : (count i value : ℕ) (bytes whole : List ℕ) → i < count → bytes ++ repeated (count - i) value ≡ whole → (bytes ++ word value)
+    ++ repeated (count - (i + 1)) value ≡ whole
 word-passes count i value bytes whole lt so =
     let next : count - i ≡ suc (count - (i + 1)) = omega arith in
     append_assoc bytes (word value) (repeated (count - (i + 1)) value) ∙ sym (ap (λ (n : ℕ). bytes ++ repeated n value) next) ∙ so
-
-pub no-word-left : (count i value : ℕ) (bytes whole : List ℕ) → count ≤ i → bytes ++ repeated (count - i) value ≡ whole → bytes ≡ whole
-no-word-left count i value bytes whole le so =
-    let none : count - i ≡ 0 = omega arith in
-    sym (append-nil bytes) ∙ sym (ap (λ (n : ℕ). bytes ++ repeated n value) none) ∙ so
 
 -- ---- free blocks
 
@@ -54,7 +49,8 @@ no-word-left count i value bytes whole le so =
 abbrev pub found_from : HeldTables → (left block : ℕ) → (n : ℕ) → List ℕ
 found_from held left block n = take left (filter (is_free held) (numbers_from block n))
 
-one-number : (held : HeldTables) (left block n m : ℕ) → n ≡ suc m → found_from held left block n ≡ take left (filter (is_free held) (block ∷ numbers_from (block + 1) m))
+one-number : (held : HeldTables) (left block n m : ℕ) → n ≡ suc m → found_from held left block n
+    ≡ take left (filter (is_free held) (block ∷ numbers_from (block + 1) m))
 unfolding numbers_from
 one-number held left block n m is = ap (found_from held left block) is
 
@@ -72,7 +68,9 @@ filter-out p block rest is = at-false (p block) is
     at-false true e = cc
     at-false false e = refl
 
-pub free-passes : (held : HeldTables) (count block : ℕ) (free whole : List ℕ) → block < 16641 → length free < count → is_free held block ≡ true → free ++ found_from held (count - length free) block (16641 - block) ≡ whole → (free ++ block ∷ []) ++ found_from held (count - length (free ++ block ∷ [])) (block + 1) (16641 - (block + 1)) ≡ whole
+pub free-passes : (held : HeldTables) (count block : ℕ) (free whole : List ℕ) → block < 16641 → length free < count → is_free held block ≡ true
+    → free ++ found_from held (count - length free) block (16641 - block) ≡ whole → (free ++ block ∷ []) ++ found_from held
+    (count - length (free ++ block ∷ [])) (block + 1) (16641 - (block + 1)) ≡ whole
 free-passes held count block free whole lt few is so =
     let m = 16641 - (block + 1) in
     let next : 16641 - block ≡ suc m = omega arith in
@@ -84,7 +82,8 @@ free-passes held count block free whole lt few is so =
     ∙ sym (ap (λ (l : List ℕ). free ++ l) (one-number held (count - length free) block (16641 - block) m next))
     ∙ so
 
-pub given-passes : (held : HeldTables) (count block : ℕ) (free whole : List ℕ) → block < 16641 → is_free held block ≡ false → free ++ found_from held (count - length free) block (16641 - block) ≡ whole → free ++ found_from held (count - length free) (block + 1) (16641 - (block + 1)) ≡ whole
+pub given-passes : (held : HeldTables) (count block : ℕ) (free whole : List ℕ) → block < 16641 → is_free held block ≡ false → free ++ found_from held
+    (count - length free) block (16641 - block) ≡ whole → free ++ found_from held (count - length free) (block + 1) (16641 - (block + 1)) ≡ whole
 given-passes held count block free whole lt is so =
     let m = 16641 - (block + 1) in
     let next : 16641 - block ≡ suc m = omega arith in
@@ -92,16 +91,13 @@ given-passes held count block free whole lt is so =
     ∙ sym (ap (λ (l : List ℕ). free ++ l) (one-number held (count - length free) block (16641 - block) m next))
     ∙ so
 
-pub enough-found : (held : HeldTables) (count block n : ℕ) (free whole : List ℕ) → length free ≡ count → free ++ found_from held (count - length free) block n ≡ whole → free ≡ whole
-enough-found held count block n free whole all so =
-    let none : count - length free ≡ 0 = omega (arith, all) in
-    sym (append-nil free) ∙ sym (ap (λ (l : ℕ). free ++ take l (filter (is_free held) (numbers_from block n))) none) ∙ so
-
-pub all-looked-at : (held : HeldTables) (count block : ℕ) (free whole : List ℕ) → 16641 ≤ block → free ++ found_from held (count - length free) block (16641 - block) ≡ whole → free ≡ whole
+pub all-looked-at : (held : HeldTables) (count block : ℕ) (free whole : List ℕ) → 16641 ≤ block → free ++ found_from held (count - length free) block
+    (16641 - block) ≡ whole → free ≡ whole
 unfolding numbers_from
 all-looked-at held count block free whole le so =
     let none : 16641 - block ≡ 0 = omega arith in
-    sym (append-nil free) ∙ sym (ap (λ (l : List ℕ). free ++ l) (take-nothing (count - length free))) ∙ sym (ap (λ (n : ℕ). free ++ found_from held (count - length free) block n) none) ∙ so
+    sym (append-nil free) ∙ sym (ap (λ (l : List ℕ). free ++ l) (take-nothing (count - length free)))
+    ∙ sym (ap (λ (n : ℕ). free ++ found_from held (count - length free) block n) none) ∙ so
   where
     take-nothing : (n : ℕ) → take n (filter (is_free held) (numbers_from block 0)) ≡ []
     take-nothing zero = refl

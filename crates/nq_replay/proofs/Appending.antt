@@ -29,7 +29,8 @@ behind a b held mid now put f =
     record {
       count = length a + f.count;
       within = omega arith;
-      appended = f.appended ∙ ap (λ h. with_end h (take f.count b)) put ∙ both a (take f.count b) held ∙ ap (with_end held) (sym (take-append-add a b f.count));
+      appended = f.appended ∙ ap (λ h. with_end h (take f.count b)) put ∙ both a (take f.count b) held ∙ ap (with_end held)
+          (sym (take-append-add a b f.count));
     }
 
 nothing : (now : Option (List ℕ)) → now ≡ with_end now []

@@ -23,28 +23,35 @@ keeps-repeated P zero play keeps events here = here
 keeps-repeated P (suc times) play keeps events here =
     ends-then P (play events) (repeated times play) (keeps events here) (keeps-repeated P times play keeps)
 
-pub ends-answered : (P : List Event → Type 0) (earlier : List Event) (event : Event) (answer : Stepped) → (answer ≡ done → P (event ∷ earlier)) → Ends P (answered earlier event answer)
+pub ends-answered : (P : List Event → Type 0) (earlier : List Event) (event : Event) (answer : Stepped) → (answer ≡ done → P (event ∷ earlier))
+    → Ends P (answered earlier event answer)
 ends-answered P earlier event done here = here (λ i. done)
 ends-answered P earlier event no_packet here = tt
 ends-answered P earlier event (out_of_skew broken) here = tt
 ends-answered P earlier event too_many_events here = tt
 ends-answered P earlier event too_many_packets here = tt
 
-pub keeps-ticks : (P : List Event → Type 0) (head : Beginning) (host count : ℕ) → ((h : ℕ) → Keeps P (play_event head (Event.ClientTick h))) → Keeps P (play_ticks head host count)
+pub keeps-ticks : (P : List Event → Type 0) (head : Beginning) (host count : ℕ) → ((h : ℕ) → Keeps P (play_event head (Event.ClientTick h)))
+    → Keeps P (play_ticks head host count)
 keeps-ticks P head host zero keeps events here = here
 keeps-ticks P head host (suc count) keeps events here =
-    ends-then P (play_event head (Event.ClientTick host) events) (play_ticks head (host + 1) count) (keeps host events here) (keeps-ticks P head (host + 1) count keeps)
+    ends-then P (play_event head (Event.ClientTick host) events) (play_ticks head (host + 1) count) (keeps host events here)
+    (keeps-ticks P head (host + 1) count keeps)
 
-pub keeps-round : (P : List Event → Type 0) (head : Beginning) → ((h : ℕ) → Keeps P (play_event head (Event.ClientTick h))) → Keeps P (play_event head Event.ServerTick) → Keeps P (play_round head)
+pub keeps-round : (P : List Event → Type 0) (head : Beginning) → ((h : ℕ) → Keeps P (play_event head (Event.ClientTick h)))
+    → Keeps P (play_event head Event.ServerTick) → Keeps P (play_round head)
 unfolding play_round
 keeps-round P head ticks tick events here =
     ends-then P (play_ticks head 0 head.hosts events) (play_event head Event.ServerTick) (keeps-ticks P head 0 head.hosts ticks events here) tick
 
-ends-packet : (P : List Event → Type 0) (packet : Option ℕ) (events : List Event) (next : ℕ → Played) → P events → ((k : ℕ) → Ends P (next k)) → Ends P (with_packet packet events next)
+ends-packet : (P : List Event → Type 0) (packet : Option ℕ) (events : List Event) (next : ℕ → Played) → P events → ((k : ℕ) → Ends P (next k))
+    → Ends P (with_packet packet events next)
 ends-packet P None events next here keeps = here
 ends-packet P (Some k) events next here keeps = keeps k
 
-pub keeps-flow : (P : List Event → Type 0) (head : Beginning) (most : ℕ) → ((k : ℕ) → Keeps P (play_event head (Event.Deliver k))) → Keeps P (play_flow head most)
+pub keeps-flow : (P : List Event → Type 0) (head : Beginning) (most : ℕ) → ((k : ℕ) → Keeps P (play_event head (Event.Deliver k)))
+    → Keeps P (play_flow head most)
 keeps-flow P head zero keeps events here = tt
 keeps-flow P head (suc most) keeps events here =
-    ends-packet P _ events _ here (λ k. ends-then P (play_event head (Event.Deliver k) events) (λ es. play_flow head most es) (keeps k events here) (keeps-flow P head most keeps))
+    ends-packet P _ events _ here (λ k. ends-then P (play_event head (Event.Deliver k) events) (λ es. play_flow head most es) (keeps k events here)
+    (keeps-flow P head most keeps))

@@ -23,7 +23,8 @@ use Rattle.nq_model.specs.Ordered.{IsInOrder, Resizes}
 use Rattle.nq_model.specs.Server.{Server, ServerStep}
 use Rattle.nq_model.specs.ServerStep.{boot, booted, crash, receive, tick}
 use Rattle.nq_model.specs.Table.{same_who}
-use Rattle.nq_model.specs.World.{Head, World, after_client, after_hearing, after_server, at_client, deliver, deliver_to, deliver_to_client, run, sending_host, start, step}
+use Rattle.nq_model.specs.World.{Head, World, after_client, after_hearing, after_server, at_client, deliver, deliver_to, deliver_to_client, run}
+use Rattle.nq_model.specs.World.{sending_host, start, step}
 use Rattle.walk_steps.proofs.ClientFacts.{fits_job}
 use Rattle.walk_steps.proofs.ClientEntries.{AnyCall, AnyLength, any-going, any-lent, call-keeps, tick-keeps as client-tick-keeps, hear-keeps, restart-keeps}
 use Rattle.walk_steps.proofs.ServerEntries.{receive-each, tick-each}
@@ -119,12 +120,15 @@ starts head is = record { journal = tt; kept = is; longest = is }
 
 stepped : (w : World) (e : Event) → Holds w → IsOfFirst e → Good w → Good (step w e)
 stepped w (Event.Call host op) h first g =
-    at-client-good w g host (λ c. client_call c op) (slice_get w.clients host) (λ c. (call-keeps AnyCall AnyLength AllTell client-tells c op (first, tt) (any-going c.who c.call) tt (any-lent c.leases)).0)
+    at-client-good w g host (λ c. client_call c op) (slice_get w.clients host) (λ c. (call-keeps AnyCall AnyLength AllTell client-tells c op
+    (first, tt) (any-going c.who c.call) tt (any-lent c.leases)).0)
 stepped w (Event.Deliver k) h first g = delivered w g h k (slice_get w.packets k)
 stepped w Event.ServerTick h first g = ticked w g (w.server.now + 1)
 stepped w (Event.ClientTick host) h first g =
-    at-client-good w g host (λ c. client_tick c (c.now + 1)) (slice_get w.clients host) (λ c. (client-tick-keeps AnyCall AnyLength AllTell client-tells c (c.now + 1) tt (any-going c.who c.call) (any-lent c.leases)).0)
-stepped w (Event.Restart host) h first g = at-client-good w g host restart (slice_get w.clients host) (λ c. (restart-keeps AnyCall AnyLength AllTell client-tells c (tt, tt)).0)
+    at-client-good w g host (λ c. client_tick c (c.now + 1)) (slice_get w.clients host)
+    (λ c. (client-tick-keeps AnyCall AnyLength AllTell client-tells c (c.now + 1) tt (any-going c.who c.call) (any-lent c.leases)).0)
+stepped w (Event.Restart host) h first g = at-client-good w g host restart (slice_get w.clients host)
+    (λ c. (restart-keeps AnyCall AnyLength AllTell client-tells c (tt, tt)).0)
 stepped w (Event.Crash longest) h first g = crashed w g longest first
 
 runs : (head : Head) (events : List Event) → head.longest ≡ 60 → AllByRecursion IsOfFirst events → Good (run head events)

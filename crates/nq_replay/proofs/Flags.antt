@@ -1,60 +1,14 @@
 -- Flags of packets, and the least packet that has none.
-use Rattle.std.proofs.Common.{◌≡◌, ◌≢◌, inl, inr, ℕ, ◌+◌, ◌-◌, ◌<◌, ◌≤◌, Bool, true, false, ◌||◌, List, [], ◌∷◌, ◌++◌, length, replicate, Some, None, zero, suc, refl, sym, ◌∙◌, arith}
-use Rattle.std.proofs.lemmas.Bool.{cases_eq, cases_lt, eq-eqb}
+use Rattle.std.proofs.Common.{◌≡◌, inl, inr, ℕ, ◌+◌, ◌<◌, ◌≤◌, Bool, true, false, List, Some, None, zero, suc, refl, sym, ◌∙◌, arith}
+use Rattle.std.proofs.lemmas.Bool.{cases_eq, cases_lt}
 use Rattle.std.proofs.lemmas.Bool.Decides.{nat_tests}
-use Rattle.std.proofs.lemmas.List.{get_or_append_left, get_or-append_right, get_or_past, get_or-set_same, get_or-set_other}
-use Rattle.std.specs.Prelude.{◌==◌, slice_index_or, slice_set, nat_lt, if◌then◌else◌}
+use Rattle.std.specs.Prelude.{slice_index_or, nat_lt, if◌then◌else◌}
 use Rattle.nq_base.specs.declared.Event.{Event}
 use Rattle.nq_replay.specs.Delivering.{AreFlagged, Marks, least_undelivered, was_delivered}
 
-falses : (count packet : ℕ) → slice_index_or (replicate count false) packet false ≡ false
-falses zero packet = get_or_past [] packet false (omega arith)
-falses (suc count) zero = refl
-falses (suc count) (suc packet) = falses count packet
-
--- further packets have no flag
-same-more : (flags : List Bool) (count packet : ℕ) → slice_index_or (flags ++ replicate count false) packet false ≡ slice_index_or flags packet false
-same-more flags count packet =
-    elim (cases_lt packet (length flags)) [
-      | inl below ↦ get_or_append_left flags (replicate count false) false packet below
-      | inr past ↦ get_or-append_right flags (replicate count false) (length flags) packet false refl past ∙ falses count (packet - length flags) ∙ sym (get_or_past flags packet false past)
-    ]
-
-pub marks-more : (flags : List Bool) (count : ℕ) (events : List Event) → Marks flags events → Marks (flags ++ replicate count false) events
-marks-more flags count events marks packet = same-more flags count packet ∙ marks packet
-
-pub flagged-more : (flags : List Bool) (count least : ℕ) → AreFlagged flags least → AreFlagged (flags ++ replicate count false) least
-flagged-more flags count least flagged packet below = same-more flags count packet ∙ flagged packet below
-
--- a packet is flagged
-marked-here : (flags : List Bool) (number packet : ℕ) (events : List Event) → number < length flags → number ≡ packet
-    → slice_index_or (slice_set flags number true) packet false ≡ (number == packet || was_delivered packet events)
-marked-here flags number packet events there same =
-    let test : (number == packet) ≡ true = eq-eqb number packet same in
-    rw (test, ← same) (get_or-set_same flags number true false there)
-
-marked-other : (flags : List Bool) (number packet : ℕ) (events : List Event) → packet ≢ number → slice_index_or flags packet false ≡ was_delivered packet events
-    → slice_index_or (slice_set flags number true) packet false ≡ (number == packet || was_delivered packet events)
-marked-other flags number packet events other here =
-    let test : (number == packet) ≡ false = grind (arith, nat_tests) in
-    rw test (get_or-set_other flags number packet true false other ∙ here)
-
-pub marks-set : (flags : List Bool) (number : ℕ) (events : List Event) → number < length flags → Marks flags events → Marks (slice_set flags number true) (Event.Deliver number ∷ events)
-marks-set flags number events there marks packet =
-    elim (cases_eq number packet) [
-      | inl same ↦ marked-here flags number packet events there same
-      | inr other ↦ marked-other flags number packet events (λ e. other (sym e)) (marks packet)
-    ]
-
-pub flagged-set : (flags : List Bool) (number least : ℕ) → number < length flags → AreFlagged flags least → AreFlagged (slice_set flags number true) least
-flagged-set flags number least there flagged packet below =
-    elim (cases_eq packet number) [
-      | inl same ↦ rw same (get_or-set_same flags number true false there)
-      | inr other ↦ get_or-set_other flags number packet true false other ∙ flagged packet below
-    ]
-
 -- the least packet without a flag is the least that was never delivered
-pub least-unflagged : (flags : List Bool) (from count least : ℕ) (events : List Event) → Marks flags events → from ≤ least → ((packet : ℕ) → from ≤ packet → packet < least → slice_index_or flags packet false ≡ true) → slice_index_or flags least false ≡ false
+pub least-unflagged : (flags : List Bool) (from count least : ℕ) (events : List Event) → Marks flags events → from ≤ least
+    → ((packet : ℕ) → from ≤ packet → packet < least → slice_index_or flags packet false ≡ true) → slice_index_or flags least false ≡ false
     → least_undelivered from count events ≡ (if nat_lt least (from + count) then Some least else None)
 least-unflagged flags from zero least events marks low flagged unset =
     let test : nat_lt least (from + 0) ≡ false = grind (arith, nat_tests) in
@@ -74,7 +28,8 @@ least-unflagged flags from (suc count) least events marks low flagged unset =
     ]
 
 -- so the first packet behind flagged ones that has no flag is the one to be delivered next, if it was sent
-least-after : (flags : List Bool) (from least sent : ℕ) (events : List Event) → Marks flags events → AreFlagged flags from → ((packet : ℕ) → from ≤ packet → packet < least → slice_index_or flags packet false ≡ true) → slice_index_or flags least false ≡ false
+least-after : (flags : List Bool) (from least sent : ℕ) (events : List Event) → Marks flags events → AreFlagged flags from
+    → ((packet : ℕ) → from ≤ packet → packet < least → slice_index_or flags packet false ≡ true) → slice_index_or flags least false ≡ false
     → least_undelivered 0 sent events ≡ (if nat_lt least sent then Some least else None)
 least-after flags from least sent events marks below flagged unset =
     let whole : least_undelivered 0 sent events ≡ (if nat_lt least (0 + sent) then Some least else None) =
@@ -85,13 +40,15 @@ least-after flags from least sent events marks below flagged unset =
     let none : 0 + sent ≡ sent = omega arith in
     rw none at whole
 
-pub next-some : (flags : List Bool) (from least sent : ℕ) (events : List Event) → Marks flags events → AreFlagged flags from → ((packet : ℕ) → from ≤ packet → packet < least → slice_index_or flags packet false ≡ true) → slice_index_or flags least false ≡ false
+pub next-some : (flags : List Bool) (from least sent : ℕ) (events : List Event) → Marks flags events → AreFlagged flags from
+    → ((packet : ℕ) → from ≤ packet → packet < least → slice_index_or flags packet false ≡ true) → slice_index_or flags least false ≡ false
     → least < sent → Some least ≡ least_undelivered 0 sent events
 next-some flags from least sent events marks below flagged unset there =
     let test : nat_lt least sent ≡ true = grind (arith, nat_tests) in
     rw (least-after flags from least sent events marks below flagged unset, test) refl
 
-pub next-none : (flags : List Bool) (from least sent : ℕ) (events : List Event) → Marks flags events → AreFlagged flags from → ((packet : ℕ) → from ≤ packet → packet < least → slice_index_or flags packet false ≡ true) → slice_index_or flags least false ≡ false
+pub next-none : (flags : List Bool) (from least sent : ℕ) (events : List Event) → Marks flags events → AreFlagged flags from
+    → ((packet : ℕ) → from ≤ packet → packet < least → slice_index_or flags packet false ≡ true) → slice_index_or flags least false ≡ false
     → sent ≤ least → None ≡ least_undelivered 0 sent events
 next-none flags from least sent events marks below flagged unset past =
     let test : nat_lt least sent ≡ false = grind (arith, nat_tests) in

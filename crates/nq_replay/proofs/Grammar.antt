@@ -1,10 +1,12 @@
 -- A text is one schedule with asides, or has one first line that is wrong.
-use Rattle.std.proofs.Common.{◌≡◌, ◌<◌, ◌≤◌, ◌^◌, inl, inr, ℕ, ◌+◌, Bool, true, false, List, [], ◌∷◌, ◌++◌, drop, take, length, map, Option, Some, None, is_some, Result, Ok, Err, refl, sym, ap, subst, ◌∙◌, arith, length-append}
+use Rattle.std.proofs.Common.{◌≡◌, ◌<◌, ◌≤◌, ◌^◌, inl, inr, ℕ, ◌+◌, Bool, true, false, List, [], ◌∷◌, ◌++◌, drop, take, length, map, Option, Some}
+use Rattle.std.proofs.Common.{None, is_some, Result, Ok, Err, refl, sym, ap, subst, ◌∙◌, arith, length-append}
 use Rattle.std.proofs.lemmas.Bool.{eqb-true}
 use Rattle.std.proofs.lemmas.List.{append_cancel_left, take_at}
 use Rattle.std.specs.Prelude.{◌==◌, codes, if◌then◌else◌}
 use Rattle.nq_replay.proofs.Lining.{same-head}
-use Rattle.nq_replay.specs.Text.{FirstBadMixed, HasHead, HoldsOfAside, HoldsOfAsides, IsReadyMixed, MixedLine, SpellsMixed, asides_in, in_front, lines_in, mixed, new_line, plain_bytes, plain_line, plain_text}
+use Rattle.nq_replay.specs.Text.{FirstBadMixed, HasHead, HoldsOfAside, HoldsOfAsides, IsReadyMixed, MixedLine, SpellsMixed, asides_in, in_front}
+use Rattle.nq_replay.specs.Text.{lines_in, mixed, new_line, plain_bytes, plain_line, plain_text}
 use Rattle.nq_replay.specs.declared.asides.scripts.MixedScript.{MixedScript}
 use Rattle.nq_script.proofs.HeadLines.{head-right, one-text-head}
 use Rattle.nq_script.proofs.Splitting.{wrong-once}
@@ -107,7 +109,8 @@ module _ {A : Type 0} (read : (hosts : ℕ) → List ℕ → Option A) where
   pub one-mixed : (g h : Head) (ls ms : List (MixedLine A)) (text : List ℕ) → SpellsMixed read g ls text → SpellsMixed read h ms text → (g ≡ h) × (ls ≡ ms)
   one-mixed g h ls ms text s t =
       let front = one-front g h s.body t.body text s.has t.has in
-      let one = one-schedule g h s.plainly t.plainly (plain_text read g s.body) s.spelled (subst (SpellsSchedule h t.plainly) (plain-same g h s.body t.body front) t.spelled) in (
+      let one = one-schedule g h s.plainly t.plainly (plain_text read g s.body) s.spelled (subst (SpellsSchedule h t.plainly)
+      (plain-same g h s.body t.body front) t.spelled) in (
         front.0,
         s.mixes
             ∙ ap (λ p. mixed (asides_in (read g.hosts) s.body) p) one.1
@@ -123,7 +126,8 @@ module _ {A : Type 0} (read : (hosts : ℕ) → List ℕ → Option A) where
   mixed-right text number head lines s (inr (inl w)) = other-version head w.head (one-front head w.head s.body w.body text s.has w.has).0 s.version w.version
   mixed-right text number head lines s (inr (inr w)) =
       let front = one-front head w.head s.body w.body text s.has w.has in
-      schedule-right (plain_text read head s.body) number head s.plainly s.spelled (subst (λ p. FirstBadLine p number) (plain-same head w.head s.body w.body front) w.wrong)
+      schedule-right (plain_text read head s.body) number head s.plainly s.spelled (subst (λ p. FirstBadLine p number) (plain-same head w.head s.body
+      w.body front) w.wrong)
 
   -- and every other goes wrong in one line first
   pub bad-once : (text : List ℕ) (m n : ℕ) → FirstBadMixed read text m → FirstBadMixed read text n → m ≡ n
@@ -133,8 +137,10 @@ module _ {A : Type 0} (read : (hosts : ℕ) → List ℕ → Option A) where
   bad-once text m n (inr (inl v)) (inl w) = absurd (head-right text n v.head v.body v.has.fits v.has.split w)
   bad-once text m n (inr (inr v)) (inl w) = absurd (head-right text n v.head v.body v.has.fits v.has.split w)
   bad-once text m n (inr (inl v)) (inr (inl w)) = v.first ∙ sym w.first
-  bad-once text m n (inr (inl v)) (inr (inr w)) = absurd (other-version w.head v.head (one-front w.head v.head w.body v.body text w.has v.has).0 w.version v.version)
-  bad-once text m n (inr (inr v)) (inr (inl w)) = absurd (other-version v.head w.head (one-front v.head w.head v.body w.body text v.has w.has).0 v.version w.version)
+  bad-once text m n (inr (inl v)) (inr (inr w)) = absurd (other-version w.head v.head (one-front w.head v.head w.body v.body text w.has v.has).0
+      w.version v.version)
+  bad-once text m n (inr (inr v)) (inr (inl w)) = absurd (other-version v.head w.head (one-front v.head w.head v.body w.body text v.has w.has).0
+      v.version w.version)
   bad-once text m n (inr (inr v)) (inr (inr w)) =
       let front = one-front v.head w.head v.body w.body text v.has w.has in
       wrong-once IsSchedule (λ before rest. IsSchedule before × (rest ≡ [])) (plain_text read v.head v.body) m n v.wrong
@@ -164,7 +170,13 @@ module _ {A : Type 0} (read : (hosts : ℕ) → List ℕ → Option A) where
   pub version-one : (head : Head) (count size : ℕ) (text : List ℕ) → StandsInFront head count size text → (head.version ≡ 2 → ⊥) → FirstBadMixed read text 1
   version-one head count size text front other = by_version front.fits.settings.known where
     by_version : IsVersion head.version → FirstBadMixed read text 1
-    by_version (inl first) = inr (inl (record { head = head; body = drop size text; has = front-has head count size text front; version = first; first = refl }))
+    by_version (inl first) = inr (inl (record {
+      head = head;
+      body = drop size text;
+      has = front-has head count size text front;
+      version = first;
+      first = refl;
+    }))
     by_version (inr second) = absurd (other second)
 
   -- what the plain text gives is what the text gives
@@ -175,13 +187,15 @@ module _ {A : Type 0} (read : (hosts : ℕ) → List ℕ → Option A) where
       → Answers r (λ s. SpellsMixed read s.script.head (mixed s.asides.items s.script.lines) text) (λ number. FirstBadMixed read text number)
   mixed-found head count size text plain asides (Ok s) front second is are said =
       let whole = plain-front head count size text plain front is in
-      let same : s.script.head ≡ head = same-head head s.script.head (plain_bytes (read head.hosts) (drop size text)) plain s.script.lines front.fits whole said.0 in
+      let same : s.script.head ≡ head = same-head head s.script.head (plain_bytes (read head.hosts) (drop size text)) plain s.script.lines front.fits
+      whole said.0 in
       subst (λ h. SpellsMixed read h (mixed s.asides.items s.script.lines) text) (sym same) (record {
         body = drop size text;
         has = front-has head count size text front;
         version = second;
         plainly = s.script.lines;
-        spelled = subst (λ h. SpellsSchedule h s.script.lines (plain_text read head (drop size text))) same (subst (SpellsSchedule s.script.head s.script.lines) whole said.0);
+        spelled = subst (λ h. SpellsSchedule h s.script.lines (plain_text read head (drop size text))) same
+            (subst (SpellsSchedule s.script.head s.script.lines) whole said.0);
         mixes = ap (λ t. mixed t s.script.lines) (said.1 ∙ are);
       })
   mixed-found head count size text plain asides (Err (Bad number)) front second is are said =
@@ -216,7 +230,8 @@ module _ {A : Type 0} (read : (hosts : ℕ) → List ℕ → Option A) where
         short = plain-short (read head.hosts) (long head.hosts) head count size (2 ^ 31) text plain front is short;
         version = ap (λ h. h.version) same ∙ second;
         first = first;
-        asides_are = subst (λ (h : Head). HoldsOfAsides (fits h.hosts) s.asides.items) (sym same) (subst (HoldsOfAsides (fits head.hosts)) (sym (said.1 ∙ are)) all);
+        asides_are = subst (λ (h : Head). HoldsOfAsides (fits h.hosts) s.asides.items) (sym same) (subst (HoldsOfAsides (fits head.hosts))
+            (sym (said.1 ∙ are)) all);
       }
   mixed-ready long fits fit head count size text plain asides (Err (Bad number)) front second is are short said first = tt
   mixed-ready long fits fit head count size text plain asides (Err Memory) front second is are short said first = tt

@@ -39,7 +39,8 @@ are_for head [] texts spelled = tt
 are_for head (line ∷ lines) [] spelled = absurd spelled
 are_for head (line ∷ lines) (text ∷ texts) spelled = (is_for head line text spelled.1, are_for head lines texts spelled.2)
 
-pub are_for_world : {K : Type 0} (script : Script) (w : WorldOver K) → IsReady script → HasSettings script.head.hosts script.head.longest script.head.term w → AreForWorld (length w.clients) w.skew.window script.lines
+pub are_for_world : {K : Type 0} (script : Script) (w : WorldOver K) → IsReady script → HasSettings script.head.hosts script.head.longest
+    script.head.term w → AreForWorld (length w.clients) w.skew.window script.lines
 are_for_world script w ready has =
     rw (has.hosts_are, has.longest_is) (are_for script.head script.lines ready.spelled.1.1.0 ready.spelled.1.1.1)
 
@@ -58,7 +59,8 @@ longer (line ∷ lines) =
     let both : length (line ++ 10 ∷ text_of lines) ≡ length line + length (10 ∷ text_of lines) = length-append line (10 ∷ text_of lines) in
     omega arith
 
-few : (front lines text : ℕ) (texts whole first : ℕ) → whole ≡ front + (texts + 1) → texts ≡ lines → whole ≤ text → text < 2 ^ 31 → first ≡ front + 1 → first + lines < 2 ^ 32
+few : (front lines text : ℕ) (texts whole first : ℕ) → whole ≡ front + (texts + 1) → texts ≡ lines → whole ≤ text → text < 2 ^ 31 → first ≡ front + 1
+    → first + lines < 2 ^ 32
 few front lines text texts whole first w t l s f = omega arith
 
 whole_length : (front texts : List (List ℕ)) (last : List ℕ) → length (front ++ (texts ++ last ∷ [])) ≡ length front + (length texts + 1)
@@ -67,11 +69,14 @@ whole_length front texts last =
     let inner : length (texts ++ last ∷ []) ≡ length texts + 1 = length-append texts (last ∷ []) in
     omega arith
 
-few_in : (script : Script) (whole texts : List (List ℕ)) (text : List ℕ) → SpellsLines script.head script.lines texts → whole ≡ head_lines script.head ++ (texts ++ codes "end" ∷ []) → text ≡ text_of whole → length text < 2 ^ 31 → script.first ≡ length (head_lines script.head) + 1 → script.first + length script.lines < 2 ^ 32
+few_in : (script : Script) (whole texts : List (List ℕ)) (text : List ℕ) → SpellsLines script.head script.lines texts → whole ≡ head_lines script.head
+    ++ (texts ++ codes "end" ∷ []) → text ≡ text_of whole → length text < 2 ^ 31 → script.first ≡ length (head_lines script.head) + 1 → script.first
+    + length script.lines < 2 ^ 32
 few_in script whole texts text spelled is spells short first =
     let size : length whole ≡ length (head_lines script.head) + (length texts + 1) = rw is (whole_length (head_lines script.head) texts (codes "end")) in
     let text_long : length whole ≤ length text = rw spells (longer whole) in
-    few (length (head_lines script.head)) (length script.lines) (length text) (length texts) (length whole) script.first size (as_many script.head script.lines texts spelled) text_long short first
+    few (length (head_lines script.head)) (length script.lines) (length text) (length texts) (length whole) script.first size
+    (as_many script.head script.lines texts spelled) text_long short first
 
 pub few_lines : (script : Script) → IsReady script → script.first + length script.lines < 2 ^ 32
 few_lines script ready =

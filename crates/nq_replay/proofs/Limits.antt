@@ -31,7 +31,8 @@ of-room packets limit is =
           absurd (cc)
     ]
 
-of-sent : (sent : Bool) (packets : ℕ) (limit : Limit) → answer_of (if sent then tested_room packets else no_packet) ≡ Stepped.Limit limit → OfPackets limit packets
+of-sent : (sent : Bool) (packets : ℕ) (limit : Limit) → answer_of (if sent then tested_room packets else no_packet) ≡ Stepped.Limit limit
+    → OfPackets limit packets
 of-sent true packets limit is = of-room packets limit is
 of-sent false packets limit is = absurd (cc)
 
@@ -39,7 +40,8 @@ of-skew : (packets : ℕ) (broken : Option SkewBroken) (limit : Limit) → answe
 of-skew packets None limit is = of-room packets limit is
 of-skew packets (Some broken) limit is = absurd (cc)
 
-of-tested : (head : Head) (earlier : List Event) (packets : ℕ) (event : Event) (limit : Limit) → answer_of (tested head earlier packets event) ≡ Stepped.Limit limit → OfPackets limit packets
+of-tested : (head : Head) (earlier : List Event) (packets : ℕ) (event : Event) (limit : Limit) → answer_of (tested head earlier packets event)
+    ≡ Stepped.Limit limit → OfPackets limit packets
 of-tested head earlier packets (Event.Call host call) limit is = of-room packets limit is
 of-tested head earlier packets (Event.Deliver k) limit is = of-sent (nat_lt k packets) packets limit is
 of-tested head earlier packets Event.ServerTick limit is = of-skew packets (skew_broken head.hosts head.longest earlier) limit is
@@ -70,5 +72,7 @@ is_reached head events event limit is =
     (of-tested head events (length (run head events).packets) event limit) is
 
 -- the same of as many events and packets
-pub reached_at : (limit : Limit) (earlier sent events packets : ℕ) → earlier ≡ events → sent ≡ packets → IsReached limit earlier sent → IsReached limit events packets
-reached_at limit earlier sent events packets many all reached = subst (λ n. IsReached limit n packets) many (subst (λ n. IsReached limit earlier n) all reached)
+pub reached_at : (limit : Limit) (earlier sent events packets : ℕ) → earlier ≡ events → sent ≡ packets → IsReached limit earlier sent
+    → IsReached limit events packets
+reached_at limit earlier sent events packets many all reached = subst (λ n. IsReached limit n packets) many (subst (λ n. IsReached limit earlier n)
+    all reached)

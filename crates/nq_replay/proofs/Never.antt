@@ -11,7 +11,8 @@ use Rattle.nq_world.specs.Playing.{CountsFaults}
 use Rattle.nq_world.specs.declared.stepped.Stepped.{Stepped}
 
 -- a keeper in memory that is to fail in no call
-pub memory_never : (keeper : StoredKeeper) (failing : List ℕ) → keeper ≡ record { kept = empty_kept; calls = fresh failing } → failing ≡ [] → NeverFails (λ k. k.calls.faults) GoesOn keeper
+pub memory_never : (keeper : StoredKeeper) (failing : List ℕ) → keeper ≡ record { kept = empty_kept; calls = fresh failing } → failing ≡ []
+    → NeverFails (λ k. k.calls.faults) GoesOn keeper
 memory_never keeper failing is none = λ later goes. goes.never (ap (λ k. k.calls.failing) is ∙ none) ∙ ap (λ k. k.calls.faults) is
 
 -- a count that is 0 before and after did not rise
@@ -19,7 +20,8 @@ pub none_rose : (before count : ℕ) → before ≡ 0 → count ≡ 0 → Rose b
 none_rose before count b c (inl more) = omega arith
 none_rose before count b c (inr end) = let full = end.0 in omega arith
 
-pub reasoned : (played : Played) (before count : ℕ) → before ≡ 0 → count ≡ 0 → CountsFaults (said played) before count → (said played ≡ Stepped.Done → played ≡ Played.All) → HasReason played
+pub reasoned : (played : Played) (before count : ℕ) → before ≡ 0 → count ≡ 0 → CountsFaults (said played) before count → (said played ≡ Stepped.Done
+    → played ≡ Played.All) → HasReason played
 reasoned Played.All before count b c counts all = tt
 reasoned (Played.Stopped line Stepped.Done) before count b c counts all = let whole : Played.Stopped line Stepped.Done ≡ Played.All = all refl in absurd (cc)
 reasoned (Played.Stopped line Stepped.Fault) before count b c counts all = absurd (none_rose before count b c counts)

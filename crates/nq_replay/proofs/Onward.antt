@@ -4,7 +4,8 @@ use Rattle.nq_base.specs.declared.Event.{Event}
 use Rattle.nq_model.specs.World.{Head}
 use Rattle.nq_replay.specs.Delivering.{next_packet}
 use Rattle.nq_replay.specs.Going.{Comes, Goes, RanTo, StoppedAt, WasRefused, WentTo}
-use Rattle.nq_replay.specs.Playing.{Ended, Played as Due, and_then, at_line, play_event, play_flow, play_line, play_lines, play_ticks, ran, refused, repeated, stopped, took, with_packet}
+use Rattle.nq_replay.specs.Playing.{Ended, Played as Due, and_then, at_line, play_event, play_flow, play_line, play_lines, play_ticks, ran, refused}
+use Rattle.nq_replay.specs.Playing.{repeated, took, with_packet}
 use Rattle.nq_replay.specs.declared.play.played.Played.{Played}
 use Rattle.nq_script.specs.declared.lines.Line.{Line}
 use Rattle.nq_world.specs.declared.stepped.Stepped.{Stepped}
@@ -21,7 +22,8 @@ went-on : (first : Due) (next : List Event → Due) (P : List Event → Type 0) 
 went-on (took events) next P due here same = record { events = events; here = here; same = same }
 went-on (refused answer) next P due here same = absurd here
 
-pub goes-on : (first : Due) (next : List Event → Due) (P : List Event → Type 0) (due : Due) → Goes Stepped.Done first P → and_then first next ≡ due → IsOn P next due
+pub goes-on : (first : Due) (next : List Event → Due) (P : List Event → Type 0) (due : Due) → Goes Stepped.Done first P → and_then first next ≡ due
+    → IsOn P next due
 goes-on first next P due here same = went-on first next P due here same
 
 pub done-here : (P : List Event → Type 0) (events : List Event) (due : Due) → P events → took events ≡ due → Goes Stepped.Done due P
@@ -46,7 +48,8 @@ refused-then : (first : Due) (next : List Event → Due) (said : Stepped) → Wa
 refused-then (took events) next said is = absurd is
 refused-then (refused answer) next said is = is
 
-pub stops-then : (first : Due) (next : List Event → Due) (said : Stepped) (P Q : List Event → Type 0) → Goes said first P → (said ≡ Stepped.Done → ⊥) → Goes said (and_then first next) Q
+pub stops-then : (first : Due) (next : List Event → Due) (said : Stepped) (P Q : List Event → Type 0) → Goes said first P → (said ≡ Stepped.Done → ⊥)
+    → Goes said (and_then first next) Q
 stops-then first next Stepped.Done P Q is other = absurd (other refl)
 stops-then first next Stepped.NoPacket P Q is other = refused-then first next Stepped.NoPacket is
 stops-then first next (Stepped.SkewBroken broken) P Q is other = refused-then first next (Stepped.SkewBroken broken) is
@@ -54,23 +57,28 @@ stops-then first next (Stepped.Limit limit) P Q is other = refused-then first ne
 stops-then first next Stepped.Fault P Q is other = tt
 stops-then first next Stepped.Memory P Q is other = tt
 
-pub stops-here : (first : Due) (next : List Event → Due) (said : Stepped) (P Q : List Event → Type 0) (due : Due) → Goes said first P → (said ≡ Stepped.Done → ⊥) → and_then first next ≡ due → Goes said due Q
+pub stops-here : (first : Due) (next : List Event → Due) (said : Stepped) (P Q : List Event → Type 0) (due : Due) → Goes said first P
+    → (said ≡ Stepped.Done → ⊥) → and_then first next ≡ due → Goes said due Q
 stops-here first next said P Q due is other same = subst (λ d. Goes said d Q) same (stops-then first next said P Q is other)
 
 -- ---- lines
 
-went-line : (line : ℕ) (first : Due) (next : List Event → Ended) (P : List Event → Type 0) (due : Ended) → WentTo first P → at_line line first next ≡ due → IsOn P next due
+went-line : (line : ℕ) (first : Due) (next : List Event → Ended) (P : List Event → Type 0) (due : Ended) → WentTo first P → at_line line first next
+    ≡ due → IsOn P next due
 went-line line (took events) next P due here same = record { events = events; here = here; same = same }
 went-line line (refused answer) next P due here same = absurd here
 
-pub line-on : (line : ℕ) (first : Due) (next : List Event → Ended) (P : List Event → Type 0) (due : Ended) → Goes Stepped.Done first P → at_line line first next ≡ due → IsOn P next due
+pub line-on : (line : ℕ) (first : Due) (next : List Event → Ended) (P : List Event → Type 0) (due : Ended) → Goes Stepped.Done first P
+    → at_line line first next ≡ due → IsOn P next due
 line-on line first next P due here same = went-line line first next P due here same
 
-refused-line : (line number : ℕ) (first : Due) (next : List Event → Ended) (said : Stepped) → number ≡ line → WasRefused first said → StoppedAt (at_line line first next) number said
+refused-line : (line number : ℕ) (first : Due) (next : List Event → Ended) (said : Stepped) → number ≡ line → WasRefused first said
+    → StoppedAt (at_line line first next) number said
 refused-line line number (took events) next said n is = absurd is
 refused-line line number (refused answer) next said n is = (n, is)
 
-pub stops-line : (line number : ℕ) (first : Due) (next : List Event → Ended) (said : Stepped) (P Q : List Event → Type 0) → number ≡ line → Goes said first P → (said ≡ Stepped.Done → ⊥) → Comes (Played.Stopped number said) (at_line line first next) Q
+pub stops-line : (line number : ℕ) (first : Due) (next : List Event → Ended) (said : Stepped) (P Q : List Event → Type 0) → number ≡ line
+    → Goes said first P → (said ≡ Stepped.Done → ⊥) → Comes (Played.Stopped number said) (at_line line first next) Q
 stops-line line number first next Stepped.Done P Q n is other = absurd (other refl)
 stops-line line number first next Stepped.NoPacket P Q n is other = refused-line line number first next Stepped.NoPacket n is
 stops-line line number first next (Stepped.SkewBroken broken) P Q n is other = refused-line line number first next (Stepped.SkewBroken broken) n is
@@ -83,29 +91,35 @@ ran-here P events due here same = subst (λ d. RanTo d P) same here
 
 -- ---- what is left to be played, one further
 
-pub repeat-step : (times turn : ℕ) (play : List Event → Due) (events : List Event) (due : Due) → turn < times → repeated (times - turn) play events ≡ due → and_then (play events) (repeated (times - (turn + 1)) play) ≡ due
+pub repeat-step : (times turn : ℕ) (play : List Event → Due) (events : List Event) (due : Due) → turn < times → repeated (times - turn) play events
+    ≡ due → and_then (play events) (repeated (times - (turn + 1)) play) ≡ due
 repeat-step times turn play events due below same =
     let further : times - turn ≡ suc (times - (turn + 1)) = omega arith in
     rw further at same
 
-pub ticks-step : (head : Head) (hosts host : ℕ) (events : List Event) (due : Due) → host < hosts → play_ticks head host (hosts - host) events ≡ due → and_then (play_event head (Event.ClientTick host) events) (play_ticks head (host + 1) (hosts - (host + 1))) ≡ due
+pub ticks-step : (head : Head) (hosts host : ℕ) (events : List Event) (due : Due) → host < hosts → play_ticks head host (hosts - host) events ≡ due
+    → and_then (play_event head (Event.ClientTick host) events) (play_ticks head (host + 1) (hosts - (host + 1))) ≡ due
 ticks-step head hosts host events due below same =
     let further : hosts - host ≡ suc (hosts - (host + 1)) = omega arith in
     rw further at same
 
 flow-step : (head : Head) (most turn : ℕ) (events : List Event) (due : Due) → turn < most → play_flow head (most - turn) events ≡ due
-    → with_packet (next_packet head events) events (λ packet. and_then (play_event head (Event.Deliver packet) events) (λ es. play_flow head (most - (turn + 1)) es)) ≡ due
+    → with_packet (next_packet head events) events (λ packet. and_then (play_event head (Event.Deliver packet) events)
+    (λ es. play_flow head (most - (turn + 1)) es)) ≡ due
 flow-step head most turn events due below same =
     let further : most - turn ≡ suc (most - (turn + 1)) = omega arith in
     rw further at same
 
-pub flow-none : (head : Head) (most turn : ℕ) (events : List Event) (due : Due) (next : Option ℕ) → turn < most → play_flow head (most - turn) events ≡ due → next_packet head events ≡ next → next ≡ None → took events ≡ due
+pub flow-none : (head : Head) (most turn : ℕ) (events : List Event) (due : Due) (next : Option ℕ) → turn < most → play_flow head (most - turn) events
+    ≡ due → next_packet head events ≡ next → next ≡ None → took events ≡ due
 flow-none head most turn events due next below same is none =
     let here : next_packet head events ≡ None = is ∙ none in
     let said = flow-step head most turn events due below same in
     rw here at said
 
-pub flow-some : (head : Head) (most turn packet : ℕ) (events : List Event) (due : Due) (next : Option ℕ) → turn < most → play_flow head (most - turn) events ≡ due → next_packet head events ≡ next → next ≡ Some packet → and_then (play_event head (Event.Deliver packet) events) (λ es. play_flow head (most - (turn + 1)) es) ≡ due
+pub flow-some : (head : Head) (most turn packet : ℕ) (events : List Event) (due : Due) (next : Option ℕ) → turn < most → play_flow head (most - turn)
+    events ≡ due → next_packet head events ≡ next → next ≡ Some packet → and_then (play_event head (Event.Deliver packet) events)
+    (λ es. play_flow head (most - (turn + 1)) es) ≡ due
 flow-some head most turn packet events due next below same is some =
     let here : next_packet head events ≡ Some packet = is ∙ some in
     let said = flow-step head most turn events due below same in
@@ -127,7 +141,8 @@ is-there (line ∷ lines) (suc place) below =
     let sum : suc place + 1 ≡ suc (place + 1) = omega arith in
     record { line = on.line; here = on.here; split = rw sum on.split }
 
-pub lines-step : (head : Head) (most first place : ℕ) (lines : List Line) (line : Line) (events : List Event) (due : Ended) → drop place lines ≡ line ∷ drop (place + 1) lines → play_lines head most (first + place) (drop place lines) events ≡ due
+pub lines-step : (head : Head) (most first place : ℕ) (lines : List Line) (line : Line) (events : List Event) (due : Ended) → drop place lines ≡ line
+    ∷ drop (place + 1) lines → play_lines head most (first + place) (drop place lines) events ≡ due
     → at_line (first + place) (play_line head most line events) (play_lines head most (first + (place + 1)) (drop (place + 1) lines)) ≡ due
 lines-step head most first place lines line events due split same =
     let sum : first + (place + 1) ≡ first + place + 1 = omega arith in

@@ -4,7 +4,8 @@ use Rattle.nq_base.specs.declared.Event.{Event}
 use Rattle.nq_model.specs.Profile.{skew}
 use Rattle.nq_model.specs.Skew.{IsWithinSkew, is_server_tick, server_ticks, ticks_of}
 
-pub within-on : (hosts longest : ℕ) (e : Event) (events : List Event) → is_server_tick e ≡ 0 → IsWithinSkew hosts longest events → IsWithinSkew hosts longest (e ∷ events)
+pub within-on : (hosts longest : ℕ) (e : Event) (events : List Event) → is_server_tick e ≡ 0 → IsWithinSkew hosts longest events
+    → IsWithinSkew hosts longest (e ∷ events)
 within-on hosts longest e events none within [] [] after split host below few = omega arith
 within-on hosts longest e events none within [] (p ∷ part) after split host below few =
     let same : p ≡ e = cc in

@@ -36,10 +36,12 @@ pub more-stand : (head : Head) (before text new : List ℕ) (events : List Event
     → new ≡ text ++ text_of (line ∷ []) → Stand head before new events (place + 1)
 more-stand head before text new events place event line stand here allowed spelled is =
     let first : take (place + 1) events ≡ take place events ++ event ∷ [] =
-    take_more events place event (slice_get_within events place event here) ∙ ap (λ g. take place events ++ g ∷ []) (get_or_from_slice_get events place event event here) in (
+    take_more events place event (slice_get_within events place event here) ∙ ap (λ g. take place events ++ g ∷ []) (get_or_from_slice_get events
+    place event event here) in (
       stand.0 ++ line ∷ [],
       subst (λ es. AreSpelled head es (stand.0 ++ line ∷ [])) (sym first) (spelled-more head (take place events) stand.0 event line stand.1 allowed spelled),
-      is ∙ ap (λ t. t ++ text_of (line ∷ [])) stand.2 ∙ append_assoc before (text_of stand.0) (text_of (line ∷ [])) ∙ ap (λ t. before ++ t) (sym (text_of-append stand.0 (line ∷ []))),
+      is ∙ ap (λ t. t ++ text_of (line ∷ [])) stand.2 ∙ append_assoc before (text_of stand.0) (text_of (line ∷ [])) ∙ ap (λ t. before ++ t)
+          (sym (text_of-append stand.0 (line ∷ []))),
     )
 
 pub all-stand : (head : Head) (before text : List ℕ) (events : List Event) (place : ℕ) → length events ≤ place → Stand head before text events place

@@ -1,6 +1,5 @@
 -- The journal of a schedule has entries of its version alone.
-use Rattle.std.proofs.Common.{◌≡◌, ◌≤◌, ◌⊎◌, inl, inr, ℕ, ◌+◌, List, [], ◌∷◌, map, reverse, Option, refl, sym, subst, ◌∙◌, arith}
-use Rattle.std.proofs.lemmas.Grind.{reverse_onto}
+use Rattle.std.proofs.Common.{◌≡◌, ◌≤◌, ◌⊎◌, inl, inr, ℕ, ◌+◌, List, [], ◌∷◌, map, Option, refl, sym, subst, ◌∙◌, arith}
 use Rattle.std.proofs.lemmas.List.Elements.{All-nil, All-cons}
 use Rattle.std.specs.List.{All, AllByRecursion}
 use Rattle.nq_replay.proofs.FirstRuns.{first-tells}
@@ -75,11 +74,13 @@ module _ (head : Head) (first : head.version ≡ 1) where
   keeps_line most Line.Flow text spelled = keeps-flow AreOfFirst (beginning head) most (λ k. keeps_event (Event.Deliver k) tt)
   keeps_line most Line.End text spelled = λ events so. so
 
-  ran_on : (line : ℕ) (played : Due) (next : List Event → Ended) (events : List Event) → Ends AreOfFirst played → ((es : List Event) → AreOfFirst es → next es ≡ ran events → AreOfFirst events) → at_line line played next ≡ ran events → AreOfFirst events
+  ran_on : (line : ℕ) (played : Due) (next : List Event → Ended) (events : List Event) → Ends AreOfFirst played → ((es : List Event) → AreOfFirst es
+      → next es ≡ ran events → AreOfFirst events) → at_line line played next ≡ ran events → AreOfFirst events
   ran_on line (took es) next events so on is = on es so is
   ran_on line (refused answer) next events so on is = absurd (cc)
 
-  lines_of_first : (most number : ℕ) (lines : List Line) (texts : List (List ℕ)) (earlier events : List Event) → SpellsLines head lines texts → AreOfFirst earlier → play_lines (beginning head) most number lines earlier ≡ ran events → AreOfFirst events
+  lines_of_first : (most number : ℕ) (lines : List Line) (texts : List (List ℕ)) (earlier events : List Event) → SpellsLines head lines texts
+      → AreOfFirst earlier → play_lines (beginning head) most number lines earlier ≡ ran events → AreOfFirst events
   lines_of_first most number [] texts earlier events spelled so is = let same : earlier ≡ events = cc in subst AreOfFirst same so
   lines_of_first most number (line ∷ lines) [] earlier events spelled so is = absurd spelled
   lines_of_first most number (line ∷ lines) (text ∷ texts) earlier events spelled so is =
@@ -88,7 +89,8 @@ module _ (head : Head) (first : head.version ≡ 1) where
       (λ es here on. lines_of_first most (number + 1) lines texts es events spelled.2 here on)
       is
 
-  events_of_first : (lines : List Line) (text : List ℕ) (events : List Event) → SpellsSchedule head lines text → play head lines ≡ ran events → AreOfFirst events
+  events_of_first : (lines : List Line) (text : List ℕ) (events : List Event) → SpellsSchedule head lines text → play head lines ≡ ran events
+      → AreOfFirst events
   unfolding play
   events_of_first lines text events spelled is = lines_of_first (most_events + 1) _ lines spelled.1.1.0 [] events spelled.1.1.1 tt is
 
@@ -109,7 +111,8 @@ all_second : (entries : List Entry) → Each (Has 2) entries
 all_second [] = tt
 all_second (entry ∷ entries) = (second_has entry, all_second entries)
 
-run_has : (head : Head) (lines : List Line) (text : List ℕ) (events : List Event) → SpellsSchedule head lines text → play head lines ≡ ran events → Each (Has head.version) (run (beginning head) events).journal
+run_has : (head : Head) (lines : List Line) (text : List ℕ) (events : List Event) → SpellsSchedule head lines text → play head lines ≡ ran events
+    → Each (Has head.version) (run (beginning head) events).journal
 run_has head lines text events spelled is = by spelled.1.0.settings.known
   where
     journal : List Entry
@@ -119,7 +122,8 @@ run_has head lines text events spelled is = by spelled.1.0.settings.known
     by (inl first) =
         let lawful = played-runs-are-lawful head lines text events spelled is in
         subst (λ v. Each (Has v) journal) (sym first)
-        (first-tells head.longest (beginning head) events lawful.bounds lawful.skew (spelled.1.0.settings.fit_longest.2 first) (events_of_first head first lines text events spelled is))
+        (first-tells head.longest (beginning head) events lawful.bounds lawful.skew (spelled.1.0.settings.fit_longest.2 first)
+        (events_of_first head first lines text events spelled is))
     by (inr second) = subst (λ v. Each (Has v) journal) (sym second) (all_second journal)
 
 -- the room in an entry does not matter
@@ -131,13 +135,17 @@ all_plain : (version : ℕ) (entries : List Entry) → Each (Has version) (map p
 all_plain version [] each = All-nil (Has version)
 all_plain version (entry ∷ entries) each = All-cons (Has version) entry entries (plain_has version entry each.0) (all_plain version entries each.1)
 
-ran_has : {K : Type 0} (script : Script) (w : WorldOver K) (told : Option Kept) (due : Ended) → IsReady script → play script.head script.lines ≡ due → RanTo due (λ events. Plays (beginning script.head) events w told) → All (Has script.head.version) w.entries
+ran_has : {K : Type 0} (script : Script) (w : WorldOver K) (told : Option Kept) (due : Ended) → IsReady script → play script.head script.lines ≡ due
+    → RanTo due (λ events. Plays (beginning script.head) events w told) → All (Has script.head.version) w.entries
 ran_has script w told (ran events) ready is plays =
-    let each = each-reverse (Has script.head.version) (run (beginning script.head) events).journal (run_has script.head script.lines ready.text events ready.spelled is) in
+    let each = each-reverse (Has script.head.version) (run (beginning script.head) events).journal (run_has script.head script.lines ready.text events
+    ready.spelled is) in
     all_plain script.head.version w.entries (subst (Each (Has script.head.version)) (sym plays.shown.shows.entries) each)
 ran_has script w told (stopped line answer) ready is plays = absurd plays
 
 -- a schedule that was played to its end has a journal of its version
-pub played_has : {K : Type 0} (script : Script) (played : Played) (w : WorldOver K) (told : Option Kept) → IsReady script → Comes played (play script.head script.lines) (λ events. Plays (beginning script.head) events w told) → played ≡ Played.All → All (Has script.head.version) w.entries
+pub played_has : {K : Type 0} (script : Script) (played : Played) (w : WorldOver K) (told : Option Kept) → IsReady script
+    → Comes played (play script.head script.lines) (λ events. Plays (beginning script.head) events w told) → played ≡ Played.All
+    → All (Has script.head.version) w.entries
 played_has script Played.All w told ready comes is = ran_has script w told (play script.head script.lines) ready refl comes
 played_has script (Played.Stopped line answer) w told ready comes is = absurd (cc)

@@ -9,7 +9,8 @@ use Rattle.nq_io.specs.Faults.{Rose}
 use Rattle.nq_io.specs.Whole.{TakesSome}
 use Rattle.nq_replay.specs.Lines.{last_line, limit_line}
 use Rattle.nq_io.specs.Sink.{PrintsLine}
-use Rattle.nq_replay.specs.Replay.{BreaksSkew, FaultyLine, IsSchedule, OfInput, Passes, PrintsFaulty, PrintsJournal, PrintsLimit, PrintsPart, PrintsPassing, PrintsSkew, Runs, TakesInput}
+use Rattle.nq_replay.specs.Replay.{BreaksSkew, FaultyLine, IsSchedule, OfInput, Passes, PrintsFaulty, PrintsJournal, PrintsLimit, PrintsPart}
+use Rattle.nq_replay.specs.Replay.{PrintsPassing, PrintsSkew, Runs, TakesInput}
 use Rattle.nq_replay.specs.declared.printing.Bound.{Bound}
 use Rattle.nq_script.specs.declared.heads.Head.{Head}
 
@@ -69,7 +70,11 @@ CountsKeeper other before count = count ≡ before
 -- rule on skew, too many events or packets, or all events taken. A fault that was counted, or want of memory, may come in the place of that
 pub record EndsByInput (end : Ending) (limit : ℕ) (left : Option (List ℕ)) (r r' w w' k k' : ℕ) : Type 0 where
   pub over : (text : List ℕ) → left ≡ Some text → limit < length text → IsUnlessFaultOver end Ending.Limit r r' w w' k k'
-  pub script : (text : List ℕ) → left ≡ Some text → length text ≤ limit → (number : ℕ) → FaultyLine text number → IsUnlessFaultOver end Ending.Script r r' w w' k k'
-  pub skew : (text : List ℕ) → left ≡ Some text → length text ≤ limit → (number : ℕ) (broken : SkewBroken) → BreaksSkew text number broken → IsUnlessFaultOver end Ending.Skew r r' w w' k k'
-  pub passes : (text : List ℕ) → left ≡ Some text → length text ≤ limit → (number : ℕ) (bound : Bound) → Passes text number bound → IsUnlessFaultOver end Ending.Limit r r' w w' k k'
-  pub done : (text : List ℕ) → left ≡ Some text → length text ≤ limit → (head : Head) (events : List Event) → Runs text head events → IsUnlessFaultOver end Ending.Done r r' w w' k k'
+  pub script : (text : List ℕ) → left ≡ Some text → length text ≤ limit → (number : ℕ) → FaultyLine text number → IsUnlessFaultOver end Ending.Script
+      r r' w w' k k'
+  pub skew : (text : List ℕ) → left ≡ Some text → length text ≤ limit → (number : ℕ) (broken : SkewBroken) → BreaksSkew text number broken
+      → IsUnlessFaultOver end Ending.Skew r r' w w' k k'
+  pub passes : (text : List ℕ) → left ≡ Some text → length text ≤ limit → (number : ℕ) (bound : Bound) → Passes text number bound
+      → IsUnlessFaultOver end Ending.Limit r r' w w' k k'
+  pub done : (text : List ℕ) → left ≡ Some text → length text ≤ limit → (head : Head) (events : List Event) → Runs text head events
+      → IsUnlessFaultOver end Ending.Done r r' w w' k k'

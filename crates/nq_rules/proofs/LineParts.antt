@@ -1,5 +1,6 @@
 -- The parts of a line of calls: what is open, what stays, and what the next line is made of.
-use Rattle.std.proofs.Common.{◌≡◌, ◌<◌, ℕ, Bool, true, false, not, ◌&&◌, ◌||◌, ◌==◌, List, [], ◌∷◌, Option, Some, None, inl, inr, refl, sym, ◌∙◌, ap, subst, arith}
+use Rattle.std.proofs.Common.{◌≡◌, ◌<◌, ℕ, Bool, true, false, not, ◌&&◌, ◌||◌, ◌==◌, List, [], ◌∷◌, Option, Some, None, inl, inr, refl, sym, ◌∙◌, ap}
+use Rattle.std.proofs.Common.{subst, arith}
 use Rattle.std.specs.Prelude.{if◌then◌else◌, nat_lt}
 use Rattle.std.specs.Option.{option_or}
 use Rattle.std.proofs.lemmas.Bool.{and_parts, and_from, cases_Bool, eqb-true, eq-eqb, lt-ltb, cases_lt}
@@ -91,7 +92,8 @@ pub is_unanswered : (before : List Entry) (who : Who) (q : ℕ) → is_open befo
 is_unanswered before who q o =
     not_false (exists (is_answer who q) before) (and_parts (exists (is_call who q) before) (not (exists (is_answer who q) before)) o).1
 
-pub opens : (before : List Entry) (who : Who) (q : ℕ) → exists (is_call who q) before ≡ true → exists (is_answer who q) before ≡ false → is_open before who q ≡ true
+pub opens : (before : List Entry) (who : Who) (q : ℕ) → exists (is_call who q) before ≡ true → exists (is_answer who q) before ≡ false
+    → is_open before who q ≡ true
 opens before who q c a = and_from (exists (is_call who q) before) (not (exists (is_answer who q) before)) c (ap not a)
 
 pub not_called : (before : List Entry) (who : Who) (q : ℕ) → exists (is_call who q) before ≡ false → call_of before who q ≡ None
@@ -147,7 +149,8 @@ none_open (C by n told ∷ entries) before who f =
 none_open (other ∷ entries) before who f = none_open entries before who f
 
 -- where one call alone is open, no other is
-pub no_others : (entries before : List Entry) (who : Who) (p : ℕ) → ((q : ℕ) → is_open before who q ≡ true → p ≡ q) → each (is_no_other before who p) entries ≡ true
+pub no_others : (entries before : List Entry) (who : Who) (p : ℕ) → ((q : ℕ) → is_open before who q ≡ true → p ≡ q) → each (is_no_other before who p)
+    entries ≡ true
 no_others [] before who p f = refl
 no_others (C by n told ∷ entries) before who p f =
     and_from (not (same_who by who && is_open before who n) || (n == p)) (each (is_no_other before who p) entries)

@@ -9,14 +9,19 @@ use Rattle.nq_base.specs.declared.Told.{Told}
 use Rattle.nq_base.specs.declared.Who.{Who}
 use Rattle.nq_model.specs.JournalTest.{each, exists, is_answer, is_call, is_counted, is_open}
 use Rattle.nq_model.specs.LegalTest.{is_counted_by}
-use Rattle.nq_model.specs.OrderedTest.{has_open, is_busy_next, is_call_below, is_call_in_order, is_numbered, is_resize_by, is_resize_in_order, is_read_in_order, is_write_in_order, writes}
+use Rattle.nq_model.specs.OrderedTest.{has_open, is_busy_next, is_call_below, is_call_in_order, is_numbered, is_resize_by, is_resize_in_order}
+use Rattle.nq_model.specs.OrderedTest.{is_read_in_order, is_write_in_order, writes}
 use Rattle.nq_model.specs.Table.{same_who}
 use Rattle.nq_model.proofs.JournalTests.{tells_who}
 use Rattle.nq_rules.specs.declared.lines.Line.{Line}
 use Rattle.nq_rules.specs.declared.lines.Open.{Open}
 use Rattle.nq_rules.specs.InOrder.{AreBusy, AreLines, AreOpened, IsBusyCall, IsLineOf, IsNext, IsOpenCall, StandsInOrder, is_else}
-use Rattle.nq_rules.specs.Lines.{IsLined, after_answer_of, after_call, after_call_at, after_read_of, after_resize_of, after_write_of, begun, is_sizing, is_writing, line_at}
-use Rattle.nq_rules.proofs.LineParts.{or_none, or_here, or_there, neither_first, neither_second, and_not_there, and_not_here, not_false, not_not, nothing_is, both_ways, other_number, self, is_called, is_unanswered, opens, not_called, none_since, upto, all_below, none_open, no_others, if_true, if_false, found, IsQuiet, still_open, still_busy, same_busy, quiet, asks_write, asks_resize, a_line, same_some, no_call_above}
+use Rattle.nq_rules.specs.Lines.{IsLined, after_answer_of, after_call, after_call_at, after_read_of, after_resize_of, after_write_of, begun}
+use Rattle.nq_rules.specs.Lines.{is_sizing, is_writing, line_at}
+use Rattle.nq_rules.proofs.LineParts.{or_none, or_here, or_there, neither_first, neither_second, and_not_there, and_not_here, not_false, not_not}
+use Rattle.nq_rules.proofs.LineParts.{nothing_is, both_ways, other_number, self, is_called, is_unanswered, opens, not_called, none_since, upto}
+use Rattle.nq_rules.proofs.LineParts.{all_below, none_open, no_others, if_true, if_false, found, IsQuiet, still_open, still_busy, same_busy, quiet}
+use Rattle.nq_rules.proofs.LineParts.{asks_write, asks_resize, a_line, same_some, no_call_above}
 
 -- ---- a C
 

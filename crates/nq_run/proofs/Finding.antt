@@ -1,5 +1,6 @@
 -- The first fate of a kind, and what is asked of it.
-use Rattle.std.proofs.Common.{◌≡◌, ℕ, ◌<◌, ◌≤◌, ◌+◌, zero, suc, ap, refl, Bool, true, false, All, List, [], ◌∷◌, ◌++◌, Option, Some, None, ◌↔◌, arith, length, map, take, drop, slice_index_or, slice_set, subst, sym, ◌∙◌}
+use Rattle.std.proofs.Common.{◌≡◌, ℕ, ◌<◌, ◌≤◌, ◌+◌, zero, suc, ap, refl, Bool, true, false, All, List, [], ◌∷◌, ◌++◌, Option, Some, None, ◌↔◌, arith}
+use Rattle.std.proofs.Common.{length, map, take, drop, slice_index_or, slice_set, subst, sym, ◌∙◌}
 use Rattle.std.proofs.Math.Seq.{take-suc}
 use Rattle.std.proofs.lemmas.List.Elements.{All-map, All-push}
 use Rattle.std.specs.Bool.{IsTrue}
@@ -17,25 +18,30 @@ pub not_of : (told : Option Rule) (kind : ℕ) (is : Bool) → is ≡ false → 
 not_of None kind is off tests = tt
 not_of (Some rule) kind is off tests = λ same. let both : false ≡ true = sym off ∙ tests.1 same in absurd (cc)
 
-pub is_of_kind : (told : Option Rule) (kind : ℕ) (is : Bool) → is ≡ true → IfSome told (λ rule. IsTrue is ↔ (rule.kind ≡ kind)) → IfSome told (λ rule. rule.kind ≡ kind)
+pub is_of_kind : (told : Option Rule) (kind : ℕ) (is : Bool) → is ≡ true → IfSome told (λ rule. IsTrue is ↔ (rule.kind ≡ kind))
+    → IfSome told (λ rule. rule.kind ≡ kind)
 is_of_kind None kind is on tests = tt
 is_of_kind (Some rule) kind is on tests = tests.0 on
 
 -- one fate more was passed
-pub passed_one : {X : Type 0} (told : X → Option Rule) (kind place : ℕ) (fates : List X) (fate d : X) → place < length fates → fate ≡ slice_index_or fates place d → All (λ x. IsNotOf (told x) kind) (take place fates) → IsNotOf (told fate) kind
+pub passed_one : {X : Type 0} (told : X → Option Rule) (kind place : ℕ) (fates : List X) (fate d : X) → place < length fates → fate ≡ slice_index_or
+    fates place d → All (λ x. IsNotOf (told x) kind) (take place fates) → IsNotOf (told fate) kind
     → All (λ x. IsNotOf (told x) kind) (take (place + 1) fates)
 passed_one {X = X} told kind place fates fate d within is others other =
     let P : X → Type 0 = λ x. IsNotOf (told x) kind in
     let next : place + 1 ≡ suc place = omega arith in
-    subst (λ xs. All P xs) (sym (ap (λ n. take n fates) next ∙ take-suc fates place d within)) (All-push P (take place fates) (slice_index_or fates place d) others (subst P is other))
+    subst (λ xs. All P xs) (sym (ap (λ n. take n fates) next ∙ take-suc fates place d within)) (All-push P (take place fates)
+    (slice_index_or fates place d) others (subst P is other))
 
 -- where all were passed, none is of the kind
-pub lack_kind : {X : Type 0} (told : X → Option Rule) (kind place : ℕ) (fates : List X) → length fates ≤ place → All (λ x. IsNotOf (told x) kind) (take place fates) → LackKind kind (map told fates)
+pub lack_kind : {X : Type 0} (told : X → Option Rule) (kind place : ℕ) (fates : List X) → length fates ≤ place → All (λ x. IsNotOf (told x) kind)
+    (take place fates) → LackKind kind (map told fates)
 lack_kind told kind place fates all others =
     All-map (λ tells. IsNotOf tells kind) told fates (subst (λ xs. All (λ x. IsNotOf (told x) kind) xs) (take_all place fates all) others)
 
 -- the one that was found stands at the place
-pub found_at : {X : Type 0} (told : X → Option Rule) (kind place : ℕ) (fates : List X) (fate : X) → place < length fates → fate ≡ slice_index_or fates place fate → IfSome (told fate) (λ rule. rule.kind ≡ kind)
+pub found_at : {X : Type 0} (told : X → Option Rule) (kind place : ℕ) (fates : List X) (fate : X) → place < length fates → fate ≡ slice_index_or fates
+    place fate → IfSome (told fate) (λ rule. rule.kind ≡ kind)
     → IfSome (slice_get fates place) (λ f. IfSome (told f) (λ rule. rule.kind ≡ kind))
 found_at told kind place fates fate within is here =
     subst (λ o. IfSome o (λ f. IfSome (told f) (λ rule. rule.kind ≡ kind))) (sym (slice_get_read fates (length fates) place fate refl within is)) here
@@ -51,8 +57,10 @@ replaced (y ∷ ys) zero x x' h = refl
 replaced (y ∷ ys) (suc i) x x' h = ap (λ zs. y ∷ zs) (replaced ys i x x' h)
 
 -- it is the first of the kind
-pub is_first : {X : Type 0} (told : X → Option Rule) (kind place : ℕ) (fates : List X) (fate : X) → place < length fates → fate ≡ slice_index_or fates place fate → All (λ x. IsNotOf (told x) kind) (take place fates)
-    → IfSome (slice_get fates place) (λ f. IfSome (told f) (λ rule. rule.kind ≡ kind)) → IsFirstOf kind (map told fates) (told (slice_index_or fates place fate))
+pub is_first : {X : Type 0} (told : X → Option Rule) (kind place : ℕ) (fates : List X) (fate : X) → place < length fates → fate ≡ slice_index_or fates
+    place fate → All (λ x. IsNotOf (told x) kind) (take place fates)
+    → IfSome (slice_get fates place) (λ f. IfSome (told f) (λ rule. rule.kind ≡ kind)) → IsFirstOf kind (map told fates)
+    (told (slice_index_or fates place fate))
 is_first told kind place fates fate within is others here =
     let at : slice_get fates place ≡ Some fate = slice_get_read fates (length fates) place fate refl within is in
     subst
@@ -67,8 +75,10 @@ is_first told kind place fates fate within is others here =
     })
 
 -- the fate at the place was asked, and each other one stays
-pub asks_first : {X : Type 0} (tell : X → FateTold) (end : Ending) (kind wanted place : ℕ) (fates : List X) (fate after : X) → place < length fates → fate ≡ slice_index_or fates place fate → All (λ x. IsNotOf (tell x).rule kind) (take place fates)
-    → IfSome (slice_get fates place) (λ f. IfSome (tell f).rule (λ rule. rule.kind ≡ kind)) → AsksFor end wanted (tell (slice_index_or fates place fate)).asks (tell after).asks
+pub asks_first : {X : Type 0} (tell : X → FateTold) (end : Ending) (kind wanted place : ℕ) (fates : List X) (fate after : X) → place < length fates
+    → fate ≡ slice_index_or fates place fate → All (λ x. IsNotOf (tell x).rule kind) (take place fates)
+    → IfSome (slice_get fates place) (λ f. IfSome (tell f).rule (λ rule. rule.kind ≡ kind))
+    → AsksFor end wanted (tell (slice_index_or fates place fate)).asks (tell after).asks
     → AsksFirst end kind wanted (map tell fates) (map tell (slice_set fates place after))
 asks_first tell end kind wanted place fates fate after within is others here asked =
     let at : slice_get fates place ≡ Some fate = slice_get_read fates (length fates) place fate refl within is in

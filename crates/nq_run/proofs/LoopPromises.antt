@@ -13,7 +13,8 @@ use Rattle.nq_replay.specs.Ending.{CountsKeeper}
 use Rattle.nq_run.proofs.Promises.{faultless, holds_throughout}
 use Rattle.nq_run.specs.Looping.{LoopsFor, LoopsLawfully}
 
-done_looped : (hosts turns : ℕ) (clock clock' : ClockTold) (links links' : List LinkTold) (held now : Option (List ℕ)) (kept : Option Kept) → KeepsLoop hosts turns clock clock' links links' held now kept
+done_looped : (hosts turns : ℕ) (clock clock' : ClockTold) (links links' : List LinkTold) (held now : Option (List ℕ)) (kept : Option Kept)
+    → KeepsLoop hosts turns clock clock' links links' held now kept
     → LoopsLawfully hosts turns clock clock' links links' held now kept
 done_looped hosts turns clock clock' links links' held now kept keeps =
     let holds = holds_throughout (loop_head hosts) keeps.events keeps.whole.lawful in
@@ -28,8 +29,10 @@ done_looped hosts turns clock clock' links links' held now kept keeps =
     }
 
 -- a loop by its end
-pub loops_for : (end : Ending) (code hosts turns : ℕ) (clock clock' : ClockTold) (links links' : List LinkTold) (held now : Option (List ℕ)) (w w' k k' : ℕ) (kept : Option Kept) → code ≡ status_of end
-    → LoopEnds end hosts turns clock clock' links links' held now w w' → (end ≡ Ending.Done → KeepsLoop hosts turns clock clock' links links' held now kept) → CountsKeeper end k k'
+pub loops_for : (end : Ending) (code hosts turns : ℕ) (clock clock' : ClockTold) (links links' : List LinkTold) (held now : Option (List ℕ))
+    (w w' k k' : ℕ) (kept : Option Kept) → code ≡ status_of end
+    → LoopEnds end hosts turns clock clock' links links' held now w w' → (end ≡ Ending.Done → KeepsLoop hosts turns clock clock' links links' held now
+    kept) → CountsKeeper end k k'
     → LoopsFor code hosts turns clock clock' links links' held now w w' k k' kept
 loops_for end code hosts turns clock clock' links links' held now w w' k k' kept status ends keeps counts = record {
   end = end;
@@ -41,6 +44,8 @@ loops_for end code hosts turns clock clock' links links' held now w w' k k' kept
 }
 
 -- a loop does not end with usage
-pub loop_usage : (status hosts turns : ℕ) (clock clock' : ClockTold) (links links' : List LinkTold) (held now : Option (List ℕ)) (w w' k k' : ℕ) (kept : Option Kept) → LoopsFor status hosts turns clock clock' links links' held now w w' k k' kept
+pub loop_usage : (status hosts turns : ℕ) (clock clock' : ClockTold) (links links' : List LinkTold) (held now : Option (List ℕ)) (w w' k k' : ℕ)
+    (kept : Option Kept) → LoopsFor status hosts turns clock clock' links links' held now w w' k k' kept
     → status ≡ status_of Ending.Usage → ⊥
-loop_usage status hosts turns clock clock' links links' held now w w' k k' kept does none = subst (λ e. LoopEnds e hosts turns clock clock' links links' held now w w') (one_end does.end Ending.Usage status does.status none) does.ends
+loop_usage status hosts turns clock clock' links links' held now w w' k k' kept does none = subst (λ e. LoopEnds e hosts turns clock clock' links
+    links' held now w w') (one_end does.end Ending.Usage status does.status none) does.ends

@@ -22,8 +22,10 @@ use Rattle.nq_store.specs.Storing.{GoesOn, IsFresh, StoredStore, content_of, con
 
 -- ---- what the disk stands for
 
-storms-kept : (code kind start count : ℕ) (rules : List (Option Rule)) (old new : List FateTold) (held now : Option (List ℕ)) (w w' k k' : ℕ) (ended : Bool) (bytes : Option (List ℕ))
-    → StormsFor code kind start count rules old new held now w w' k k' (content_while ended bytes) → StormsFor code kind start count rules old new held now w w' k k' (kept_told bytes)
+storms-kept : (code kind start count : ℕ) (rules : List (Option Rule)) (old new : List FateTold) (held now : Option (List ℕ)) (w w' k k' : ℕ)
+    (ended : Bool) (bytes : Option (List ℕ))
+    → StormsFor code kind start count rules old new held now w w' k k' (content_while ended bytes) → StormsFor code kind start count rules old new
+    held now w w' k k' (kept_told bytes)
 storms-kept code kind start count rules old new held now w w' k k' ended bytes s = record {
   end = s.end;
   status = s.status;
@@ -46,8 +48,10 @@ storms-kept code kind start count rules old new held now w w' k k' ended bytes s
   asked = s.asked;
 }
 
-loops-kept : (code hosts turns : ℕ) (clock clock' : ClockTold) (links links' : List LinkTold) (held now : Option (List ℕ)) (w w' k k' : ℕ) (ended : Bool) (bytes : Option (List ℕ))
-    → LoopsFor code hosts turns clock clock' links links' held now w w' k k' (content_while ended bytes) → LoopsFor code hosts turns clock clock' links links' held now w w' k k' (kept_told bytes)
+loops-kept : (code hosts turns : ℕ) (clock clock' : ClockTold) (links links' : List LinkTold) (held now : Option (List ℕ)) (w w' k k' : ℕ)
+    (ended : Bool) (bytes : Option (List ℕ))
+    → LoopsFor code hosts turns clock clock' links links' held now w w' k k' (content_while ended bytes) → LoopsFor code hosts turns clock clock'
+    links links' held now w w' k k' (kept_told bytes)
 loops-kept code hosts turns clock clock' links links' held now w w' k k' ended bytes s = record {
   end = s.end;
   status = s.status;
@@ -70,8 +74,10 @@ loops-kept code hosts turns clock clock' links links' held now w w' k k' ended b
 -- ---- over a store
 
 module _ {D : Type 0} (told : D → Option (List ℕ)) (faults : D → ℕ) (follows : D → D → Type 0) where
-  pub storms_on : (code kind start count : ℕ) (rules : List (Option Rule)) (old new : List FateTold) (held now : Option (List ℕ)) (w w' : ℕ) (disk : D) (store served : StoredStore D) (left : D)
-      → left ≡ served.disk → ((first last : D) → follows first last → faults first ≤ faults last) → IsFresh store → faults store.disk ≡ faults disk → GoesOn faults follows store served
+  pub storms_on : (code kind start count : ℕ) (rules : List (Option Rule)) (old new : List FateTold) (held now : Option (List ℕ)) (w w' : ℕ)
+      (disk : D) (store served : StoredStore D) (left : D)
+      → left ≡ served.disk → ((first last : D) → follows first last → faults first ≤ faults last) → IsFresh store → faults store.disk ≡ faults disk
+      → GoesOn faults follows store served
       → StormsFor code kind start count rules old new held now w w' (faults_of faults store) (faults_of faults served) (content_of told served)
       → StormsOn code kind start count rules old new held now w w' (faults disk) (faults left) (told left)
   storms_on code kind start count rules old new held now w w' disk store served left handed rises fresh same goes s =
@@ -85,8 +91,10 @@ module _ {D : Type 0} (told : D → Option (List ℕ)) (faults : D → ℕ) (fol
         failed = λ six. risen_over faults follows disk store served rises fresh same goes (rose_by s.end code k k' s.status s.counts six);
       }))
 
-  pub loops_on : (code hosts turns : ℕ) (clock clock' : ClockTold) (links links' : List LinkTold) (held now : Option (List ℕ)) (w w' : ℕ) (disk : D) (store served : StoredStore D) (left : D)
-      → left ≡ served.disk → ((first last : D) → follows first last → faults first ≤ faults last) → IsFresh store → faults store.disk ≡ faults disk → GoesOn faults follows store served
+  pub loops_on : (code hosts turns : ℕ) (clock clock' : ClockTold) (links links' : List LinkTold) (held now : Option (List ℕ)) (w w' : ℕ) (disk : D)
+      (store served : StoredStore D) (left : D)
+      → left ≡ served.disk → ((first last : D) → follows first last → faults first ≤ faults last) → IsFresh store → faults store.disk ≡ faults disk
+      → GoesOn faults follows store served
       → LoopsFor code hosts turns clock clock' links links' held now w w' (faults_of faults store) (faults_of faults served) (content_of told served)
       → LoopsOn code hosts turns clock clock' links links' held now w w' (faults disk) (faults left) (told left)
   loops_on code hosts turns clock clock' links links' held now w w' disk store served left handed rises fresh same goes s =
@@ -102,7 +110,8 @@ module _ {D : Type 0} (told : D → Option (List ℕ)) (faults : D → ℕ) (fol
 
 -- ---- where no empty store was made
 
-starts-not : (end : Ending) (code before count : ℕ) (held : Option (List ℕ)) (w : ℕ) → code ≡ status_of end → EmptiesNot end before count → StartsNot code before count held held w w
+starts-not : (end : Ending) (code before count : ℕ) (held : Option (List ℕ)) (w : ℕ) → code ≡ status_of end → EmptiesNot end before count
+    → StartsNot code before count held held w w
 starts-not end code before count held w status fails = record {
   end = end;
   status = status;
@@ -110,11 +119,13 @@ starts-not end code before count held w status fails = record {
   quiet = (refl, refl);
 }
 
-pub storms_not : (end : Ending) (code kind start count : ℕ) (rules : List (Option Rule)) (fates : List FateTold) (held : Option (List ℕ)) (w before faults : ℕ) (bytes : Option (List ℕ)) → code ≡ status_of end
+pub storms_not : (end : Ending) (code kind start count : ℕ) (rules : List (Option Rule)) (fates : List FateTold) (held : Option (List ℕ))
+    (w before faults : ℕ) (bytes : Option (List ℕ)) → code ≡ status_of end
     → EmptiesNot end before faults → StormsOn code kind start count rules fates fates held held w w before faults bytes
 storms_not end code kind start count rules fates held w before faults bytes status fails = inl (starts-not end code before faults held w status fails, refl)
 
-pub loops_not : (end : Ending) (code hosts turns : ℕ) (clock : ClockTold) (links : List LinkTold) (held : Option (List ℕ)) (w before count : ℕ) (bytes : Option (List ℕ)) → code ≡ status_of end
+pub loops_not : (end : Ending) (code hosts turns : ℕ) (clock : ClockTold) (links : List LinkTold) (held : Option (List ℕ)) (w before count : ℕ)
+    (bytes : Option (List ℕ)) → code ≡ status_of end
     → EmptiesNot end before count → LoopsOn code hosts turns clock clock links links held held w w before count bytes
 loops_not end code hosts turns clock links held w before count bytes status fails = inl (starts-not end code before count held w status fails, refl, refl)
 
@@ -125,23 +136,30 @@ starts_usage end code before count status fails none = subst (λ e. EmptiesNot e
 -- ---- usage
 
 -- a storm over a disk ends with usage only where no fate is of the kind
-pub storms_usage : (code kind start count : ℕ) (rules : List (Option Rule)) (old new : List FateTold) (held now : Option (List ℕ)) (w w' before faults : ℕ) (bytes : Option (List ℕ))
-    → StormsOn code kind start count rules old new held now w w' before faults bytes → code ≡ status_of Ending.Usage → LackKind kind rules × PrintsLine usage_line held now w w'
-storms_usage code kind start count rules old new held now w w' before faults bytes (inl left) none = absurd (starts_usage left.0.end code before faults left.0.status left.0.empties none)
+pub storms_usage : (code kind start count : ℕ) (rules : List (Option Rule)) (old new : List FateTold) (held now : Option (List ℕ))
+    (w w' before faults : ℕ) (bytes : Option (List ℕ))
+    → StormsOn code kind start count rules old new held now w w' before faults bytes → code ≡ status_of Ending.Usage → LackKind kind rules
+    × PrintsLine usage_line held now w w'
+storms_usage code kind start count rules old new held now w w' before faults bytes (inl left) none = absurd (starts_usage left.0.end code before
+    faults left.0.status left.0.empties none)
 storms_usage code kind start count rules old new held now w w' before faults bytes (inr over) none =
     storm_usage code kind start count rules old new held now w w' over.first over.last (kept_told bytes) over.does none
 
 -- a loop does not
-pub loops_usage : (code hosts turns : ℕ) (clock clock' : ClockTold) (links links' : List LinkTold) (held now : Option (List ℕ)) (w w' before count : ℕ) (bytes : Option (List ℕ))
+pub loops_usage : (code hosts turns : ℕ) (clock clock' : ClockTold) (links links' : List LinkTold) (held now : Option (List ℕ))
+    (w w' before count : ℕ) (bytes : Option (List ℕ))
     → LoopsOn code hosts turns clock clock' links links' held now w w' before count bytes → code ≡ status_of Ending.Usage → ⊥
-loops_usage code hosts turns clock clock' links links' held now w w' before count bytes (inl left) none = starts_usage left.0.end code before count left.0.status left.0.empties none
+loops_usage code hosts turns clock clock' links links' held now w w' before count bytes (inl left) none = starts_usage left.0.end code before count
+    left.0.status left.0.empties none
 loops_usage code hosts turns clock clock' links links' held now w w' before count bytes (inr over) none =
     loop_usage code hosts turns clock clock' links links' held now w w' over.first over.last (kept_told bytes) over.does none
 
 -- ---- where no fate is of the kind
 
-pub storms_refused : (code kind start count : ℕ) (rules : List (Option Rule)) (fates : List FateTold) (held now : Option (List ℕ)) (w w' before faults : ℕ) (bytes : Option (List ℕ))
-    → code ≡ status_of Ending.Usage → LackKind kind rules → PrintsLine usage_line held now w w' → StormsOn code kind start count rules fates fates held now w w' before faults bytes
+pub storms_refused : (code kind start count : ℕ) (rules : List (Option Rule)) (fates : List FateTold) (held now : Option (List ℕ))
+    (w w' before faults : ℕ) (bytes : Option (List ℕ))
+    → code ≡ status_of Ending.Usage → LackKind kind rules → PrintsLine usage_line held now w w' → StormsOn code kind start count rules fates fates
+    held now w w' before faults bytes
 storms_refused code kind start count rules fates held now w w' before faults bytes status lack printed = inr (record {
   first = 0;
   last = 0;

@@ -28,11 +28,13 @@ names_lawfully text held now p =
     }
 
 -- of an input whose run with lists was printed
-input_names : (limit : ℕ) (left rest held now : Option (List ℕ)) → OfInput limit left rest (λ text. PrintsNames text held now) → OfInput limit left rest (λ text. NamesLawfully text held now)
+input_names : (limit : ℕ) (left rest held now : Option (List ℕ)) → OfInput limit left rest (λ text. PrintsNames text held now)
+    → OfInput limit left rest (λ text. NamesLawfully text held now)
 input_names limit left rest held now p = record { text = p.text; read = p.read; so = names_lawfully p.text held now p.so }
 
 -- a run with lists by its end
-pub names_for : (end : Ending) (limit code : ℕ) (left rest held now : Option (List ℕ)) (r r' w w' : ℕ) → code ≡ status_of end → EndsNames end limit left rest held now r r' w w' → EndsByInput end limit left r r' w w' → NamesFor limit code left rest held now r r' w w'
+pub names_for : (end : Ending) (limit code : ℕ) (left rest held now : Option (List ℕ)) (r r' w w' : ℕ) → code ≡ status_of end
+    → EndsNames end limit left rest held now r r' w w' → EndsByInput end limit left r r' w w' → NamesFor limit code left rest held now r r' w w'
 names_for end limit code left rest held now r r' w w' status ends by_input = record {
   end = end;
   status = status;
@@ -42,6 +44,7 @@ names_for end limit code left rest held now r r' w w' status ends by_input = rec
 }
 
 -- words of a run with lists say a command
-pub names_usage : (limit code : ℕ) (left rest held now : Option (List ℕ)) (r r' w w' : ℕ) → NamesFor limit code left rest held now r r' w w' → code ≡ status_of Ending.Usage → ⊥
+pub names_usage : (limit code : ℕ) (left rest held now : Option (List ℕ)) (r r' w w' : ℕ) → NamesFor limit code left rest held now r r' w w'
+    → code ≡ status_of Ending.Usage → ⊥
 names_usage limit code left rest held now r r' w w' s none =
     subst (λ e. EndsNames e limit left rest held now r r' w w') (one_end s.end Ending.Usage code s.status none) s.ends

@@ -28,7 +28,8 @@ pub kept_while : (ended : Bool) (bytes : Option (List ℕ)) (kept : Kept) → co
 kept_while true bytes kept is = absurd (cc)
 kept_while false bytes kept is = is
 
-keeps-on : (head : Head) (due : Ended) (ended : Bool) (bytes : Option (List ℕ)) → KeepsPlayed head due (content_while ended bytes) → KeepsPlayed head due (kept_told bytes)
+keeps-on : (head : Head) (due : Ended) (ended : Bool) (bytes : Option (List ℕ)) → KeepsPlayed head due (content_while ended bytes)
+    → KeepsPlayed head due (kept_told bytes)
 keeps-on head (ran events) ended bytes keeps = kept_while ended bytes _ keeps
 keeps-on head (stopped line answer) ended bytes keeps = absurd keeps
 
@@ -40,7 +41,8 @@ rose_by end code k k' status counts six = subst (λ e. CountsKeeper e k k') (one
 
 -- ---- where no empty store was made
 
-ends-not : (end : Ending) (head : Head) (due : Ended) (held : Option (List ℕ)) (w before count : ℕ) → EmptiesNot end before count → EndsOver end head due held held w w
+ends-not : (end : Ending) (head : Head) (due : Ended) (held : Option (List ℕ)) (w before count : ℕ) → EmptiesNot end before count
+    → EndsOver end head due held held w w
 ends-not Ending.KeepFault head due held w before count fails = inr (refl, refl)
 ends-not Ending.Memory head due held w before count fails = inl (memory_before head due held w)
 ends-not other head due held w before count fails = absurd fails
@@ -53,7 +55,8 @@ counts-not Ending.KeepFault before count fails = fails
 counts-not Ending.Memory before count fails = fails
 counts-not other before count fails = absurd fails
 
-pub plays_not : (end : Ending) (code : ℕ) (head : Head) (due : Ended) (held : Option (List ℕ)) (w before count : ℕ) (bytes : Option (List ℕ)) → code ≡ status_of end
+pub plays_not : (end : Ending) (code : ℕ) (head : Head) (due : Ended) (held : Option (List ℕ)) (w before count : ℕ) (bytes : Option (List ℕ))
+    → code ≡ status_of end
     → EmptiesNot end before count → PlaysOn head due code held held w w before count bytes
 plays_not end code head due held w before count bytes status fails = record {
   end = end;
@@ -82,7 +85,8 @@ module _ {D : Type 0} (told : D → Option (List ℕ)) (faults : D → ℕ) (fol
     first = faults_of faults store;
     last = faults_of faults served;
     counts = counts;
-    failed = λ six. risen_over faults follows disk store served rises fresh same goes (rose_by end code (faults_of faults store) (faults_of faults served) status counts six);
+    failed = λ six. risen_over faults follows disk store served rises fresh same goes (rose_by end code (faults_of faults store)
+        (faults_of faults served) status counts six);
   }
 
 -- ---- with the reading
@@ -94,7 +98,8 @@ never-unread head (stopped line answer) held now w w' (inl ends) = absurd ends
 never-unread head (stopped line answer) held now w w' (inr failed) = let is = failed.0 in absurd (cc)
 
 -- a schedule that was read
-pub replays_on : {D : Type 0} (script : Script) (limit code : ℕ) (left rest held now : Option (List ℕ)) (r r' w w' before count : ℕ) (bytes : Option (List ℕ)) (disk disk' : D)
+pub replays_on : {D : Type 0} (script : Script) (limit code : ℕ) (left rest held now : Option (List ℕ)) (r r' w w' before count : ℕ)
+    (bytes : Option (List ℕ)) (disk disk' : D)
     → OfInput limit left rest (λ text. IsReadAs script text) → PlaysOn script.head (play script.head script.lines) code held now w w' before count bytes
     → ((text : List ℕ) → left ≡ Some text → limit < length text → ⊥)
     → ((text : List ℕ) → left ≡ Some text → length text ≤ limit → (number : ℕ) → FirstBadLine text number → ⊥)
@@ -113,10 +118,12 @@ replays_on script limit code left rest held now r r' w w' before count bytes dis
 }
 
 -- none was read
-pub refused_on : {D : Type 0} (end : Ending) (limit code : ℕ) (left rest held now : Option (List ℕ)) (r r' w w' before count : ℕ) (bytes : Option (List ℕ)) (disk : D) → code ≡ status_of end
+pub refused_on : {D : Type 0} (end : Ending) (limit code : ℕ) (left rest held now : Option (List ℕ)) (r r' w w' before count : ℕ)
+    (bytes : Option (List ℕ)) (disk : D) → code ≡ status_of end
     → Refuses end limit left rest held now r r' w w'
     → ((text : List ℕ) → left ≡ Some text → limit < length text → RefusedUnlessFault (Err end) Ending.Limit r r' w w')
-    → ((text : List ℕ) → left ≡ Some text → length text ≤ limit → (number : ℕ) → FirstBadLine text number → RefusedUnlessFault (Err end) Ending.Script r r' w w')
+    → ((text : List ℕ) → left ≡ Some text → length text ≤ limit → (number : ℕ) → FirstBadLine text number → RefusedUnlessFault (Err end) Ending.Script
+    r r' w w')
     → ((text : List ℕ) → left ≡ Some text → length text ≤ limit → (head : Head) (lines : List Line) → SpellsSchedule head lines text → IsFault end r r' w w')
     → ReplaysOn limit code left rest held now r r' w w' before count bytes disk disk
 refused_on end limit code left rest held now r r' w w' before count bytes disk status refuses over bad spelled = record {
@@ -132,7 +139,8 @@ refused_on end limit code left rest held now r r' w w' before count bytes disk s
 }
 
 -- a replay does not end with usage
-pub replays_usage : {D : Type 0} (limit code : ℕ) (left rest held now : Option (List ℕ)) (r r' w w' before count : ℕ) (bytes : Option (List ℕ)) (disk disk' : D)
+pub replays_usage : {D : Type 0} (limit code : ℕ) (left rest held now : Option (List ℕ)) (r r' w w' before count : ℕ) (bytes : Option (List ℕ))
+    (disk disk' : D)
     → ReplaysOn limit code left rest held now r r' w w' before count bytes disk disk' → code ≡ status_of Ending.Usage → ⊥
 replays_usage limit code left rest held now r r' w w' before count bytes disk disk' does none =
     replay_usage limit code left rest held now r r' w w' does.replays.first does.replays.last (kept_told bytes) does.replays.does none

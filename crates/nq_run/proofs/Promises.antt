@@ -39,17 +39,38 @@ pub faultless : (head : Head) (events : List Event) → HoldsThroughout head eve
 faultless head events holds =
     let world = run (beginning head) events in
     let h : HeadlineHolds world = (holds [] events refl).holds in
-    let sound : IsSound world.journal = record { legal = h.legal; ordered = h.ordered; accounted = h.accounted; excused = h.excused; reported = h.reported; synchronized = h.synchronized } in
+    let sound : IsSound world.journal = record {
+      legal = h.legal;
+      ordered = h.ordered;
+      accounted = h.accounted;
+      excused = h.excused;
+      reported =
+          h.reported;
+      synchronized = h.synchronized;
+    } in
     faultless_where_sound world.journal sound
 
 prints_sound : (text : List ℕ) (held now : Option (List ℕ)) (told : Option Kept) → PrintsLawfully text held now told → PrintsSound held now
 prints_sound text held now told p =
     let journal = (run (beginning p.head) p.events).journal in
-    record { version = p.head.version; entries = reverse journal; printed = p.printed; judged = rw (reverse-reverse journal) (faultless p.head p.events p.holds) }
+    record {
+      version = p.head.version;
+      entries = reverse journal;
+      printed = p.printed;
+      judged = rw (reverse-reverse journal)
+          (faultless p.head p.events p.holds);
+    }
 
 -- of an input whose journal was printed
-pub input_lawful : (limit : ℕ) (left rest held now : Option (List ℕ)) (told : Option Kept) → OfInput limit left rest (λ text. PrintsWithin text held now told) → OfInput limit left rest (λ text. PrintsLawfully text held now told)
+pub input_lawful : (limit : ℕ) (left rest held now : Option (List ℕ)) (told : Option Kept) → OfInput limit left rest (λ text. PrintsWithin text held
+    now told) → OfInput limit left rest (λ text. PrintsLawfully text held now told)
 input_lawful limit left rest held now told p = record { text = p.text; read = p.read; so = prints_lawfully p.text held now told p.so }
 
-pub input_sound : (limit : ℕ) (left rest held now : Option (List ℕ)) (told : Option Kept) → OfInput limit left rest (λ text. PrintsWithin text held now told) → OfInput limit left rest (λ text. PrintsSound held now)
-input_sound limit left rest held now told p = record { text = p.text; read = p.read; so = prints_sound p.text held now told (prints_lawfully p.text held now told p.so) }
+pub input_sound : (limit : ℕ) (left rest held now : Option (List ℕ)) (told : Option Kept) → OfInput limit left rest (λ text. PrintsWithin text held
+    now told) → OfInput limit left rest (λ text. PrintsSound held now)
+input_sound limit left rest held now told p = record {
+  text = p.text;
+  read = p.read;
+  so = prints_sound p.text held now told
+      (prints_lawfully p.text held now told p.so);
+}

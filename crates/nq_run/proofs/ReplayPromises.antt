@@ -20,7 +20,8 @@ use Rattle.nq_script.specs.declared.lines.Line.{Line}
 use Rattle.nq_script.specs.declared.scripts.Script.{Script}
 
 -- a schedule that was read, and replayed
-pub replays_for : (end : Ending) (script : Script) (limit code : ℕ) (left rest held now : Option (List ℕ)) (r r' w w' k k' : ℕ) (told : Option Kept) → code ≡ status_of end
+pub replays_for : (end : Ending) (script : Script) (limit code : ℕ) (left rest held now : Option (List ℕ)) (r r' w w' k k' : ℕ) (told : Option Kept)
+    → code ≡ status_of end
     → OfInput limit left rest (λ text. IsReadAs script text) → EndsOver end script.head (play script.head script.lines) held now w w'
     → (end ≡ Ending.Done → KeepsPlayed script.head (play script.head script.lines) told) → CountsKeeper end k k'
     → ReplaysFor limit code left rest held now r r' w w' k k' told
@@ -38,7 +39,8 @@ replays_for end script limit code left rest held now r r' w w' k k' told status 
 pub refused_for : (end : Ending) (limit code : ℕ) (left rest held now : Option (List ℕ)) (r r' w w' k : ℕ) (told : Option Kept) → code ≡ status_of end
     → Refuses end limit left rest held now r r' w w'
     → ((text : List ℕ) → left ≡ Some text → limit < length text → RefusedUnlessFault (Err end) Ending.Limit r r' w w')
-    → ((text : List ℕ) → left ≡ Some text → length text ≤ limit → (number : ℕ) → FirstBadLine text number → RefusedUnlessFault (Err end) Ending.Script r r' w w')
+    → ((text : List ℕ) → left ≡ Some text → length text ≤ limit → (number : ℕ) → FirstBadLine text number → RefusedUnlessFault (Err end) Ending.Script
+    r r' w w')
     → ((text : List ℕ) → left ≡ Some text → length text ≤ limit → (head : Head) (lines : List Line) → SpellsSchedule head lines text → IsFault end r r' w w')
     → ReplaysFor limit code left rest held now r r' w w' k k told
 refused_for end limit code left rest held now r r' w w' k told status refuses over bad spelled = record {
@@ -52,11 +54,13 @@ refused_for end limit code left rest held now r r' w w' k told status refuses ov
 }
 
 -- a replay does not end with usage
-pub replay_usage : (limit code : ℕ) (left rest held now : Option (List ℕ)) (r r' w w' k k' : ℕ) (told : Option Kept) → ReplaysFor limit code left rest held now r r' w w' k k' told → code ≡ status_of Ending.Usage → ⊥
+pub replay_usage : (limit code : ℕ) (left rest held now : Option (List ℕ)) (r r' w w' k k' : ℕ) (told : Option Kept) → ReplaysFor limit code left rest
+    held now r r' w w' k k' told → code ≡ status_of Ending.Usage → ⊥
 replay_usage limit code left rest held now r r' w w' k k' told does none =
     subst (λ e. Ends e limit left rest held now r r' w w') (one_end does.end Ending.Usage code does.status none) does.ends
 
 -- a judgement does not either
-pub check_usage : (limit code : ℕ) (left rest held now : Option (List ℕ)) (r r' w w' : ℕ) → ChecksFor limit code left rest held now r r' w w' → code ≡ status_of Ending.Usage → ⊥
+pub check_usage : (limit code : ℕ) (left rest held now : Option (List ℕ)) (r r' w w' : ℕ) → ChecksFor limit code left rest held now r r' w w'
+    → code ≡ status_of Ending.Usage → ⊥
 check_usage limit code left rest held now r r' w w' does none =
     subst (λ e. Judges e limit left rest held now r r' w w') (one_end does.end Ending.Usage code does.status none) does.judges

@@ -27,11 +27,13 @@ stages_lawfully text held now p =
     }
 
 -- of an input whose staged run was printed
-input_staged : (limit : ℕ) (left rest held now : Option (List ℕ)) → OfInput limit left rest (λ text. PrintsStaged text held now) → OfInput limit left rest (λ text. StagesLawfully text held now)
+input_staged : (limit : ℕ) (left rest held now : Option (List ℕ)) → OfInput limit left rest (λ text. PrintsStaged text held now)
+    → OfInput limit left rest (λ text. StagesLawfully text held now)
 input_staged limit left rest held now p = record { text = p.text; read = p.read; so = stages_lawfully p.text held now p.so }
 
 -- a staged run by its end
-pub stages_for : (end : Ending) (limit code : ℕ) (left rest held now : Option (List ℕ)) (r r' w w' : ℕ) → code ≡ status_of end → EndsStaged end limit left rest held now r r' w w' → EndsByInput end limit left r r' w w' → StagesFor limit code left rest held now r r' w w'
+pub stages_for : (end : Ending) (limit code : ℕ) (left rest held now : Option (List ℕ)) (r r' w w' : ℕ) → code ≡ status_of end → EndsStaged end limit
+    left rest held now r r' w w' → EndsByInput end limit left r r' w w' → StagesFor limit code left rest held now r r' w w'
 stages_for end limit code left rest held now r r' w w' status ends by_input = record {
   end = end;
   status = status;
@@ -41,6 +43,7 @@ stages_for end limit code left rest held now r r' w w' status ends by_input = re
 }
 
 -- words of a staged run say a command
-pub stages_usage : (limit code : ℕ) (left rest held now : Option (List ℕ)) (r r' w w' : ℕ) → StagesFor limit code left rest held now r r' w w' → code ≡ status_of Ending.Usage → ⊥
+pub stages_usage : (limit code : ℕ) (left rest held now : Option (List ℕ)) (r r' w w' : ℕ) → StagesFor limit code left rest held now r r' w w'
+    → code ≡ status_of Ending.Usage → ⊥
 stages_usage limit code left rest held now r r' w w' s none =
     subst (λ e. EndsStaged e limit left rest held now r r' w w') (one_end s.end Ending.Usage code s.status none) s.ends

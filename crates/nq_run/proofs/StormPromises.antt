@@ -16,13 +16,15 @@ use Rattle.nq_storm.specs.Printed.{KeepsStorm, StormEnds}
 use Rattle.nq_storm.specs.Rules.{Rule}
 
 -- a storm of the first fate of the kind did what its words say
-does_storm : (end : Ending) (kind start count : ℕ) (told : List (Option Rule)) (first : Option Rule) (held now : Option (List ℕ)) (w w' : ℕ) → IsFirstOf kind told first → StormEnds end start count first held now w w'
+does_storm : (end : Ending) (kind start count : ℕ) (told : List (Option Rule)) (first : Option Rule) (held now : Option (List ℕ)) (w w' : ℕ)
+    → IsFirstOf kind told first → StormEnds end start count first held now w w'
     → DoesStorm end kind start count told held now w w'
 does_storm end kind start count told first held now w w' found ends = inl (record { first = first; found = found; ends = ends })
 
 -- ---- status 0
 
-done_lawfully : (kind start count : ℕ) (told : List (Option Rule)) (first : Option Rule) (held now : Option (List ℕ)) (kept : Option Kept) → IsFirstOf kind told first → KeepsStorm start count first held now kept → StormsLawfully kind start count told held now kept
+done_lawfully : (kind start count : ℕ) (told : List (Option Rule)) (first : Option Rule) (held now : Option (List ℕ)) (kept : Option Kept)
+    → IsFirstOf kind told first → KeepsStorm start count first held now kept → StormsLawfully kind start count told held now kept
 done_lawfully kind start count told first held now kept found keeps =
     let holds = holds_throughout storm_head keeps.events keeps.whole.lawful in
     record {
@@ -40,20 +42,24 @@ done_lawfully kind start count told first held now kept found keeps =
 -- ---- usage
 
 -- a storm that is run does not end with usage
-no_fate : (end : Ending) (status kind start count : ℕ) (told : List (Option Rule)) (held now : Option (List ℕ)) (w w' : ℕ) → status ≡ status_of end → DoesStorm end kind start count told held now w w' → status ≡ status_of Ending.Usage
+no_fate : (end : Ending) (status kind start count : ℕ) (told : List (Option Rule)) (held now : Option (List ℕ)) (w w' : ℕ) → status ≡ status_of end
+    → DoesStorm end kind start count told held now w w' → status ≡ status_of Ending.Usage
     → LackKind kind told × PrintsLine usage_line held now w w'
 no_fate end status kind start count told held now w w' is (inl ran) none =
     absurd (subst (λ e. StormEnds e start count ran.first held now w w') (one_end end Ending.Usage status is none) ran.ends)
 no_fate end status kind start count told held now w w' is (inr usage) none = (usage.1, usage.2)
 
 -- words of a storm that ended with usage: no fate is of the kind
-pub storm_usage : (status kind start count : ℕ) (told : List (Option Rule)) (old new : List FateTold) (held now : Option (List ℕ)) (w w' k k' : ℕ) (kept : Option Kept)
-    → StormsFor status kind start count told old new held now w w' k k' kept → status ≡ status_of Ending.Usage → LackKind kind told × PrintsLine usage_line held now w w'
+pub storm_usage : (status kind start count : ℕ) (told : List (Option Rule)) (old new : List FateTold) (held now : Option (List ℕ)) (w w' k k' : ℕ)
+    (kept : Option Kept)
+    → StormsFor status kind start count told old new held now w w' k k' kept → status ≡ status_of Ending.Usage → LackKind kind told
+    × PrintsLine usage_line held now w w'
 storm_usage status kind start count told old new held now w w' k k' kept s none = no_fate s.end status kind start count told held now w w' s.status s.does none
 
 -- ---- a storm by its end
 
-unless_storm : (end : Ending) (start count : ℕ) (first : Option Rule) (held now : Option (List ℕ)) (w w' k k' : ℕ) → StormEnds end start count first held now w w' → CountsKeeper end k k' → StormsUnlessFault end w w' k k'
+unless_storm : (end : Ending) (start count : ℕ) (first : Option Rule) (held now : Option (List ℕ)) (w w' k k' : ℕ) → StormEnds end start count first
+    held now w w' → CountsKeeper end k k' → StormsUnlessFault end w w' k k'
 unless_storm Ending.Done start count first held now w w' k k' ends counts = inr (inl refl)
 unless_storm Ending.WriteFault start count first held now w w' k k' ends counts = inr (inr (inr (inl ends.printed.1)))
 unless_storm Ending.KeepFault start count first held now w w' k k' ends counts = inr (inr (inr (inr (refl, counts))))
@@ -61,8 +67,10 @@ unless_storm Ending.Memory start count first held now w w' k k' ends counts = in
 unless_storm Ending.Limit start count first held now w w' k k' ends counts = inr (inr (inl refl))
 unless_storm other start count first held now w w' k k' ends counts = absurd ends
 
-pub storms_for : (end : Ending) (code kind start count : ℕ) (told : List (Option Rule)) (old new : List FateTold) (first : Option Rule) (held now : Option (List ℕ)) (w w' k k' : ℕ) (kept : Option Kept) → code ≡ status_of end
-    → IsFirstOf kind told first → StormEnds end start count first held now w w' → (end ≡ Ending.Done → KeepsStorm start count first held now kept) → CountsKeeper end k k' → AsksInStorm end kind count old new
+pub storms_for : (end : Ending) (code kind start count : ℕ) (told : List (Option Rule)) (old new : List FateTold) (first : Option Rule)
+    (held now : Option (List ℕ)) (w w' k k' : ℕ) (kept : Option Kept) → code ≡ status_of end
+    → IsFirstOf kind told first → StormEnds end start count first held now w w' → (end ≡ Ending.Done → KeepsStorm start count first held now kept)
+    → CountsKeeper end k k' → AsksInStorm end kind count old new
     → StormsFor code kind start count told old new held now w w' k k' kept
 storms_for end code kind start count told old new first held now w w' k k' kept status found ends keeps counts asked = record {
   end = end;
@@ -75,7 +83,8 @@ storms_for end code kind start count told old new first held now w w' k k' kept 
 }
 
 -- no fate is of the kind
-pub storms_none : (code kind start count : ℕ) (told : List (Option Rule)) (fates : List FateTold) (held now : Option (List ℕ)) (w w' k : ℕ) (kept : Option Kept) → code ≡ status_of Ending.Usage
+pub storms_none : (code kind start count : ℕ) (told : List (Option Rule)) (fates : List FateTold) (held now : Option (List ℕ)) (w w' k : ℕ)
+    (kept : Option Kept) → code ≡ status_of Ending.Usage
     → LackKind kind told → PrintsLine usage_line held now w w' → StormsFor code kind start count told fates fates held now w w' k k kept
 storms_none code kind start count told fates held now w w' k kept status lack printed = record {
   end = Ending.Usage;

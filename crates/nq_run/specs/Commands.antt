@@ -16,7 +16,9 @@ NeverSays (Some (Command.Storm kind start events)) told = TellOthers kind told
 NeverSays other told = SaysNothing other told
 
 -- what the command that is said does, of what each command does
-abbrev pub Does : Option Command → (formats : Type 0) → (serves : (turns longest : ℕ) → Type 0) → (replays : Type 0) → (storms : (kind start events : ℕ) → Type 0) → (loops : (hosts turns : ℕ) → Type 0) → (checks stages names : Type 0) → (attends : (host inc turns : ℕ) → Type 0) → Type 0
+abbrev pub Does : Option Command → (formats : Type 0) → (serves : (turns longest : ℕ) → Type 0) → (replays : Type 0)
+    → (storms : (kind start events : ℕ) → Type 0) → (loops : (hosts turns : ℕ) → Type 0) → (checks stages names : Type 0)
+    → (attends : (host inc turns : ℕ) → Type 0) → Type 0
 Does None formats serves replays storms loops checks stages names attends = ⊤
 Does (Some Command.Format) formats serves replays storms loops checks stages names attends = formats
 Does (Some (Command.Serve turns longest)) formats serves replays storms loops checks stages names attends = serves turns longest

@@ -10,7 +10,8 @@ use Rattle.nq_link.specs.Links.{LinkTold}
 use Rattle.nq_hosts.specs.Using.{EndsBy as UsesBy, Uses}
 
 -- a client ran the calls of the input, or ended before, and the status is that of its end, which has its cause
-pub record Attends (turns : ℕ) (who : Who) (limit code : ℕ) (left rest : Option (List ℕ)) (s s' : ℕ) (held now : Option (List ℕ)) (w w' : ℕ) (clock clock' : ClockTold) (link link' : LinkTold) : Type 0 where
+pub record Attends (turns : ℕ) (who : Who) (limit code : ℕ) (left rest : Option (List ℕ)) (s s' : ℕ) (held now : Option (List ℕ)) (w w' : ℕ)
+    (clock clock' : ClockTold) (link link' : LinkTold) : Type 0 where
   pub end : Ending
   pub status : code ≡ status_of end
   pub uses : Uses turns who limit end left rest s s' held now w w' clock clock' link link'

@@ -26,7 +26,8 @@ EndsUnlessFault end links links' w w' k k' = LoopsUnlessFault end links links' w
 
 -- a loop printed the text of the schedule that its turns made, the text of that schedule's journal, and its counts. The headline holds at
 -- each moment of its run, nothing in its journal is at fault, and what its run keeps is told
-pub record LoopsLawfully (hosts turns : ℕ) (clock clock' : ClockTold) (links links' : List LinkTold) (held now : Option (List ℕ)) (kept : Option Kept) : Type 0 where
+pub record LoopsLawfully (hosts turns : ℕ) (clock clock' : ClockTold) (links links' : List LinkTold) (held now : Option (List ℕ))
+    (kept : Option Kept) : Type 0 where
   pub text : List ℕ
   pub events : List Event
   pub whole : IsWhole hosts turns text events clock clock' links links'
@@ -36,7 +37,8 @@ pub record LoopsLawfully (hosts turns : ℕ) (clock clock' : ClockTold) (links l
   pub keeps : kept ≡ Some (kept_of (loop_head hosts) events)
 
 -- a loop among so many hosts took its turns, or ended before, and the status is that of its end, which has its cause
-pub record LoopsFor (code hosts turns : ℕ) (clock clock' : ClockTold) (links links' : List LinkTold) (held now : Option (List ℕ)) (w w' k k' : ℕ) (kept : Option Kept) : Type 0 where
+pub record LoopsFor (code hosts turns : ℕ) (clock clock' : ClockTold) (links links' : List LinkTold) (held now : Option (List ℕ)) (w w' k k' : ℕ)
+    (kept : Option Kept) : Type 0 where
   pub end : Ending
   pub status : code ≡ status_of end
   pub ends : LoopEnds end hosts turns clock clock' links links' held now w w'

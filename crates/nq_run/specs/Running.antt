@@ -45,20 +45,23 @@ pub record PlaysOn (head : Head) (due : Ended) (code : ℕ) (held now : Option (
   pub failed : code ≡ status_of Ending.KeepFault → HasRisen before count
 
 -- A schedule was replayed over a disk, or it ended before. Where the input is none, or could not be read, the disk stays as it was
-pub record ReplaysOn {D : Type 0} (limit code : ℕ) (left rest held now : Option (List ℕ)) (r r' w w' before count : ℕ) (bytes : Option (List ℕ)) (disk disk' : D) : Type 0 where
+pub record ReplaysOn {D : Type 0} (limit code : ℕ) (left rest held now : Option (List ℕ)) (r r' w w' before count : ℕ) (bytes : Option (List ℕ))
+    (disk disk' : D) : Type 0 where
   pub replays : OverStore (λ k k'. ReplaysFor limit code left rest held now r r' w w' k k' (kept_told bytes)) code before count
   pub over : (text : List ℕ) → left ≡ Some text → limit < length text → disk' ≡ disk
   pub bad : (text : List ℕ) → left ≡ Some text → length text ≤ limit → (number : ℕ) → FirstBadLine text number → disk' ≡ disk
   pub unread : code ≡ status_of Ending.ReadFault → disk' ≡ disk
 
 -- a storm was run over a disk, or it ended before; where no empty store was made, no fate was asked
-abbrev pub StormsOn : (code kind start count : ℕ) → (told : List (Option Rule)) → (old new : List FateTold) → (held now : Option (List ℕ)) → (w w' before faults : ℕ) → (bytes : Option (List ℕ)) → Type 0
+abbrev pub StormsOn : (code kind start count : ℕ) → (told : List (Option Rule)) → (old new : List FateTold) → (held now : Option (List ℕ))
+    → (w w' before faults : ℕ) → (bytes : Option (List ℕ)) → Type 0
 StormsOn code kind start count told old new held now w w' before faults bytes =
     (StartsNot code before faults held now w w' × (new ≡ old))
     ⊎ OverStore (λ k k'. StormsFor code kind start count told old new held now w w' k k' (kept_told bytes)) code before faults
 
 -- a loop was run over a disk, or it ended before; where no empty store was made, neither the clock nor a link was asked
-abbrev pub LoopsOn : (code hosts turns : ℕ) → (clock clock' : ClockTold) → (links links' : List LinkTold) → (held now : Option (List ℕ)) → (w w' before count : ℕ) → (bytes : Option (List ℕ)) → Type 0
+abbrev pub LoopsOn : (code hosts turns : ℕ) → (clock clock' : ClockTold) → (links links' : List LinkTold) → (held now : Option (List ℕ))
+    → (w w' before count : ℕ) → (bytes : Option (List ℕ)) → Type 0
 LoopsOn code hosts turns clock clock' links links' held now w w' before count bytes =
     (StartsNot code before count held now w w' × (clock' ≡ clock) × (links' ≡ links))
     ⊎ OverStore (λ k k'. LoopsFor code hosts turns clock clock' links links' held now w w' k k' (kept_told bytes)) code before count

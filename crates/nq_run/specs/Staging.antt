@@ -36,9 +36,12 @@ pub record StagesLawfully (text : List ℕ) (held now : Option (List ℕ)) : Typ
 pub record EndsByInput (end : Ending) (limit : ℕ) (left : Option (List ℕ)) (r r' w w' : ℕ) : Type 0 where
   pub over : (text : List ℕ) → left ≡ Some text → limit < length text → IsUnlessFault end Ending.Limit r r' w w'
   pub script : (text : List ℕ) → left ≡ Some text → length text ≤ limit → (number : ℕ) → FaultyStaged text number → IsUnlessFault end Ending.Script r r' w w'
-  pub skew : (text : List ℕ) → left ≡ Some text → length text ≤ limit → (number : ℕ) (broken : SkewBroken) → StopsStaged text number (out_of_skew broken) → IsUnlessFault end Ending.Skew r r' w w'
-  pub passes : (text : List ℕ) → left ≡ Some text → length text ≤ limit → (number : ℕ) (bound : Bound) → PassesStaged text number bound → IsUnlessFault end Ending.Limit r r' w w'
-  pub done : (text : List ℕ) → left ≡ Some text → length text ≤ limit → (head : Head) (events : List StagedEvent) → RunsStaged text head events → IsUnlessFault end Ending.Done r r' w w'
+  pub skew : (text : List ℕ) → left ≡ Some text → length text ≤ limit → (number : ℕ) (broken : SkewBroken) → StopsStaged text number
+      (out_of_skew broken) → IsUnlessFault end Ending.Skew r r' w w'
+  pub passes : (text : List ℕ) → left ≡ Some text → length text ≤ limit → (number : ℕ) (bound : Bound) → PassesStaged text number bound
+      → IsUnlessFault end Ending.Limit r r' w w'
+  pub done : (text : List ℕ) → left ≡ Some text → length text ≤ limit → (head : Head) (events : List StagedEvent) → RunsStaged text head events
+      → IsUnlessFault end Ending.Done r r' w w'
 
 -- a staged schedule was run, or it ended before, and the status is that of its end, which has its cause
 pub record StagesFor (limit code : ℕ) (left rest held now : Option (List ℕ)) (r r' w w' : ℕ) : Type 0 where

@@ -54,7 +54,8 @@ pub record StormsLawfully (kind start count : ℕ) (told : List (Option Rule)) (
   pub keeps : kept ≡ Some (kept_of storm_head events)
 
 -- a storm was run, or it ended before, and the status is that of its end, which has its cause; a fate was asked once for each event
-pub record StormsFor (code kind start count : ℕ) (told : List (Option Rule)) (old new : List FateTold) (held now : Option (List ℕ)) (w w' k k' : ℕ) (kept : Option Kept) : Type 0 where
+pub record StormsFor (code kind start count : ℕ) (told : List (Option Rule)) (old new : List FateTold) (held now : Option (List ℕ)) (w w' k k' : ℕ)
+    (kept : Option Kept) : Type 0 where
   pub end : Ending
   pub status : code ≡ status_of end
   pub does : DoesStorm end kind start count told held now w w'

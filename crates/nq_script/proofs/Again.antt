@@ -1,12 +1,11 @@
 -- What is spelled is read again.
-use Rattle.std.proofs.Common.{◌≡◌, ℕ, ◌<◌, ◌^◌, ◌==◌, true, List, [], ◌∷◌, ◌++◌, map, Some, refl, codes, append_assoc, arith}
+use Rattle.std.proofs.Common.{◌≡◌, ℕ, ◌<◌, ◌^◌, true, List, [], ◌∷◌, ◌++◌, map, Some, refl, codes, append_assoc, arith}
 use Rattle.std.specs.Fmt.{decimal}
 use Rattle.std.specs.List.{AllByRecursion}
 use Rattle.std.proofs.lemmas.Bool.{eq-eqb}
 use Rattle.std.proofs.lemmas.List.Elements.{recursion_from_All}
 use Rattle.nq_base.specs.Name.{IsName}
 use Rattle.nq_base.specs.Plain.{plain_said}
-use Rattle.nq_base.specs.Steps.{◌>>=◌}
 use Rattle.nq_base.specs.declared.Said.{Said}
 use Rattle.nq_base.specs.declared.Span.{Span}
 use Rattle.nq_base.specs.declared.Tag.{Tag}
@@ -15,8 +14,8 @@ use Rattle.nq_base.specs.declared.Who.{Who}
 use Rattle.nq_script.specs.Forms.{told_words, span_word, said_words, FitsWho, FitsTold, FitsSpan, FitsSaid, HasTold, SpellsTold}
 use Rattle.nq_script.specs.WordsReading.{u64_at, u32_at, name_at, who_at, place_at, tag_at, words_of}
 use Rattle.nq_script.specs.ReadingAnswers.{span_of, spans_of, said_at, ok_at, value_at, by_at, lost_at, bare_at, bare_of}
-use Rattle.nq_script.specs.ReadingCalls.{told_at, verb_of, create_at, lookup_at, attr_at, read_at, fetch_at, write_at, put_at, sync_at, resize_at, remove_at, has_told, told_in}
-use Rattle.nq_script.specs.Words.{joined}
+use Rattle.nq_script.specs.ReadingCalls.{told_at, verb_of, create_at, lookup_at, attr_at, read_at, fetch_at, write_at, put_at, sync_at, resize_at}
+use Rattle.nq_script.specs.ReadingCalls.{remove_at, has_told, told_in}
 use Rattle.nq_script.proofs.Clean.{told_apart}
 use Rattle.nq_script.proofs.LineWords.{cut_again}
 use Rattle.nq_script.proofs.Names.{name_again}
@@ -41,11 +40,13 @@ unfolding who_at
 take_who who words fits =
     rw (take_u32 who.host (decimal who.inc ∷ words) fits.0, take_u32 who.inc words fits.1) refl
 
-pub take_place : (file block : ℕ) (words : List (List ℕ)) → file < 2 ^ 32 → block < 2 ^ 32 → place_at (decimal file ∷ decimal block ∷ words) ≡ Some ((file, block), words)
+pub take_place : (file block : ℕ) (words : List (List ℕ)) → file < 2 ^ 32 → block < 2 ^ 32 → place_at (decimal file ∷ decimal block ∷ words)
+    ≡ Some ((file, block), words)
 unfolding place_at
 take_place file block words f b = rw (take_u32 file (decimal block ∷ words) f, take_u32 block words b) refl
 
-pub take_tag : (tag : Tag) (words : List (List ℕ)) → tag.boot < 2 ^ 32 → tag.number < 2 ^ 64 → tag_at (decimal tag.boot ∷ decimal tag.number ∷ words) ≡ Some (tag, words)
+pub take_tag : (tag : Tag) (words : List (List ℕ)) → tag.boot < 2 ^ 32 → tag.number < 2 ^ 64 → tag_at (decimal tag.boot ∷ decimal tag.number ∷ words)
+    ≡ Some (tag, words)
 unfolding tag_at
 take_tag tag words b n = rw (take_u32 tag.boot (decimal tag.number ∷ words) b, take_u64 tag.number words n) refl
 

@@ -1,5 +1,5 @@
 -- Calls are read as they are spelled.
-use Rattle.std.proofs.Common.{◌≡◌, ℕ, ◌<◌, ◌≤◌, ◌^◌, List, [], ◌∷◌, ◌++◌, Option, Some, None, refl, ap, sym, ◌∙◌, arith, lit<, ◌⊎◌, inl, inr, subst}
+use Rattle.std.proofs.Common.{◌≡◌, ℕ, ◌<◌, ◌^◌, List, ◌∷◌, ◌++◌, Option, Some, None, refl, ap, sym, ◌∙◌, arith, ◌⊎◌, inl, inr, subst}
 use Rattle.std.specs.Fmt.{decimal}
 use Rattle.std.proofs.lemmas.Option.{none-some, same_Some, some_pair_parts}
 use Rattle.nq_base.specs.Block.{filled, value_of}
@@ -145,7 +145,8 @@ told-again version call words s =
     (told call, told_spelled version (told call) words spelled, call-filled call (has-filled version call s.0))
 
 -- what is read is the one call that is spelled
-pub told-same : (version : ℕ) (words : List ℕ) (told : Told) (call : Call) → told_of version words ≡ Some told → SpellsCall version call words → call_of told ≡ call
+pub told-same : (version : ℕ) (words : List ℕ) (told : Told) (call : Call) → told_of version words ≡ Some told → SpellsCall version call words
+    → call_of told ≡ call
 told-same version words told call read s =
     let again = told-again version call words s in
     ap call_of (same_Some told again.0 (sym read ∙ again.1)) ∙ again.2

@@ -1,6 +1,5 @@
 -- The words of calls, between other words.
-use Rattle.std.proofs.Common.{◌≡◌, ℕ, List, [], ◌∷◌, ◌++◌, refl, ap, sym, ◌∙◌, append-nil}
-use Rattle.std.specs.List.{flat_map}
+use Rattle.std.proofs.Common.{◌≡◌, ℕ, List, [], ◌∷◌, ◌++◌, refl, ap, sym, append-nil}
 use Rattle.nq_base.specs.declared.Call.{Call}
 use Rattle.nq_script.specs.Calls.{FitsCall, call_words}
 use Rattle.nq_script.specs.Text.{spaced}

@@ -1,5 +1,6 @@
 -- Each text is a schedule or goes wrong at some line.
-use Rattle.std.proofs.Common.{◌≡◌, ◌≢◌, ◌⊎◌, inl, inr, ℕ, ◌+◌, ◌<◌, ◌≤◌, ◌^◌, Bool, true, false, List, [], ◌∷◌, ◌++◌, length, drop, map, Option, Some, None, zero, suc, refl, ap, sym, ◌∙◌, arith, lit<, lit≤, eq-eqb, if◌then◌else◌, subst, codes}
+use Rattle.std.proofs.Common.{◌≡◌, ◌≢◌, ◌⊎◌, inl, inr, ℕ, ◌+◌, ◌<◌, ◌≤◌, ◌^◌, true, false, List, [], ◌∷◌, ◌++◌, length, drop, map, Option, Some, None}
+use Rattle.std.proofs.Common.{zero, suc, refl, ap, sym, ◌∙◌, arith, lit<, lit≤, eq-eqb, if◌then◌else◌, subst, codes}
 use Rattle.std.specs.List.{AllByRecursion}
 use Rattle.std.specs.Fmt.{decimal}
 use Rattle.std.specs.Str.{bytes_eq}
@@ -8,7 +9,8 @@ use Rattle.std.proofs.lemmas.List.{drop_at}
 use Rattle.std.proofs.lemmas.List.Elements.{recursion_from_All, All-from_recursion}
 use Rattle.std.proofs.lemmas.Slice.Eq.{bytes_eq-Decides}
 use Rattle.nq_base.specs.Name.{IsName, IsNameByte, IsNew}
-use Rattle.nq_script.specs.Heads.{FitFiles, FitsHead, AreSettings, IsLongest, blocks_of, file_line, file_lines, first_file, version_line, hosts_line, term_line, longest_line, most_term, settings_lines, head_lines}
+use Rattle.nq_script.specs.Heads.{FitFiles, FitsHead, AreSettings, blocks_of, file_line, file_lines, first_file, version_line, hosts_line, term_line}
+use Rattle.nq_script.specs.Heads.{longest_line, most_term, settings_lines, head_lines}
 use Rattle.nq_script.specs.Lines.{line_of}
 use Rattle.nq_script.specs.Progress.{NoNumber, WrongFile, WrongLine, WrongEnd, ReadSoFar, EndsWith}
 use Rattle.nq_script.specs.Reading.{told_line, file_of, ranged_of}
@@ -98,7 +100,8 @@ lines-step : (head : Head) (first : ℕ) (lines : List Line) (text rest : List �
     → ((more : List Line) (after : List ℕ) → ReadSoFar head more text after → length after < length rest → Ends head first text) → Ends head first text
 unfolding Ends
 lines-step head first lines text rest r next = by_cut (cut_at 10 rest) refl where
-  by_after : (line after : List ℕ) → cut_at 10 rest ≡ Some (line, after) → told_line head line ≡ Some ToldLine.End → (left : List ℕ) → after ≡ left → Ends head first text
+  by_after : (line after : List ℕ) → cut_at 10 rest ≡ Some (line, after) → told_line head line ≡ Some ToldLine.End → (left : List ℕ) → after ≡ left
+      → Ends head first text
   by_after line after cut read [] none = inl (lines, ended head lines text rest line after ToldLine.End r cut read refl none)
   by_after line after cut read (b ∷ left) some =
       inr (
@@ -107,7 +110,8 @@ lines-step head first lines text rest r next = by_cut (cut_at 10 rest) refl wher
             (λ none. nil-cons (sym none ∙ some))),
       )
 
-  more : (line after : List ℕ) → cut_at 10 rest ≡ Some (line, after) → (told : ToldLine) → told_line head line ≡ Some told → told ≢ ToldLine.End → Ends head first text
+  more : (line after : List ℕ) → cut_at 10 rest ≡ Some (line, after) → (told : ToldLine) → told_line head line ≡ Some told → told ≢ ToldLine.End
+      → Ends head first text
   more line after cut told read other =
       next (lines ++ line_of told ∷ []) after (so-far-more head lines (lines ++ line_of told ∷ []) text rest line after told r cut read other refl)
       (after-shorter rest line after cut)
@@ -125,7 +129,8 @@ lines-step head first lines text rest r next = by_cut (cut_at 10 rest) refl wher
   by_cut None none = inr (first + length lines, inl (wrong-no-line head first lines text rest (first + length lines) r refl none))
   by_cut (Some p) cut = by_read p.0 p.1 cut (told_line head p.0) refl
 
-lines-decided : (fuel : ℕ) (head : Head) (first : ℕ) (lines : List Line) (text rest : List ℕ) → ReadSoFar head lines text rest → length rest ≤ fuel → Ends head first text
+lines-decided : (fuel : ℕ) (head : Head) (first : ℕ) (lines : List Line) (text rest : List ℕ) → ReadSoFar head lines text rest → length rest ≤ fuel
+    → Ends head first text
 lines-decided zero head first lines text rest r enough =
     lines-step head first lines text rest r (λ more after s shorter. absurd (omega arith))
 lines-decided (suc fuel) head first lines text rest r enough =
@@ -138,7 +143,8 @@ Files first text =
     ⊎ ((number : ℕ) × WrongFile first text number)
 
 files-step : (first : ℕ) (files : List (List ℕ × ℕ)) (text rest : List ℕ) → text ≡ text_of (map file_line files) ++ rest → FitFiles files
-    → ((more : List (List ℕ × ℕ)) (after : List ℕ) → text ≡ text_of (map file_line more) ++ after → FitFiles more → length after < length rest → Files first text)
+    → ((more : List (List ℕ × ℕ)) (after : List ℕ) → text ≡ text_of (map file_line more) ++ after → FitFiles more → length after < length rest
+    → Files first text)
     → Files first text
 unfolding Files
 files-step first files text rest split fit next = by_cut (cut_at 10 rest) refl where
@@ -154,7 +160,8 @@ files-step first files text rest split fit next = by_cut (cut_at 10 rest) refl w
             (λ g spelled fits. wrong (subst (λ h. FitFiles (files ++ h ∷ [])) (sym (file-same line f g read (fit-last files g fits).0 spelled)) fits)),
       )
 
-  by_file : (line after : List ℕ) → cut_at 10 rest ≡ Some (line, after) → line ≢ codes "begin" → (o : Option (List ℕ × ℕ)) → file_of line ≡ o → Files first text
+  by_file : (line after : List ℕ) → cut_at 10 rest ≡ Some (line, after) → line ≢ codes "begin" → (o : Option (List ℕ × ℕ)) → file_of line ≡ o
+      → Files first text
   by_file line after cut other None none =
       inr (
         first + length files,
@@ -256,7 +263,8 @@ front-term : (text rest : List ℕ) (version hosts : ℕ) → IsVersion version 
 unfolding Front
 front-term text rest version hosts known some few split =
     by_number (numbered (codes "term ") 5 (most_term version) rest (let low = term-low version (most_term version) (omega arith) in omega arith)) where
-      by_number : ((value : ℕ) × (after : List ℕ) × (5 ≤ value) × (value ≤ most_term version) × (rest ≡ text_of ((codes "term " ++ decimal value) ∷ []) ++ after))
+      by_number : ((value : ℕ) × (after : List ℕ) × (5 ≤ value) × (value ≤ most_term version)
+          × (rest ≡ text_of ((codes "term " ++ decimal value) ∷ []) ++ after))
           ⊎ NoNumber (codes "term ") 5 (most_term version) rest → Front text
       by_number (inl found) =
           front-longest text found.1 version hosts found.0 known some few found.2 found.3

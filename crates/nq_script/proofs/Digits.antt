@@ -6,7 +6,8 @@ use Rattle.std.proofs.lemmas.Fmt.{decimal_step, decimal_digit}
 use Rattle.std.proofs.lemmas.List.{take_more, flat_map_more}
 use Rattle.nq_script.specs.Words.{spaced}
 
-pub more : (n : ℕ) (old front new : List ℕ) → n < 2 ^ 64 → 10 ≤ n → front ≡ old ++ decimal (n / 10) → new ≡ front ++ (48 + n % 10) ∷ [] → new ≡ old ++ decimal n
+pub more : (n : ℕ) (old front new : List ℕ) → n < 2 ^ 64 → 10 ≤ n → front ≡ old ++ decimal (n / 10) → new ≡ front ++ (48 + n % 10) ∷ [] → new ≡ old
+    ++ decimal n
 more n old front new small big first last =
     last
     ∙ ap (λ xs. xs ++ (48 + n % 10) ∷ []) first
@@ -19,7 +20,9 @@ one n old new small last =
     last ∙ ap (λ d. old ++ (48 + d) ∷ []) same ∙ ap (λ xs. old ++ xs) (sym (decimal_digit n small))
 
 -- one number more, behind its blank
-pub one_number : (numbers : List ℕ) (place : ℕ) (old now blank new : List ℕ) → place < length numbers → now ≡ old ++ flat_map (λ n. spaced (decimal n)) (take place numbers) → blank ≡ now ++ 32 ∷ [] → new ≡ blank ++ decimal (get_or numbers place 0) → new ≡ old ++ flat_map (λ n. spaced (decimal n)) (take (place + 1) numbers)
+pub one_number : (numbers : List ℕ) (place : ℕ) (old now blank new : List ℕ) → place < length numbers → now ≡ old
+    ++ flat_map (λ n. spaced (decimal n)) (take place numbers) → blank ≡ now ++ 32 ∷ [] → new ≡ blank ++ decimal (get_or numbers place 0) → new ≡ old
+    ++ flat_map (λ n. spaced (decimal n)) (take (place + 1) numbers)
 one_number numbers place old now blank new within before pushed digits =
     let number = get_or numbers place 0 in
     digits

@@ -27,7 +27,8 @@ so-far-size head lines text rest r =
     let whole = ap length r.split in
     let long = length-append (text_of r.texts) rest in omega arith
 
-pub wrong-no-line : (head : Head) (first : ℕ) (lines : List Line) (text rest : List ℕ) (number : ℕ) → ReadSoFar head lines text rest → number ≡ first + length lines
+pub wrong-no-line : (head : Head) (first : ℕ) (lines : List Line) (text rest : List ℕ) (number : ℕ) → ReadSoFar head lines text rest → number ≡ first
+    + length lines
     → cut_at 10 rest ≡ None → WrongLine head first text number
 wrong-no-line head first lines text rest number r place none = record {
   lines = lines;
@@ -53,7 +54,8 @@ end-split : (head : Head) (lines : List Line) (text rest line after : List ℕ) 
 end-split head lines text rest line after r cut read =
     subst (λ l. text ≡ text_of (r.texts ++ l ∷ []) ++ after) (line-found head line ToldLine.End read).1 (text-more text r.texts rest line after r.split cut)
 
-pub ended : (head : Head) (lines : List Line) (text rest line after : List ℕ) (told : ToldLine) → ReadSoFar head lines text rest → cut_at 10 rest ≡ Some (line, after)
+pub ended : (head : Head) (lines : List Line) (text rest line after : List ℕ) (told : ToldLine) → ReadSoFar head lines text rest → cut_at 10 rest
+    ≡ Some (line, after)
     → told_line head line ≡ Some told → told ≡ ToldLine.End → after ≡ [] → EndsWith head lines text
 ended head lines text rest line after told r cut read is none = (
   r.texts,

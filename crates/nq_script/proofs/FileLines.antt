@@ -1,5 +1,6 @@
 -- The lines of files, read one after another.
-use Rattle.std.proofs.Common.{◌≡◌, ◌≢◌, ℕ, ◌+◌, ◌<◌, List, [], ◌∷◌, ◌++◌, length, map, Some, None, refl, ap, sym, ◌∙◌, arith, subst, append_assoc, codes, length-append}
+use Rattle.std.proofs.Common.{◌≡◌, ◌≢◌, ℕ, ◌+◌, ◌<◌, List, [], ◌∷◌, ◌++◌, length, map, Some, None, refl, ap, sym, ◌∙◌, arith, subst, append_assoc}
+use Rattle.std.proofs.Common.{codes, length-append}
 use Rattle.std.proofs.lemmas.List.{map-append}
 use Rattle.std.proofs.lemmas.List.Sums.{sum_by-append}
 use Rattle.std.proofs.lemmas.Option.{none-some, some_pair_parts}
@@ -40,7 +41,8 @@ pub one-line : (rest line after line' after' : List ℕ) → cut_at 10 rest ≡ 
 one-line rest line after line' after' cut split lacks =
     some_pair_parts line line' after after' (sym cut ∙ ap (cut_at 10) split ∙ cut-again 10 line' after' lacks)
 
-pub files-no-line : (first : ℕ) (text : List ℕ) (files : List (List ℕ × ℕ)) (rest : List ℕ) (number : ℕ) → text ≡ text_of (map file_line files) ++ rest → FitFiles files
+pub files-no-line : (first : ℕ) (text : List ℕ) (files : List (List ℕ × ℕ)) (rest : List ℕ) (number : ℕ) → text ≡ text_of (map file_line files)
+    ++ rest → FitFiles files
     → number ≡ first + length files → cut_at 10 rest ≡ None → WrongFile first text number
 files-no-line first text files rest number split fit place none = record {
   files = files;
@@ -51,7 +53,8 @@ files-no-line first text files rest number split fit place none = record {
   stuck = λ line after here lacks. absurd (no-line rest line after none here lacks);
 }
 
-pub files-no-file : (first : ℕ) (text : List ℕ) (files : List (List ℕ × ℕ)) (rest line after : List ℕ) (number : ℕ) → text ≡ text_of (map file_line files) ++ rest
+pub files-no-file : (first : ℕ) (text : List ℕ) (files : List (List ℕ × ℕ)) (rest line after : List ℕ) (number : ℕ)
+    → text ≡ text_of (map file_line files) ++ rest
     → FitFiles files → number ≡ first + length files → cut_at 10 rest ≡ Some (line, after) → line ≢ codes "begin"
     → ((f : List ℕ × ℕ) → line ≡ file_line f → FitFiles (files ++ f ∷ []) → ⊥) → WrongFile first text number
 files-no-file first text files rest line after number split fit place cut other none = record {

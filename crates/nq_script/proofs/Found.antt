@@ -1,5 +1,6 @@
 -- What is read as a call is spelled so.
-use Rattle.std.proofs.Common.{◌≡◌, ℕ, ◌<◌, ◌^◌, true, false, Bool, ◌&&◌, List, [], ◌∷◌, ◌++◌, Option, Some, None, refl, ap, sym, ◌∙◌, subst, codes, append-nil, if◌then◌else◌}
+use Rattle.std.proofs.Common.{◌≡◌, ℕ, ◌<◌, ◌^◌, true, false, Bool, ◌&&◌, List, [], ◌∷◌, ◌++◌, Option, Some, None, refl, ap, sym, ◌∙◌, subst, codes}
+use Rattle.std.proofs.Common.{append-nil, if◌then◌else◌}
 use Rattle.std.specs.Fmt.{decimal}
 use Rattle.std.specs.Option.{IfSome}
 use Rattle.std.specs.Str.{bytes_eq}
@@ -12,7 +13,8 @@ use Rattle.nq_base.specs.declared.Told.{Told}
 use Rattle.nq_base.proofs.Options.{bind_some}
 use Rattle.nq_script.specs.Forms.{told_words, FitsTold, HasTold, SpellsTold}
 use Rattle.nq_script.specs.WordsReading.{Takes, only_if, is_done, word_at, u32_of, u32_at, name_of, name_at, place_at, words_of}
-use Rattle.nq_script.specs.ReadingCalls.{told_at, told_by, told_in, verb_of, verb_word, has_told, create_at, lookup_at, attr_at, read_at, fetch_at, write_at, put_at, sync_at, resize_at, remove_at}
+use Rattle.nq_script.specs.ReadingCalls.{told_at, told_by, told_in, verb_of, verb_word, has_told, create_at, lookup_at, attr_at, read_at, fetch_at}
+use Rattle.nq_script.specs.ReadingCalls.{write_at, put_at, sync_at, resize_at, remove_at}
 use Rattle.nq_script.specs.Words.{joined}
 use Rattle.nq_script.specs.declared.words.calls.Verb.{Verb}
 use Rattle.nq_script.proofs.LineWords.{joined-words_of}
@@ -34,8 +36,10 @@ found_u32 words left n e =
     let number = bind_some (u32_of word.0.0) (λ k. Some (k, word.0.1)) (n, left) word.2 in
     let same = some_pair_parts number.0 n word.0.1 left number.2 in
     let spelled = u32_found word.0.0 number.0 number.1 in
-    let P : ℕ → Type 0 = λ k. k < 2 ^ 32 in
-    (word_found words word.0.1 word.0.0 word.1 ∙ ap (λ w. w ∷ word.0.1) (spelled.0 ∙ ap decimal same.0) ∙ ap (λ ws. decimal n ∷ ws) same.1, subst P same.0 spelled.1)
+    let P : ℕ → Type 0 = λ k. k < 2 ^ 32 in (
+      word_found words word.0.1 word.0.0 word.1 ∙ ap (λ w. w ∷ word.0.1) (spelled.0 ∙ ap decimal same.0) ∙ ap (λ ws. decimal n ∷ ws) same.1,
+      subst P same.0 spelled.1,
+    )
 
 found_name : (words left : List (List ℕ)) (name : List ℕ) → name_at words ≡ Some (name, left) → (words ≡ name ∷ left) × IsName name
 unfolding name_at
@@ -112,8 +116,16 @@ of_value tell words left told e =
     let v = bind_some (u32_at p.0.1) (λ v. Some (tell p.0.0.0 p.0.0.1 v.0, v.1)) (told, left) p.2 in
     let same = some_pair_parts (tell p.0.0.0 p.0.0.1 v.0.0) told v.0.1 left v.2 in
     let front = found_place words p.0.1 p.0.0 p.1 in
-    let value = found_u32 p.0.1 v.0.1 v.0.0 v.1 in
-    (p.0.0.0, p.0.0.1, v.0.0, front.0 ∙ ap (λ ws. decimal p.0.0.0 ∷ decimal p.0.0.1 ∷ ws) (value.0 ∙ ap (λ ws. decimal v.0.0 ∷ ws) same.1), front.1, front.2, value.1, same.0)
+    let value = found_u32 p.0.1 v.0.1 v.0.0 v.1 in (
+      p.0.0.0,
+      p.0.0.1,
+      v.0.0,
+      front.0 ∙ ap (λ ws. decimal p.0.0.0 ∷ decimal p.0.0.1 ∷ ws) (value.0 ∙ ap (λ ws. decimal v.0.0 ∷ ws) same.1),
+      front.1,
+      front.2,
+      value.1,
+      same.0,
+    )
 
 -- ---- the call behind its word
 
@@ -129,7 +141,8 @@ one_tells tell verb words left told tells is =
     subst P (sym is.1) (subst Q is.3 (tells is.0 is.2))
 
 two_tells : (tell : ℕ → ℕ → Told) (verb : List ℕ) (words left : List (List ℕ)) (told : Told)
-    → ((m n : ℕ) → m < 2 ^ 32 → n < 2 ^ 32 → Tells (tell m n) (verb ∷ decimal m ∷ decimal n ∷ left) left) → IsTwo words left tell told → Tells told (verb ∷ words) left
+    → ((m n : ℕ) → m < 2 ^ 32 → n < 2 ^ 32 → Tells (tell m n) (verb ∷ decimal m ∷ decimal n ∷ left) left) → IsTwo words left tell told
+    → Tells told (verb ∷ words) left
 two_tells tell verb words left told tells is =
     let P : List (List ℕ) → Type 0 = λ ws. Tells told (verb ∷ ws) left in
     let Q : Told → Type 0 = λ t. Tells t (verb ∷ decimal is.0 ∷ decimal is.1 ∷ left) left in
@@ -186,9 +199,12 @@ by_found Verb.Create words left told e = create_found words left told e
 by_found Verb.Lookup words left told e = lookup_found words left told e
 by_found Verb.Attr words left told e = one_tells Told.Attr (codes "attr") words left told (λ n a. (refl, a)) (of_one Told.Attr words left told e)
 by_found Verb.Read words left told e = two_tells Told.Read (codes "read") words left told (λ m n a b. (refl, (a, b))) (of_place Told.Read words left told e)
-by_found Verb.Fetch words left told e = two_tells Told.Fetch (codes "fetch") words left told (λ m n a b. (refl, (a, b))) (of_place Told.Fetch words left told e)
-by_found Verb.Write words left told e = three_tells Told.Write (codes "write") words left told (λ l m n a b c. (refl, (a, b, c))) (of_value Told.Write words left told e)
-by_found Verb.Put words left told e = three_tells Told.WriteSync (codes "put") words left told (λ l m n a b c. (refl, (a, b, c))) (of_value Told.WriteSync words left told e)
+by_found Verb.Fetch words left told e = two_tells Told.Fetch (codes "fetch") words left told (λ m n a b. (refl, (a, b))) (of_place Told.Fetch words
+    left told e)
+by_found Verb.Write words left told e = three_tells Told.Write (codes "write") words left told (λ l m n a b c. (refl, (a, b, c)))
+    (of_value Told.Write words left told e)
+by_found Verb.Put words left told e = three_tells Told.WriteSync (codes "put") words left told (λ l m n a b c. (refl, (a, b, c)))
+    (of_value Told.WriteSync words left told e)
 by_found Verb.Sync words left told e = one_tells Told.Sync (codes "sync") words left told (λ n a. (refl, a)) (of_one Told.Sync words left told e)
 by_found Verb.Resize words left told e = resize_found words left told e
 by_found Verb.Remove words left told e = one_tells Told.Remove (codes "remove") words left told (λ n a. (refl, a)) (of_one Told.Remove words left told e)
@@ -232,7 +248,8 @@ at_found words left told e =
     subst P (sym first) (by_found verb.0 word.0.1 left told verb.2)
 
 -- so is what is taken as a call
-pub told_taken : (words left : List (List ℕ)) (r : Option Told) → Takes (λ (told : Told). told) r left (told_at words) → IfSome r (λ told. Tells told words left)
+pub told_taken : (words left : List (List ℕ)) (r : Option Told) → Takes (λ (told : Told). told) r left (told_at words)
+    → IfSome r (λ told. Tells told words left)
 told_taken words left None read = tt
 told_taken words left (Some told) read = at_found words left told read
 

@@ -1,11 +1,13 @@
 -- The lines of a head: one head for them, and where they go wrong.
-use Rattle.std.proofs.Common.{◌≡◌, ◌≢◌, ◌⊎◌, inl, inr, Bool, true, false, ◌==◌, if◌then◌else◌, ℕ, ◌+◌, ◌<◌, ◌≤◌, ◌^◌, List, [], ◌∷◌, ◌++◌, length, get_or, drop, map, refl, ap, sym, ◌∙◌, arith, lit<, lit≤, subst, append_assoc, codes, ◌-◌, Result, Ok, Err}
+use Rattle.std.proofs.Common.{◌≡◌, ◌≢◌, ◌⊎◌, inl, inr, Bool, true, false, ◌==◌, if◌then◌else◌, ℕ, ◌+◌, ◌<◌, ◌≤◌, ◌^◌, List, [], ◌∷◌, ◌++◌, length}
+use Rattle.std.proofs.Common.{get_or, drop, map, refl, ap, sym, ◌∙◌, arith, lit<, lit≤, subst, append_assoc, codes, ◌-◌, Result, Ok, Err}
 use Rattle.std.specs.Fmt.{decimal}
 use Rattle.std.specs.List.{AllByRecursion}
 use Rattle.std.proofs.lemmas.Bool.{cases_lt, eqb-true, ne_eqb}
 use Rattle.std.proofs.lemmas.Fmt.{decimal_injective}
 use Rattle.std.proofs.lemmas.List.{append-nil, length-map, drop_at, length-append}
-use Rattle.nq_script.specs.Heads.{IsFile, FitFiles, FitsHead, AreSettings, IsLongest, file_line, file_lines, first_file, version_line, hosts_line, term_line, longest_line, longest_lines, most_term, settings_lines, head_lines}
+use Rattle.nq_script.specs.Heads.{IsFile, FitFiles, FitsHead, AreSettings, IsLongest, file_line, file_lines, first_file, version_line, hosts_line}
+use Rattle.nq_script.specs.Heads.{term_line, longest_line, longest_lines, most_term, settings_lines, head_lines}
 use Rattle.nq_script.specs.Progress.{WrongFile, NoNumber}
 use Rattle.nq_script.specs.Schedule.{Begins, IsHead, FirstBadHeadLine, StandsInFront}
 use Rattle.nq_script.specs.Text.{IsVersion, Lacks, text_of}
@@ -121,7 +123,8 @@ one-settings v h t l v' h' t' l' xs ys a b e =
     let version : v ≡ v' = same-version v v' a.known b.known (first-same e) in
     let hosts : h ≡ h' = same-number (codes "hosts ") h h' (let few = a.few_hosts in omega arith) (let few = b.few_hosts in omega arith)
     (first-same (rest-same e)) in
-    let term : t ≡ t' = same-number (codes "term ") t t' (let few = term-low v t a.short_term in omega arith) (let few = term-low v' t' b.short_term in omega arith)
+    let term : t ≡ t' = same-number (codes "term ") t t' (let few = term-low v t a.short_term in omega arith) (let few =
+    term-low v' t' b.short_term in omega arith)
     (first-same (rest-same (rest-same e))) in
     let longest = one-longest v' l l' xs ys (subst (λ u. IsLongest u l) version a.fit_longest) b.fit_longest
     (subst (λ u. longest_lines u l ++ xs ≡ longest_lines v' l' ++ ys) version (rest-same (rest-same (rest-same e)))) in
@@ -156,7 +159,8 @@ files-next (f ∷ fs) (g ∷ gs) line more a b e =
 plain-head : (version hosts term : ℕ) → Head
 plain-head version hosts term = record { version = version; hosts = hosts; term = term; longest = 60; files = [] }
 
-plain-fits : (version hosts term : ℕ) → IsVersion version → 1 ≤ hosts → hosts ≤ 64 → 5 ≤ term → term ≤ most_term version → FitsHead (plain-head version hosts term)
+plain-fits : (version hosts term : ℕ) → IsVersion version → 1 ≤ hosts → hosts ≤ 64 → 5 ≤ term → term ≤ most_term version
+    → FitsHead (plain-head version hosts term)
 unfolding plain-head
 plain-fits version hosts term known some few long short = record {
   settings = record {
@@ -275,7 +279,8 @@ no-begin (f ∷ fs) (g ∷ gs) e = no-begin fs gs (rest-same e)
 -- there are as many lines above the files as is said
 pub first-counted : (version hosts term longest : ℕ) → first_file version ≡ length (settings_lines version hosts term longest) + 1
 first-counted version hosts term longest = by_test (version == 1) where
-  by_test : (test : Bool) → (if test then 4 else 5) ≡ length (version_line version ∷ hosts_line hosts ∷ term_line term ∷ (if test then [] else longest_line longest ∷ [])) + 1
+  by_test : (test : Bool) → (if test then 4 else 5) ≡ length (version_line version ∷ hosts_line hosts ∷ term_line term
+      ∷ (if test then [] else longest_line longest ∷ [])) + 1
   by_test true = refl
   by_test false = refl
 
@@ -344,7 +349,8 @@ head-right text number head rest fits split w =
       longer (line ∷ more) same =
           let begun = w.begun in
           let one = one-head head begun.1.0 (line ∷ more ++ begun.0) [] fits begun.1.1
-          (sym (append_assoc (head_lines head) (line ∷ more) begun.0) ∙ ap (λ l. l ++ begun.0) (sym same) ∙ begun.1.2 ∙ sym (append-nil (head_lines begun.1.0))) in
+          (sym (append_assoc (head_lines head) (line ∷ more) begun.0) ∙ ap (λ l. l ++ begun.0) (sym same) ∙ begun.1.2
+          ∙ sym (append-nil (head_lines begun.1.0))) in
           nil-cons (sym one.1)
 
       by_order : Splits w.before (head_lines head) w.rest rest → ⊥

@@ -1,17 +1,15 @@
 -- The lines of a head are read as they are spelled.
-use Rattle.std.proofs.Common.{◌≡◌, ◌≢◌, ℕ, ◌+◌, ◌<◌, ◌≤◌, ◌^◌, List, [], ◌∷◌, ◌++◌, length, take, Some, None, zero, suc, refl, ap, sym, subst, ◌∙◌, arith, lit<, codes, nat_le, if◌then◌else◌, slice_get}
+use Rattle.std.proofs.Common.{◌≡◌, ◌≢◌, ℕ, ◌+◌, ◌<◌, ◌≤◌, ◌^◌, List, [], ◌∷◌, ◌++◌, length, take, Some, None, zero, suc, refl, ap, sym, subst, ◌∙◌}
+use Rattle.std.proofs.Common.{lit<, codes, nat_le, if◌then◌else◌, slice_get}
 use Rattle.std.specs.Fmt.{decimal}
-use Rattle.std.specs.List.{AllByRecursion}
 use Rattle.std.proofs.lemmas.Bool.{leb-true, le-leb}
-use Rattle.std.proofs.lemmas.List.Elements.{recursion_from_All}
 use Rattle.std.proofs.lemmas.Option.{none-some, same_Some, cond_some}
 use Rattle.nq_base.specs.Steps.{◌>>=◌}
 use Rattle.nq_base.proofs.Options.{bind_some}
-use Rattle.nq_base.specs.Name.{IsName, IsNameByte, IsNew}
+use Rattle.nq_base.specs.Name.{IsNew}
 use Rattle.nq_script.specs.Heads.{IsFile, FitFiles, blocks_of, file_line}
 use Rattle.nq_script.specs.Reading.{after, ranged_of, file_of}
 use Rattle.nq_script.specs.WordsReading.{cut as cut_at, number_of}
-use Rattle.nq_script.specs.Text.{Lacks}
 use Rattle.nq_script.proofs.Cuts.{after-found, after-again, cut-found, cut-again}
 use Rattle.nq_script.proofs.Fitting.{fit-more, fit-last}
 use Rattle.nq_script.proofs.NameBytes.{name-lacks}

@@ -1,5 +1,6 @@
 -- Lines are read as they are spelled.
-use Rattle.std.proofs.Common.{◌≡◌, ℕ, ◌<◌, ◌≤◌, ◌^◌, ◌==◌, ◌&&◌, List, [], ◌∷◌, ◌++◌, Option, Some, None, Bool, true, false, length, refl, ap, sym, subst, ◌∙◌, arith, lit<, lit≤, codes, ◌⊎◌, inl, inr, nat_lt, nat_le, eq-eqb, if◌then◌else◌}
+use Rattle.std.proofs.Common.{◌≡◌, ℕ, ◌<◌, ◌≤◌, ◌^◌, ◌==◌, ◌&&◌, List, [], ◌∷◌, ◌++◌, Option, Some, None, Bool, true, false, length, refl, ap, sym}
+use Rattle.std.proofs.Common.{subst, ◌∙◌, arith, lit<, codes, ◌⊎◌, inl, inr, nat_lt, nat_le, eq-eqb, if◌then◌else◌}
 use Rattle.std.specs.Fmt.{decimal}
 use Rattle.std.specs.Str.{bytes_eq}
 use Rattle.std.proofs.lemmas.Bool.{ltb-true, lt-ltb, leb-true, le-leb, eqb-true, and_parts}
@@ -10,7 +11,8 @@ use Rattle.nq_base.proofs.Options.{bind_some}
 use Rattle.nq_base.specs.declared.Event.{Event}
 use Rattle.nq_script.specs.Calls.{call_words}
 use Rattle.nq_script.specs.Lines.{IsRepeat, SpellsLine, line_of, longest_words}
-use Rattle.nq_script.specs.Reading.{either, after, number_then, told_of, times_of, call_line, deliver_line, server_ticks, client_ticks, tick_line, round_line, restart_line, crash_line, word_line, clock_line, told_line}
+use Rattle.nq_script.specs.Reading.{after, number_then, told_of, times_of, call_line, deliver_line, server_ticks, client_ticks, tick_line, round_line}
+use Rattle.nq_script.specs.Reading.{restart_line, crash_line, word_line, clock_line, told_line}
 use Rattle.nq_script.specs.WordsReading.{number_of, u32_of}
 use Rattle.nq_script.specs.declared.heads.Head.{Head}
 use Rattle.nq_script.specs.declared.lines.Line.{Line}
@@ -35,7 +37,8 @@ times-again times is = ranged-again [] 1 1000 times (lit< tt) is.0 is.1
 call-found : (head : Head) (told : ToldLine) (text : List ℕ) → call_line head text ≡ Some told → SpellsLine head (line_of told) (codes "call " ++ text)
 unfolding call_line
 call-found head told text e =
-    let host = bind_some (number_then text) (λ h. told_of head.version h.1 >>= λ t. if nat_lt h.0 head.hosts then Some (ToldLine.Call h.0 t) else None) told e in
+    let host = bind_some (number_then text) (λ h. told_of head.version h.1 >>= λ t. if nat_lt h.0 head.hosts then Some (ToldLine.Call h.0 t)
+    else None) told e in
     let call = bind_some (told_of head.version host.0.1) (λ t. if nat_lt host.0.0 head.hosts then Some (ToldLine.Call host.0.0 t) else None) told host.2 in
     let within = cond_some (nat_lt host.0.0 head.hosts) (ToldLine.Call host.0.0 call.0) told call.2 in
     let number = then-found text host.0.0 host.0.1 host.1 in
@@ -67,7 +70,8 @@ server-found head told text e =
     subst (λ t. SpellsLine head (line_of t) (codes "tick s " ++ text)) (same_Some (ToldLine.ServerTicks times.0) told times.2)
     (tt, (tt, tt, number.1, ap (λ r. codes "tick s " ++ r) number.0))
 
-client-found : (head : Head) (told : ToldLine) (text : List ℕ) → client_ticks head.hosts text ≡ Some told → SpellsLine head (line_of told) (codes "tick " ++ text)
+client-found : (head : Head) (told : ToldLine) (text : List ℕ) → client_ticks head.hosts text ≡ Some told → SpellsLine head (line_of told)
+    (codes "tick " ++ text)
 unfolding client_ticks
 client-found head told text e =
     let host = bind_some (number_then text) (λ h. times_of h.1 >>= λ n. if nat_lt h.0 head.hosts then Some (ToldLine.ClientTicks h.0 n) else None) told e in
@@ -94,7 +98,8 @@ round-found head told text e =
     subst (λ t. SpellsLine head (line_of t) (codes "round " ++ text)) (same_Some (ToldLine.Round times.0) told times.2)
     (tt, (number.1, ap (λ r. codes "round " ++ r) number.0))
 
-restart-found : (head : Head) (told : ToldLine) (text : List ℕ) → restart_line head.hosts text ≡ Some told → SpellsLine head (line_of told) (codes "restart " ++ text)
+restart-found : (head : Head) (told : ToldLine) (text : List ℕ) → restart_line head.hosts text ≡ Some told → SpellsLine head (line_of told)
+    (codes "restart " ++ text)
 unfolding restart_line
 restart-found head told text e =
     let host = bind_some (u32_of text) (λ h. if nat_lt h head.hosts then Some (ToldLine.Restart h) else None) told e in
@@ -123,7 +128,8 @@ crash-found head told text e =
     (leb-true longest.0 head.longest bounds.1) number.1 (ap (λ r. codes "crash " ++ r) number.0))
 
 -- what version 1 writes of a crash
-first-crash : (head : Head) (text : List ℕ) → head.version ≡ 1 → 60 ≤ head.longest → text ≡ codes "crash" → SpellsLine head (Line.Events (Event.Crash 60) 1) text
+first-crash : (head : Head) (text : List ℕ) → head.version ≡ 1 → 60 ≤ head.longest → text ≡ codes "crash"
+    → SpellsLine head (Line.Events (Event.Crash 60) 1) text
 first-crash head text first high spelled =
     (high, (inl (first, refl), lit< tt, refl, rw first spelled))
 
@@ -180,10 +186,11 @@ line-found head text told e =
 
 -- a number in decimal does not begin with the letter of the server
 no-server : (n : ℕ) (rest : List ℕ) → n < 2 ^ 64 → after (codes "s ") (decimal n ++ rest) ≡ None
-no-server n rest low = after-none (codes "s ") (decimal n ++ rest) (λ r same. other r (decimal n) (decimal_nonempty n low) (decimal-lacks 115 n refl low) same) where
-  other : (r word : List ℕ) → 0 < length word → Lacks 115 word → word ++ rest ≡ codes "s " ++ r → ⊥
-  other r [] some lacks same = absurd (omega arith)
-  other r (b ∷ word) some lacks same = lacks.0 (first-same same)
+no-server n rest low = after-none (codes "s ") (decimal n ++ rest) (λ r same. other r (decimal n) (decimal_nonempty n low)
+    (decimal-lacks 115 n refl low) same) where
+      other : (r word : List ℕ) → 0 < length word → Lacks 115 word → word ++ rest ≡ codes "s " ++ r → ⊥
+      other r [] some lacks same = absurd (omega arith)
+      other r (b ∷ word) some lacks same = lacks.0 (first-same same)
 
 -- the line of an event is read
 again-tick : (head : Head) (host times : ℕ) → host < head.hosts → host < 2 ^ 32 → IsRepeat times

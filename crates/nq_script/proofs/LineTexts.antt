@@ -1,5 +1,6 @@
 -- The lines of events: they have no line feed, and one text is of one list of them.
-use Rattle.std.proofs.Common.{◌≡◌, ℕ, ◌<◌, ◌^◌, List, [], ◌∷◌, ◌++◌, length, Bool, true, false, ◌==◌, ◌≤◌, if◌then◌else◌, refl, sym, ◌∙◌, arith, lit<, subst, codes, Some}
+use Rattle.std.proofs.Common.{◌≡◌, ℕ, ◌<◌, ◌^◌, List, [], ◌∷◌, ◌++◌, length, Bool, true, false, ◌==◌, ◌≤◌, if◌then◌else◌, refl, sym, ◌∙◌, arith, lit<}
+use Rattle.std.proofs.Common.{subst, codes, Some}
 use Rattle.std.specs.Fmt.{decimal}
 use Rattle.std.specs.List.{AllByRecursion}
 use Rattle.nq_base.specs.declared.Call.{Call}
@@ -48,7 +49,13 @@ call-lacks version (Call.Write file block body) has fits =
 call-lacks version (Call.WriteSync file block body) has fits =
     (lacks-tested 10 (codes "put") refl, (decimal32-line file fits.0, (decimal32-line block fits.1, (decimal32-line _ (filled-same body has).0, tt))))
 call-lacks version (Call.Sync file) has fits = (lacks-tested 10 (codes "sync") refl, (decimal32-line file fits, tt))
-call-lacks version (Call.Resize file blocks) has fits = (lacks-tested 10 (codes "resize") refl, (decimal32-line file fits.0, (decimal32-line blocks fits.1, tt)))
+call-lacks version (Call.Resize file blocks) has fits = (
+  lacks-tested 10 (codes "resize") refl,
+  (
+    decimal32-line file fits.0,
+    (decimal32-line blocks fits.1, tt),
+  ),
+)
 call-lacks version (Call.Remove file) has fits = (lacks-tested 10 (codes "remove") refl, (decimal32-line file fits, tt))
 
 crash-lacks : (version longest : ℕ) → longest < 2 ^ 32 → AllByRecursion (Lacks 10) (longest_words version longest)

@@ -34,7 +34,8 @@ abbrev pub IsCut : (stop : ℕ) → List ℕ → Option (List ℕ × List ℕ) �
 IsCut stop bytes None = IsFree stop bytes
 IsCut stop bytes (Some parts) = (bytes ≡ parts.0 ++ stop ∷ parts.1) × IsFree stop parts.0
 
-cut_more : (stop b : ℕ) (bytes : List ℕ) (parts : Option (List ℕ × List ℕ)) → b ≢ stop → IsCut stop bytes parts → IsCut stop (b ∷ bytes) (with_front (b ∷ []) parts)
+cut_more : (stop b : ℕ) (bytes : List ℕ) (parts : Option (List ℕ × List ℕ)) → b ≢ stop → IsCut stop bytes parts → IsCut stop (b ∷ bytes)
+    (with_front (b ∷ []) parts)
 cut_more stop b bytes None other is = (other, is)
 cut_more stop b bytes (Some parts) other is = (ap (λ xs. b ∷ xs) is.0, (other, is.1))
 

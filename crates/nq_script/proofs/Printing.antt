@@ -1,34 +1,19 @@
 -- What is printed is spelled so.
-use Rattle.std.proofs.Common.{◌≡◌, ℕ, ◌+◌, ◌/◌, ◌%◌, ◌<◌, ◌≤◌, ◌^◌, List, [], ◌∷◌, ◌++◌, refl, ap, sym, ◌∙◌, arith, append_assoc, codes, length, get_or, map, take, slice_get, Some, zero, suc, subst}
+use Rattle.std.proofs.Common.{◌≡◌, ℕ, ◌+◌, List, [], ◌∷◌, ◌++◌, ap, sym, ◌∙◌, append_assoc, codes, map, take, slice_get, Some}
 use Rattle.std.specs.Fmt.{decimal}
 use Rattle.std.specs.List.{flat_map}
 use Rattle.std.proofs.lemmas.List.{append-nil, map-append, take_more}
-use Rattle.std.proofs.lemmas.Option.{none-some, same_Some, slice_get_within, get_or_from_slice_get}
-use Rattle.nq_base.specs.declared.Call.{Call}
-use Rattle.nq_script.specs.Calls.{call_words}
+use Rattle.std.proofs.lemmas.Option.{slice_get_within, get_or_from_slice_get}
 use Rattle.nq_script.specs.Heads.{file_line, version_line, hosts_line, term_line, longest_lines, settings_lines, head_lines}
-use Rattle.nq_script.specs.Lines.{HasLine, SpellsLine}
-use Rattle.nq_script.specs.Schedule.{SpellsLines}
 use Rattle.nq_script.specs.Text.{spaced, text_of}
 use Rattle.nq_script.specs.declared.heads.Head.{Head}
-use Rattle.nq_script.specs.declared.lines.Line.{Line}
 use Rattle.nq_script.specs.Words.{spaced as behind_blank}
-use Rattle.nq_script.proofs.CallWords.{spaced-call}
 use Rattle.nq_script.proofs.FileLines.{text_of-append}
 
 -- a word and numbers, each behind a blank, are words with blanks between them
 pub command_spaced : (word : List ℕ) (numbers : List ℕ) → word ++ flat_map (λ n. behind_blank (decimal n)) numbers ≡ spaced (word ∷ map decimal numbers)
 command_spaced word [] = append-nil word
 command_spaced word (n ∷ numbers) = ap (λ t. word ++ 32 ∷ t) (command_spaced (decimal n) numbers)
-
--- the words of a call are printed behind those of its host
-pub call-printed : (before first blank new : List ℕ) (host : ℕ) (call : Call) → first ≡ before ++ spaced (codes "call" ∷ decimal host ∷ [])
-    → blank ≡ first ++ codes " " → new ≡ blank ++ spaced (call_words call) → new ≡ before ++ spaced (codes "call" ∷ decimal host ∷ call_words call)
-call-printed before first blank new host call one two three =
-    three ∙ ap (λ t. t ++ spaced (call_words call)) (two ∙ ap (λ t. t ++ codes " ") one)
-    ∙ append_assoc (before ++ spaced (codes "call" ∷ decimal host ∷ [])) (codes " ") (spaced (call_words call))
-    ∙ append_assoc before (codes "call " ++ decimal host) (32 ∷ spaced (call_words call))
-    ∙ ap (λ t. before ++ (codes "call " ++ t)) (sym (spaced-call (decimal host) call))
 
 -- lines are printed behind lines
 printed-more : (before after : List ℕ) (xs ys : List (List ℕ)) → before ≡ text_of xs → after ≡ before ++ text_of ys → after ≡ text_of (xs ++ ys)
@@ -44,13 +29,15 @@ head-printed head t₀ t₁ t₂ t₃ t₄ t₅ t₆ e₀ e₁ e₂ e₃ e₄ e�
     let one = printed-more t₀ t₁ [] (version_line head.version ∷ []) e₀ e₁ in
     let two = printed-more t₁ t₂ (version_line head.version ∷ []) (hosts_line head.hosts ∷ []) one e₂ in
     let three = printed-more t₂ t₃ (version_line head.version ∷ hosts_line head.hosts ∷ []) (term_line head.term ∷ []) two e₃ in
-    let four = printed-more t₃ t₄ (version_line head.version ∷ hosts_line head.hosts ∷ term_line head.term ∷ []) (longest_lines head.version head.longest) three e₄ in
+    let four = printed-more t₃ t₄ (version_line head.version ∷ hosts_line head.hosts ∷ term_line head.term ∷ []) (longest_lines head.version
+    head.longest) three e₄ in
     let five = printed-more t₄ t₅ settings (map file_line head.files) four e₅ in
     printed-more t₅ t₆ (settings ++ map file_line head.files) (codes "begin" ∷ []) five e₆
     ∙ ap text_of (append_assoc settings (map file_line head.files) (codes "begin" ∷ []))
 
 -- one more file is printed
-pub file-printed : (before text new : List ℕ) (files : List (List ℕ × ℕ)) (place : ℕ) (f : List ℕ × ℕ) → text ≡ before ++ text_of (map file_line (take place files))
+pub file-printed : (before text new : List ℕ) (files : List (List ℕ × ℕ)) (place : ℕ) (f : List ℕ × ℕ) → text ≡ before
+    ++ text_of (map file_line (take place files))
     → slice_get files place ≡ Some f → new ≡ text ++ text_of (file_line f ∷ []) → new ≡ before ++ text_of (map file_line (take (place + 1) files))
 file-printed before text new files place f so-far here more =
     more ∙ ap (λ t. t ++ text_of (file_line f ∷ [])) so-far
@@ -59,19 +46,3 @@ file-printed before text new files place f so-far here more =
     ∙ ap (λ l. before ++ text_of l) (sym (map-append file_line (take place files) (f ∷ [])))
     ∙ ap (λ l. before ++ text_of (map file_line l)) (sym (take_more files place f (slice_get_within files place f here)
     ∙ ap (λ g. take place files ++ g ∷ []) (get_or_from_slice_get files place f f here)))
-
--- a line that is spelled can be told
-pub spelled-has : (head : Head) (line : Line) (text : List ℕ) → SpellsLine head line text → HasLine head.version line
-spelled-has head (Line.Events event times) text s = (s.1.0, s.1.2)
-spelled-has head (Line.Round times) text s = s.1.0
-spelled-has head Line.Flow text s = tt
-spelled-has head Line.End text s = tt
-
--- each line of a schedule can be told
-pub lines-have : (head : Head) (lines : List Line) (texts : List (List ℕ)) (place : ℕ) (line : Line) → SpellsLines head lines texts
-    → slice_get lines place ≡ Some line → HasLine head.version line
-lines-have head [] texts place line s here = absurd (none-some line here)
-lines-have head (l ∷ lines) [] place line s here = absurd s
-lines-have head (l ∷ lines) (text ∷ texts) zero line s here =
-    subst (HasLine head.version) (same_Some l line here) (spelled-has head l text s.1)
-lines-have head (l ∷ lines) (text ∷ texts) (suc place) line s here = lines-have head lines texts place line s.2 here

@@ -1,5 +1,6 @@
 -- What is read as an answer is spelled so.
-use Rattle.std.proofs.Common.{◌≡◌, ℕ, ◌<◌, ◌^◌, true, false, Bool, List, [], ◌∷◌, ◌++◌, All, map, Option, Some, None, Result, Ok, Err, refl, ap, sym, ◌∙◌, subst, codes, append-nil, if◌then◌else◌}
+use Rattle.std.proofs.Common.{◌≡◌, ℕ, ◌<◌, ◌^◌, true, false, Bool, List, [], ◌∷◌, ◌++◌, All, map, Option, Some, None, Result, Ok, Err, refl, ap, sym}
+use Rattle.std.proofs.Common.{◌∙◌, subst, codes, append-nil, if◌then◌else◌}
 use Rattle.std.specs.Prelude.{IfOk}
 use Rattle.std.specs.Fmt.{decimal}
 use Rattle.std.specs.Option.{IfSome}
@@ -40,9 +41,12 @@ span_by block first last = record { block = block; first = first; last = last }
 span_found : (word : List ℕ) (span : Span) → span_of word ≡ Some span → (word ≡ span_word span) × FitsSpan span
 unfolding span_of
 span_found word span e =
-    let outer = bind_some (cut 58 word) (λ parts. cut 45 parts.1 >>= λ ends. u32_of parts.0 >>= λ block. u64_of ends.0 >>= λ first. u64_of ends.1 >>= λ last. Some (span_by block first last)) span e in
-    let inner = bind_some (cut 45 outer.0.1) (λ ends. u32_of outer.0.0 >>= λ block. u64_of ends.0 >>= λ first. u64_of ends.1 >>= λ last. Some (span_by block first last)) span outer.2 in
-    let block = bind_some (u32_of outer.0.0) (λ block. u64_of inner.0.0 >>= λ first. u64_of inner.0.1 >>= λ last. Some (span_by block first last)) span inner.2 in
+    let outer = bind_some (cut 58 word) (λ parts. cut 45 parts.1 >>= λ ends. u32_of parts.0 >>= λ block. u64_of ends.0 >>= λ first. u64_of ends.1 >>=
+    λ last. Some (span_by block first last)) span e in
+    let inner = bind_some (cut 45 outer.0.1) (λ ends. u32_of outer.0.0 >>= λ block. u64_of ends.0 >>= λ first. u64_of ends.1 >>= λ last.
+    Some (span_by block first last)) span outer.2 in
+    let block = bind_some (u32_of outer.0.0) (λ block. u64_of inner.0.0 >>= λ first. u64_of inner.0.1 >>= λ last. Some (span_by block first last))
+    span inner.2 in
     let first = bind_some (u64_of inner.0.0) (λ first. u64_of inner.0.1 >>= λ last. Some (span_by block.0 first last)) span block.2 in
     let last = bind_some (u64_of inner.0.1) (λ last. Some (span_by block.0 first.0 last)) span first.2 in
     let b = u32_found outer.0.0 block.0 block.1 in
@@ -89,13 +93,17 @@ found_u64 words left n e =
     let number = bind_some (u64_of word.0.0) (λ k. Some (k, word.0.1)) (n, left) word.2 in
     let same = some_pair_parts number.0 n word.0.1 left number.2 in
     let spelled = u64_found word.0.0 number.0 number.1 in
-    let P : ℕ → Type 0 = λ k. k < 2 ^ 64 in
-    (word_in_front words word.0.1 word.0.0 word.1 ∙ ap (λ w. w ∷ word.0.1) (spelled.0 ∙ ap decimal same.0) ∙ ap (λ ws. decimal n ∷ ws) same.1, subst P same.0 spelled.1)
+    let P : ℕ → Type 0 = λ k. k < 2 ^ 64 in (
+      word_in_front words word.0.1 word.0.0 word.1 ∙ ap (λ w. w ∷ word.0.1) (spelled.0 ∙ ap decimal same.0) ∙ ap (λ ws. decimal n ∷ ws) same.1,
+      subst P same.0 spelled.1,
+    )
 
-by_found : (n : ℕ) (words left : List (List ℕ)) (said : Said) → n < 2 ^ 32 → by_at n words ≡ Some (said, left) → Says said (codes "ok" ∷ decimal n ∷ words) left
+by_found : (n : ℕ) (words left : List (List ℕ)) (said : Said) → n < 2 ^ 32 → by_at n words ≡ Some (said, left) → Says said (codes "ok" ∷ decimal n
+    ∷ words) left
 unfolding by_at
 by_found n words left said fits e =
-    let by = bind_some (word_at words) (λ by. u64_at by.1 >>= λ packet. only_if (bytes_eq by.0 (codes "by")) (Said.OkBy n packet.0, packet.1)) (said, left) e in
+    let by = bind_some (word_at words) (λ by. u64_at by.1 >>= λ packet. only_if (bytes_eq by.0 (codes "by")) (Said.OkBy n packet.0, packet.1))
+    (said, left) e in
     let packet = bind_some (u64_at by.0.1) (λ packet. only_if (bytes_eq by.0.0 (codes "by")) (Said.OkBy n packet.0, packet.1)) (said, left) by.2 in
     let passed = only_if_some (bytes_eq by.0.0 (codes "by")) (Said.OkBy n packet.0.0, packet.0.1) (said, left) packet.2 in
     let is = (bytes_eq-Decides by.0.0 (codes "by")).0 passed.0 in
@@ -104,11 +112,13 @@ by_found n words left said fits e =
     let Q : Said → Type 0 = λ s. Says s (codes "ok" ∷ decimal n ∷ words) left in
     subst Q same.0 (
       ap (λ ws. codes "ok" ∷ decimal n ∷ ws)
-          (word_in_front words by.0.1 by.0.0 by.1 ∙ ap (λ w. w ∷ by.0.1) is ∙ ap (λ ws. codes "by" ∷ ws) (spelled.0 ∙ ap (λ ws. decimal packet.0.0 ∷ ws) same.1)),
+          (word_in_front words by.0.1 by.0.0 by.1 ∙ ap (λ w. w ∷ by.0.1) is ∙ ap (λ ws. codes "by" ∷ ws) (spelled.0
+          ∙ ap (λ ws. decimal packet.0.0 ∷ ws) same.1)),
       (fits, spelled.1),
     )
 
-after_value : (n : ℕ) (words left : List (List ℕ)) (said : Said) → n < 2 ^ 32 → (if is_done words then Some (Said.OkValue n, words) else by_at n words) ≡ Some (said, left)
+after_value : (n : ℕ) (words left : List (List ℕ)) (said : Said) → n < 2 ^ 32 → (if is_done words then Some (Said.OkValue n, words)
+    else by_at n words) ≡ Some (said, left)
     → Says said (codes "ok" ∷ decimal n ∷ words) left
 after_value n [] left said fits e =
     let same = some_pair_parts (Said.OkValue n) said [] left e in
@@ -179,7 +189,8 @@ plain_says : (said : Said) (words left : List (List ℕ)) → Says (plain_said s
 plain_says (Said.Lost spans) words left says = says
 plain_says said words left says = says
 
-pub said_taken : {E : Type 0} (words left : List (List ℕ)) (r : Result (Option Said) E) → IfOk r (λ said. Takes plain_said said left (said_at words)) → IfOk r (λ said. IfSome said (λ s. Says s words left))
+pub said_taken : {E : Type 0} (words left : List (List ℕ)) (r : Result (Option Said) E) → IfOk r (λ said. Takes plain_said said left (said_at words))
+    → IfOk r (λ said. IfSome said (λ s. Says s words left))
 said_taken words left (Err e) read = tt
 said_taken words left (Ok None) read = tt
 said_taken words left (Ok (Some said)) read = plain_says said words left (said_found words left (plain_said said) read)

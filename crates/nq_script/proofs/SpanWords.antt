@@ -1,5 +1,6 @@
 -- The words of spans, one more of them.
-use Rattle.std.proofs.Common.{◌≡◌, ℕ, ◌+◌, ◌<◌, List, [], ◌∷◌, ◌++◌, All, length, map, take, Option, Some, None, refl, ap, sym, ◌∙◌, subst, append_assoc, append-nil, inl, inr, arith}
+use Rattle.std.proofs.Common.{◌≡◌, ℕ, ◌+◌, ◌<◌, List, [], ◌∷◌, ◌++◌, All, length, map, take, Option, Some, None, refl, ap, sym, ◌∙◌, subst}
+use Rattle.std.proofs.Common.{append_assoc, append-nil, inl, inr, arith}
 use Rattle.std.specs.Fmt.{decimal}
 use Rattle.std.specs.List.{flat_map, slice_get}
 use Rattle.std.proofs.lemmas.List.{take_more, map-append, flat_map_more}
@@ -18,7 +19,8 @@ taken_more spans place s found =
     take_more spans place s (slice_get_within spans place s found)
     ∙ ap (λ x. take place spans ++ x ∷ []) (get_or_from_slice_get spans place s s found)
 
-pub one_more : (spans : List Span) (place : ℕ) (s : Span) (old now new : List ℕ) → slice_get spans place ≡ Some s → now ≡ old ++ flat_map spaced (map span_word (take place spans)) → new ≡ now ++ spaced (span_word s) → new ≡ old ++ flat_map spaced (map span_word (take (place + 1) spans))
+pub one_more : (spans : List Span) (place : ℕ) (s : Span) (old now new : List ℕ) → slice_get spans place ≡ Some s → now ≡ old ++ flat_map spaced
+    (map span_word (take place spans)) → new ≡ now ++ spaced (span_word s) → new ≡ old ++ flat_map spaced (map span_word (take (place + 1) spans))
 one_more spans place s old now new found before added =
     added
     ∙ ap (λ xs. xs ++ spaced (span_word s)) before
@@ -38,11 +40,6 @@ abbrev pub with_spans : List Span → Option (List Span) → Option (List Span)
 with_spans front None = None
 with_spans front (Some spans) = Some (front ++ spans)
 
--- no span more
-pub spans_start : (spans : Option (List Span)) → with_spans [] spans ≡ spans
-spans_start None = refl
-spans_start (Some spans) = refl
-
 -- the first word taken is in front
 pub word_in_front : (words left : List (List ℕ)) (word : List ℕ) → word_at words ≡ Some (word, left) → words ≡ word ∷ left
 word_in_front [] left word taken = cc
@@ -50,18 +47,21 @@ word_in_front (first ∷ words) left word taken =
     let same : ◌≡◌ {A = List ℕ × List (List ℕ)} (first, words) (word, left) = cc in
     ap (λ (taken : List ℕ × List (List ℕ)). taken.0 ∷ taken.1) same
 
-with_spans-more : (front : List Span) (span : Span) (spans : Option (List Span)) → with_spans front (spans >>= λ more. Some (span ∷ more)) ≡ with_spans (front ++ span ∷ []) spans
+with_spans-more : (front : List Span) (span : Span) (spans : Option (List Span)) → with_spans front (spans >>= λ more. Some (span ∷ more))
+    ≡ with_spans (front ++ span ∷ []) spans
 with_spans-more front span None = refl
 with_spans-more front span (Some spans) = ap Some (sym (append_assoc front (span ∷ []) spans))
 
-pub spans_more : (words left : List (List ℕ)) (word : List ℕ) (front : List Span) (span : Span) → word_at words ≡ Some (word, left) → Some span ≡ span_of word → with_spans front (spans_of words) ≡ with_spans (front ++ span ∷ []) (spans_of left)
+pub spans_more : (words left : List (List ℕ)) (word : List ℕ) (front : List Span) (span : Span) → word_at words ≡ Some (word, left) → Some span
+    ≡ span_of word → with_spans front (spans_of words) ≡ with_spans (front ++ span ∷ []) (spans_of left)
 unfolding spans_of
 spans_more words left word front span taken read =
     ap (λ ws. with_spans front (spans_of ws)) (word_in_front words left word taken)
     ∙ ap (λ o. with_spans front (o >>= λ first. (spans_of left >>= λ more. Some (first ∷ more)))) (sym read)
     ∙ with_spans-more front span (spans_of left)
 
-pub spans_none : (words left : List (List ℕ)) (word : List ℕ) (front : List Span) → word_at words ≡ Some (word, left) → None ≡ span_of word → with_spans front (spans_of words) ≡ None
+pub spans_none : (words left : List (List ℕ)) (word : List ℕ) (front : List Span) → word_at words ≡ Some (word, left) → None ≡ span_of word
+    → with_spans front (spans_of words) ≡ None
 unfolding spans_of
 spans_none words left word front taken none =
     ap (λ ws. with_spans front (spans_of ws)) (word_in_front words left word taken)
@@ -73,7 +73,8 @@ spans_end [] front none = ap Some (append-nil front)
 spans_end (word ∷ words) front none = cc
 
 -- the word of a span, by its parts
-pub span_spelled : (word block ends first last : List ℕ) (span : Span) → Some (block, ends) ≡ cut 58 word → Some (first, last) ≡ cut 45 ends → block ≡ decimal span.block → first ≡ decimal span.first → last ≡ decimal span.last → word ≡ span_word span
+pub span_spelled : (word block ends first last : List ℕ) (span : Span) → Some (block, ends) ≡ cut 58 word → Some (first, last) ≡ cut 45 ends
+    → block ≡ decimal span.block → first ≡ decimal span.first → last ≡ decimal span.last → word ≡ span_word span
 unfolding span_word
 span_spelled word block ends first last span outer inner is_block is_first is_last =
     let front = (let P : Option (List ℕ × List ℕ) → Type 0 = IsCut 58 word in subst P (sym outer) (cut_found 58 word)).0 in
@@ -86,7 +87,8 @@ span_spelled word block ends first last span outer inner is_block is_first is_la
     ∙ simp append_assoc
 
 -- one span more fits
-pub fit_more : (spans : List Span) (place : ℕ) (span : Span) → slice_get spans place ≡ Some span → All FitsSpan (take place spans) → FitsSpan span → All FitsSpan (take (place + 1) spans)
+pub fit_more : (spans : List Span) (place : ℕ) (span : Span) → slice_get spans place ≡ Some span → All FitsSpan (take place spans) → FitsSpan span
+    → All FitsSpan (take (place + 1) spans)
 fit_more spans place span found fit fits =
     let P : List Span → Type 0 = All FitsSpan in
     subst P (sym (taken_more spans place span found)) (All-push FitsSpan (take place spans) span fit fits)

@@ -1,5 +1,6 @@
 -- The whole text of a schedule: one schedule for it, and where it goes wrong.
-use Rattle.std.proofs.Common.{◌≡◌, ◌⊎◌, inl, inr, ℕ, ◌+◌, List, [], ◌∷◌, ◌++◌, drop, map, refl, ap, sym, ◌∙◌, arith, subst, append_assoc, codes, Result, Ok, Err, length-append}
+use Rattle.std.proofs.Common.{◌≡◌, ◌⊎◌, inl, inr, ℕ, ◌+◌, List, [], ◌∷◌, ◌++◌, drop, map, refl, ap, sym, ◌∙◌, arith, subst, append_assoc, codes}
+use Rattle.std.proofs.Common.{Result, Ok, Err, length-append}
 use Rattle.std.specs.List.{AllByRecursion}
 use Rattle.std.proofs.lemmas.List.{append-nil, append_cancel_left, append_cancel_right}
 use Rattle.nq_script.specs.Heads.{FitsHead, head_lines}
@@ -33,7 +34,8 @@ pub schedule-found : (head : Head) (count size : ℕ) (text : List ℕ) (lines :
 schedule-found head count size text lines front ends = (
   head_lines head ++ (ends.0 ++ codes "end" ∷ []),
   (front.fits, (ends.0, ends.1, refl)),
-  text-behind text (head_lines head) (ends.0 ++ codes "end" ∷ []) (drop size text) [] front.split (ends.2 ∙ sym (append-nil (text_of (ends.0 ++ codes "end" ∷ []))))
+  text-behind text (head_lines head) (ends.0 ++ codes "end" ∷ []) (drop size text) [] front.split (ends.2
+      ∙ sym (append-nil (text_of (ends.0 ++ codes "end" ∷ []))))
       ∙ append-nil (text_of (head_lines head ++ (ends.0 ++ codes "end" ∷ []))),
 )
 

@@ -1,5 +1,6 @@
 -- Cutting a text at the first byte of a kind, and a line into its words.
-use Rattle.std.proofs.Common.{◌≡◌, ◌≢◌, ℕ, ◌+◌, ◌-◌, ◌<◌, ◌≤◌, List, [], ◌∷◌, ◌++◌, length, take, drop, get_or, Option, Some, None, option_map, Bool, true, false, not, refl, ap, sym, ◌∙◌, inl, inr, append_assoc, append-nil, add-one, drop-cons, arith}
+use Rattle.std.proofs.Common.{◌≡◌, ◌≢◌, ℕ, ◌+◌, ◌-◌, ◌<◌, ◌≤◌, List, [], ◌∷◌, ◌++◌, length, take, drop, get_or, Option, Some, None, option_map, Bool}
+use Rattle.std.proofs.Common.{true, false, not, refl, ap, sym, ◌∙◌, inl, inr, append_assoc, append-nil, add-one, drop-cons, arith}
 use Rattle.std.proofs.lemmas.Bool.{ne_eqb, eq-eqb}
 use Rattle.std.proofs.lemmas.Bool.Decides.{eqb_tells}
 use Rattle.std.proofs.lemmas.List.{take_more, take_all, drop_all, length-drop}
@@ -25,7 +26,8 @@ pub drop_at_place : (bytes : List ℕ) (place : ℕ) → place < length bytes �
 drop_at_place bytes place within = rw add-one (drop-cons bytes place 0 within)
 
 -- a place with a byte of another kind
-pub past : (stop : ℕ) (bytes : List ℕ) (place : ℕ) → place < length bytes → get_or bytes place 0 ≢ stop → with_front (take place bytes) (cut stop (drop place bytes)) ≡ with_front (take (place + 1) bytes) (cut stop (drop (place + 1) bytes))
+pub past : (stop : ℕ) (bytes : List ℕ) (place : ℕ) → place < length bytes → get_or bytes place 0 ≢ stop → with_front (take place bytes)
+    (cut stop (drop place bytes)) ≡ with_front (take (place + 1) bytes) (cut stop (drop (place + 1) bytes))
 past stop bytes place within other =
     let b = get_or bytes place 0 in
     let rest = drop (place + 1) bytes in
@@ -35,7 +37,8 @@ past stop bytes place within other =
     ∙ ap (λ xs. with_front xs (cut stop rest)) (sym (take_more bytes place 0 within))
 
 -- a place with a byte of this kind
-pub here : (stop : ℕ) (bytes : List ℕ) (place : ℕ) → place < length bytes → get_or bytes place 0 ≡ stop → with_front (take place bytes) (cut stop (drop place bytes)) ≡ Some (take place bytes, drop (place + 1) bytes)
+pub here : (stop : ℕ) (bytes : List ℕ) (place : ℕ) → place < length bytes → get_or bytes place 0 ≡ stop → with_front (take place bytes)
+    (cut stop (drop place bytes)) ≡ Some (take place bytes, drop (place + 1) bytes)
 here stop bytes place within same =
     let rest = drop (place + 1) bytes in
     ap (λ xs. with_front (take place bytes) (cut stop xs)) (drop_at_place bytes place within)
@@ -56,7 +59,8 @@ abbrev pub words_by : List ℕ → Option (List ℕ × List ℕ) → List (List 
 words_by line None = line ∷ []
 words_by line (Some parts) = parts.0 ∷ words_of parts.1
 
-words_by-more : (b : ℕ) (line : List ℕ) (words : List (List ℕ)) (parts : Option (List ℕ × List ℕ)) → words ≡ words_by line parts → with_first b words ≡ words_by (b ∷ line) (with_front (b ∷ []) parts)
+words_by-more : (b : ℕ) (line : List ℕ) (words : List (List ℕ)) (parts : Option (List ℕ × List ℕ)) → words ≡ words_by line parts → with_first b words
+    ≡ words_by (b ∷ line) (with_front (b ∷ []) parts)
 words_by-more b line words None same = ap (with_first b) same
 words_by-more b line words (Some parts) same = ap (with_first b) same
 
@@ -86,13 +90,15 @@ some_left : (words : List (List ℕ)) → (words ≡ [] → ⊥) → is_done wor
 some_left [] some = absurd (some refl)
 some_left (word ∷ words) some = refl
 
-pub emptied : {X : Type 0} (f : X → List ℕ) (rest : Option X) (r : Bool) (now : List (List ℕ)) → words_left (option_map f rest) ≡ now → is_some rest ≡ not r → r ≡ is_done now
+pub emptied : {X : Type 0} (f : X → List ℕ) (rest : Option X) (r : Bool) (now : List (List ℕ)) → words_left (option_map f rest) ≡ now → is_some rest
+    ≡ not r → r ≡ is_done now
 emptied f None true now left none = ap is_done left
 emptied f None false now left none = cc
 emptied f (Some line) true now left some = cc
 emptied f (Some line) false now left some = sym (some_left (words_of (f line)) (words_of_some (f line))) ∙ ap is_done left
 
 -- the words that are left, by the next cut
-pub next_words : {X : Type 0} (f : X → List ℕ) (rest : Option X) (line : X) (now : List (List ℕ)) (parts : Option (List ℕ × List ℕ)) → words_left (option_map f rest) ≡ now → rest ≡ Some line → parts ≡ cut 32 (f line) → now ≡ words_by (f line) parts
+pub next_words : {X : Type 0} (f : X → List ℕ) (rest : Option X) (line : X) (now : List (List ℕ)) (parts : Option (List ℕ × List ℕ))
+    → words_left (option_map f rest) ≡ now → rest ≡ Some line → parts ≡ cut 32 (f line) → now ≡ words_by (f line) parts
 next_words f rest line now parts left some cuts =
     sym left ∙ ap (λ r. words_left (option_map f r)) some ∙ words_of-cut (f line) ∙ ap (words_by (f line)) (sym cuts)

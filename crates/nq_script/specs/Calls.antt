@@ -1,6 +1,6 @@
 -- The words of a call. A call has a block, of which words tell the value, so a call and what is told of it are two types.
 use Rattle.std.specs.Prelude.{◌≡◌, ℕ, ◌<◌, ◌^◌, List}
-use Rattle.nq_base.specs.Block.{filled, value_of}
+use Rattle.nq_base.specs.Block.{filled}
 use Rattle.nq_base.specs.Name.{IsName}
 use Rattle.nq_base.specs.declared.Call.{Call}
 use Rattle.nq_base.specs.declared.Told.{Told}

@@ -2,7 +2,6 @@
 -- tie the two.
 use Rattle.std.specs.Prelude.{ℕ, ◌==◌, ◌&&◌, nat_le, nat_lt, List, [], ◌∷◌, Option, Some, None, if◌then◌else◌, codes}
 use Rattle.std.specs.Str.{bytes_eq}
-use Rattle.nq_base.specs.Steps.{◌>>=◌}
 use Rattle.nq_base.specs.declared.Told.{Told}
 use Rattle.nq_script.specs.declared.heads.Head.{Head}
 use Rattle.nq_script.specs.declared.lines.ToldLine.{ToldLine}

@@ -3,7 +3,6 @@ use Rattle.std.specs.Prelude.{ℕ, List, [], ◌∷◌, Option, Some, None, code
 use Rattle.std.specs.Str.{bytes_eq}
 use Rattle.nq_base.specs.declared.Said.{Said}
 use Rattle.nq_base.specs.declared.Span.{Span}
-use Rattle.nq_base.specs.Steps.{◌>>=◌}
 use Rattle.nq_script.specs.WordsReading.{only_if, cut, u64_of, u32_of, word_at, u64_at, u32_at, is_done}
 use Rattle.nq_script.specs.ReadingCalls.{}
 

@@ -2,7 +2,6 @@
 use Rattle.std.specs.Prelude.{ℕ, ◌==◌, Bool, true, ◌&&◌, List, Option, Some, None, codes, if◌then◌else◌}
 use Rattle.std.specs.Str.{bytes_eq}
 use Rattle.nq_base.specs.declared.Told.{Told}
-use Rattle.nq_base.specs.Steps.{◌>>=◌}
 use Rattle.nq_script.specs.declared.words.calls.Verb.{Verb}
 use Rattle.nq_script.specs.WordsReading.{only_if, is_done, word_at, u32_at, name_at, place_at}
 

@@ -1,5 +1,6 @@
 -- Reading a line from the left: a value and what stands behind it, or nothing where it is not spelled there.
-use Rattle.std.specs.Prelude.{◌≡◌, ℕ, ◌+◌, ◌-◌, ◌*◌, ◌^◌, ◌==◌, Bool, true, false, not, ◌&&◌, ◌||◌, List, [], ◌∷◌, ◌++◌, length, slice_index, Option, Some, None, nat_lt, nat_le, if◌then◌else◌}
+use Rattle.std.specs.Prelude.{◌≡◌, ℕ, ◌+◌, ◌-◌, ◌*◌, ◌^◌, ◌==◌, Bool, true, false, not, ◌&&◌, ◌||◌, List, [], ◌∷◌, ◌++◌, length, slice_index, Option}
+use Rattle.std.specs.Prelude.{Some, None, nat_lt, nat_le, if◌then◌else◌}
 use Rattle.nq_base.specs.Name.{is_name}
 use Rattle.nq_base.specs.Steps.{◌>>=◌}
 use Rattle.nq_base.specs.declared.Tag.{Tag}

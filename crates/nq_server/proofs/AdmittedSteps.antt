@@ -35,15 +35,18 @@ last-of false false false w x y z e f g = refl
 module _ (s : Server) (who : Who) (xid next : ℕ) (r : Request) (line : HostRow) (other : is_decided_once r ≡ false) where
   pub admits-old : nat_lt who.inc line.inc ≡ true → admit s who xid next r line ≡ drops s old_incarnation
   admits-old old =
-      second-of (is_attach r) (nat_lt who.inc line.inc) (nat_lt line.inc who.inc) (attach s who xid line) (drops s old_incarnation) (not_attached s who xid r) (perform s who xid next line r) (not-attach r other) old
+      second-of (is_attach r) (nat_lt who.inc line.inc) (nat_lt line.inc who.inc) (attach s who xid line) (drops s old_incarnation)
+      (not_attached s who xid r) (perform s who xid next line r) (not-attach r other) old
 
   pub admits-new : nat_lt who.inc line.inc ≡ false → nat_lt line.inc who.inc ≡ true → admit s who xid next r line ≡ not_attached s who xid r
   admits-new young new =
-      third-of (is_attach r) (nat_lt who.inc line.inc) (nat_lt line.inc who.inc) (attach s who xid line) (drops s old_incarnation) (not_attached s who xid r) (perform s who xid next line r) (not-attach r other) young new
+      third-of (is_attach r) (nat_lt who.inc line.inc) (nat_lt line.inc who.inc) (attach s who xid line) (drops s old_incarnation)
+      (not_attached s who xid r) (perform s who xid next line r) (not-attach r other) young new
 
   pub admits-same : nat_lt who.inc line.inc ≡ false → nat_lt line.inc who.inc ≡ false → admit s who xid next r line ≡ perform s who xid next line r
   admits-same young known =
-      last-of (is_attach r) (nat_lt who.inc line.inc) (nat_lt line.inc who.inc) (attach s who xid line) (drops s old_incarnation) (not_attached s who xid r) (perform s who xid next line r) (not-attach r other) young known
+      last-of (is_attach r) (nat_lt who.inc line.inc) (nat_lt line.inc who.inc) (attach s who xid line) (drops s old_incarnation)
+      (not_attached s who xid r) (perform s who xid next line r) (not-attach r other) young known
 
 -- one who is not attached changes nothing
 pub stranger-keeps : (s : Server) (who : Who) (xid : ℕ) (r : Request) → (not_attached s who xid r).server.kept ≡ s.kept
@@ -52,7 +55,8 @@ stranger-keeps s who xid (Vacated w file tag) = refl
 stranger-keeps s who xid other = refl
 
 -- while the server serves, a request that is not decided once and gives nothing up is looked at
-pub looks-served : (s : Server) (who : Who) (xid next : ℕ) (line : HostRow) (r : Request) → is_decided_once r ≡ false → ((w : Who) (file : ℕ) (tag : Tag) → r ≡ Vacated w file tag → ⊥) → s.phase ≡ serving → perform s who xid next line r ≡ look s serving who xid next r
+pub looks-served : (s : Server) (who : Who) (xid next : ℕ) (line : HostRow) (r : Request) → is_decided_once r ≡ false
+    → ((w : Who) (file : ℕ) (tag : Tag) → r ≡ Vacated w file tag → ⊥) → s.phase ≡ serving → perform s who xid next line r ≡ look s serving who xid next r
 looks-served s who xid next line Null other given is = refl
 looks-served s who xid next line (Evicted w file tag) other given is = refl
 looks-served s who xid next line (Lookup w name) other given is = ap (λ p. look s p who xid next (Lookup w name)) is

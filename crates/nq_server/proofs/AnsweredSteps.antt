@@ -24,7 +24,10 @@ use Rattle.nq_server.specs.Stepping.{Takes, Makes, Says, cause_of, outcome_of}
 use Rattle.nq_wire.specs.Outbox.{Datagrams}
 
 -- one packet is sent, after what is kept was read
-pub takes-answered : (host : ℕ) (message : Message) (result : Result Taken KeepFault) (step : Kept → ServerStep) (told tells : Option Kept) (before count : ℕ) (held : Beside) (out out' : Datagrams) (log : EntryList) → tells ≡ told → count ≡ before → Says (to_host host message) result out out' → ((kept : Kept) → told ≡ Some kept → step kept ≡ says (server_of held kept) host message) → Takes step result told tells before count held held out out' log log
+pub takes-answered : (host : ℕ) (message : Message) (result : Result Taken KeepFault) (step : Kept → ServerStep) (told tells : Option Kept)
+    (before count : ℕ) (held : Beside) (out out' : Datagrams) (log : EntryList) → tells ≡ told → count ≡ before → Says (to_host host message) result
+    out out' → ((kept : Kept) → told ≡ Some kept → step kept ≡ says (server_of held kept) host message) → Takes step result told tells before count
+    held held out out' log log
 unfolding says
 takes-answered host message (Ok Done) step told tells before count held out out' log stays same said is = (
   λ kept e.
@@ -41,18 +44,22 @@ takes-answered host message (Err Memory) step told tells before count held out o
     (stays, same, refl, record { first = said.0; datagrams = said.1; entries = refl })
 
 -- LOOKUP and GETATTR, by the row of the file
-pub look-up-says : (s : Server) (who : Who) (xid : ℕ) (found : Option File) → look_up s who xid found ≡ says s who.host (reply xid (looked_up who (row_of_found found)))
+pub look-up-says : (s : Server) (who : Who) (xid : ℕ) (found : Option File) → look_up s who xid found ≡ says s who.host
+    (reply xid (looked_up who (row_of_found found)))
 look-up-says s who xid None = refl
 look-up-says s who xid (Some file) = refl
 
-pub get-attr-says : (s : Server) (who : Who) (xid : ℕ) (found : Option File) → get_attr s who xid found ≡ says s who.host (reply xid (attributes who (row_of_found found)))
+pub get-attr-says : (s : Server) (who : Who) (xid : ℕ) (found : Option File) → get_attr s who xid found ≡ says s who.host
+    (reply xid (attributes who (row_of_found found)))
 get-attr-says s who xid None = refl
 get-attr-says s who xid (Some file) = refl
 
 -- ---- datagrams that are no requests
 
 -- one packet is sent, and nothing else is done
-pub does-answered : (host : ℕ) (message : Message) (result : Result Taken KeepFault) (step : ServerStep) (held : Beside) (kept : Kept) (out out' : Datagrams) (log : EntryList) → Says (to_host host message) result out out' → step ≡ says (server_of held kept) host message → Does step result held held out out' log log
+pub does-answered : (host : ℕ) (message : Message) (result : Result Taken KeepFault) (step : ServerStep) (held : Beside) (kept : Kept)
+    (out out' : Datagrams) (log : EntryList) → Says (to_host host message) result out out' → step ≡ says (server_of held kept) host message
+    → Does step result held held out out' log log
 unfolding says
 does-answered host message (Ok Done) step held kept out out' log said is =
     subst
@@ -65,7 +72,8 @@ does-answered host message (Err Memory) step held kept out out' log said is =
     (refl, record { first = said.0; datagrams = said.1; entries = refl })
 
 -- a datagram is dropped
-pub does-dropped : (reason : Reason) (step : ServerStep) (held : Beside) (kept : Kept) (out : Datagrams) (log : EntryList) → step ≡ drops (server_of held kept) (cause_of reason) → Does step (Ok (Dropped reason)) held held out out log log
+pub does-dropped : (reason : Reason) (step : ServerStep) (held : Beside) (kept : Kept) (out : Datagrams) (log : EntryList)
+    → step ≡ drops (server_of held kept) (cause_of reason) → Does step (Ok (Dropped reason)) held held out out log log
 unfolding drops
 does-dropped reason step held kept out log is =
     subst

@@ -32,7 +32,8 @@ may-ask s who row want q may is = record {
 }
 
 -- it stays sound where such a table is put in
-sound-beside : (s after : State) (q : Question) (table : Table) (notice : ℕ) → MayAsk s q → RowsRun s.time table.rows → table.drawn ≤ s.table.drawn + 1 → beside_of after ≡ record (beside_of s) { table = table; notice = notice } → StaysSound s after
+sound-beside : (s after : State) (q : Question) (table : Table) (notice : ℕ) → MayAsk s q → RowsRun s.time table.rows → table.drawn ≤ s.table.drawn
+    + 1 → beside_of after ≡ record (beside_of s) { table = table; notice = notice } → StaysSound s after
 sound-beside s after q table notice may run drawn is = record {
   sound = record {
     early = subst (λ (b : Beside). b.time < 2 ^ 62) (sym is) may.sound.early;
@@ -45,11 +46,14 @@ sound-beside s after q table notice may run drawn is = record {
 }
 
 -- so it stays sound in a call that asks
-pub stays-sound : (s after : State) (q : Question) (step : Kept → ServerStep) (result : Result Taken KeepFault) (out out' : Datagrams) (log log' : EntryList) → MayAsk s q → ((kept : Kept) → (step kept).server ≡ with_asked (server_of (beside_of s) kept) (ask s.table q).table (step kept).server.notice) → ((kept : Kept) → Does (step kept) result (beside_of s) (beside_of after) out out' log log') → StaysSound s after
+pub stays-sound : (s after : State) (q : Question) (step : Kept → ServerStep) (result : Result Taken KeepFault) (out out' : Datagrams)
+    (log log' : EntryList) → MayAsk s q → ((kept : Kept) → (step kept).server ≡ with_asked (server_of (beside_of s) kept) (ask s.table q).table
+    (step kept).server.notice) → ((kept : Kept) → Does (step kept) result (beside_of s) (beside_of after) out out' log log') → StaysSound s after
 stays-sound s after q step (Ok how) out out' log log' may is does =
     let asked = (ask s.table q).table in
     let short = subst (λ n. n ≤ longest_term) (sym may.asked.longest) may.sound.short in
-    sound-beside s after q asked (step some-kept).server.notice may (asked-run s.time s.table asked q may.asked.time short may.sound.run refl) (asked-draws s.table asked q refl) ((does some-kept).1.holds ∙ ap beside (is some-kept))
+    sound-beside s after q asked (step some-kept).server.notice may (asked-run s.time s.table asked q may.asked.time short may.sound.run refl)
+    (asked-draws s.table asked q refl) ((does some-kept).1.holds ∙ ap beside (is some-kept))
 stays-sound s after q step (Err Memory) out out' log log' may is does =
     let more : s.table.drawn ≤ s.table.drawn + 1 = omega arith in
     sound-beside s after q s.table s.notice may may.sound.run more (does some-kept).0

@@ -1,21 +1,16 @@
 -- What a boot begins with is what the protocol's boot says.
-use Rattle.std.proofs.Common.{◌≡◌, ◌+◌, ℕ, ◌==◌, Bool, true, false, List, [], ◌∷◌, ◌++◌, Option, None, Ok, Err, if◌then◌else◌, refl, sym, ◌∙◌, ap, subst}
-use Rattle.std.specs.Option.{ForSome}
+use Rattle.std.proofs.Common.{◌≡◌, ◌+◌, ℕ, ◌==◌, Bool, true, false, List, [], ◌∷◌, ◌++◌, Option, None, Ok, if◌then◌else◌, refl, sym, ◌∙◌, ap, subst}
 use Rattle.nq_base.specs.declared.Entry.{Entry}
 use Rattle.nq_base.specs.declared.Row.{Row}
-use Rattle.nq_keeper.specs.Booting.{Starts, IsOfTerm, last_boot, recovery_of, started_of}
-use Rattle.nq_keeper.specs.declared.requests.boot.starting.StartFault.{StartFault}
-use Rattle.nq_keeper.specs.declared.requests.boot.starting.StartFault.TheVariants.{Failed, Memory, Spent}
+use Rattle.nq_keeper.specs.Booting.{IsOfTerm, recovery_of, started_of}
 use Rattle.nq_keeper.specs.declared.requests.boot.starting.Started.{Started}
 use Rattle.nq_keeper.specs.declared.requests.boot.starting.Started.TheVariants as begins
-use Rattle.nq_io.specs.Faults.{Rose}
 use Rattle.nq_base.specs.Entries.{EntryList}
-use Rattle.nq_keeper.specs.Keeping.{StaysOrEnds}
 use Rattle.nq_model.specs.Kept.{Kept}
 use Rattle.nq_model.specs.Server.{Phase, serving, recovering, last_in}
 use Rattle.nq_model.specs.ServerStep.{at_time, boot, boot_phase, crash}
 use Rattle.nq_model.specs.Table.{Table, empty_table}
-use Rattle.nq_server.specs.Booting.{Begins, after_fault, phase_begun, with_last}
+use Rattle.nq_server.specs.Booting.{Begins, phase_begun, with_last}
 use Rattle.nq_server.specs.declared.booting.Begun.{Begun}
 use Rattle.nq_server.specs.declared.received.Received.{Received}
 use Rattle.nq_server.specs.Holding.{Holding, Boots, Reboots}
@@ -25,20 +20,14 @@ use Rattle.nq_server.specs.declared.state.Phase.{Phase as Held}
 use Rattle.nq_server.specs.declared.state.Phase.TheVariants as held
 use Rattle.nq_server.specs.declared.state.State.{State}
 
--- a boot that did not start did not begin
-pub begins-not : (longest time : ℕ) (fault : StartFault) (told between tells : Option Kept) (before middle count : ℕ) → between ≡ told → middle ≡ before → Starts longest time (Err fault) between tells middle count → Begins longest time (Err fault) told tells before count
-begins-not longest time Failed told between tells before middle count stays same h =
-    (subst (λ o. StaysOrEnds o tells) stays h.0, subst (λ n. Rose n count) same h.1)
-begins-not longest time Memory told between tells before middle count stays same h = (h.0 ∙ stays, h.1 ∙ same)
-begins-not longest time Spent told between tells before middle count stays same h =
-    (subst (λ o. ForSome o (λ kept. kept.boot ≡ last_boot)) stays h.0, h.1 ∙ stays, h.2 ∙ same)
-
 -- the phase of a boot over this kept state
-pub phase-begun : (kept : Kept) (longest now : ℕ) (last : Option Table) → phase_of (phase_begun (started_of kept longest now) last) ≡ boot_phase kept.opened kept.longest now last
+pub phase-begun : (kept : Kept) (longest now : ℕ) (last : Option Table) → phase_of (phase_begun (started_of kept longest now) last)
+    ≡ boot_phase kept.opened kept.longest now last
 unfolding recovery_of
 phase-begun kept longest now last = by (kept.opened == 0)
   where
-    by : (b : Bool) → phase_of (phase_begun (if b then begins.Serving (kept.boot + 1) else begins.Recovering (recovery_of kept longest now)) last) ≡ (if b then serving else recovering (now + kept.longest + 8) now last)
+    by : (b : Bool) → phase_of (phase_begun (if b then begins.Serving (kept.boot + 1) else begins.Recovering (recovery_of kept longest now)) last)
+        ≡ (if b then serving else recovering (now + kept.longest + 8) now last)
     by true = refl
     by false = refl
 
@@ -52,10 +41,12 @@ at_boot phase table longest time = record {
   time = time;
 }
 
-pub beside-booted : (kept : Kept) (longest now : ℕ) (last : Option Table) (started : Started) (table : Table) → started ≡ started_of kept longest now → table ≡ empty_table (kept.boot + 1) → at_boot (phase_of (phase_begun started last)) table longest now ≡ beside (boot kept longest now last)
+pub beside-booted : (kept : Kept) (longest now : ℕ) (last : Option Table) (started : Started) (table : Table) → started ≡ started_of kept longest now
+    → table ≡ empty_table (kept.boot + 1) → at_boot (phase_of (phase_begun started last)) table longest now ≡ beside (boot kept longest now last)
 unfolding boot
 beside-booted kept longest now last started table is empty =
-    ap (λ s. at_boot (phase_of (phase_begun s last)) table longest now) is ∙ ap (λ p. at_boot p table longest now) (phase-begun kept longest now last) ∙ ap (λ t. at_boot (boot_phase kept.opened kept.longest now last) t longest now) empty
+    ap (λ s. at_boot (phase_of (phase_begun s last)) table longest now) is ∙ ap (λ p. at_boot p table longest now) (phase-begun kept longest now last)
+    ∙ ap (λ t. at_boot (boot_phase kept.opened kept.longest now last) t longest now) empty
 
 -- an empty table has no row
 pub no-rows : (table : Table) → table ≡ empty_table table.boot → table.rows ≡ []
@@ -70,17 +61,15 @@ pub none-run : (time : ℕ) (rows : List Row) → rows ≡ [] → RowsRun time r
 none-run time rows none = subst (λ rs. RowsRun time rs) (sym none) tt
 
 -- a boot that began has its longest term, and no row
-pub of-boot : (longest : ℕ) (started : Started) (last : Option Table) (rows : List Row) → IsOfTerm longest started → rows ≡ [] → IsOfBoot longest (phase_begun started last) rows
+pub of-boot : (longest : ℕ) (started : Started) (last : Option Table) (rows : List Row) → IsOfTerm longest started → rows ≡ []
+    → IsOfBoot longest (phase_begun started last) rows
 of-boot longest (begins.Serving number) last rows term none = tt
 of-boot longest (begins.Recovering recovery) last rows term none = (term, none)
 
--- a boot remembers the last table at once, or later
-pub begun-with : (started : Started) (last : Option Table) → with_last (phase_begun started None) last ≡ phase_begun started last
-begun-with (begins.Serving number) last = refl
-begun-with (begins.Recovering recovery) last = refl
-
 -- a boot that began over this kept state makes a server of the protocol
-pub is-booted : {K : Type 0} (longest time : ℕ) (begun : Begun) (told tells : Option Kept) (before count : ℕ) (s : Holding K) → Begins longest time (Ok begun) told tells before count → ((kept : Kept) → begun.started ≡ started_of kept longest time → begun.table ≡ empty_table (kept.boot + 1) → s.beside ≡ beside (boot kept longest time None)) → s.taken ≡ 0 → Boots longest time (Ok s) told tells before count
+pub is-booted : {K : Type 0} (longest time : ℕ) (begun : Begun) (told tells : Option Kept) (before count : ℕ) (s : Holding K)
+    → Begins longest time (Ok begun) told tells before count → ((kept : Kept) → begun.started ≡ started_of kept longest time → begun.table
+    ≡ empty_table (kept.boot + 1) → s.beside ≡ beside (boot kept longest time None)) → s.taken ≡ 0 → Boots longest time (Ok s) told tells before count
 unfolding boot
 is-booted longest time begun told tells before count s h holds none = (
   λ kept e.
@@ -90,7 +79,11 @@ is-booted longest time begun told tells before count s h holds none = (
 )
 
 -- and after a crash the protocol's server
-pub is-rebooted : {K : Type 0} (longest time : ℕ) (begun : Begun) (entry : Entry) (told tells : Option Kept) (before count : ℕ) (old new : Holding K) (log log' : EntryList) → Begins longest time (Ok begun) told tells before count → ((kept : Kept) → begun.started ≡ started_of kept longest time → begun.table ≡ empty_table (kept.boot + 1) → new.beside ≡ beside (boot kept longest time (last_in old.beside.phase old.beside.table))) → new.taken ≡ 0 → entry ≡ Entry.X begun.table.boot time begun.waits → log'.entries ≡ log.entries ++ entry ∷ [] → Reboots longest time Received.Done told tells before count old new log log'
+pub is-rebooted : {K : Type 0} (longest time : ℕ) (begun : Begun) (entry : Entry) (told tells : Option Kept) (before count : ℕ) (old new : Holding K)
+    (log log' : EntryList) → Begins longest time (Ok begun) told tells before count → ((kept : Kept) → begun.started ≡ started_of kept longest time
+    → begun.table ≡ empty_table (kept.boot + 1) → new.beside ≡ beside (boot kept longest time (last_in old.beside.phase old.beside.table)))
+    → new.taken ≡ 0 → entry ≡ Entry.X begun.table.boot time begun.waits → log'.entries ≡ log.entries ++ entry ∷ [] → Reboots longest time
+    Received.Done told tells before count old new log log'
 unfolding boot crash at_time empty_table
 is-rebooted longest time begun entry told tells before count old new log log' h holds none told-of entered = (
   λ kept e.
@@ -99,21 +92,13 @@ is-rebooted longest time begun entry told tells before count old new log log' h 
         record {
           keeps = over.keeps;
           holds = holds kept over.started over.table;
-          enters = entered ∙ ap (λ x. log.entries ++ x ∷ []) (told-of ∙ ap (λ t. Entry.X t.boot time begun.waits) over.table ∙ ap (λ w. Entry.X (kept.boot + 1) time w) over.waits);
+          enters = entered ∙ ap (λ x. log.entries ++ x ∷ []) (told-of ∙ ap (λ t. Entry.X t.boot time begun.waits) over.table
+              ∙ ap (λ w. Entry.X (kept.boot + 1) time w) over.waits);
         },
       ),
   h.1,
   none,
 )
-
--- nothing changed where no boot began
-pub is-not-rebooted : {K : Type 0} (longest time : ℕ) (why : StartFault) (told tells : Option Kept) (before count : ℕ) (old new : Holding K) (log log' : EntryList) → Begins longest time (Err why) told tells before count → new.beside ≡ old.beside → new.taken ≡ old.taken → log'.entries ≡ log.entries → Reboots longest time (after_fault why) told tells before count old new log log'
-is-not-rebooted longest time Failed told tells before count old new log log' h beside taken entries =
-    (h.0, h.1, record { untouched = record { beside = beside; taken = taken }; entries = entries })
-is-not-rebooted longest time Memory told tells before count old new log log' h beside taken entries =
-    (h.0, h.1, record { untouched = record { beside = beside; taken = taken }; entries = entries })
-is-not-rebooted longest time Spent told tells before count old new log log' h beside taken entries =
-    (h.0, h.1, h.2, record { untouched = record { beside = beside; taken = taken }; entries = entries })
 
 -- an empty table is that of its own boot
 pub own-boot : (table : Table) (number : ℕ) → table ≡ empty_table number → table ≡ empty_table table.boot
@@ -121,10 +106,12 @@ unfolding empty_table
 own-boot table number e = e ∙ sym (ap (λ t. empty_table t.boot) e)
 
 -- a phase that remembers the last table
-remembers : (p : Held) (opened longest now : ℕ) (last : Option Table) → phase_of p ≡ boot_phase opened longest now None → phase_of (with_last p last) ≡ boot_phase opened longest now last
+remembers : (p : Held) (opened longest now : ℕ) (last : Option Table) → phase_of p ≡ boot_phase opened longest now None → phase_of (with_last p last)
+    ≡ boot_phase opened longest now last
 remembers p opened longest now last h = by p (opened == 0) h
   where
-    by : (q : Held) (b : Bool) → phase_of q ≡ (if b then serving else recovering (now + longest + 8) now None) → phase_of (with_last q last) ≡ (if b then serving else recovering (now + longest + 8) now last)
+    by : (q : Held) (b : Bool) → phase_of q ≡ (if b then serving else recovering (now + longest + 8) now None) → phase_of (with_last q last)
+        ≡ (if b then serving else recovering (now + longest + 8) now last)
     by (held.Serving number) true e = refl
     by (held.Serving number) false e = absurd (cc)
     by (held.Recovering recovery before) true e = absurd (cc)
@@ -134,7 +121,9 @@ remembers p opened longest now last h = by p (opened == 0) h
         ap (λ u. recovering u (heard_of recovery) last) until ∙ ap (λ t. recovering (now + longest + 8) t last) heard
 
 -- a boot that remembers the last table later
-pub beside-remembered : (kept : Kept) (longest now : ℕ) (last : Option Table) (s : State) → beside_of s ≡ beside (boot kept longest now None) → beside_of (record s { phase = with_last s.phase last }) ≡ beside (boot kept longest now last)
+pub beside-remembered : (kept : Kept) (longest now : ℕ) (last : Option Table) (s : State) → beside_of s ≡ beside (boot kept longest now None)
+    → beside_of (record s { phase = with_last s.phase last }) ≡ beside (boot kept longest now last)
 unfolding boot
 beside-remembered kept longest now last s h =
-    ap (λ (b : Beside). record b { phase = phase_of (with_last s.phase last) }) h ∙ ap (λ p. at_boot p (empty_table (kept.boot + 1)) longest now) (remembers s.phase kept.opened kept.longest now last (ap (λ b. b.phase) h))
+    ap (λ (b : Beside). record b { phase = phase_of (with_last s.phase last) }) h ∙ ap (λ p. at_boot p (empty_table (kept.boot + 1)) longest now)
+    (remembers s.phase kept.opened kept.longest now last (ap (λ b. b.phase) h))

@@ -24,7 +24,8 @@ use Rattle.nq_server.specs.Stepping.{Sends}
 use Rattle.nq_wire.specs.Outbox.{Datagrams}
 
 -- a server's state is that of its parts
-beside-is : (a : Beside) (phase : Phase) (table : Table) (longest notice time : ℕ) → a.phase ≡ phase → a.table ≡ table → a.longest ≡ longest → a.notice ≡ notice → a.time ≡ time → a ≡ record { phase = phase; table = table; longest = longest; notice = notice; time = time }
+beside-is : (a : Beside) (phase : Phase) (table : Table) (longest notice time : ℕ) → a.phase ≡ phase → a.table ≡ table → a.longest ≡ longest
+    → a.notice ≡ notice → a.time ≡ time → a ≡ record { phase = phase; table = table; longest = longest; notice = notice; time = time }
 beside-is a phase table longest notice time p t l n m =
     ap (λ x. record { phase = x; table = a.table; longest = a.longest; notice = a.notice; time = a.time }) p
     ∙ ap (λ x. record { phase = phase; table = x; longest = a.longest; notice = a.notice; time = a.time }) t
@@ -33,19 +34,25 @@ beside-is a phase table longest notice time p t l n m =
     ∙ ap (λ x. record { phase = phase; table = table; longest = longest; notice = notice; time = x }) m
 
 -- one that is fresh
-concluded-fresh : (s : Server) (who : Who) (xid : ℕ) (r : Request) (verdict : Verdict) (value : ℕ) (after : Beside) (out out' : Datagrams) (entries log log' : EntryList) → DoesAside (aside s who r verdict) (beside s) after log log' → log.entries ≡ entries.entries → Sends (warnings_if (is_later verdict) (warnings s who r) ++ to_host who.host (reply xid (decided_answer who.inc verdict value r)) ∷ []) out out' → Concludes (decided_step s who xid r (Fresh verdict value)) took.Done after out out' entries log'
+concluded-fresh : (s : Server) (who : Who) (xid : ℕ) (r : Request) (verdict : Verdict) (value : ℕ) (after : Beside) (out out' : Datagrams)
+    (entries log log' : EntryList) → DoesAside (aside s who r verdict) (beside s) after log log' → log.entries ≡ entries.entries
+    → Sends (warnings_if (is_later verdict) (warnings s who r) ++ to_host who.host (reply xid (decided_answer who.inc verdict value r)) ∷ []) out out'
+    → Concludes (decided_step s who xid r (Fresh verdict value)) took.Done after out out' entries log'
 unfolding fresh_step
 concluded-fresh s who xid r verdict value after out out' entries log log' does same said = record {
   outcome = refl;
   makes = record {
-    holds = beside-is after (aside s who r verdict).phase (aside s who r verdict).table s.longest (aside s who r verdict).notice s.now does.phase does.table does.longest does.notice does.time;
-    sends = subst (λ packets. Sends (packets ++ to_host who.host (reply xid (decided_answer who.inc verdict value r)) ∷ []) out out') (sym (warned s who r verdict)) said;
+    holds = beside-is after (aside s who r verdict).phase (aside s who r verdict).table s.longest (aside s who r verdict).notice s.now does.phase
+        does.table does.longest does.notice does.time;
+    sends = subst (λ packets. Sends (packets ++ to_host who.host (reply xid (decided_answer who.inc verdict value r)) ∷ []) out out')
+        (sym (warned s who r verdict)) said;
     enters = does.entries ∙ ap (λ l. l ++ reverse (aside s who r verdict).entries) same;
   };
 }
 
 -- one that is not, and is answered alone
-concluded-says : (s : Server) (host xid : ℕ) (answer : Answer) (out out' : Datagrams) (entries log : EntryList) → log.entries ≡ entries.entries → Sends (to_host host (reply xid answer) ∷ []) out out' → Concludes (says s host (reply xid answer)) took.Done (beside s) out out' entries log
+concluded-says : (s : Server) (host xid : ℕ) (answer : Answer) (out out' : Datagrams) (entries log : EntryList) → log.entries ≡ entries.entries
+    → Sends (to_host host (reply xid answer) ∷ []) out out' → Concludes (says s host (reply xid answer)) took.Done (beside s) out out' entries log
 unfolding says
 concluded-says s host xid answer out out' entries log same said = record {
   outcome = refl;
@@ -53,7 +60,9 @@ concluded-says s host xid answer out out' entries log same said = record {
 }
 
 -- one that is dropped
-pub concluded-drop : (s : Server) (who : Who) (xid : ℕ) (r : Request) (d : Decided) (out out' : Datagrams) (entries log : EntryList) → answer_to who r d ≡ None → out'.first ≡ out.first → out'.datagrams ≡ out.datagrams ++ map sent (warnings_if (is_put_off d) (warnings s who r)) → log.entries ≡ entries.entries → Concludes (decided_step s who xid r d) (took.Dropped (dropped_for d)) (beside s) out out' entries log
+pub concluded-drop : (s : Server) (who : Who) (xid : ℕ) (r : Request) (d : Decided) (out out' : Datagrams) (entries log : EntryList)
+    → answer_to who r d ≡ None → out'.first ≡ out.first → out'.datagrams ≡ out.datagrams ++ map sent (warnings_if (is_put_off d) (warnings s who r))
+    → log.entries ≡ entries.entries → Concludes (decided_step s who xid r d) (took.Dropped (dropped_for d)) (beside s) out out' entries log
 unfolding drops
 concluded-drop s who xid r (Fresh verdict value) out out' entries log none first sends same = absurd (cc)
 concluded-drop s who xid r (Again verdict value) out out' entries log none first sends same = absurd (cc)
@@ -78,36 +87,49 @@ abbrev pub IsPast : Decided → Type 0
 IsPast (Fresh verdict value) = ⊥
 IsPast other = Unit {0}
 
-module _ (s : Server) (who : Who) (xid : ℕ) (r : Request) (said : Answer) (out between out' : Datagrams) (entries log : EntryList) (first : out'.first ≡ out.first) (pushed : out'.datagrams ≡ between.datagrams ++ sent (to_host who.host (reply xid said)) ∷ []) (same : log.entries ≡ entries.entries) (fits : FitsMessage (reply xid said)) where
+module _ (s : Server) (who : Who) (xid : ℕ) (r : Request) (said : Answer) (out between out' : Datagrams) (entries log : EntryList) (first : out'.first
+    ≡ out.first) (pushed : out'.datagrams ≡ between.datagrams ++ sent (to_host who.host (reply xid said)) ∷ []) (same : log.entries ≡ entries.entries)
+    (fits : FitsMessage (reply xid said)) where
   -- a fresh one, by what was done beside the kept state
-  pub fresh-answered : (verdict : Verdict) (value : ℕ) (after : Beside) (log' : EntryList) → answer_to who r (Fresh verdict value) ≡ Some said → between.datagrams ≡ out.datagrams ++ map sent (warnings_if (is_put_off (Fresh verdict value)) (warnings s who r)) → All FitsPacket (warnings s who r) → DoesAside (aside s who r verdict) (beside s) after log log' → Concludes (decided_step s who xid r (Fresh verdict value)) took.Done after out out' entries log'
+  pub fresh-answered : (verdict : Verdict) (value : ℕ) (after : Beside) (log' : EntryList) → answer_to who r (Fresh verdict value) ≡ Some said
+      → between.datagrams ≡ out.datagrams ++ map sent (warnings_if (is_put_off (Fresh verdict value)) (warnings s who r))
+      → All FitsPacket (warnings s who r) → DoesAside (aside s who r verdict) (beside s) after log log'
+      → Concludes (decided_step s who xid r (Fresh verdict value)) took.Done after out out' entries log'
   fresh-answered verdict value after log' is warns fit does =
       let own : decided_answer who.inc verdict value r ≡ said = cc in
       concluded-fresh s who xid r verdict value after out out' entries log log' does same
       (subst (λ a. Sends (warnings_if (is_later verdict) (warnings s who r) ++ to_host who.host (reply xid a) ∷ []) out out') (sym own)
       (record {
         first = first;
-        added = behind-notices out.datagrams between.datagrams out'.datagrams (warnings_if (is_later verdict) (warnings s who r)) (to_host who.host (reply xid said)) warns pushed;
-        fit = All-push FitsPacket (warnings_if (is_later verdict) (warnings s who r)) (to_host who.host (reply xid said)) (warnings-fit (is_later verdict) (warnings s who r) fit) fits;
+        added = behind-notices out.datagrams between.datagrams out'.datagrams (warnings_if (is_later verdict) (warnings s who r))
+            (to_host who.host (reply xid said)) warns pushed;
+        fit = All-push FitsPacket (warnings_if (is_later verdict) (warnings s who r)) (to_host who.host (reply xid said))
+            (warnings-fit (is_later verdict) (warnings s who r) fit) fits;
       }))
 
   alone : between.datagrams ≡ out.datagrams ++ [] → Sends (to_host who.host (reply xid said) ∷ []) out out'
   alone e =
-      one-sent (to_host who.host (reply xid said)) out out' fits first (pushed ∙ ap (λ d. d ++ sent (to_host who.host (reply xid said)) ∷ []) (e ∙ append-nil _))
+      one-sent (to_host who.host (reply xid said)) out out' fits first (pushed ∙ ap (λ d. d ++ sent (to_host who.host (reply xid said)) ∷ [])
+      (e ∙ append-nil _))
 
-  is-alone : (answer : Answer) → Some answer ≡ Some said → between.datagrams ≡ out.datagrams ++ [] → Concludes (says s who.host (reply xid answer)) took.Done (beside s) out out' entries log
+  is-alone : (answer : Answer) → Some answer ≡ Some said → between.datagrams ≡ out.datagrams ++ [] → Concludes (says s who.host (reply xid answer))
+      took.Done (beside s) out out' entries log
   is-alone answer is e =
       let own : said ≡ answer = cc in
-      subst (λ a. Concludes (says s who.host (reply xid a)) took.Done (beside s) out out' entries log) own (concluded-says s who.host xid said out out' entries log same (alone e))
+      subst (λ a. Concludes (says s who.host (reply xid a)) took.Done (beside s) out out' entries log) own (concluded-says s who.host xid said out
+      out' entries log same (alone e))
 
-  unchanged : (d : Decided) (after : Beside) (log' : EntryList) → (after ≡ beside s) × (log'.entries ≡ log.entries) → Concludes (decided_step s who xid r d) took.Done (beside s) out out' entries log → Concludes (decided_step s who xid r d) took.Done after out out' entries log'
+  unchanged : (d : Decided) (after : Beside) (log' : EntryList) → (after ≡ beside s) × (log'.entries ≡ log.entries)
+      → Concludes (decided_step s who xid r d) took.Done (beside s) out out' entries log → Concludes (decided_step s who xid r d) took.Done after out
+      out' entries log'
   unchanged d after log' h made = record {
     outcome = made.outcome;
     makes = record { holds = h.0 ∙ made.makes.holds; sends = made.makes.sends; enters = h.1 ∙ made.makes.enters };
   }
 
   -- one that is not fresh
-  pub again-answered : (d : Decided) → IsPast d → answer_to who r d ≡ Some said → between.datagrams ≡ out.datagrams ++ map sent (warnings_if (is_put_off d) (warnings s who r)) → Concludes (decided_step s who xid r d) took.Done (beside s) out out' entries log
+  pub again-answered : (d : Decided) → IsPast d → answer_to who r d ≡ Some said → between.datagrams ≡ out.datagrams
+      ++ map sent (warnings_if (is_put_off d) (warnings s who r)) → Concludes (decided_step s who xid r d) took.Done (beside s) out out' entries log
   again-answered (Fresh verdict value) stale is e = absurd stale
   again-answered (Again verdict value) stale is e = is-alone (decided_answer who.inc verdict value r) is e
   again-answered Old stale is e = is-alone _ is e
@@ -116,9 +138,12 @@ module _ (s : Server) (who : Who) (xid : ℕ) (r : Request) (said : Answer) (out
   again-answered OutOfBounds stale is e = absurd (cc)
 
   -- each, by what was done beside the kept state
-  pub concluded : (d : Decided) (after : Beside) (log' : EntryList) → answer_to who r d ≡ Some said → between.datagrams ≡ out.datagrams ++ map sent (warnings_if (is_put_off d) (warnings s who r)) → All FitsPacket (warnings s who r) → DoesIfFresh s who r d (beside s) after log log' → Concludes (decided_step s who xid r d) took.Done after out out' entries log'
+  pub concluded : (d : Decided) (after : Beside) (log' : EntryList) → answer_to who r d ≡ Some said → between.datagrams ≡ out.datagrams
+      ++ map sent (warnings_if (is_put_off d) (warnings s who r)) → All FitsPacket (warnings s who r) → DoesIfFresh s who r d (beside s) after log
+      log' → Concludes (decided_step s who xid r d) took.Done after out out' entries log'
   concluded (Fresh verdict value) after log' is warns fit does = fresh-answered verdict value after log' is warns fit does
-  concluded (Again verdict value) after log' is warns fit does = unchanged (Again verdict value) after log' does (again-answered (Again verdict value) tt is warns)
+  concluded (Again verdict value) after log' is warns fit does = unchanged (Again verdict value) after log' does (again-answered (Again verdict value)
+      tt is warns)
   concluded Old after log' is warns fit does = unchanged Old after log' does (again-answered Old tt is warns)
   concluded OldIncarnation after log' is warns fit does = absurd (cc)
   concluded OutOfBounds after log' is warns fit does = absurd (cc)

@@ -23,7 +23,8 @@ use Rattle.nq_server.specs.declared.received.Taken.{Taken}
 use Rattle.nq_wire.specs.Outbox.{Datagrams}
 
 -- a request that was decided keeps the change of a fresh one, and nothing else
-decided-keeps : (s : Server) (who : Who) (xid : ℕ) (r : Request) (d : Decided) → (decided_step s who xid r d).server.kept ≡ applied_if s.kept (if_fresh d (fresh_change s.kept (gate_of s who r) r))
+decided-keeps : (s : Server) (who : Who) (xid : ℕ) (r : Request) (d : Decided) → (decided_step s who xid r d).server.kept ≡ applied_if s.kept
+    (if_fresh d (fresh_change s.kept (gate_of s who r) r))
 unfolding fresh_step drops says
 decided-keeps s who xid r (Fresh verdict value) = refl
 decided-keeps s who xid r (Again verdict value) = refl
@@ -44,12 +45,17 @@ module _ (held : Beside) (who : Who) (xid : ℕ) (r : Request) where
       ap (λ g. applied_if kept (change_of kept g r)) is
       ∙ sym (decided-keeps (server_of held kept) who xid r (decided kept (gate_of (server_of held kept) who r) r))
 
-  pub leaves-decided : (gate : Gate) (kept : Kept) (found : Option Kept) → gate ≡ gate_of (server_of held kept) who r → (found ≡ Some kept) ⊎ (found ≡ Some (applied_if kept (change_of kept gate r))) → (found ≡ Some kept) ⊎ (found ≡ Some (step kept).server.kept)
+  pub leaves-decided : (gate : Gate) (kept : Kept) (found : Option Kept) → gate ≡ gate_of (server_of held kept) who r → (found ≡ Some kept)
+      ⊎ (found ≡ Some (applied_if kept (change_of kept gate r))) → (found ≡ Some kept) ⊎ (found ≡ Some (step kept).server.kept)
   leaves-decided gate kept found is (inl e) = inl e
   leaves-decided gate kept found is (inr e) = inr (e ∙ ap Some (kept-decided gate kept is))
 
   -- it was decided, and answered
-  pub takes-decided : (gate : Gate) (d : Decided) (how : Taken) (told between tells : Option Kept) (before middle count : ℕ) (after : Beside) (out out' : Datagrams) (log log' : EntryList) → between ≡ told → middle ≡ before → ((kept : Kept) → told ≡ Some kept → gate ≡ gate_of (server_of held kept) who r) → Gives (λ kept. decided kept gate r) (λ kept. change_of kept gate r) (Ok d) between tells middle count → ((kept : Kept) → told ≡ Some kept → Concludes (decided_step (server_of held kept) who xid r d) how after out out' log log') → Takes step (Ok how) told tells before count held after out out' log log'
+  pub takes-decided : (gate : Gate) (d : Decided) (how : Taken) (told between tells : Option Kept) (before middle count : ℕ) (after : Beside)
+      (out out' : Datagrams) (log log' : EntryList) → between ≡ told → middle ≡ before → ((kept : Kept) → told ≡ Some kept
+      → gate ≡ gate_of (server_of held kept) who r) → Gives (λ kept. decided kept gate r) (λ kept. change_of kept gate r) (Ok d) between tells middle
+      count → ((kept : Kept) → told ≡ Some kept → Concludes (decided_step (server_of held kept) who xid r d) how after out out' log log')
+      → Takes step (Ok how) told tells before count held after out out' log log'
   takes-decided gate d how told between tells before middle count after out out' log log' stays same is gives concludes = (
     λ kept e.
         let given = gives.0 kept (stays ∙ e) in
@@ -71,7 +77,10 @@ module _ (held : Beside) (who : Who) (xid : ℕ) (r : Request) where
   )
 
 -- nothing was decided, and the datagrams were taken back
-pub takes-given-up : (fault : KeepFault) (step : Kept → ServerStep) (decision : Kept → Decided) (change : Kept → Option Change) (told between tells : Option Kept) (before middle count : ℕ) (held : Beside) (out out' : Datagrams) (log log' : EntryList) → between ≡ told → middle ≡ before → Gives decision change (Err fault) between tells middle count → SaysNothing out out' log log' → Takes step (Err fault) told tells before count held held out out' log log'
+pub takes-given-up : (fault : KeepFault) (step : Kept → ServerStep) (decision : Kept → Decided) (change : Kept → Option Change)
+    (told between tells : Option Kept) (before middle count : ℕ) (held : Beside) (out out' : Datagrams) (log log' : EntryList) → between ≡ told
+    → middle ≡ before → Gives decision change (Err fault) between tells middle count → SaysNothing out out' log log' → Takes step (Err fault) told
+    tells before count held held out out' log log'
 takes-given-up keep.Failed step decision change told between tells before middle count held out out' log log' stays same gives nothing =
     (subst (λ o. StaysOrEnds o tells) stays gives.0, subst (λ n. Rose n count) same gives.1, refl, nothing)
 takes-given-up keep.Memory step decision change told between tells before middle count held out out' log log' stays same gives nothing =

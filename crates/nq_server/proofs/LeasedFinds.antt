@@ -28,14 +28,17 @@ use Rattle.nq_server.specs.State.{Beside, server_of}
 abbrev pub with_asked : Server → Table → (notice : ℕ) → Server
 with_asked s table notice = record s { table = table; notice = notice }
 
-pub lease-leaves : (s : Server) (who : Who) (xid file : ℕ) (access : Access) (table : Table) (asked : Asked) → (lease_asked s who xid file access table asked).server ≡ with_asked s table (lease_asked s who xid file access table asked).server.notice
+pub lease-leaves : (s : Server) (who : Who) (xid file : ℕ) (access : Access) (table : Table) (asked : Asked)
+    → (lease_asked s who xid file access table asked).server ≡ with_asked s table (lease_asked s who xid file access table asked).server.notice
 unfolding tells_later leases after_notices with_table
 lease-leaves s who xid file access table (Asked.TryLater clash) = refl
 lease-leaves s who xid file access table (Asked.Granted grant) = refl
 lease-leaves s who xid file access table Asked.Free = refl
 lease-leaves s who xid file access table Asked.NoLease = refl
 
-pub read-leaves : (s : Server) (who : Who) (xid next call : ℕ) (file : File) (block : ℕ) (body : List ℕ) (access : Access) (table : Table) (asked : Asked) → (read_asked s who xid next call file block body access table asked).server ≡ with_asked s table (read_asked s who xid next call file block body access table asked).server.notice
+pub read-leaves : (s : Server) (who : Who) (xid next call : ℕ) (file : File) (block : ℕ) (body : List ℕ) (access : Access) (table : Table)
+    (asked : Asked) → (read_asked s who xid next call file block body access table asked).server ≡ with_asked s table (read_asked s who xid next call
+    file block body access table asked).server.notice
 unfolding tells_later serves after_notices with_table
 read-leaves s who xid next call file block body access table (Asked.TryLater clash) = refl
 read-leaves s who xid next call file block body access table (Asked.Granted grant) = refl
@@ -44,7 +47,8 @@ read-leaves s who xid next call file block body access table Asked.NoLease = ref
 
 -- ---- GETLEASE
 
-pub get-lease-stale : (s : Server) (who : Who) (xid : ℕ) (want : Want) (found : Option File) → None ≡ row_of_found found → get_lease s who xid want found ≡ says s who.host (reply xid (Answer.Refused who.inc Refusal.Stale))
+pub get-lease-stale : (s : Server) (who : Who) (xid : ℕ) (want : Want) (found : Option File) → None ≡ row_of_found found → get_lease s who xid want
+    found ≡ says s who.host (reply xid (Answer.Refused who.inc Refusal.Stale))
 get-lease-stale s who xid want None h = refl
 get-lease-stale s who xid want (Some file) h = absurd (cc)
 
@@ -52,7 +56,9 @@ get-lease-stale s who xid want (Some file) h = absurd (cc)
 abbrev leased : Server → (xid : ℕ) → Question → ServerStep
 leased s xid q = lease_asked s q.who xid q.file q.access (ask s.table q).table (ask s.table q).asked
 
-pub get-lease-found : (held : Beside) (kept : Kept) (who : Who) (xid : ℕ) (want : Want) (found : Option File) (row : FileRow) (q : Question) → Some row ≡ row_of_found found → q ≡ asks held who row (Some want) → get_lease (server_of held kept) who xid want found ≡ lease_asked (server_of held kept) q.who xid q.file q.access (ask held.table q).table (ask held.table q).asked
+pub get-lease-found : (held : Beside) (kept : Kept) (who : Who) (xid : ℕ) (want : Want) (found : Option File) (row : FileRow) (q : Question)
+    → Some row ≡ row_of_found found → q ≡ asks held who row (Some want) → get_lease (server_of held kept) who xid want found
+    ≡ lease_asked (server_of held kept) q.who xid q.file q.access (ask held.table q).table (ask held.table q).asked
 get-lease-found held kept who xid want None row q h is = absurd (cc)
 get-lease-found held kept who xid want (Some file) row q h is =
     let own : row_of file ≡ row = cc in
@@ -60,27 +66,33 @@ get-lease-found held kept who xid want (Some file) row q h is =
 
 -- ---- READ
 
-pub read-stale : (s : Server) (who : Who) (xid next call block : ℕ) (want : Option Want) (found : Option File) → ReadOut.Stale ≡ read_out block found → read s who xid next call block want found ≡ says s who.host (reply xid (Answer.Refused who.inc Refusal.Stale))
+pub read-stale : (s : Server) (who : Who) (xid next call block : ℕ) (want : Option Want) (found : Option File) → ReadOut.Stale ≡ read_out block found
+    → read s who xid next call block want found ≡ says s who.host (reply xid (Answer.Refused who.inc Refusal.Stale))
 read-stale s who xid next call block want None h = refl
 read-stale s who xid next call block want (Some file) h = step (slice_get file.bodies block) h
   where
-    step : (o : Option (List ℕ)) → ReadOut.Stale ≡ read_in file o → read s who xid next call block want (Some file) ≡ says s who.host (reply xid (Answer.Refused who.inc Refusal.Stale))
+    step : (o : Option (List ℕ)) → ReadOut.Stale ≡ read_in file o → read s who xid next call block want (Some file) ≡ says s who.host
+        (reply xid (Answer.Refused who.inc Refusal.Stale))
     step None e = absurd (cc)
     step (Some body) e = absurd (cc)
 
-pub read-invalid : (s : Server) (who : Who) (xid next call block : ℕ) (want : Option Want) (found : Option File) → ReadOut.Invalid ≡ read_out block found → read s who xid next call block want found ≡ says s who.host (reply xid (Answer.Refused who.inc Refusal.Inval))
+pub read-invalid : (s : Server) (who : Who) (xid next call block : ℕ) (want : Option Want) (found : Option File) → ReadOut.Invalid ≡ read_out block
+    found → read s who xid next call block want found ≡ says s who.host (reply xid (Answer.Refused who.inc Refusal.Inval))
 read-invalid s who xid next call block want None h = absurd (cc)
 read-invalid s who xid next call block want (Some file) h = step (slice_get file.bodies block) refl h
   where
-    step : (o : Option (List ℕ)) → slice_get file.bodies block ≡ o → ReadOut.Invalid ≡ read_in file o → read s who xid next call block want (Some file) ≡ says s who.host (reply xid (Answer.Refused who.inc Refusal.Inval))
+    step : (o : Option (List ℕ)) → slice_get file.bodies block ≡ o → ReadOut.Invalid ≡ read_in file o → read s who xid next call block want
+        (Some file) ≡ says s who.host (reply xid (Answer.Refused who.inc Refusal.Inval))
     step None d e = ap (read_block s who xid next call file block want) d
     step (Some body) d e = absurd (cc)
 
 -- the row and the body are those of the file
-got-both : (block : ℕ) (file : File) (row : FileRow) (body : List ℕ) → ReadOut.Got row body ≡ read_out block (Some file) → (row_of file ≡ row) × (slice_get file.bodies block ≡ Some body)
+got-both : (block : ℕ) (file : File) (row : FileRow) (body : List ℕ) → ReadOut.Got row body ≡ read_out block (Some file) → (row_of file ≡ row)
+    × (slice_get file.bodies block ≡ Some body)
 got-both block file row body h = step (slice_get file.bodies block) refl h
   where
-    step : (o : Option (List ℕ)) → slice_get file.bodies block ≡ o → ReadOut.Got row body ≡ read_in file o → (row_of file ≡ row) × (slice_get file.bodies block ≡ Some body)
+    step : (o : Option (List ℕ)) → slice_get file.bodies block ≡ o → ReadOut.Got row body ≡ read_in file o → (row_of file ≡ row)
+        × (slice_get file.bodies block ≡ Some body)
     step None d e = absurd (cc)
     step (Some found) d e = let own : row_of file ≡ row = cc in let same : found ≡ body = cc in (own, d ∙ ap Some same)
 
@@ -89,10 +101,14 @@ abbrev served : Server → (xid next call block : ℕ) → (file : File) → (bo
 served s xid next call block file body q =
     read_asked s q.who xid next call file block body q.access (ask s.table q).table (ask s.table q).asked
 
-read-has : (s : Server) (who : Who) (xid next call block : ℕ) (want : Option Want) (file : File) (body : List ℕ) → slice_get file.bodies block ≡ Some body → read s who xid next call block want (Some file) ≡ read_of s who xid next call file block body want (ask s.table (to_read s who file want))
+read-has : (s : Server) (who : Who) (xid next call block : ℕ) (want : Option Want) (file : File) (body : List ℕ) → slice_get file.bodies block
+    ≡ Some body → read s who xid next call block want (Some file) ≡ read_of s who xid next call file block body want (ask s.table (to_read s who file want))
 read-has s who xid next call block want file body has = ap (read_block s who xid next call file block want) has
 
-pub read-found : (held : Beside) (kept : Kept) (who : Who) (xid next call block : ℕ) (want : Option Want) (found : Option File) (row : FileRow) (body : List ℕ) (q : Question) → ReadOut.Got row body ≡ read_out block found → q ≡ asks held who row want → read (server_of held kept) who xid next call block want found ≡ read_asked (server_of held kept) q.who xid next call (file_asked q) block body q.access (ask held.table q).table (ask held.table q).asked
+pub read-found : (held : Beside) (kept : Kept) (who : Who) (xid next call block : ℕ) (want : Option Want) (found : Option File) (row : FileRow)
+    (body : List ℕ) (q : Question) → ReadOut.Got row body ≡ read_out block found → q ≡ asks held who row want → read (server_of held kept) who xid
+    next call block want found ≡ read_asked (server_of held kept) q.who xid next call (file_asked q) block body q.access (ask held.table q).table
+    (ask held.table q).asked
 read-found held kept who xid next call block want None row body q h is = absurd (cc)
 read-found held kept who xid next call block want (Some file) row body q h is =
     let s = server_of held kept in
@@ -101,4 +117,5 @@ read-found held kept who xid next call block want (Some file) row body q h is =
     let asked : q ≡ asks held who (row_of file) want = is ∙ ap (λ r. asks held who r want) (sym own) in
     read-has s who xid next call block want file body both.1
     ∙ ap (served s xid next call block file body) (sym asked)
-    ∙ read-alike s q.who xid next call file (file_asked q) block body q.access (ask held.table q).table (ask held.table q).asked (sym (ap (λ x. x.file) asked)) (sym (ap (λ x. x.rev) asked))
+    ∙ read-alike s q.who xid next call file (file_asked q) block body q.access (ask held.table q).table (ask held.table q).asked
+    (sym (ap (λ x. x.file) asked)) (sym (ap (λ x. x.rev) asked))

@@ -21,6 +21,7 @@ otherwise true x y e = absurd (cc)
 otherwise false x y e = refl
 
 -- one of another host is dropped
-pub answers-nobody : (s : Server) (sender xid next : ℕ) (r : Request) (who : Who) → (who.host == sender && nat_lt who.host most_hosts) ≡ false → answer_request s sender xid next r (Some who) ≡ drops s wrong_host
+pub answers-nobody : (s : Server) (sender xid next : ℕ) (r : Request) (who : Who) → (who.host == sender && nat_lt who.host most_hosts) ≡ false
+    → answer_request s sender xid next r (Some who) ≡ drops s wrong_host
 answers-nobody s sender xid next r who h =
     otherwise (who.host == sender && nat_lt who.host most_hosts) (admit s who xid next r (host_row s.kept who.host)) (drops s wrong_host) h

@@ -17,7 +17,10 @@ use Rattle.nq_server.specs.Stepping.{Takes, Makes, cause_of, outcome_of}
 use Rattle.nq_wire.specs.Outbox.{Datagrams}
 
 -- the same step, told in other words, after what is kept was read
-pub takes-after : (step base : Kept → ServerStep) (result : Result Taken KeepFault) (told between tells : Option Kept) (before middle count : ℕ) (held after : Beside) (out out' : Datagrams) (log log' : EntryList) → between ≡ told → middle ≡ before → ((kept : Kept) → told ≡ Some kept → step kept ≡ base kept) → Takes base result between tells middle count held after out out' log log' → Takes step result told tells before count held after out out' log log'
+pub takes-after : (step base : Kept → ServerStep) (result : Result Taken KeepFault) (told between tells : Option Kept) (before middle count : ℕ)
+    (held after : Beside) (out out' : Datagrams) (log log' : EntryList) → between ≡ told → middle ≡ before → ((kept : Kept) → told ≡ Some kept
+    → step kept ≡ base kept) → Takes base result between tells middle count held after out out' log log' → Takes step result told tells before count
+    held after out out' log log'
 takes-after step base (Ok how) told between tells before middle count held after out out' log log' stays same is h = (
   λ kept e.
       subst
@@ -32,17 +35,28 @@ takes-after step base (Err Failed) told between tells before middle count held a
     (subst (λ o. StaysOrEnds o tells) stays h.0, subst (λ n. Rose n count) same h.1, h.2, h.3)
 
 -- a datagram is dropped, after what is kept was read
-pub takes-dropped : (reason : Reason) (step : Kept → ServerStep) (told tells : Option Kept) (before count : ℕ) (held : Beside) (out : Datagrams) (log : EntryList) → tells ≡ told → count ≡ before → ((kept : Kept) → told ≡ Some kept → step kept ≡ drops (server_of held kept) (cause_of reason)) → Takes step (Ok (Dropped reason)) told tells before count held held out out log log
+pub takes-dropped : (reason : Reason) (step : Kept → ServerStep) (told tells : Option Kept) (before count : ℕ) (held : Beside) (out : Datagrams)
+    (log : EntryList) → tells ≡ told → count ≡ before → ((kept : Kept) → told ≡ Some kept → step kept ≡ drops (server_of held kept) (cause_of reason))
+    → Takes step (Ok (Dropped reason)) told tells before count held held out out log log
 unfolding drops
 takes-dropped reason step told tells before count held out log stays same is = (
   λ kept e.
       subst
       (λ s. (s.outcome ≡ outcome_of (Dropped reason)) × Makes s tells held out out log log)
-      (sym (is kept e))
-      (refl, record { keeps = stays ∙ e; holds = refl; sends = record { first = refl; added = sym (append-nil _); fit = All-nil FitsPacket }; enters = sym (append-nil _) }),
+      (sym (is kept e)) (
+        refl,
+        record {
+          keeps = stays ∙ e;
+          holds = refl;
+          sends = record { first = refl; added = sym (append-nil _); fit = All-nil FitsPacket };
+          enters =
+              sym (append-nil _);
+        },
+      ),
   same,
 )
 
 -- a stop leaves what it leaves of the same step in other words
-pub leaves-as : (found : Option Kept) (kept : Kept) (base step : ServerStep) → step ≡ base → (found ≡ Some kept) ⊎ (found ≡ Some base.server.kept) → (found ≡ Some kept) ⊎ (found ≡ Some step.server.kept)
+pub leaves-as : (found : Option Kept) (kept : Kept) (base step : ServerStep) → step ≡ base → (found ≡ Some kept) ⊎ (found ≡ Some base.server.kept)
+    → (found ≡ Some kept) ⊎ (found ≡ Some step.server.kept)
 leaves-as found kept base step is h = subst (λ s. (found ≡ Some kept) ⊎ (found ≡ Some s.server.kept)) (sym is) h

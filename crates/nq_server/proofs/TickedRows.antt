@@ -21,7 +21,8 @@ due-after-reading now [] = refl
 due-after-reading now (row ∷ rows) =
     step (is_over now row) (is_due now row) refl (over-is-not-due (is_writing row.mode) _ _) (due-after-reading now rows)
   where
-    step : (o d : Bool) → is_due now row ≡ d → (o ≡ true → d ≡ false) → find (is_due now) (end_reading now rows) ≡ find (is_due now) rows → find (is_due now) (if not o then row ∷ end_reading now rows else end_reading now rows) ≡ (if d then Some row else find (is_due now) rows)
+    step : (o d : Bool) → is_due now row ≡ d → (o ≡ true → d ≡ false) → find (is_due now) (end_reading now rows) ≡ find (is_due now) rows
+        → find (is_due now) (if not o then row ∷ end_reading now rows else end_reading now rows) ≡ (if d then Some row else find (is_due now) rows)
     step true true e h rest = absurd (cc (h refl))
     step true false e h rest = rest
     step false d e h rest =
@@ -32,9 +33,11 @@ pub filters-commute : (p q : Row → Bool) (rows : List Row) → filter p (filte
 filters-commute p q [] = refl
 filters-commute p q (row ∷ rows) = step (p row) (q row) refl refl (filters-commute p q rows)
   where
-    step : (a b : Bool) → p row ≡ a → q row ≡ b → filter p (filter q rows) ≡ filter q (filter p rows) → filter p (if b then row ∷ filter q rows else filter q rows) ≡ filter q (if a then row ∷ filter p rows else filter p rows)
+    step : (a b : Bool) → p row ≡ a → q row ≡ b → filter p (filter q rows) ≡ filter q (filter p rows) → filter p (if b then row ∷ filter q rows
+        else filter q rows) ≡ filter q (if a then row ∷ filter p rows else filter p rows)
     step true true ea eb rest =
-        ap (λ c. if c then row ∷ filter p (filter q rows) else filter p (filter q rows)) ea ∙ ap (λ t. row ∷ t) rest ∙ sym (ap (λ c. if c then row ∷ filter q (filter p rows) else filter q (filter p rows)) eb)
+        ap (λ c. if c then row ∷ filter p (filter q rows) else filter p (filter q rows)) ea ∙ ap (λ t. row ∷ t) rest
+        ∙ sym (ap (λ c. if c then row ∷ filter q (filter p rows) else filter q (filter p rows)) eb)
     step true false ea eb rest =
         rest ∙ sym (ap (λ c. if c then row ∷ filter q (filter p rows) else filter q (filter p rows)) eb)
     step false true ea eb rest =
@@ -64,6 +67,7 @@ run-later time now (row ∷ rows) later h = step (is_over now row) refl (run-lat
     own : is_over now row ≡ false → Runs now row
     own e c = let before = h.0 c in let yet = not-over-yet now row.mode row.until e c in (yet, omega arith)
 
-    step : (o : Bool) → is_over now row ≡ o → RowsRun now (end_reading now rows) → RowsRun now (if not o then row ∷ end_reading now rows else end_reading now rows)
+    step : (o : Bool) → is_over now row ≡ o → RowsRun now (end_reading now rows) → RowsRun now (if not o then row ∷ end_reading now rows
+        else end_reading now rows)
     step true e rest = rest
     step false e rest = (own e, rest)

@@ -22,7 +22,8 @@ use Rattle.nq_wire.specs.Outbox.{Datagrams}
 
 -- two fresh steps that differ in what they keep do the same beside it
 module _ (s : Server) (who : Who) (xid : ℕ) (how : Taken) (after : Beside) (out out' : Datagrams) (log log' : EntryList) where
-  alike : (change told : Change) (done : Aside) (answer : Answer) → Concludes (fresh_step s who xid told done answer) how after out out' log log' → Concludes (fresh_step s who xid change done answer) how after out out' log log'
+  alike : (change told : Change) (done : Aside) (answer : Answer) → Concludes (fresh_step s who xid told done answer) how after out out' log log'
+      → Concludes (fresh_step s who xid change done answer) how after out out' log log'
   unfolding fresh_step
   alike change told done answer h = record {
     outcome = h.outcome;
@@ -31,15 +32,18 @@ module _ (s : Server) (who : Who) (xid : ℕ) (how : Taken) (after : Beside) (ou
 
 -- what is done aside
 module _ (s : Server) (who w : Who) (seq file block first last : ℕ) (body : List ℕ) where
-  told-written : (push : Option PushBase) → written_aside s who file block first last push (filled (value_of body)) ≡ written_aside s who file block first last push body
+  told-written : (push : Option PushBase) → written_aside s who file block first last push (filled (value_of body)) ≡ written_aside s who file block
+      first last push body
   told-written None = ap (λ v. entry_aside s (Entry.W who file block first v true)) (filled-value (value_of body))
   told-written (Some base) = refl
 
-  told-done : (phase : Phase) (push : Option PushBase) → done_aside s phase who (Write w seq file block first last push (filled (value_of body))) ≡ done_aside s phase who (Write w seq file block first last push body)
+  told-done : (phase : Phase) (push : Option PushBase) → done_aside s phase who (Write w seq file block first last push (filled (value_of body)))
+      ≡ done_aside s phase who (Write w seq file block first last push body)
   told-done serving push = told-written push
   told-done (recovering until heard final) push = refl
 
-  told-aside : (phase : Phase) (push : Option PushBase) (verdict : Verdict) → aside_in s phase who (Write w seq file block first last push (filled (value_of body))) verdict ≡ aside_in s phase who (Write w seq file block first last push body) verdict
+  told-aside : (phase : Phase) (push : Option PushBase) (verdict : Verdict) → aside_in s phase who (Write w seq file block first last push
+      (filled (value_of body))) verdict ≡ aside_in s phase who (Write w seq file block first last push body) verdict
   told-aside phase push Verdict.Done = told-done phase push
   told-aside phase push Verdict.Fenced = refl
   told-aside phase push Verdict.Exist = refl
@@ -48,7 +52,8 @@ module _ (s : Server) (who w : Who) (seq file block first last : ℕ) (body : Li
   told-aside phase push Verdict.Stale = refl
   told-aside phase push Verdict.TryLater = refl
 
-  told-answer : (inc value : ℕ) (push : Option PushBase) (verdict : Verdict) → decided_answer inc verdict value (Write w seq file block first last push (filled (value_of body))) ≡ decided_answer inc verdict value (Write w seq file block first last push body)
+  told-answer : (inc value : ℕ) (push : Option PushBase) (verdict : Verdict) → decided_answer inc verdict value (Write w seq file block first last
+      push (filled (value_of body))) ≡ decided_answer inc verdict value (Write w seq file block first last push body)
   told-answer inc value push Verdict.Done = refl
   told-answer inc value push Verdict.Fenced = refl
   told-answer inc value push Verdict.Exist = refl
@@ -58,12 +63,16 @@ module _ (s : Server) (who w : Who) (seq file block first last : ℕ) (body : Li
   told-answer inc value push Verdict.TryLater = refl
 
 module _ (s : Server) (who : Who) (xid : ℕ) where
-  written-told : (w : Who) (seq file block first last : ℕ) (push : Option PushBase) (body : List ℕ) (d : Decided) (how : Taken) (after : Beside) (out out' : Datagrams) (log log' : EntryList) → Concludes (decided_step s who xid (Write w seq file block first last push (filled (value_of body))) d) how after out out' log log' → Concludes (decided_step s who xid (Write w seq file block first last push body) d) how after out out' log log'
+  written-told : (w : Who) (seq file block first last : ℕ) (push : Option PushBase) (body : List ℕ) (d : Decided) (how : Taken) (after : Beside)
+      (out out' : Datagrams) (log log' : EntryList) → Concludes (decided_step s who xid (Write w seq file block first last push
+      (filled (value_of body))) d) how after out out' log log' → Concludes (decided_step s who xid (Write w seq file block first last push body) d)
+      how after out out' log log'
   written-told w seq file block first last push body (Fresh verdict value) how after out out' log log' h =
       let told : Request = Write w seq file block first last push (filled (value_of body)) in
       let r : Request = Write w seq file block first last push body in
       let change : Change = fresh_change s.kept (gate_of s who told) told in
-      alike s who xid how after out out' log log' (fresh_change s.kept (gate_of s who r) r) change (aside_in s s.phase who r verdict) (decided_answer who.inc verdict value r)
+      alike s who xid how after out out' log log' (fresh_change s.kept (gate_of s who r) r) change (aside_in s s.phase who r verdict)
+      (decided_answer who.inc verdict value r)
       (subst
       (λ done. Concludes (fresh_step s who xid change done (decided_answer who.inc verdict value r)) how after out out' log log')
       (told-aside s who w seq file block first last body s.phase push verdict)
@@ -78,8 +87,10 @@ module _ (s : Server) (who : Who) (xid : ℕ) where
   written-told w seq file block first last push body NotAttached how after out out' log log' h = h
   written-told w seq file block first last push body OutOfBounds how after out out' log log' h = h
 
-  any-told : (r : Request) (d : Decided) (how : Taken) (after : Beside) (out out' : Datagrams) (log log' : EntryList) → Concludes (decided_step s who xid (as_told r) d) how after out out' log log' → Concludes (decided_step s who xid r d) how after out out' log log'
-  any-told (Write w seq file block first last push body) d how after out out' log log' h = written-told w seq file block first last push body d how after out out' log log' h
+  any-told : (r : Request) (d : Decided) (how : Taken) (after : Beside) (out out' : Datagrams) (log log' : EntryList)
+      → Concludes (decided_step s who xid (as_told r) d) how after out out' log log' → Concludes (decided_step s who xid r d) how after out out' log log'
+  any-told (Write w seq file block first last push body) d how after out out' log log' h = written-told w seq file block first last push body d how
+      after out out' log log' h
   any-told Null d how after out out' log log' h = h
   any-told (Attach w) d how after out out' log log' h = h
   any-told (Lookup w name) d how after out out' log log' h = h
@@ -93,7 +104,9 @@ module _ (s : Server) (who : Who) (xid : ℕ) where
   any-told (Remove w seq q file) d how after out out' log log' h = h
 
   -- a request that was answered as one without its body was answered
-  pub concludes-told : (r told : Request) (d : Decided) (how : Taken) (after : Beside) (out out' : Datagrams) (log log' : EntryList) → told ≡ as_told r → Concludes (decided_step s who xid told d) how after out out' log log' → Concludes (decided_step s who xid r d) how after out out' log log'
+  pub concludes-told : (r told : Request) (d : Decided) (how : Taken) (after : Beside) (out out' : Datagrams) (log log' : EntryList)
+      → told ≡ as_told r → Concludes (decided_step s who xid told d) how after out out' log log' → Concludes (decided_step s who xid r d) how after
+      out out' log log'
   concludes-told r told d how after out out' log log' is h =
       any-told r d how after out out' log log'
       (subst (λ t. Concludes (decided_step s who xid t d) how after out out' log log') is h)

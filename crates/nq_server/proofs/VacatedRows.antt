@@ -11,7 +11,8 @@ use Rattle.nq_server.specs.declared.state.Phase.TheVariants.{Serving, Recovering
 use Rattle.nq_server.specs.Sound.{RowsRun, IsOfBoot}
 
 -- the rows run, where they ran before
-pub vacated-run : (time : ℕ) (who : Who) (file : ℕ) (tag : Tag) (rows : List Row) (own : Option Row) → RowsRun time rows → RowsRun time (vacated_rows who file tag rows own)
+pub vacated-run : (time : ℕ) (who : Who) (file : ℕ) (tag : Tag) (rows : List Row) (own : Option Row) → RowsRun time rows
+    → RowsRun time (vacated_rows who file tag rows own)
 vacated-run time who file tag rows None h = h
 vacated-run time who file tag rows (Some row) h = step (row.who.inc == who.inc && same_tag row.tag tag)
   where
@@ -28,7 +29,8 @@ vacated-none who file tag (Some row) = step (row.who.inc == who.inc && same_tag 
     step true = refl
     step false = refl
 
-pub vacated-of-boot : (longest : ℕ) (phase : Phase) (who : Who) (file : ℕ) (tag : Tag) (rows : List Row) (own : Option Row) → IsOfBoot longest phase rows → IsOfBoot longest phase (vacated_rows who file tag rows own)
+pub vacated-of-boot : (longest : ℕ) (phase : Phase) (who : Who) (file : ℕ) (tag : Tag) (rows : List Row) (own : Option Row) → IsOfBoot longest phase
+    rows → IsOfBoot longest phase (vacated_rows who file tag rows own)
 vacated-of-boot longest (Serving boot) who file tag rows own h = tt
 vacated-of-boot longest (Recovering recovery last) who file tag rows own h =
     (h.0, rw h.1 (vacated-none who file tag own))

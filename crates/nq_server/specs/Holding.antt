@@ -9,7 +9,6 @@ use Rattle.nq_keeper.specs.Keeping.{StaysOrEnds}
 use Rattle.nq_model.specs.Kept.{Kept}
 use Rattle.nq_model.specs.Server.{Server, ServerStep, Outcome, taken, dropped}
 use Rattle.nq_model.specs.ServerStep.{at_time, boot, crash}
-use Rattle.nq_model.specs.Table.{Table}
 use Rattle.nq_server.specs.declared.received.Received.{Received}
 use Rattle.nq_server.specs.declared.received.Received.TheVariants.{Done, Dropped, Fault, Memory, Spent}
 use Rattle.nq_server.specs.declared.server.BootFault.{BootFault}
@@ -52,7 +51,8 @@ Boots longest time (Err (fault.Spent keeper)) told tells before count =
     ForSome told (λ kept. kept.boot ≡ last_boot) × (tells ≡ told) × (count ≡ before)
 
 -- an event was taken in as this step, with this outcome
-pub record TakesIn {K : Type 0} (step : ServerStep) (how : Outcome) (tells : Option Kept) (new : Holding K) (out out' : Datagrams) (log log' : EntryList) : Type 0 where
+pub record TakesIn {K : Type 0} (step : ServerStep) (how : Outcome) (tells : Option Kept) (new : Holding K) (out out' : Datagrams)
+    (log log' : EntryList) : Type 0 where
   pub outcome : step.outcome ≡ how
   pub makes : Makes step tells new.beside out out' log log'
 
@@ -62,7 +62,8 @@ pub record IsRefused {K : Type 0} (old new : Holding K) (out out' : Datagrams) (
   pub silent : SaysNothing out out' log log'
 
 -- what a call does that takes an event in, by its answer: it makes the step of the kept state that was told, or changes nothing
-abbrev pub IsTaken : {K : Type 0} → (step : Kept → ServerStep) → Received → (told tells : Option Kept) (before count : ℕ) (old new : Holding K) (out out' : Datagrams) (log log' : EntryList) → Type 0
+abbrev pub IsTaken : {K : Type 0} → (step : Kept → ServerStep) → Received → (told tells : Option Kept) (before count : ℕ) (old new : Holding K)
+    (out out' : Datagrams) (log log' : EntryList) → Type 0
 IsTaken step Done told tells before count old new out out' log log' =
     ForSome told (λ kept. TakesIn (step kept) taken tells new out out' log log')
     × (count ≡ before) × (new.taken ≡ old.taken + 1)
@@ -88,7 +89,8 @@ pub record HasNotCrashed {K : Type 0} (old new : Holding K) (log log' : EntryLis
   pub entries : log'.entries ≡ log.entries
 
 -- what a crash does, by the answer; nothing is ever dropped
-abbrev pub Reboots : {K : Type 0} → (longest time : ℕ) → Received → (told tells : Option Kept) (before count : ℕ) (old new : Holding K) (log log' : EntryList) → Type 0
+abbrev pub Reboots : {K : Type 0} → (longest time : ℕ) → Received → (told tells : Option Kept) (before count : ℕ) (old new : Holding K)
+    (log log' : EntryList) → Type 0
 Reboots longest time Done told tells before count old new log log' =
     ForSome told (λ kept. (kept.boot < last_boot) × HasCrashed (crash (at_time (server_of old.beside kept) time) longest) tells new log log')
     × (count ≡ before) × (new.taken ≡ 0)

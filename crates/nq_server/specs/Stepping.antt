@@ -10,7 +10,8 @@ use Rattle.nq_io.specs.Faults.{Rose}
 use Rattle.nq_base.specs.Entries.{EntryList}
 use Rattle.nq_keeper.specs.Keeping.{StaysOrEnds}
 use Rattle.nq_model.specs.Kept.{Kept}
-use Rattle.nq_model.specs.Message.{Packet, Reason as Cause, was_too_long, was_no_message, was_no_call, wrong_host, old_incarnation, out_of_bounds, no_reply_owed}
+use Rattle.nq_model.specs.Message.{Packet, Reason as Cause, was_too_long, was_no_message, was_no_call, wrong_host, old_incarnation, out_of_bounds}
+use Rattle.nq_model.specs.Message.{no_reply_owed}
 use Rattle.nq_model.specs.Server.{ServerStep, Outcome, taken, dropped}
 use Rattle.nq_xdr.specs.RpcFault.{fault_number}
 use Rattle.nq_keeper.specs.declared.KeepFault.{KeepFault}
@@ -70,7 +71,8 @@ pub record SaysNothing (out out' : Datagrams) (log log' : EntryList) : Type 0 wh
   pub entries : log'.entries ≡ log.entries
 
 -- what a call does, by its answer: it makes the step of the kept state that was told, or changes nothing
-abbrev pub Takes : (step : Kept → ServerStep) → Result Taken KeepFault → (told tells : Option Kept) (before count : ℕ) (held after : Beside) (out out' : Datagrams) (log log' : EntryList) → Type 0
+abbrev pub Takes : (step : Kept → ServerStep) → Result Taken KeepFault → (told tells : Option Kept) (before count : ℕ) (held after : Beside)
+    (out out' : Datagrams) (log log' : EntryList) → Type 0
 Takes step (Ok how) told tells before count held after out out' log log' =
     ForSome told (λ kept. ((step kept).outcome ≡ outcome_of how) × Makes (step kept) tells after out out' log log')
     × (count ≡ before)

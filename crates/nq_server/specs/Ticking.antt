@@ -30,7 +30,8 @@ EndsRow time (Some row) None table after told tells =
 EndsRow time None (Some fence) table after told tells = ⊥
 
 -- the writing row that is due first ended, if there is one; or nothing changed
-abbrev pub EndsFirst : (time : ℕ) → Option Row → Result (Option Fence) KeepFault → (table after : Table) → (told tells : Option Kept) → (before count : ℕ) → Type 0
+abbrev pub EndsFirst : (time : ℕ) → Option Row → Result (Option Fence) KeepFault → (table after : Table) → (told tells : Option Kept)
+    → (before count : ℕ) → Type 0
 EndsFirst time due (Ok fence) table after told tells before count =
     EndsRow time due fence table after told tells × (count ≡ before)
 EndsFirst time due (Err keep.Memory) table after told tells before count =

@@ -122,7 +122,8 @@ module _ {D : Type 0} (told : D → Option (List ℕ)) (faults : D → ℕ) (may
       LeavesKept (leaves first.disk last.disk)) longest turns store ended served clock clock' link link') code turns store left link link' held
       now w w'
       → ServesStore told faults may_leave follows leaves code longest turns disk left clock clock' link link' held now w w'
-  serves_opened longest code turns disk store left clock clock' link link' held now w w' result is stays parts rises stands content fresh answers opens like e =
+  serves_opened longest code turns disk store left clock clock' link link' held now w w' result is stays parts rises stands content fresh answers
+      opens like e =
       let keeps : content_of told store ≡ kept_told (told disk) =
       subst (λ (r : Result (StoredStore D) (OpenFault D)). IfOk r (λ s. content_of told s ≡ kept_told (told disk))) is content in
       let goes : follows disk store.disk = subst (λ (r : Result (StoredStore D) (OpenFault D)). FollowsOpen (λ s. s.disk) follows r disk) is opens in

@@ -34,31 +34,41 @@ IsWhyNot told faults disk (opening.Memory back) = faults back ≡ faults disk
 -- The disk was not served from. The clock and the link were not asked. Where it had a byte and was refused for its bytes, it has them, but that the
 -- ranges of an open record may have been written; and where all that a stop might have left of it at first stood for one kept state, all that a stop
 -- at any moment leaves stands for it
-pub record ServesNot {D : Type 0} (told : D → Option (List ℕ)) (faults : D → ℕ) (may_leave : D → List ℕ → Type 0) (leaves : D → D → List ℕ → Type 0) (disk : D) (fault : OpenFault D) (clock clock' : ClockTold) (link link' : LinkTold) : Type 0 where
+pub record ServesNot {D : Type 0} (told : D → Option (List ℕ)) (faults : D → ℕ) (may_leave : D → List ℕ → Type 0) (leaves : D → D → List ℕ → Type 0)
+    (disk : D) (fault : OpenFault D) (clock clock' : ClockTold) (link link' : LinkTold) : Type 0 where
   pub why : IsWhyNot told faults disk fault
   pub clocks : clock' ≡ clock
   pub links : link' ≡ link
   pub stays : ForSome (told disk) (λ bytes. 0 < length bytes → StaysBack told fault bytes)
-  pub survives : ForSome (told disk) (λ bytes. 0 < length bytes → (kept : Kept) → AllStandFor (may_leave disk) kept → AllStandFor (leaves disk (back_of fault)) kept)
+  pub survives : ForSome (told disk) (λ bytes. 0 < length bytes → (kept : Kept) → AllStandFor (may_leave disk) kept
+      → AllStandFor (leaves disk (back_of fault)) kept)
 
 -- a store was served from, and ended so; this disk is left, which is the store's
-pub record EndsServing {D : Type 0} (told : D → Option (List ℕ)) (faults : D → ℕ) (follows : D → D → Type 0) (leaves : D → D → List ℕ → Type 0) (longest turns : ℕ) (store : StoredStore D) (ended : Result Unit Halt) (left : D) (clock clock' : ClockTold) (link link' : LinkTold) : Type 0 where
+pub record EndsServing {D : Type 0} (told : D → Option (List ℕ)) (faults : D → ℕ) (follows : D → D → Type 0) (leaves : D → D → List ℕ → Type 0)
+    (longest turns : ℕ) (store : StoredStore D) (ended : Result Unit Halt) (left : D) (clock clock' : ClockTold) (link link' : LinkTold) : Type 0 where
   pub served : StoredStore D
   pub handed : left ≡ served.disk
   pub same : GoesOn faults follows store served
   pub cause : EndsBy ended (content_of told store) (faults_of faults store) (faults_of faults served)
-  pub serving : LeavesServing (content_of told) (faults_of faults) (GoesOn faults follows) (λ first last. LeavesKept (leaves first.disk last.disk)) longest turns store ended served clock clock' link link'
+  pub serving : LeavesServing (content_of told) (faults_of faults) (GoesOn faults follows) (λ first last. LeavesKept (leaves first.disk last.disk))
+      longest turns store ended served clock clock' link link'
 
 -- this image, which a stop left, opens, and stands for what was kept at first, or after some of the steps: the boot, and the ticks and datagrams of
 -- the turns
-abbrev pub IsFoundAmong : {D : Type 0} → (told : D → Option (List ℕ)) → (faults : D → ℕ) → (follows : D → D → Type 0) → (leaves : D → D → List ℕ → Type 0) → (longest turns : ℕ) → (store : StoredStore D) → (ended : Result Unit Halt) → (left : D) → (clock clock' : ClockTold) → (link link' : LinkTold) → EndsServing told faults follows leaves longest turns store ended left clock clock' link link' → (kept : Kept) → (image : List ℕ) → Type 0
+abbrev pub IsFoundAmong : {D : Type 0} → (told : D → Option (List ℕ)) → (faults : D → ℕ) → (follows : D → D → Type 0) → (leaves : D → D → List ℕ
+    → Type 0) → (longest turns : ℕ) → (store : StoredStore D) → (ended : Result Unit Halt) → (left : D) → (clock clock' : ClockTold)
+    → (link link' : LinkTold) → EndsServing told faults follows leaves longest turns store ended left clock clock' link link' → (kept : Kept)
+    → (image : List ℕ) → Type 0
 IsFoundAmong told faults follows leaves longest turns store ended left clock clock' link link' ends kept image =
-    IsLeftInRuns (content_of told) (faults_of faults) (GoesOn faults follows) longest turns ends.serving.serves.time store ended ends.served ends.serving.serves.between clock' link link' ends.serving.serves.runs kept (kept_on image)
+    IsLeftInRuns (content_of told) (faults_of faults) (GoesOn faults follows) longest turns ends.serving.serves.time store ended ends.served
+    ends.serving.serves.between clock' link link' ends.serving.serves.runs kept (kept_on image)
 
 -- The disk was made ready and opened as a store, which was served from. Where the disk had a byte, and all that a stop might have left of it at first
 -- stood for one kept state, whatever a stop at any moment of the call leaves opens, and stands for that or for what was kept after some of the
 -- steps. Where it had none, the same is so of a stop at any moment from then on that the image was made, for the state in which nothing is kept
-pub record ServesImage {D : Type 0} (told : D → Option (List ℕ)) (faults : D → ℕ) (may_leave : D → List ℕ → Type 0) (follows : D → D → Type 0) (leaves : D → D → List ℕ → Type 0) (longest turns : ℕ) (disk : D) (ended : Result Unit Halt) (left : D) (clock clock' : ClockTold) (link link' : LinkTold) : Type 0 where
+pub record ServesImage {D : Type 0} (told : D → Option (List ℕ)) (faults : D → ℕ) (may_leave : D → List ℕ → Type 0) (follows : D → D → Type 0)
+    (leaves : D → D → List ℕ → Type 0) (longest turns : ℕ) (disk : D) (ended : Result Unit Halt) (left : D) (clock clock' : ClockTold)
+    (link link' : LinkTold) : Type 0 where
   pub ready : D
   pub is_ready : IsReady told faults may_leave follows leaves disk ready
   pub store : StoredStore D

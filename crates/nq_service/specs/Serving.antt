@@ -48,10 +48,14 @@ StaysSame before leaves = (kept : Kept) → AllStandFor before kept → AllStand
 -- What was done over a store when serving ended so. Where all that a stop might have left of the disk at first stood for one kept state,
 -- whatever a stop at any moment may leave opens, and stands for that, or for what was kept after some of the steps: the boot, and the ticks
 -- and datagrams of the turns
-pub record Survives {D : Type 0} (told : D → Option (List ℕ)) (faults : D → ℕ) (may_leave : D → List ℕ → Type 0) (follows : D → D → Type 0) (leaves : D → D → List ℕ → Type 0) (longest turns : ℕ) (disk : D) (store : StoredStore D) (ended : Result Unit Halt) (left : StoredStore D) (clock clock' : ClockTold) (link link' : LinkTold) : Type 0 where
-  pub serving : LeavesServing (content_of told) (faults_of faults) (GoesOn faults follows) (λ first last. LeavesKept (leaves first.disk last.disk)) longest turns store ended left clock clock' link link'
+pub record Survives {D : Type 0} (told : D → Option (List ℕ)) (faults : D → ℕ) (may_leave : D → List ℕ → Type 0) (follows : D → D → Type 0)
+    (leaves : D → D → List ℕ → Type 0) (longest turns : ℕ) (disk : D) (store : StoredStore D) (ended : Result Unit Halt) (left : StoredStore D)
+    (clock clock' : ClockTold) (link link' : LinkTold) : Type 0 where
+  pub serving : LeavesServing (content_of told) (faults_of faults) (GoesOn faults follows) (λ first last. LeavesKept (leaves first.disk last.disk))
+      longest turns store ended left clock clock' link link'
   pub survives : ForSome (told disk) (λ bytes. (kept : Kept) → AllStandFor (may_leave disk) kept
-      → Each (leaves disk left.disk) (λ image. IsLeftInRuns (content_of told) (faults_of faults) (GoesOn faults follows) longest turns serving.serves.time store ended left serving.serves.between clock' link link' serving.serves.runs kept (kept_on image)))
+      → Each (leaves disk left.disk) (λ image. IsLeftInRuns (content_of told) (faults_of faults) (GoesOn faults follows) longest turns
+      serving.serves.time store ended left serving.serves.between clock' link link' serving.serves.runs kept (kept_on image)))
 
 -- ---- where the disk is not served from
 
@@ -77,13 +81,15 @@ pub record LacksMemory {D : Type 0} (faults : D → ℕ) (code : ℕ) (disk left
   pub quiet : (now ≡ held) × (w' ≡ w)
 
 -- why a disk was not served from
-abbrev pub IsNotOpened : {D : Type 0} → (told : D → Option (List ℕ)) → (faults : D → ℕ) → (code : ℕ) → (disk left : D) → (held now : Option (List ℕ)) → (w w' : ℕ) → Type 0
+abbrev pub IsNotOpened : {D : Type 0} → (told : D → Option (List ℕ)) → (faults : D → ℕ) → (code : ℕ) → (disk left : D) → (held now : Option (List ℕ))
+    → (w w' : ℕ) → Type 0
 IsNotOpened told faults code disk left held now w w' =
     Refuses told faults code disk left held now w w' ⊎ FailsToOpen faults code disk left held now w w' ⊎ LacksMemory faults code disk left held now w w'
 
 -- The disk was not served from: it was refused, or it failed, or memory was wanting. The clock and the link were not asked, and a stop at any
 -- moment leaves what is kept as it was
-pub record OpensNot {D : Type 0} (told : D → Option (List ℕ)) (faults : D → ℕ) (may_leave : D → List ℕ → Type 0) (leaves : D → D → List ℕ → Type 0) (code : ℕ) (disk left : D) (clock clock' : ClockTold) (link link' : LinkTold) (held now : Option (List ℕ)) (w w' : ℕ) : Type 0 where
+pub record OpensNot {D : Type 0} (told : D → Option (List ℕ)) (faults : D → ℕ) (may_leave : D → List ℕ → Type 0) (leaves : D → D → List ℕ → Type 0)
+    (code : ℕ) (disk left : D) (clock clock' : ClockTold) (link link' : LinkTold) (held now : Option (List ℕ)) (w w' : ℕ) : Type 0 where
   pub why : IsNotOpened told faults code disk left held now w w'
   pub clocks : clock' ≡ clock
   pub links : link' ≡ link
@@ -103,7 +109,8 @@ PrintsBehind other code held now w w' = (code ≡ status_of other) × (now ≡ h
 
 -- Serving over this store ended, and this disk is handed back, which is the store's. `P` says what was done when turns ended so. Where no
 -- number is left for a boot the line is printed that tells where the image says so; all else is printed as serving does
-pub record EndsServing {D : Type 0} (told : D → Option (List ℕ)) (faults : D → ℕ) (follows : D → D → Type 0) (P : Result Unit Halt → StoredStore D → Type 0) (code turns : ℕ) (store : StoredStore D) (left : D) (link link' : LinkTold) (held now : Option (List ℕ)) (w w' : ℕ) : Type 0 where
+pub record EndsServing {D : Type 0} (told : D → Option (List ℕ)) (faults : D → ℕ) (follows : D → D → Type 0) (P : Result Unit Halt → StoredStore D
+    → Type 0) (code turns : ℕ) (store : StoredStore D) (left : D) (link link' : LinkTold) (held now : Option (List ℕ)) (w w' : ℕ) : Type 0 where
   pub end : Ending
   pub served : StoredStore D
   pub between : Option (List ℕ)
@@ -116,7 +123,9 @@ pub record EndsServing {D : Type 0} (told : D → Option (List ℕ)) (faults : D
 
 -- The disk was opened as a store, which keeps what the disk stood for, and the store was served from. No byte of the disk was wrong. The
 -- status says that the keeper failed only where the disk failed
-pub record ServesStore {D : Type 0} (told : D → Option (List ℕ)) (faults : D → ℕ) (may_leave : D → List ℕ → Type 0) (follows : D → D → Type 0) (leaves : D → D → List ℕ → Type 0) (code longest turns : ℕ) (disk left : D) (clock clock' : ClockTold) (link link' : LinkTold) (held now : Option (List ℕ)) (w w' : ℕ) : Type 0 where
+pub record ServesStore {D : Type 0} (told : D → Option (List ℕ)) (faults : D → ℕ) (may_leave : D → List ℕ → Type 0) (follows : D → D → Type 0)
+    (leaves : D → D → List ℕ → Type 0) (code longest turns : ℕ) (disk left : D) (clock clock' : ClockTold) (link link' : LinkTold)
+    (held now : Option (List ℕ)) (w w' : ℕ) : Type 0 where
   pub store : StoredStore D
   pub right : ForSome (told disk) (λ bytes. first_wrong (stands_as bytes) ≡ None)
   pub keeps : content_of told store ≡ kept_told (told disk)
@@ -124,10 +133,13 @@ pub record ServesStore {D : Type 0} (told : D → Option (List ℕ)) (faults : D
   pub fresh : IsFresh store
   pub counts : faults store.disk ≡ faults disk
   pub failed : code ≡ status_of Ending.KeepFault → HasRisen (faults disk) (faults left)
-  pub serves : EndsServing told faults follows (λ ended served. Survives told faults may_leave follows leaves longest turns disk store ended served clock clock' link link') code turns store left link link' held now w w'
+  pub serves : EndsServing told faults follows (λ ended served. Survives told faults may_leave follows leaves longest turns disk store ended served
+      clock clock' link link') code turns store left link link' held now w w'
 
 -- the disk was not opened, or it was served from
-abbrev pub ServesDisk : {D : Type 0} → (told : D → Option (List ℕ)) → (faults : D → ℕ) → (may_leave : D → List ℕ → Type 0) → (follows : D → D → Type 0) → (leaves : D → D → List ℕ → Type 0) → (code longest turns : ℕ) → (disk left : D) → (clock clock' : ClockTold) → (link link' : LinkTold) → (held now : Option (List ℕ)) → (w w' : ℕ) → Type 0
+abbrev pub ServesDisk : {D : Type 0} → (told : D → Option (List ℕ)) → (faults : D → ℕ) → (may_leave : D → List ℕ → Type 0)
+    → (follows : D → D → Type 0) → (leaves : D → D → List ℕ → Type 0) → (code longest turns : ℕ) → (disk left : D) → (clock clock' : ClockTold)
+    → (link link' : LinkTold) → (held now : Option (List ℕ)) → (w w' : ℕ) → Type 0
 ServesDisk told faults may_leave follows leaves code longest turns disk left clock clock' link link' held now w w' =
     OpensNot told faults may_leave leaves code disk left clock clock' link link' held now w w'
     ⊎ ServesStore told faults may_leave follows leaves code longest turns disk left clock clock' link link' held now w w'

@@ -76,7 +76,8 @@ module _ {K : Type 0} (content : K → Option Kept) (faults : K → ℕ) where
   stop-link turns at after s =
       subst (λ n. Rose n after.link.faults) (go-counts s.count at s.between s.before).1 (link-of Turn.Link s.between after s.last)
 
-  stop-keep : (turns : ℕ) (at after : Between K) → StopsEarly content faults turns Halt.Keep at after → Rose (faults at.server.keeper) (faults after.server.keeper)
+  stop-keep : (turns : ℕ) (at after : Between K) → StopsEarly content faults turns Halt.Keep at after → Rose (faults at.server.keeper)
+      (faults after.server.keeper)
   stop-keep turns at after s =
       subst (λ n. Rose n (faults after.server.keeper)) (go-counts s.count at s.between s.before).0 (keep-of Turn.Keep s.between after s.last)
 
@@ -94,8 +95,10 @@ module _ {K : Type 0} (content : K → Option Kept) (faults : K → ℕ) where
 module _ {K : Type 0} (content : K → Option Kept) (faults : K → ℕ) (follows : K → K → Type 0) where
   -- ---- booting and turns
 
-  none-left : (most longest turns time : ℕ) (keeper left : K) (clock clock' : ClockTold) (link link' : LinkTold) → most ≡ most_taken_by_server → 2 * turns < most
-      → (kept : Kept) → content keeper ≡ Some kept → RanBooted content faults follows longest turns time keeper (Err Halt.Spent) left clock clock' link link' → ⊥
+  none-left : (most longest turns time : ℕ) (keeper left : K) (clock clock' : ClockTold) (link link' : LinkTold) → most ≡ most_taken_by_server
+      → 2 * turns < most
+      → (kept : Kept) → content keeper ≡ Some kept → RanBooted content faults follows longest turns time keeper (Err Halt.Spent) left clock clock'
+      link link' → ⊥
   none-left most longest turns time keeper left clock clock' link link' is few kept told r =
       stop-spent content faults most turns (between r.server r.ran.log 0 clock link) r.ran.last is few (r.booted.0 kept told).1.taken r.ran.taken
 

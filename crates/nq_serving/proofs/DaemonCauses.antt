@@ -106,8 +106,10 @@ module _ {K : Type 0} (content : K → Option Kept) (faults : K → ℕ) where
       let last = all.2 in omega arith
 
 module _ {K : Type 0} (content : K → Option Kept) (faults : K → ℕ) (follows : K → K → Type 0) where
-  none-left : (most longest turns time : ℕ) (keeper left : K) (clock clock' : ClockTold) (link link' : LinkTold) → most ≡ most_taken_by_server → 2 * turns < most
-      → (kept : Kept) → content keeper ≡ Some kept → RanBooted content faults follows longest turns time keeper (Err Halt.Spent) left clock clock' link link' → ⊥
+  none-left : (most longest turns time : ℕ) (keeper left : K) (clock clock' : ClockTold) (link link' : LinkTold) → most ≡ most_taken_by_server
+      → 2 * turns < most
+      → (kept : Kept) → content keeper ≡ Some kept → RanBooted content faults follows longest turns time keeper (Err Halt.Spent) left clock clock'
+      link link' → ⊥
   none-left most longest turns time keeper left clock clock' link link' is few kept told r =
       stop-spent content faults most turns (standing r.server 0 clock link) r.ran.last is few (r.booted.0 kept told).1.taken r.ran.taken
 

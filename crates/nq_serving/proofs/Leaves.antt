@@ -4,7 +4,7 @@ use Rattle.nq_model.specs.Kept.{Kept}
 use Rattle.nq_clock.specs.Clocks.{ClockTold, ReadsOnce}
 use Rattle.nq_serving.specs.Leaving.{IsLeftAt, IsLeftBehind, LeavesOnly, LeavesReceiving, LeavesBehind, LeavesStages}
 use Rattle.nq_link.specs.Links.{Letter, LinkTold}
-use Rattle.nq_serving.specs.ServerTurn.{Given, ticks, datagram, Moment, Receives, Takes, TakesFrom, given_by, goes_on, step_on, taken, tick_due}
+use Rattle.nq_serving.specs.ServerTurn.{Given, ticks, Moment, Receives, Takes, TakesFrom, given_by, goes_on, step_on, taken, tick_due}
 use Rattle.nq_serving.specs.declared.node.turns.Halt.{Halt}
 use Rattle.nq_serving.proofs.ServerTurns.{not_link}
 use Rattle.nq_server.specs.Holding.{IsTaken}

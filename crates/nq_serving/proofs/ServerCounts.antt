@@ -1,14 +1,14 @@
 -- Which counts a turn of a server raises, and how much the server takes in in it.
-use Rattle.std.proofs.Common.{◌≡◌, ◌∙◌, ◌+◌, ◌≤◌, ◌⊎◌, inl, inr, ◌||◌, nat_lt, ℕ, Bool, true, false, Option, Some, None, Result, Ok, Err, refl, sym, subst, arith}
+use Rattle.std.proofs.Common.{◌≡◌, ◌+◌, ◌≤◌, ◌⊎◌, inl, inr, ◌||◌, nat_lt, ℕ, Bool, true, false, Option, Some, None, Result, Ok, Err, refl, sym, subst, arith}
 use Rattle.nq_base.specs.Entries.{EntryList}
-use Rattle.nq_io.specs.Faults.{Rose}
 use Rattle.nq_link.specs.Link.{Letters}
 use Rattle.nq_model.specs.Kept.{Kept}
 use Rattle.nq_model.specs.Profile.{most_taken_by_server}
 use Rattle.nq_model.specs.Server.{ServerStep}
 use Rattle.nq_clock.specs.Clocks.{ClockTold}
 use Rattle.nq_link.specs.Links.{LinkTold}
-use Rattle.nq_serving.specs.ServerTurn.{CountsKeep, CountsLink, Given, GoesOn, Moment, Receives, Sends, SendsOut, ServesTurn, Stages, Takes, TurnKeep, TurnLink, given_of, goes_on, step_on, tick_due, turn_of}
+use Rattle.nq_serving.specs.ServerTurn.{CountsKeep, CountsLink, Given, GoesOn, Moment, Receives, Sends, SendsOut, ServesTurn, Stages, Takes, TurnKeep}
+use Rattle.nq_serving.specs.ServerTurn.{TurnLink, given_of, goes_on, step_on, tick_due, turn_of}
 use Rattle.nq_serving.specs.declared.node.turns.Halt.{Halt}
 use Rattle.nq_serving.specs.declared.node.turns.Turn.{Turn}
 use Rattle.nq_serving.proofs.ServerTurns.{not_link}
@@ -99,7 +99,8 @@ module _ {K : Type 0} (content : K → Option Kept) (faults : K → ℕ) where
       → CountsKeep goes (faults at.server.keeper) (faults after.server.keeper)
   given-keep None goes at after t = rw (t.0, t.1) refl
   given-keep (Some given) goes at after s =
-      rw s.so (step-keep s.how (step_on given at) (content at.server.keeper) (content after.server.keeper) (faults at.server.keeper) (faults after.server.keeper)
+      rw s.so (step-keep s.how (step_on given at) (content at.server.keeper) (content after.server.keeper) (faults at.server.keeper)
+      (faults after.server.keeper)
       at.server after.server at.out after.out at.log after.log s.takes)
 
   given-few : (given : Option Given) (goes : Result Unit Halt) (at after : Moment K) → Takes content faults given goes at after

@@ -3,7 +3,8 @@ use Rattle.std.proofs.Common.{◌≡◌, ◌⊎◌, ◌<◌, ℕ, zero, suc, Opt
 use Rattle.std.specs.Option.{ForSome}
 use Rattle.nq_keeper.specs.Booting.{LeavesThen}
 use Rattle.nq_base.specs.declared.ending.halt.Halt.{Halt}
-use Rattle.nq_serving.specs.ServerLeaving.{AreInOrder, IsLeftGoing, IsLeftInGoes, IsLeftInTurns, IsLeftStopping, LeavesTaking, LeavesTurns, LeavesRunning, LeavesRuns, ended_of}
+use Rattle.nq_serving.specs.ServerLeaving.{AreInOrder, IsLeftGoing, IsLeftInGoes, IsLeftInTurns, IsLeftStopping, LeavesTaking, LeavesTurns}
+use Rattle.nq_serving.specs.ServerLeaving.{LeavesRunning, LeavesRuns, ended_of}
 use Rattle.nq_serving.specs.Serving.{Between, Booted, Goes, GoesOn, NoBoot, between, halt_of}
 use Rattle.nq_model.specs.Kept.{Kept}
 use Rattle.nq_model.specs.ServerStep.{boot, booted}

@@ -34,7 +34,8 @@ module _ {K : Type 0} (content : K → Option Kept) (faults : K → ℕ) where
   received-tells (Err why) ended ticked link link' last at after so r s kept told =
       subst (λ m. Tells (content m.server.keeper)) (sym (missed why link link' at after (by-link why ended so s.0) r)) (kept, told)
 
-  behind-tells : (goes : Result Unit Halt) (ended : Result Bool Halt) (ticked : Bool) (link link' : LinkTold) (first at after : Moment K) (given : Option Given)
+  behind-tells : (goes : Result Unit Halt) (ended : Result Bool Halt) (ticked : Bool) (link link' : LinkTold) (first at after : Moment K)
+      (given : Option Given)
       → Ok tt ≡ borne (turn_of ended)
       → GoesOn content faults goes ended ticked link link' at after → Takes content faults given goes first at
       → (kept : Kept) → content first.server.keeper ≡ Some kept → Tells (content after.server.keeper)

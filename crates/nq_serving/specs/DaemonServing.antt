@@ -14,7 +14,8 @@ use Rattle.nq_server.specs.Holding.{Holding}
 
 -- Turns of this server over this link, with datagrams that are numbered from 0; they ended so. The server has its keeper still, after the calls
 -- that the turns made of it, and this is the keeper that is left.
-pub record Ran {K : Type 0} (content : K → Option Kept) (faults : K → ℕ) (follows : K → K → Type 0) (turns : ℕ) (server : Holding K) (ended : Result Unit Halt) (left : K) (clock clock' : ClockTold) (link link' : LinkTold) : Type 0 where
+pub record Ran {K : Type 0} (content : K → Option Kept) (faults : K → ℕ) (follows : K → K → Type 0) (turns : ℕ) (server : Holding K)
+    (ended : Result Unit Halt) (left : K) (clock clock' : ClockTold) (link link' : LinkTold) : Type 0 where
   pub last : Standing K
   pub taken : TakesTurns content faults turns ended (standing server 0 clock link) last
   pub same : follows server.keeper last.server.keeper
@@ -23,13 +24,15 @@ pub record Ran {K : Type 0} (content : K → Option Kept) (faults : K → ℕ) (
   pub links : link' ≡ last.link
 
 -- a server booted over this keeper at this time, and turns of it ended so
-pub record RanBooted {K : Type 0} (content : K → Option Kept) (faults : K → ℕ) (follows : K → K → Type 0) (longest turns time : ℕ) (keeper : K) (ended : Result Unit Halt) (left : K) (clock clock' : ClockTold) (link link' : LinkTold) : Type 0 where
+pub record RanBooted {K : Type 0} (content : K → Option Kept) (faults : K → ℕ) (follows : K → K → Type 0) (longest turns time : ℕ) (keeper : K)
+    (ended : Result Unit Halt) (left : K) (clock clock' : ClockTold) (link link' : LinkTold) : Type 0 where
   pub server : Holding K
   pub booted : Booted content faults follows longest time keeper server
   pub ran : Ran content faults follows turns server ended left clock clock' link link'
 
 -- a server booted and took turns; or none booted, and no turn was taken
-abbrev pub Runs : {K : Type 0} → (content : K → Option Kept) → (faults : K → ℕ) → (follows : K → K → Type 0) → (longest turns time : ℕ) → (keeper : K) → Result Unit Halt → (left : K) → (clock clock' : ClockTold) → (link link' : LinkTold) → Type 0
+abbrev pub Runs : {K : Type 0} → (content : K → Option Kept) → (faults : K → ℕ) → (follows : K → K → Type 0) → (longest turns time : ℕ) → (keeper : K)
+    → Result Unit Halt → (left : K) → (clock clock' : ClockTold) → (link link' : LinkTold) → Type 0
 Runs content faults follows longest turns time keeper (Ok done) left clock clock' link link' =
     RanBooted content faults follows longest turns time keeper (Ok done) left clock clock' link link'
 Runs content faults follows longest turns time keeper (Err why) left clock clock' link link' =
@@ -38,7 +41,8 @@ Runs content faults follows longest turns time keeper (Err why) left clock clock
 
 -- The clock was read once, and what was to be done from that time on ended so. This keeper is left: it is the one that was handed in, and
 -- keeps what the boot and the steps of the turns made of what it kept.
-pub record Serves {K : Type 0} (content : K → Option Kept) (faults : K → ℕ) (follows : K → K → Type 0) (longest turns : ℕ) (keeper : K) (ended : Result Unit Halt) (left : K) (clock clock' : ClockTold) (link link' : LinkTold) : Type 0 where
+pub record Serves {K : Type 0} (content : K → Option Kept) (faults : K → ℕ) (follows : K → K → Type 0) (longest turns : ℕ) (keeper : K)
+    (ended : Result Unit Halt) (left : K) (clock clock' : ClockTold) (link link' : LinkTold) : Type 0 where
   pub time : ℕ
   pub between : ClockTold
   pub read : ReadsOnce time clock between

@@ -16,17 +16,20 @@ use Rattle.nq_server.specs.Holding.{Holding}
 -- ---- what is found as at a moment of the turns
 
 -- this is found as at a moment of a turn: before it, after its tick or after its datagram
-abbrev pub IsLeftInOne : {K : Type 0} → (content : K → Option Kept) → (faults : K → ℕ) → (turn : Turn) → (at after : Between K) → Turns content faults turn at after → (found : Option Kept) → Type 0
+abbrev pub IsLeftInOne : {K : Type 0} → (content : K → Option Kept) → (faults : K → ℕ) → (turn : Turn) → (at after : Between K) → Turns content faults
+    turn at after → (found : Option Kept) → Type 0
 IsLeftInOne content faults turn at after taken found =
     IsLeftInTurn content faults turn at.next after.next at.clock after.clock at.link after.link at.server after.server at.log after.log taken found
 
 -- the same of a turn that did not stop
-abbrev pub IsLeftGoing : {K : Type 0} → (content : K → Option Kept) → (faults : K → ℕ) → (at after : Between K) → GoesOn content faults at after → (found : Option Kept) → Type 0
+abbrev pub IsLeftGoing : {K : Type 0} → (content : K → Option Kept) → (faults : K → ℕ) → (at after : Between K) → GoesOn content faults at after
+    → (found : Option Kept) → Type 0
 IsLeftGoing content faults at after (inl took) found = IsLeftInOne content faults Turn.Took at after took found
 IsLeftGoing content faults at after (inr quiet) found = IsLeftInOne content faults Turn.Quiet at after quiet found
 
 -- the same of a turn that stopped; a step that failed in it may have been kept
-abbrev pub IsLeftStopping : {K : Type 0} → (content : K → Option Kept) → (faults : K → ℕ) → (why : Halt) → (at after : Between K) → StopsTurn content faults why at after → (found : Option Kept) → Type 0
+abbrev pub IsLeftStopping : {K : Type 0} → (content : K → Option Kept) → (faults : K → ℕ) → (why : Halt) → (at after : Between K)
+    → StopsTurn content faults why at after → (found : Option Kept) → Type 0
 IsLeftStopping content faults Halt.Link at after taken found = IsLeftInOne content faults Turn.Link at after taken found
 IsLeftStopping content faults Halt.Keep at after taken found = IsLeftInOne content faults Turn.Keep at after taken found
 IsLeftStopping content faults Halt.Memory at after taken found = IsLeftInOne content faults Turn.Memory at after taken found
@@ -34,18 +37,21 @@ IsLeftStopping content faults Halt.Spent at after taken found = IsLeftInOne cont
 IsLeftStopping content faults Halt.NoAnswer at after taken found = ⊥
 
 -- the same of either
-abbrev pub IsLeftTaking : {K : Type 0} → (content : K → Option Kept) → (faults : K → ℕ) → (ended : Result Unit Halt) → (at after : Between K) → TakesTurn content faults ended at after → (found : Option Kept) → Type 0
+abbrev pub IsLeftTaking : {K : Type 0} → (content : K → Option Kept) → (faults : K → ℕ) → (ended : Result Unit Halt) → (at after : Between K)
+    → TakesTurn content faults ended at after → (found : Option Kept) → Type 0
 IsLeftTaking content faults (Ok done) at after taken found = IsLeftGoing content faults at after taken found
 IsLeftTaking content faults (Err why) at after taken found = IsLeftStopping content faults why at after taken found
 
 -- this is found as at a moment of one of so many turns
-abbrev pub IsLeftInGoes : {K : Type 0} → (content : K → Option Kept) → (faults : K → ℕ) → (count : ℕ) → (at after : Between K) → Goes content faults count at after → (found : Option Kept) → Type 0
+abbrev pub IsLeftInGoes : {K : Type 0} → (content : K → Option Kept) → (faults : K → ℕ) → (count : ℕ) → (at after : Between K)
+    → Goes content faults count at after → (found : Option Kept) → Type 0
 IsLeftInGoes content faults zero at after goes found = ⊥
 IsLeftInGoes content faults (suc count) at after goes found =
     IsLeftInGoes content faults count at goes.0 goes.1 found ⊎ IsLeftGoing content faults goes.0 after goes.2 found
 
 -- the same of turns up to the first that stopped
-abbrev pub IsLeftInTurns : {K : Type 0} → (content : K → Option Kept) → (faults : K → ℕ) → (turns : ℕ) → (ended : Result Unit Halt) → (at after : Between K) → TakesTurns content faults turns ended at after → (found : Option Kept) → Type 0
+abbrev pub IsLeftInTurns : {K : Type 0} → (content : K → Option Kept) → (faults : K → ℕ) → (turns : ℕ) → (ended : Result Unit Halt)
+    → (at after : Between K) → TakesTurns content faults turns ended at after → (found : Option Kept) → Type 0
 IsLeftInTurns content faults turns (Ok done) at after taken found = IsLeftInGoes content faults turns at after taken found
 IsLeftInTurns content faults turns (Err why) at after taken found =
     IsLeftInGoes content faults taken.count at taken.between taken.before found ⊎ IsLeftStopping content faults why taken.between after taken.last found
@@ -58,7 +64,9 @@ IsLeftByBoot longest kept found = (found ≡ Some kept) ⊎ (found ≡ Some (boo
 
 -- this is found so, or as at a moment of the turns. Each of these moments stands behind a prefix of the steps by which the server came to
 -- what it keeps: the boot, and each tick and each datagram of the turns before it
-abbrev pub IsLeftInRuns : {K : Type 0} → (content : K → Option Kept) → (faults : K → ℕ) → (follows : K → K → Type 0) → (longest turns time : ℕ) → (keeper : K) → (ended : Result Unit Halt) → (left : K) → (clock clock' : ClockTold) → (link link' : LinkTold) → Runs content faults follows longest turns time keeper ended left clock clock' link link' → (kept : Kept) → (found : Option Kept) → Type 0
+abbrev pub IsLeftInRuns : {K : Type 0} → (content : K → Option Kept) → (faults : K → ℕ) → (follows : K → K → Type 0) → (longest turns time : ℕ)
+    → (keeper : K) → (ended : Result Unit Halt) → (left : K) → (clock clock' : ClockTold) → (link link' : LinkTold) → Runs content faults follows
+    longest turns time keeper ended left clock clock' link link' → (kept : Kept) → (found : Option Kept) → Type 0
 IsLeftInRuns content faults follows longest turns time keeper (Ok done) left clock clock' link link' runs kept found =
     IsLeftByBoot longest kept found
     ⊎ IsLeftInTurns content faults turns (Ok done) (between runs.server runs.ran.log 0 clock link) runs.ran.last runs.ran.taken found
@@ -72,20 +80,24 @@ IsLeftInRuns content faults follows longest turns time keeper (Err why) left clo
 
 -- a moment before the end, and the keeper at both: whatever a stop between any earlier moment and the end leaves, a stop before this moment
 -- leaves it, or this holds of it
-pub record IsBeforeEnd {K : Type 0} (follows : K → K → Type 0) (leaves : K → K → Option Kept → Type 0) (at last : K) (Later : Option Kept → Type 0) : Type 0 where
+pub record IsBeforeEnd {K : Type 0} (follows : K → K → Type 0) (leaves : K → K → Option Kept → Type 0) (at last : K) (Later : Option Kept
+    → Type 0) : Type 0 where
   pub same : follows at last
   pub later : (first : K) (found : Option Kept) → follows first at → leaves first last found → leaves first at found ⊎ Later found
 
 -- At each moment between so many turns: what a stop from then until the end leaves, that a stop at that very moment does not, is what is kept
 -- at a later moment, of the turns behind it or of what `Later` tells. So nothing that was kept before a stop is lost
-abbrev pub AreInOrder : {K : Type 0} → (content : K → Option Kept) → (faults : K → ℕ) → (follows : K → K → Type 0) → (leaves : K → K → Option Kept → Type 0) → (last : K) → (Later : Option Kept → Type 0) → (count : ℕ) → (at after : Between K) → Goes content faults count at after → Type 0
+abbrev pub AreInOrder : {K : Type 0} → (content : K → Option Kept) → (faults : K → ℕ) → (follows : K → K → Type 0) → (leaves : K → K → Option Kept
+    → Type 0) → (last : K) → (Later : Option Kept → Type 0) → (count : ℕ) → (at after : Between K) → Goes content faults count at after → Type 0
 AreInOrder content faults follows leaves last Later zero at after goes = IsBeforeEnd follows leaves after.server.keeper last Later
 AreInOrder content faults follows leaves last Later (suc count) at after goes =
     IsBeforeEnd follows leaves after.server.keeper last Later
     × AreInOrder content faults follows leaves last (λ found. IsLeftGoing content faults goes.0 after goes.2 found ⊎ Later found) count at goes.0 goes.1
 
 -- the same of turns up to the first that stopped
-abbrev pub TurnsAreInOrder : {K : Type 0} → (content : K → Option Kept) → (faults : K → ℕ) → (follows : K → K → Type 0) → (leaves : K → K → Option Kept → Type 0) → (turns : ℕ) → (ended : Result Unit Halt) → (at after : Between K) → TakesTurns content faults turns ended at after → Type 0
+abbrev pub TurnsAreInOrder : {K : Type 0} → (content : K → Option Kept) → (faults : K → ℕ) → (follows : K → K → Type 0)
+    → (leaves : K → K → Option Kept → Type 0) → (turns : ℕ) → (ended : Result Unit Halt) → (at after : Between K) → TakesTurns content faults turns
+    ended at after → Type 0
 TurnsAreInOrder content faults follows leaves turns (Ok done) at after taken =
     AreInOrder content faults follows leaves after.server.keeper (λ found. ⊥) turns at after taken
 TurnsAreInOrder content faults follows leaves turns (Err why) at after taken =
@@ -93,7 +105,9 @@ TurnsAreInOrder content faults follows leaves turns (Err why) at after taken =
     taken.count at taken.between taken.before
 
 -- the same of the turns of a server that booted, if one did
-abbrev pub RunsAreInOrder : {K : Type 0} → (content : K → Option Kept) → (faults : K → ℕ) → (follows : K → K → Type 0) → (leaves : K → K → Option Kept → Type 0) → (longest turns time : ℕ) → (keeper : K) → (ended : Result Unit Halt) → (left : K) → (clock clock' : ClockTold) → (link link' : LinkTold) → Runs content faults follows longest turns time keeper ended left clock clock' link link' → Type 0
+abbrev pub RunsAreInOrder : {K : Type 0} → (content : K → Option Kept) → (faults : K → ℕ) → (follows : K → K → Type 0) → (leaves : K → K → Option Kept
+    → Type 0) → (longest turns time : ℕ) → (keeper : K) → (ended : Result Unit Halt) → (left : K) → (clock clock' : ClockTold)
+    → (link link' : LinkTold) → Runs content faults follows longest turns time keeper ended left clock clock' link link' → Type 0
 RunsAreInOrder content faults follows leaves longest turns time keeper (Ok done) left clock clock' link link' runs =
     TurnsAreInOrder content faults follows leaves turns (Ok done) (between runs.server runs.ran.log 0 clock link) runs.ran.last runs.ran.taken
 RunsAreInOrder content faults follows leaves longest turns time keeper (Err why) left clock clock' link link' (inl runs) =
@@ -103,34 +117,44 @@ RunsAreInOrder content faults follows leaves longest turns time keeper (Err why)
 -- ---- what is done, and what a stop leaves
 
 -- one turn, and what a stop within it leaves
-pub record LeavesTaking {K : Type 0} (content : K → Option Kept) (faults : K → ℕ) (follows : K → K → Type 0) (leaves : K → K → Option Kept → Type 0) (ended : Result Unit Halt) (at after : Between K) : Type 0 where
+pub record LeavesTaking {K : Type 0} (content : K → Option Kept) (faults : K → ℕ) (follows : K → K → Type 0) (leaves : K → K → Option Kept → Type 0)
+    (ended : Result Unit Halt) (at after : Between K) : Type 0 where
   pub taken : TakesTurn content faults ended at after
   pub only : LeavesOnly content follows leaves at.server.keeper after.server.keeper (IsLeftTaking content faults ended at after taken)
 
 -- turns up to the first that stopped, and what a stop within them leaves
-pub record LeavesTurns {K : Type 0} (content : K → Option Kept) (faults : K → ℕ) (follows : K → K → Type 0) (leaves : K → K → Option Kept → Type 0) (turns : ℕ) (ended : Result Unit Halt) (at after : Between K) : Type 0 where
+pub record LeavesTurns {K : Type 0} (content : K → Option Kept) (faults : K → ℕ) (follows : K → K → Type 0) (leaves : K → K → Option Kept → Type 0)
+    (turns : ℕ) (ended : Result Unit Halt) (at after : Between K) : Type 0 where
   pub taken : TakesTurns content faults turns ended at after
   pub only : LeavesOnly content follows leaves at.server.keeper after.server.keeper (IsLeftInTurns content faults turns ended at after taken)
   pub order : ForSome (content at.server.keeper) (λ kept. TurnsAreInOrder content faults follows leaves turns ended at after taken)
 
 -- the turns of a server that has booted, and what a stop within them leaves
-pub record LeavesRunning {K : Type 0} (content : K → Option Kept) (faults : K → ℕ) (follows : K → K → Type 0) (leaves : K → K → Option Kept → Type 0) (turns : ℕ) (server : Holding K) (ended : Result Unit Halt) (left : K) (clock clock' : ClockTold) (link link' : LinkTold) : Type 0 where
+pub record LeavesRunning {K : Type 0} (content : K → Option Kept) (faults : K → ℕ) (follows : K → K → Type 0) (leaves : K → K → Option Kept → Type 0)
+    (turns : ℕ) (server : Holding K) (ended : Result Unit Halt) (left : K) (clock clock' : ClockTold) (link link' : LinkTold) : Type 0 where
   pub ran : Ran content faults follows turns server ended left clock clock' link link'
-  pub only : LeavesOnly content follows leaves server.keeper left (IsLeftInTurns content faults turns ended (between server ran.log 0 clock link) ran.last ran.taken)
-  pub order : ForSome (content server.keeper) (λ kept. TurnsAreInOrder content faults follows leaves turns ended (between server ran.log 0 clock link) ran.last ran.taken)
+  pub only : LeavesOnly content follows leaves server.keeper left (IsLeftInTurns content faults turns ended (between server ran.log 0 clock link)
+      ran.last ran.taken)
+  pub order : ForSome (content server.keeper) (λ kept. TurnsAreInOrder content faults follows leaves turns ended (between server ran.log 0 clock link)
+      ran.last ran.taken)
 
 -- the boot and the turns, and what a stop within them leaves
-pub record LeavesRuns {K : Type 0} (content : K → Option Kept) (faults : K → ℕ) (follows : K → K → Type 0) (leaves : K → K → Option Kept → Type 0) (longest turns time : ℕ) (keeper : K) (ended : Result Unit Halt) (left : K) (clock clock' : ClockTold) (link link' : LinkTold) : Type 0 where
+pub record LeavesRuns {K : Type 0} (content : K → Option Kept) (faults : K → ℕ) (follows : K → K → Type 0) (leaves : K → K → Option Kept → Type 0)
+    (longest turns time : ℕ) (keeper : K) (ended : Result Unit Halt) (left : K) (clock clock' : ClockTold) (link link' : LinkTold) : Type 0 where
   pub runs : Runs content faults follows longest turns time keeper ended left clock clock' link link'
-  pub only : ForSome (content keeper) (λ kept. (found : Option Kept) → leaves keeper left found → IsLeftInRuns content faults follows longest turns time keeper ended left clock clock' link link' runs kept found)
+  pub only : ForSome (content keeper) (λ kept. (found : Option Kept) → leaves keeper left found → IsLeftInRuns content faults follows longest turns
+      time keeper ended left clock clock' link link' runs kept found)
   pub order : ForSome (content keeper) (λ kept. RunsAreInOrder content faults follows leaves longest turns time keeper ended left clock clock' link link' runs)
 
 -- What was done when serving ended so. Where the keeper told what it kept when it was handed in, a stop at any moment until it was handed back
 -- leaves that, or what was kept at a moment of the boot and the turns. A stop behind a turn loses nothing that was kept before it
-pub record LeavesServing {K : Type 0} (content : K → Option Kept) (faults : K → ℕ) (follows : K → K → Type 0) (leaves : K → K → Option Kept → Type 0) (longest turns : ℕ) (keeper : K) (ended : Result Unit Halt) (left : K) (clock clock' : ClockTold) (link link' : LinkTold) : Type 0 where
+pub record LeavesServing {K : Type 0} (content : K → Option Kept) (faults : K → ℕ) (follows : K → K → Type 0) (leaves : K → K → Option Kept → Type 0)
+    (longest turns : ℕ) (keeper : K) (ended : Result Unit Halt) (left : K) (clock clock' : ClockTold) (link link' : LinkTold) : Type 0 where
   pub serves : Serves content faults follows longest turns keeper ended left clock clock' link link'
-  pub only : ForSome (content keeper) (λ kept. (found : Option Kept) → leaves keeper left found → IsLeftInRuns content faults follows longest turns serves.time keeper ended left serves.between clock' link link' serves.runs kept found)
-  pub order : ForSome (content keeper) (λ kept. RunsAreInOrder content faults follows leaves longest turns serves.time keeper ended left serves.between clock' link link' serves.runs)
+  pub only : ForSome (content keeper) (λ kept. (found : Option Kept) → leaves keeper left found → IsLeftInRuns content faults follows longest turns
+      serves.time keeper ended left serves.between clock' link link' serves.runs kept found)
+  pub order : ForSome (content keeper) (λ kept. RunsAreInOrder content faults follows leaves longest turns serves.time keeper ended left
+      serves.between clock' link link' serves.runs)
 
 -- whether a turn stopped, and why
 abbrev pub ended_of : Turn → Result Unit Halt

@@ -48,7 +48,8 @@ goes_on other = Ok tt
 pub record Steps {K : Type 0} (content : K → Option Kept) (faults : K → ℕ) (given : Given) (goes : Result Unit Halt) (at after : Moment K) : Type 0 where
   pub how : Received
   pub so : goes ≡ goes_on how
-  pub takes : IsTaken (step_on given at) how (content at.server.keeper) (content after.server.keeper) (faults at.server.keeper) (faults after.server.keeper) at.server after.server at.out after.out at.log after.log
+  pub takes : IsTaken (step_on given at) how (content at.server.keeper) (content after.server.keeper) (faults at.server.keeper)
+      (faults after.server.keeper) at.server after.server at.out after.out at.log after.log
   pub spent : (how ≡ Received.Spent) ↔ (at.server.taken ≡ most_taken_by_server)
 
 -- the server took in what it was given, if it was given anything
@@ -73,7 +74,8 @@ given_of None = None
 given_of (Some letter) = given_by letter
 
 -- one receive was asked for and gave a datagram or none, and the server took it in, or refused it
-pub record TakesFrom {K : Type 0} (content : K → Option Kept) (faults : K → ℕ) (came : Option Letter) (goes : Result Unit Halt) (link link' : LinkTold) (at after : Moment K) : Type 0 where
+pub record TakesFrom {K : Type 0} (content : K → Option Kept) (faults : K → ℕ) (came : Option Letter) (goes : Result Unit Halt)
+    (link link' : LinkTold) (at after : Moment K) : Type 0 where
   pub hears : Hears most_bytes came link.waiting link'.waiting
   pub sent : link'.sent ≡ link.sent
   pub receives : ReceivesOnce link link'
@@ -89,7 +91,8 @@ pub record Misses {K : Type 0} (link link' : LinkTold) (at after : Moment K) : T
   pub same : after ≡ at
 
 -- the stage that receives, by whether a datagram came or why the turn stops
-abbrev pub Receives : {K : Type 0} → (content : K → Option Kept) → (faults : K → ℕ) → Result Bool Halt → (link link' : LinkTold) → (at after : Moment K) → Type 0
+abbrev pub Receives : {K : Type 0} → (content : K → Option Kept) → (faults : K → ℕ) → Result Bool Halt → (link link' : LinkTold)
+    → (at after : Moment K) → Type 0
 Receives content faults (Ok some) link link' at after =
     (came : Option Letter) × (some ≡ is_some came) × TakesFrom content faults came (Ok tt) link link' at after
 Receives content faults (Err Halt.Link) link link' at after = Misses link link' at after
@@ -113,7 +116,8 @@ Sends (Err why) ended ticked link link' after = (ended ≡ Err why) × (link' �
 Sends (Ok came) ended ticked link link' after = SendsOut after.out.datagrams (ticked || came) ended link link'
 
 -- after the tick: the turn stops, or it receives and sends
-abbrev pub GoesOn : {K : Type 0} → (content : K → Option Kept) → (faults : K → ℕ) → (goes : Result Unit Halt) → (ended : Result Bool Halt) → (ticked : Bool) → (link link' : LinkTold) → (at after : Moment K) → Type 0
+abbrev pub GoesOn : {K : Type 0} → (content : K → Option Kept) → (faults : K → ℕ) → (goes : Result Unit Halt) → (ended : Result Bool Halt)
+    → (ticked : Bool) → (link link' : LinkTold) → (at after : Moment K) → Type 0
 GoesOn content faults (Err why) ended ticked link link' at after = (ended ≡ Err why) × (link' ≡ link) × (after ≡ at)
 GoesOn content faults (Ok done) ended ticked link link' at after =
     (received : Result Bool Halt) × (between : LinkTold)
@@ -122,7 +126,8 @@ GoesOn content faults (Ok done) ended ticked link link' at after =
 
 -- The stages of a turn in their order. The clock is read exactly once. Exactly one receive is asked for where the tick did not stop the
 -- turn, and none where it did. The turn ended with whether the clock rose or a datagram came, or with why it stopped
-pub record Stages {K : Type 0} (content : K → Option Kept) (faults : K → ℕ) (ended : Result Bool Halt) (clock clock' : ClockTold) (link link' : LinkTold) (at after : Moment K) : Type 0 where
+pub record Stages {K : Type 0} (content : K → Option Kept) (faults : K → ℕ) (ended : Result Bool Halt) (clock clock' : ClockTold)
+    (link link' : LinkTold) (at after : Moment K) : Type 0 where
   pub reading : ℕ
   pub read : ReadsOnce reading clock clock'
   pub goes : Result Unit Halt
@@ -160,7 +165,8 @@ TurnLink Turn.Link before now = Rose before now
 TurnLink other before now = now ≡ before
 
 -- a turn with this answer: its stages, with an outbox that is empty at first and whose datagrams are numbered from `next` on
-pub record ServesTurn {K : Type 0} (content : K → Option Kept) (faults : K → ℕ) (turn : Turn) (next next' : ℕ) (clock clock' : ClockTold) (link link' : LinkTold) (server server' : Holding K) (log log' : EntryList) : Type 0 where
+pub record ServesTurn {K : Type 0} (content : K → Option Kept) (faults : K → ℕ) (turn : Turn) (next next' : ℕ) (clock clock' : ClockTold)
+    (link link' : LinkTold) (server server' : Holding K) (log log' : EntryList) : Type 0 where
   pub out : Datagrams
   pub out' : Datagrams
   pub first : out.first ≡ next
@@ -168,4 +174,5 @@ pub record ServesTurn {K : Type 0} (content : K → Option Kept) (faults : K →
   pub last : next' ≡ next_of out'
   pub ended : Result Bool Halt
   pub answer : turn ≡ turn_of ended
-  pub stages : Stages content faults ended clock clock' link link' (record { server = server; out = out; log = log }) (record { server = server'; out = out'; log = log' })
+  pub stages : Stages content faults ended clock clock' link link' (record { server = server; out = out; log = log })
+      (record { server = server'; out = out'; log = log' })

@@ -83,7 +83,8 @@ turns_line turns = codes "turns " ++ decimal turns ++ codes "\n"
 
 -- Turns of this server over this link, with a journal that is empty at first and datagrams that are numbered from 0; they ended so. The
 -- server has its keeper still, after the calls that the turns made of it, and this is the keeper that is left.
-pub record Ran {K : Type 0} (content : K → Option Kept) (faults : K → ℕ) (follows : K → K → Type 0) (turns : ℕ) (server : Holding K) (ended : Result Unit Halt) (left : K) (clock clock' : ClockTold) (link link' : LinkTold) : Type 0 where
+pub record Ran {K : Type 0} (content : K → Option Kept) (faults : K → ℕ) (follows : K → K → Type 0) (turns : ℕ) (server : Holding K)
+    (ended : Result Unit Halt) (left : K) (clock clock' : ClockTold) (link link' : LinkTold) : Type 0 where
   pub log : EntryList
   pub silent : log.entries ≡ []
   pub last : Between K
@@ -94,7 +95,8 @@ pub record Ran {K : Type 0} (content : K → Option Kept) (faults : K → ℕ) (
   pub links : link' ≡ last.link
 
 -- a server that booted over this keeper at this time: it is the protocol's, knows no last table, and has this very keeper
-abbrev pub Booted : {K : Type 0} → (content : K → Option Kept) → (faults : K → ℕ) → (follows : K → K → Type 0) → (longest time : ℕ) → (keeper : K) → Holding K → Type 0
+abbrev pub Booted : {K : Type 0} → (content : K → Option Kept) → (faults : K → ℕ) → (follows : K → K → Type 0) → (longest time : ℕ) → (keeper : K)
+    → Holding K → Type 0
 Booted content faults follows longest time keeper server =
     ForSome (content keeper) (λ kept. (kept.boot < last_boot) × IsServer (boot kept longest time None) server (content server.keeper))
     × (faults server.keeper ≡ faults keeper) × follows keeper server.keeper
@@ -120,20 +122,23 @@ halt_of (fault.Memory keeper) = Halt.Memory
 halt_of (fault.Spent keeper) = Halt.Spent
 
 -- a server booted over this keeper at this time, and turns of it ended so
-pub record RanBooted {K : Type 0} (content : K → Option Kept) (faults : K → ℕ) (follows : K → K → Type 0) (longest turns time : ℕ) (keeper : K) (ended : Result Unit Halt) (left : K) (clock clock' : ClockTold) (link link' : LinkTold) : Type 0 where
+pub record RanBooted {K : Type 0} (content : K → Option Kept) (faults : K → ℕ) (follows : K → K → Type 0) (longest turns time : ℕ) (keeper : K)
+    (ended : Result Unit Halt) (left : K) (clock clock' : ClockTold) (link link' : LinkTold) : Type 0 where
   pub server : Holding K
   pub booted : Booted content faults follows longest time keeper server
   pub ran : Ran content faults follows turns server ended left clock clock' link link'
 
 -- no server booted over this keeper, which is left so, and no turn was taken
-pub record RanNone {K : Type 0} (content : K → Option Kept) (faults : K → ℕ) (follows : K → K → Type 0) (keeper left : K) (why : Halt) (clock clock' : ClockTold) (link link' : LinkTold) : Type 0 where
+pub record RanNone {K : Type 0} (content : K → Option Kept) (faults : K → ℕ) (follows : K → K → Type 0) (keeper left : K) (why : Halt)
+    (clock clock' : ClockTold) (link link' : LinkTold) : Type 0 where
   pub none : NoBoot content faults keeper left why
   pub same : follows keeper left
   pub clocks : clock' ≡ clock
   pub links : link' ≡ link
 
 -- one of the two
-abbrev pub Runs : {K : Type 0} → (content : K → Option Kept) → (faults : K → ℕ) → (follows : K → K → Type 0) → (longest turns time : ℕ) → (keeper : K) → Result Unit Halt → (left : K) → (clock clock' : ClockTold) → (link link' : LinkTold) → Type 0
+abbrev pub Runs : {K : Type 0} → (content : K → Option Kept) → (faults : K → ℕ) → (follows : K → K → Type 0) → (longest turns time : ℕ) → (keeper : K)
+    → Result Unit Halt → (left : K) → (clock clock' : ClockTold) → (link link' : LinkTold) → Type 0
 Runs content faults follows longest turns time keeper (Ok done) left clock clock' link link' =
     RanBooted content faults follows longest turns time keeper (Ok done) left clock clock' link link'
 Runs content faults follows longest turns time keeper (Err why) left clock clock' link link' =
@@ -142,7 +147,8 @@ Runs content faults follows longest turns time keeper (Err why) left clock clock
 
 -- The clock was read once, and what was to be done from that time on ended so. This keeper is left: it is the one that was handed in, and
 -- keeps what the boot and the steps of the turns made of what it kept.
-pub record Serves {K : Type 0} (content : K → Option Kept) (faults : K → ℕ) (follows : K → K → Type 0) (longest turns : ℕ) (keeper : K) (ended : Result Unit Halt) (left : K) (clock clock' : ClockTold) (link link' : LinkTold) : Type 0 where
+pub record Serves {K : Type 0} (content : K → Option Kept) (faults : K → ℕ) (follows : K → K → Type 0) (longest turns : ℕ) (keeper : K)
+    (ended : Result Unit Halt) (left : K) (clock clock' : ClockTold) (link link' : LinkTold) : Type 0 where
   pub time : ℕ
   pub between : ClockTold
   pub read : ReadsOnce time clock between

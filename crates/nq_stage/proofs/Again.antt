@@ -2,7 +2,6 @@
 use Rattle.std.proofs.Common.{◌≡◌, ◌<◌, ℕ, ◌^◌, true, List, [], ◌++◌, length, Some, Ok, refl, sym, ap, ◌∙◌, arith, append_assoc, append-nil}
 use Rattle.std.proofs.lemmas.Bool.{eq-eqb}
 use Rattle.nq_base.specs.declared.PushBase.{PushBase}
-use Rattle.nq_base.specs.declared.Request.TheVariants.{Write}
 use Rattle.nq_datagrams.specs.Messages.{bytes_of}
 use Rattle.nq_xdr.specs.Message.{spelling, call_with, reply_with, null}
 use Rattle.nq_xdr.proofs.Messages.{message_again, null_fits}
@@ -15,15 +14,26 @@ use Rattle.nq_stage.specs.declared.messages.Pushed.{Pushed}
 use Rattle.nq_stage.specs.declared.messages.Written.{Written}
 use Rattle.nq_stage.specs.declared.reading.Front.{Front}
 use Rattle.nq_stage.specs.Laws.{StagesAreRead, CommitsAreRead, PushesAreRead, StagedIsRead, UnstagedIsRead}
-use Rattle.nq_stage.specs.Messages.{commit, stage, unstaged, head_of, written_bytes, stage_bytes, staged_bytes, pushed_bytes, commit_bytes, write_of, write_bytes, unstaged_bytes, IsWritten, IsFront, IsPushed}
-use Rattle.nq_stage.specs.Reading.{call_by, call_as, call_in, results_by, results_of, results_in, end_at, written_at, body_at, base_at, front_at, stage_at, commit_at, push_at, staged_at, unstaged_at, stage_by, stage_in, commit_by, commit_in, push_by, push_in, verifier_by, verifier_in, unstaged_by, is_unstaged_in}
+use Rattle.nq_stage.specs.Messages.{commit, stage, unstaged, head_of, written_bytes, stage_bytes, staged_bytes, pushed_bytes, commit_bytes, write_of}
+use Rattle.nq_stage.specs.Messages.{unstaged_bytes, IsWritten, IsFront}
+use Rattle.nq_stage.specs.Reading.{call_by, call_as, call_in, results_by, results_of, results_in, end_at, written_at, body_at, base_at, front_at}
+use Rattle.nq_stage.specs.Reading.{stage_at, commit_at, push_at, staged_at, unstaged_at, stage_by, stage_in, commit_by, commit_in, push_by, push_in}
+use Rattle.nq_stage.specs.Reading.{verifier_by, verifier_in, unstaged_by, is_unstaged_in}
 
 -- ---- calls and replies
 
-pub call-again : (xid procedure : ℕ) (args : List ℕ) → xid < 2 ^ 32 → procedure < 2 ^ 32 → call_in procedure (spelling (call_with (head_of xid procedure) args) null null) ≡ Some (xid, args)
+pub call-again : (xid procedure : ℕ) (args : List ℕ) → xid < 2 ^ 32 → procedure < 2 ^ 32
+    → call_in procedure (spelling (call_with (head_of xid procedure) args) null null) ≡ Some (xid, args)
 unfolding call_in call_as
 call-again xid procedure args fits small =
-    ap (call_by procedure) (message_again (call_with (head_of xid procedure) args) null null (record { xid = fits; rpcvers = omega arith; prog = omega arith; vers = omega arith; procedure = small }) null_fits null_fits)
+    ap (call_by procedure) (message_again (call_with (head_of xid procedure) args) null null (record {
+      xid = fits;
+      rpcvers = omega arith;
+      prog =
+          omega arith;
+      vers = omega arith;
+      procedure = small;
+    }) null_fits null_fits)
     ∙ rw (eq-eqb procedure procedure refl) refl
 
 results-again : (xid : ℕ) (results : List ℕ) → xid < 2 ^ 32 → results_in xid (spelling (reply_with xid results) null null) ≡ Some results
@@ -49,7 +59,13 @@ written-again w rest fits =
     let b = word w.inc ++ c in
     let parts : written_bytes w ++ rest ≡ word w.host ++ b = simp append_assoc in
     ap written_at parts
-    ∙ rw (word_again w.host b fits.host, word_again w.inc c fits.inc, word_again w.file d fits.file, word_again w.block e fits.block, hyper_again w.last rest fits.last) refl
+    ∙ rw (
+      word_again w.host b fits.host,
+      word_again w.inc c fits.inc,
+      word_again w.file d fits.file,
+      word_again w.block e fits.block,
+      hyper_again w.last rest fits.last,
+    ) refl
 
 pub body-again : (body : List ℕ) → length body ≡ 4096 → body_at (opaque body) ≡ Ok (body, [])
 unfolding body_at

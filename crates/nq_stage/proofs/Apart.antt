@@ -1,5 +1,6 @@
 -- No two of a client's delayed writes are of one block.
-use Rattle.std.proofs.Common.{◌≡◌, ℕ, Bool, true, false, ◌==◌, ◌&&◌, List, [], ◌∷◌, ◌++◌, Option, Some, None, if◌then◌else◌, map, refl, subst, ◌∙◌, inl, inr, arith}
+use Rattle.std.proofs.Common.{◌≡◌, ℕ, Bool, true, false, ◌==◌, ◌&&◌, List, [], ◌∷◌, ◌++◌, Option, Some, None, if◌then◌else◌, map, refl, subst, ◌∙◌}
+use Rattle.std.proofs.Common.{inl, inr, arith}
 use Rattle.std.specs.List.{filter}
 use Rattle.std.proofs.lemmas.Bool.Decides.{nat_tests}
 use Rattle.nq_base.specs.declared.Push.{Push}
@@ -50,7 +51,8 @@ module _ (file block number : ℕ) (body : List ℕ) where
       step true = other
       step false = other
 
-  over-others : (p : Push) (ps : List Push) → Each (IsOther p) ps → Each (IsOther (overwritten_at file block number body p)) (map (overwritten_at file block number body) ps)
+  over-others : (p : Push) (ps : List Push) → Each (IsOther p) ps → Each (IsOther (overwritten_at file block number body p))
+      (map (overwritten_at file block number body) ps)
   over-others p [] h = tt
   over-others p (q ∷ ps) h = (over-block _ _ q ∙ over-of p q h.0, over-others p ps h.1)
 
@@ -66,7 +68,8 @@ module _ (file block number : ℕ) (body : List ℕ) where
   write-apart ps (Some p) is h = overs-apart ps h
   write-apart ps None is h =
       last-apart ps (record { file = file; block = block; first = number; last = number; body = body })
-      (each-in (λ q. IsOther q (record { file = file; block = block; first = number; last = number; body = body })) ps (λ q i. turned q.file q.block file block (find-absent (is_push_at file block) ps q is i)))
+      (each-in (λ q. IsOther q (record { file = file; block = block; first = number; last = number; body = body })) ps (λ q i. turned q.file q.block
+      file block (find-absent (is_push_at file block) ps q is i)))
       h
 
 -- delayed writes that are there are the ones that their block has

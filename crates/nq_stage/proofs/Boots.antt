@@ -10,7 +10,8 @@ use Rattle.nq_model.specs.Message.{Datagram, Message, Packet, datagram_of}
 use Rattle.nq_model.specs.Server.{Server}
 use Rattle.nq_model.specs.ServerStep.{receive, fence, tick, booted, boot, crash}
 use Rattle.nq_model.specs.Table.{empty_table, with_rows, after_draw}
-use Rattle.nq_model.specs.World.{Head, World, after_server, after_client, at_client, after_hearing, first_kept, deliver_to_client, deliver_to, deliver, start, step}
+use Rattle.nq_model.specs.World.{Head, World, after_server, after_client, at_client, after_hearing, first_kept, deliver_to_client, deliver_to}
+use Rattle.nq_model.specs.World.{deliver, start, step}
 use Rattle.nq_stage.specs.Answering.{Answer, write, unstaged, own_stage, own_commit, answered, answered_as, body_for}
 use Rattle.nq_stage.specs.Bodies.{Bodies, body_of}
 use Rattle.nq_stage.specs.PoolLaws.{after, pool_after}
@@ -20,7 +21,8 @@ use Rattle.nq_stage.specs.Messages.{written_of}
 use Rattle.nq_stage.specs.Reading.{Stage}
 use Rattle.nq_stage.specs.declared.run.event.StagedEvent.{StagedEvent}
 use Rattle.nq_stage.specs.Outer.{Outer, Side, Outside, outside_start}
-use Rattle.nq_stage.specs.Outside.{sends, inner, inner_delivery, takes_stage, takes_commit, served_commit, served_stage, to_server, told_side, heard_by, to_host, takes, delivers, outside_step, outside_run}
+use Rattle.nq_stage.specs.Outside.{sends, inner, inner_delivery, takes_stage, takes_commit, served_commit, served_stage, to_server, told_side}
+use Rattle.nq_stage.specs.Outside.{heard_by, to_host, takes, delivers, outside_step, outside_run}
 use Rattle.nq_stage.proofs.Inner.{Core, inner-ran, delivery-cases, core-offering}
 use Rattle.nq_stage.specs.Hearing.{Told, acknowledged, again, other, told_by}
 use Rattle.nq_stage.specs.Boots.{crashes, boot_of, BootsAreCounted, brought, brought_by, since_boot, PoolIsOfItsBoot, AnswersAreOfTheBoot, CrashesLoseAll}
@@ -69,7 +71,8 @@ ticked n s now b = tick-moves s now (λ kept phase table. (kept.boot ≡ n) × (
 raised : (kept : Kept) (longest : ℕ) → (booted kept longest).boot ≡ kept.boot + 1
 raised kept longest = by (kept.opened == 0)
   where
-    by : (b : Bool) → (if b then record kept { boot = kept.boot + 1; opened = kept.boot + 1; longest = longest } else record kept { boot = kept.boot + 1 }).boot ≡ kept.boot + 1
+    by : (b : Bool) → (if b then record kept { boot = kept.boot + 1; opened = kept.boot + 1; longest = longest }
+        else record kept { boot = kept.boot + 1 }).boot ≡ kept.boot + 1
     by true = refl
     by false = refl
 
@@ -129,20 +132,25 @@ ran-on : (n : ℕ) (o : Outside) (event : Event) → IsOf n (step o.world event)
 ran-on n o event b = subst (WorldOf n) (sym (inner-ran o event)) b
 
 stepped : (n : ℕ) (o : Outside) (event : StagedEvent) → IsOf n o.world.server → IsOf (crashes (event ∷ []) + n) (outside_step o event).world.server
-stepped n o (StagedEvent.Stage host) b = subst (λ k. IsOf k (outside_step o (StagedEvent.Stage host)).world.server) (omega arith) (subst (WorldOf n) (sym (core-offering o host (slice_get o.sides host) (slice_get o.world.clients host))) b)
+stepped n o (StagedEvent.Stage host) b = subst (λ k. IsOf k (outside_step o (StagedEvent.Stage host)).world.server) (omega arith)
+    (subst (WorldOf n) (sym (core-offering o host (slice_get o.sides host) (slice_get o.world.clients host))) b)
 stepped n o (StagedEvent.Plain (Event.Deliver k)) b =
     subst (λ m. IsOf m (outside_step o (StagedEvent.Plain (Event.Deliver k))).world.server) (omega arith)
     (delivery-cases o (WorldOf n) b (λ s. b) (λ number. delivered n o.world number (slice_get o.world.packets number) b) (slice_get o.sent k))
 stepped n o (StagedEvent.Plain (Event.Call host op)) b =
-    subst (λ m. IsOf m (inner o (Event.Call host op)).world.server) (omega arith) (ran-on n o (Event.Call host op) (at-client n o.world host _ (slice_get o.world.clients host) b))
+    subst (λ m. IsOf m (inner o (Event.Call host op)).world.server) (omega arith) (ran-on n o (Event.Call host op) (at-client n o.world host _
+    (slice_get o.world.clients host) b))
 stepped n o (StagedEvent.Plain Event.ServerTick) b =
     subst (λ m. IsOf m (inner o Event.ServerTick).world.server) (omega arith) (ran-on n o Event.ServerTick (server-ticked n o.world b))
 stepped n o (StagedEvent.Plain (Event.ClientTick host)) b =
-    subst (λ m. IsOf m (inner o (Event.ClientTick host)).world.server) (omega arith) (ran-on n o (Event.ClientTick host) (at-client n o.world host _ (slice_get o.world.clients host) b))
+    subst (λ m. IsOf m (inner o (Event.ClientTick host)).world.server) (omega arith) (ran-on n o (Event.ClientTick host) (at-client n o.world host _
+    (slice_get o.world.clients host) b))
 stepped n o (StagedEvent.Plain (Event.Restart host)) b =
-    subst (λ m. IsOf m (inner o (Event.Restart host)).world.server) (omega arith) (ran-on n o (Event.Restart host) (at-client n o.world host _ (slice_get o.world.clients host) b))
+    subst (λ m. IsOf m (inner o (Event.Restart host)).world.server) (omega arith) (ran-on n o (Event.Restart host) (at-client n o.world host _
+    (slice_get o.world.clients host) b))
 stepped n o (StagedEvent.Plain (Event.Crash longest)) b =
-    subst (λ m. IsOf m (inner o (Event.Crash longest)).world.server) (omega arith) (ran-on (n + 1) o (Event.Crash longest) (server-crashed n o.world longest b))
+    subst (λ m. IsOf m (inner o (Event.Crash longest)).world.server) (omega arith) (ran-on (n + 1) o (Event.Crash longest)
+    (server-crashed n o.world longest b))
 
 -- an event more counts as it does alone
 more-crashes : (event : StagedEvent) (events : List StagedEvent) → crashes (event ∷ events) ≡ crashes (event ∷ []) + crashes events
@@ -159,7 +167,8 @@ unfolding outside_start
 of-boot head [] = subst (λ n. IsOf n (start head).server) (omega arith) (first-boot head)
 of-boot head (event ∷ earlier) =
     let more = more-crashes event earlier in
-    subst (λ n. IsOf n (outside_step (outside_run head earlier) event).world.server) (omega arith) (stepped (crashes earlier + 1) (outside_run head earlier) event (of-boot head earlier))
+    subst (λ n. IsOf n (outside_step (outside_run head earlier) event).world.server) (omega arith) (stepped (crashes earlier + 1)
+    (outside_run head earlier) event (of-boot head earlier))
 
 pub boots-are-counted : BootsAreCounted
 boots-are-counted head events = (of-boot head events).1
@@ -202,7 +211,8 @@ module _ (o : Outside) (boot : ℕ) (given : List (ℕ × List ℕ)) (so : o.poo
   taken-pool : (p : Outer) (to sender : Party) → p.sender ≡ sender → (takes o p to).pool ≡ pool_after boot (brought to sender p.bytes given)
   taken-pool p Party.Server Party.Server by = subst (λ from. (to_server o p from).pool ≡ pool_after boot given) (sym by) (delivery-pool o p.stands ∙ so)
   taken-pool p Party.Server (Party.Client host) by =
-      subst (λ from. (to_server o p from).pool ≡ pool_after boot ((host, p.bytes) ∷ given)) (sym by) (stage-pool o host p (own_stage host p.bytes) ∙ ap (λ pool. after pool (own_stage host p.bytes)) so)
+      subst (λ from. (to_server o p from).pool ≡ pool_after boot ((host, p.bytes) ∷ given)) (sym by) (stage-pool o host p (own_stage host p.bytes)
+      ∙ ap (λ pool. after pool (own_stage host p.bytes)) so)
   taken-pool p (Party.Client host) Party.Server by = host-pool o host p p.stands ∙ so
   taken-pool p (Party.Client host) (Party.Client from) by = host-pool o host p p.stands ∙ so
 
@@ -223,14 +233,18 @@ pool-run head (StagedEvent.Stage host ∷ earlier) =
 pool-run head (StagedEvent.Plain (Event.Deliver k) ∷ earlier) =
     let o = outside_run head earlier in
     delivers-pool o (crashes earlier + 1) (since_boot head earlier) (pool-run head earlier) (slice_get o.sent k)
-pool-run head (StagedEvent.Plain (Event.Call host op) ∷ earlier) = ap (λ i. i.2) (inner-ran (outside_run head earlier) (Event.Call host op)) ∙ pool-run head earlier
+pool-run head (StagedEvent.Plain (Event.Call host op) ∷ earlier) = ap (λ i. i.2) (inner-ran (outside_run head earlier) (Event.Call host op))
+    ∙ pool-run head earlier
 pool-run head (StagedEvent.Plain Event.ServerTick ∷ earlier) = ap (λ i. i.2) (inner-ran (outside_run head earlier) Event.ServerTick) ∙ pool-run head earlier
-pool-run head (StagedEvent.Plain (Event.ClientTick host) ∷ earlier) = ap (λ i. i.2) (inner-ran (outside_run head earlier) (Event.ClientTick host)) ∙ pool-run head earlier
-pool-run head (StagedEvent.Plain (Event.Restart host) ∷ earlier) = ap (λ i. i.2) (inner-ran (outside_run head earlier) (Event.Restart host)) ∙ pool-run head earlier
+pool-run head (StagedEvent.Plain (Event.ClientTick host) ∷ earlier) = ap (λ i. i.2) (inner-ran (outside_run head earlier) (Event.ClientTick host))
+    ∙ pool-run head earlier
+pool-run head (StagedEvent.Plain (Event.Restart host) ∷ earlier) = ap (λ i. i.2) (inner-ran (outside_run head earlier) (Event.Restart host))
+    ∙ pool-run head earlier
 pool-run head (StagedEvent.Plain (Event.Crash longest) ∷ earlier) =
     let o = outside_run head earlier in
     let raised-once = server-crashed (crashes earlier + 1) o.world longest (of-boot head earlier) in
-    let boot : (step o.world (Event.Crash longest)).server.table.boot ≡ crashes (StagedEvent.Plain (Event.Crash longest) ∷ earlier) + 1 = raised-once.1 ∙ omega arith in
+    let boot : (step o.world (Event.Crash longest)).server.table.boot ≡ crashes (StagedEvent.Plain (Event.Crash longest) ∷ earlier) + 1 =
+    raised-once.1 ∙ omega arith in
     ap (λ i. i.2) (inner-ran o (Event.Crash longest)) ∙ ap empty boot
 
 pub pool-is-of-its-boot : PoolIsOfItsBoot
@@ -238,7 +252,8 @@ pool-is-of-its-boot head events = pool-run head events ∙ ap (λ b. pool_after 
 
 pub answers-are-of-the-boot : AnswersAreOfTheBoot
 answers-are-of-the-boot head events c bytes answers =
-    answers-with-its-boot (boot_of (outside_run head events)) (since_boot head events) c bytes (ap (λ pool. answered pool c) (sym (pool-is-of-its-boot head events)) ∙ answers)
+    answers-with-its-boot (boot_of (outside_run head events)) (since_boot head events) c bytes (ap (λ pool. answered pool c)
+    (sym (pool-is-of-its-boot head events)) ∙ answers)
 
 none-there : (boot : ℕ) (c : Commit) → body_for (empty boot) c ≡ None
 none-there boot c = by (c.verifier == boot)

@@ -10,7 +10,8 @@ use Rattle.nq_stage.specs.declared.messages.Pushed.{Pushed}
 use Rattle.nq_stage.specs.declared.messages.Written.{Written}
 use Rattle.nq_xdr.specs.Message.{spelling, numbers, call_with, null}
 use Rattle.nq_xdr.proofs.Messages.{message_again, null_fits}
-use Rattle.nq_stage.specs.Messages.{commit, stage, head_of, stage_bytes, commit_bytes, pushed_bytes, written_bytes, written_of, write_of, write_bytes, IsWritten, IsFront, IsPushed}
+use Rattle.nq_stage.specs.Messages.{commit, stage, head_of, stage_bytes, commit_bytes, pushed_bytes, written_bytes, written_of, write_of, write_bytes}
+use Rattle.nq_stage.specs.Messages.{IsWritten, IsFront, IsPushed}
 use Rattle.nq_stage.specs.Reading.{call_as, call_by, call_in, push_at, stage_by, stage_in, commit_by, commit_in, push_by, push_in, read}
 use Rattle.nq_stage.proofs.Again.{call-again, front-again, commits-are-read, pushes-are-read}
 use Rattle.nq_wire.specs.Parts.{head, base_bytes, optional}
@@ -27,18 +28,27 @@ use Rattle.walk_steps.proofs.Packets.{In}
 -- ---- calls
 
 -- the number of a call is told by its bytes alone
-same-call : (xid other procedure : ℕ) (args : List ℕ) → word xid ≡ word other → spelling (call_with (head_of xid procedure) args) null null ≡ spelling (call_with (head_of other procedure) args) null null
+same-call : (xid other procedure : ℕ) (args : List ℕ) → word xid ≡ word other → spelling (call_with (head_of xid procedure) args) null null
+    ≡ spelling (call_with (head_of other procedure) args) null null
 unfolding spelling numbers
 same-call xid other procedure args same = rw same refl
 
 -- the call of one procedure is none of another
-pub call-other : (xid procedure other : ℕ) (args : List ℕ) → procedure < 2 ^ 32 → (procedure == other) ≡ false → call_in other (spelling (call_with (head_of xid procedure) args) null null) ≡ None
+pub call-other : (xid procedure other : ℕ) (args : List ℕ) → procedure < 2 ^ 32 → (procedure == other) ≡ false
+    → call_in other (spelling (call_with (head_of xid procedure) args) null null) ≡ None
 unfolding call_in call_as
 call-other xid procedure other args small differs =
     let n = same-word xid in
     let fits = n.fits in
     ap (call_in other) (same-call xid n.number procedure args n.same)
-    ∙ ap (call_by other) (message_again (call_with (head_of n.number procedure) args) null null (record { xid = fits; rpcvers = omega arith; prog = omega arith; vers = omega arith; procedure = small }) null_fits null_fits)
+    ∙ ap (call_by other) (message_again (call_with (head_of n.number procedure) args) null null (record {
+      xid = fits;
+      rpcvers = omega arith;
+      prog =
+          omega arith;
+      vers = omega arith;
+      procedure = small;
+    }) null_fits null_fits)
     ∙ rw differs refl
 
 -- a request is spelled as a call of its procedure
@@ -93,7 +103,8 @@ pub record IsPushOf (g : Bodies) (bytes : List ℕ) (p : Pushed) : Type 0 where
   pub known : In g (written_of p, body)
 
 -- what is read of the call of a WRITE
-write-read : (xid : ℕ) (args : List ℕ) (p : Pushed) → xid < 2 ^ 32 → push_in (spelling (call_with (head_of xid 6) args) null null) ≡ Some p → read (push_at xid args) ≡ Some p
+write-read : (xid : ℕ) (args : List ℕ) (p : Pushed) → xid < 2 ^ 32 → push_in (spelling (call_with (head_of xid 6) args) null null) ≡ Some p
+    → read (push_at xid args) ≡ Some p
 unfolding push_in
 write-read xid args p fits e = sym (ap push_by (call-again xid 6 args fits (omega arith))) ∙ e
 
@@ -124,16 +135,19 @@ same-front p =
       same = rw (host.same, inc.same, seq.same, file.same, block.same, first.same, last.same) refl;
     }
 
-through-arguments : (p : Pushed) (body : List ℕ) → arguments (Request.Write p.who p.seq p.file p.block p.first p.last None body) ≡ pushed_bytes p ++ (boolean false ++ opaque body)
+through-arguments : (p : Pushed) (body : List ℕ) → arguments (Request.Write p.who p.seq p.file p.block p.first p.last None body) ≡ pushed_bytes p
+    ++ (boolean false ++ opaque body)
 unfolding arguments optional pushed_bytes
 through-arguments p body = simp append_assoc
 
-through-none : (xid : ℕ) (q p : Pushed) (body : List ℕ) → push_in (bytes_of (call xid (Request.Write q.who q.seq q.file q.block q.first q.last None body))) ≡ Some p → ⊥
+through-none : (xid : ℕ) (q p : Pushed) (body : List ℕ)
+    → push_in (bytes_of (call xid (Request.Write q.who q.seq q.file q.block q.first q.last None body))) ≡ Some p → ⊥
 through-none xid q p body e =
     let n = same-word xid in
     let f = same-front q in
     let args = pushed_bytes f.push ++ (boolean false ++ opaque body) in
-    let spelled : bytes_of (call xid (Request.Write q.who q.seq q.file q.block q.first q.last None body)) ≡ spelling (call_with (head_of n.number 6) args) null null =
+    let spelled : bytes_of (call xid (Request.Write q.who q.seq q.file q.block q.first q.last None body)) ≡ spelling (call_with (head_of n.number 6)
+    args) null null =
     request-bytes xid (Request.Write q.who q.seq q.file q.block q.first q.last None body)
     ∙ ap (λ a. spelling (call_with (head_of xid 6) a) null null) (through-arguments q body ∙ ap (λ front. front ++ (boolean false ++ opaque body)) f.same)
     ∙ same-call xid n.number 6 args n.same
@@ -149,11 +163,14 @@ record SamePush (xid : ℕ) (who : Who) (seq file block first last : ℕ) (base 
   fits : IsPushed push
   same : bytes_of (call xid (Request.Write who seq file block first last (Some base) body)) ≡ write_bytes push body
 
-same-arguments : (who : Who) (seq seq' file block first first' last : ℕ) (base base' : PushBase) (body : List ℕ) → hyper seq ≡ hyper seq' → hyper first ≡ hyper first' → word base.boot ≡ word base'.boot → hyper base.base ≡ hyper base'.base → arguments (Request.Write who seq file block first last (Some base) body) ≡ arguments (Request.Write who seq' file block first' last (Some base') body)
+same-arguments : (who : Who) (seq seq' file block first first' last : ℕ) (base base' : PushBase) (body : List ℕ) → hyper seq ≡ hyper seq'
+    → hyper first ≡ hyper first' → word base.boot ≡ word base'.boot → hyper base.base ≡ hyper base'.base
+    → arguments (Request.Write who seq file block first last (Some base) body) ≡ arguments (Request.Write who seq' file block first' last (Some base') body)
 unfolding arguments optional base_bytes
 same-arguments who seq seq' file block first first' last base base' body s f b r = rw (s, f, b, r) refl
 
-same-push : (xid : ℕ) (who : Who) (seq file block first last : ℕ) (base : PushBase) (body : List ℕ) → IsWritten (record { host = who.host; inc = who.inc; file = file; block = block; last = last }) → SamePush xid who seq file block first last base body
+same-push : (xid : ℕ) (who : Who) (seq file block first last : ℕ) (base : PushBase) (body : List ℕ)
+    → IsWritten (record { host = who.host; inc = who.inc; file = file; block = block; last = last }) → SamePush xid who seq file block first last base body
 same-push xid who seq file block first last base body w =
     let x = same-word xid in
     let s = same-hyper seq in
@@ -172,12 +189,16 @@ same-push xid who seq file block first last base body w =
       };
       same =
           request-bytes xid (Request.Write who seq file block first last (Some base) body)
-          ∙ ap (λ a. spelling (call_with (head_of xid 6) a) null null) (same-arguments who seq s.number file block first f.number last base base' body s.same f.same b.same r.same)
+          ∙ ap (λ a. spelling (call_with (head_of xid 6) a) null null) (same-arguments who seq s.number file block first f.number last base base' body
+          s.same f.same b.same r.same)
           ∙ same-call xid x.number 6 (arguments (write_of push body)) x.same
           ∙ sym (request-bytes x.number (write_of push body));
     }
 
-of-write : (g : Bodies) (xid : ℕ) (who : Who) (seq file block first last : ℕ) (push : Option PushBase) (body : List ℕ) (p : Pushed) → AllFit g → Asks g (Request.Write who seq file block first last push body) → push_in (bytes_of (call xid (Request.Write who seq file block first last push body))) ≡ Some p → IsPushOf g (bytes_of (call xid (Request.Write who seq file block first last push body))) p
+of-write : (g : Bodies) (xid : ℕ) (who : Who) (seq file block first last : ℕ) (push : Option PushBase) (body : List ℕ) (p : Pushed) → AllFit g
+    → Asks g (Request.Write who seq file block first last push body)
+    → push_in (bytes_of (call xid (Request.Write who seq file block first last push body))) ≡ Some p
+    → IsPushOf g (bytes_of (call xid (Request.Write who seq file block first last push body))) p
 of-write g xid who seq file block first last None body p fit asks e =
     let base : PushBase = record { boot = 0; base = 0 } in
     absurd (through-none xid (push-of xid who seq file block first last base) p body e)
@@ -186,17 +207,24 @@ of-write g xid who seq file block first last (Some base) body p fit asks e =
     let s = same-push xid who seq file block first last base body b.written in
     let one : s.push ≡ p = some-same s.push p (sym (pushes-are-read s.push body s.fits b.size) ∙ sym (ap push_in s.same) ∙ e) in
     let known : In g (written_of s.push, body) = subst (λ w. In g (w, body)) (sym s.written) asks in
-    subst (IsPushOf g (bytes_of (call xid (Request.Write who seq file block first last (Some base) body)))) one (record { body = body; is = s.same; fits = s.fits; known = known })
+    subst (IsPushOf g (bytes_of (call xid (Request.Write who seq file block first last (Some base) body)))) one (record {
+      body = body;
+      is = s.same;
+      fits = s.fits;
+      known = known;
+    })
 
 -- no other request is read as a push
 other-none : (xid : ℕ) (r : Request) (p : Pushed) → (number_of (procedure_of r) == 6) ≡ false → push_in (bytes_of (call xid r)) ≡ Some p → ⊥
 unfolding push_in
 other-none xid r p differs e =
     let old = is-old r in
-    let none : None ≡ Some p = sym (ap push_by (ap (call_in 6) (request-bytes xid r) ∙ call-other xid (number_of (procedure_of r)) 6 (arguments r) old.small differs)) ∙ e in
+    let none : None ≡ Some p = sym (ap push_by (ap (call_in 6) (request-bytes xid r) ∙ call-other xid (number_of (procedure_of r)) 6 (arguments r)
+    old.small differs)) ∙ e in
     absurd cc
 
-pub reads-push : (g : Bodies) (xid : ℕ) (r : Request) (p : Pushed) → AllFit g → Asks g r → push_in (bytes_of (call xid r)) ≡ Some p → IsPushOf g (bytes_of (call xid r)) p
+pub reads-push : (g : Bodies) (xid : ℕ) (r : Request) (p : Pushed) → AllFit g → Asks g r → push_in (bytes_of (call xid r)) ≡ Some p
+    → IsPushOf g (bytes_of (call xid r)) p
 reads-push g xid (Request.Write who seq file block first last push body) p fit asks e = of-write g xid who seq file block first last push body p fit asks e
 reads-push g xid Request.Null p fit asks e = absurd (other-none xid Request.Null p refl e)
 reads-push g xid (Request.Attach who) p fit asks e = absurd (other-none xid (Request.Attach who) p refl e)
@@ -228,6 +256,7 @@ same-verifier p verifier other same = rw same refl
 pub reads-commit : (p : Pushed) (verifier : ℕ) (c : Commit) → IsPushed p → commit_in (commit_bytes p verifier) ≡ Some c → c.pushed ≡ p
 reads-commit p verifier c fits e =
     let v = same-word verifier in
-    let read : commit_in (commit_bytes p verifier) ≡ Some (record { pushed = p; verifier = v.number }) = ap commit_in (same-verifier p verifier v.number v.same) ∙ commits-are-read p v.number fits v.fits in
+    let read : commit_in (commit_bytes p verifier) ≡ Some (record { pushed = p; verifier = v.number }) =
+    ap commit_in (same-verifier p verifier v.number v.same) ∙ commits-are-read p v.number fits v.fits in
     let same : record { pushed = p; verifier = v.number } ≡ c = some-same _ c (sym read ∙ e) in
     sym (ap (λ (z : Commit). z.pushed) same)

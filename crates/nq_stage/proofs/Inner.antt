@@ -15,7 +15,9 @@ use Rattle.nq_stage.specs.declared.messages.Written.{Written}
 use Rattle.nq_stage.specs.Reading.{Stage}
 use Rattle.nq_stage.specs.declared.run.event.StagedEvent.{StagedEvent}
 use Rattle.nq_stage.specs.Outer.{Outer, Side, Outside, new_pool, outside_start}
-use Rattle.nq_stage.specs.Outside.{sends, sends_as, sends_by, sends_from, sends_all, renewed, inner, inner_delivery, takes_stage, takes_commit, served_commit, served_stage, to_server, told_side, heard_by, to_host, takes, delivers, sends_stage, offers_body, offers, outside_step, outside_run}
+use Rattle.nq_stage.specs.Outside.{sends, sends_as, sends_by, sends_from, sends_all, renewed, inner, inner_delivery, takes_stage, takes_commit}
+use Rattle.nq_stage.specs.Outside.{served_commit, served_stage, to_server, told_side, heard_by, to_host, takes, delivers, sends_stage, offers_body}
+use Rattle.nq_stage.specs.Outside.{offers, outside_step, outside_run}
 use Rattle.nq_stage.specs.Theorem.{RunsInside, OffersStoreNothing}
 use Rattle.nq_stage.specs.Hearing.{Told, acknowledged, again, other, told_by}
 use Rattle.nq_stage.specs.Offering.{offer_of}
@@ -89,13 +91,19 @@ inner-ran o event =
 -- ---- a delivery
 
 -- A delivery takes in a STAGE, or runs the delivery of an inner packet, or does neither. What is shown of each holds after it.
-module _ (o : Outside) (Q : World × List Event × Bodies → Type 0) (stays : Q (Core o)) (stages : (s : Stage) → Q (o.world, o.ran, (staged o.pool s).1)) (goes : (number : ℕ) → Q (step o.world (Event.Deliver number), Event.Deliver number ∷ o.ran, o.pool)) where
+module _ (o : Outside) (Q : World × List Event × Bodies → Type 0) (stays : Q (Core o)) (stages : (s : Stage)
+    → Q (o.world, o.ran, (staged o.pool s).1)) (goes : (number : ℕ) → Q (step o.world (Event.Deliver number), Event.Deliver number ∷ o.ran, o.pool)) where
   quiet : (u : Outside) → Core u ≡ Core o → Q (Core u)
   quiet u same = subst Q (sym same) stays
 
   delivered : (u : Outside) (stands : Option ℕ) → Core u ≡ Core o → Q (Core (inner_delivery u stands))
   delivered u None same = quiet u same
-  delivered u (Some number) same = subst Q (sym (inner-ran u (Event.Deliver number) ∙ ap (λ i. (step i.0 (Event.Deliver number), Event.Deliver number ∷ i.1, i.2)) same)) (goes number)
+  delivered u (Some number) same = subst Q (sym (inner-ran u (Event.Deliver number) ∙ ap (λ i. (
+    step i.0 (Event.Deliver number),
+    Event.Deliver number
+        ∷ i.1,
+    i.2,
+  )) same)) (goes number)
 
   staging : (host : ℕ) (s : Stage) → Q (Core (takes_stage o host (staged o.pool s)))
   unfolding takes_stage sends
@@ -166,7 +174,8 @@ runs-on head o event h = subst (Runs head) (sym (inner-ran o event)) (ap (λ v. 
 
 stepping : (head : Head) (o : Outside) (event : StagedEvent) → Runs head (Core o) → Runs head (Core (outside_step o event))
 stepping head o (StagedEvent.Stage host) h = subst (Runs head) (sym (core-offering o host (slice_get o.sides host) (slice_get o.world.clients host))) h
-stepping head o (StagedEvent.Plain (Event.Deliver number)) h = delivery-cases o (Runs head) h (λ s. h) (λ k. ap (λ v. step v (Event.Deliver k)) h) (slice_get o.sent number)
+stepping head o (StagedEvent.Plain (Event.Deliver number)) h = delivery-cases o (Runs head) h (λ s. h) (λ k. ap (λ v. step v (Event.Deliver k)) h)
+    (slice_get o.sent number)
 stepping head o (StagedEvent.Plain (Event.Call host op)) h = runs-on head o (Event.Call host op) h
 stepping head o (StagedEvent.Plain Event.ServerTick) h = runs-on head o Event.ServerTick h
 stepping head o (StagedEvent.Plain (Event.ClientTick host)) h = runs-on head o (Event.ClientTick host) h

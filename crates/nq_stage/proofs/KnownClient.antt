@@ -1,6 +1,7 @@
 -- A client's delayed writes and pushes carry the bodies of their writes, over each of its steps. The number of a write is given
 -- once in an incarnation, so it has one body.
-use Rattle.std.proofs.Common.{◌≡◌, ◌≤◌, ◌<◌, ◌^◌, ℕ, ◌+◌, Bool, true, false, List, [], ◌∷◌, ◌++◌, Option, Some, None, if◌then◌else◌, length, map, refl, sym, subst, ap, ◌∙◌, inl, inr, arith}
+use Rattle.std.proofs.Common.{◌≡◌, ◌≤◌, ◌<◌, ◌^◌, ℕ, ◌+◌, Bool, true, false, List, [], ◌∷◌, ◌++◌, Option, Some, None, if◌then◌else◌, length, map}
+use Rattle.std.proofs.Common.{refl, sym, subst, ap, ◌∙◌, inl, inr, arith}
 use Rattle.std.proofs.lemmas.Bool.{and_parts}
 use Rattle.nq_base.specs.declared.Answer.{Answer}
 use Rattle.nq_base.specs.declared.Call.{Call}
@@ -15,7 +16,10 @@ use Rattle.nq_stage.proofs.Apart.{AreApart, apart-filter, write-apart}
 use Rattle.nq_model.proofs.Lists.{each-append, each-map}
 use Rattle.nq_model.specs.Client.{Client, ClientStep, Job, Notice, Ticket, UnderWay, begun, dirty_at, is_push_at, is_push_of, first_dirty, notice_on}
 use Rattle.nq_model.specs.ClientStep.{begins_call, is_called, says_busy, at_time, sends_again}
-use Rattle.nq_model.specs.Hear.{vacates_lease, vacates_noticed, loses, reports, without_lease, push_refused, breaks_chain, if_broken, holds, takes_grant, takes_optional, answers_call, caches_block, purges, knows_revision, then_caches, read_done, marks_through, caches_write, write_done, ends_push, caches_push, push_done, answer_of, spends, attached, pauses, replied, reply_counts, with_through, cancels, notes_notice, evicted, other_push}
+use Rattle.nq_model.specs.Hear.{vacates_lease, vacates_noticed, loses, reports, without_lease, push_refused, breaks_chain, if_broken, holds}
+use Rattle.nq_model.specs.Hear.{takes_grant, takes_optional, answers_call, caches_block, purges, knows_revision, then_caches, read_done}
+use Rattle.nq_model.specs.Hear.{marks_through, caches_write, write_done, ends_push, caches_push, push_done, answer_of, spends, attached, pauses}
+use Rattle.nq_model.specs.Hear.{replied, reply_counts, with_through, cancels, notes_notice, evicted, other_push}
 use Rattle.nq_model.specs.Journal.{Each}
 use Rattle.nq_model.specs.Message.{Message, call, reply, error}
 use Rattle.nq_model.specs.Send.{sends_request, after_seq, after_number, takes_push, sends_write, gives_up}
@@ -26,7 +30,8 @@ use Rattle.nq_stage.specs.Theorem.{BringsBlock}
 use Rattle.nq_stage.specs.Offering.{written_by}
 use Rattle.walk_steps.proofs.ClientFacts.{fits_job}
 use Rattle.walk_steps.proofs.ClientMoves.{some-same, none-some, keeps-or-cancels}
-use Rattle.walk_steps.proofs.PartCases.{answers-call-cases, vacates-noticed-cases, reports-cases, if-broken-cases, takes-optional-cases, lease-done-cases, then-caches-cases, caches-write-cases, caches-push-cases, vacates-if-clean-cases}
+use Rattle.walk_steps.proofs.PartCases.{answers-call-cases, vacates-noticed-cases, reports-cases, if-broken-cases, takes-optional-cases}
+use Rattle.walk_steps.proofs.PartCases.{lease-done-cases, then-caches-cases, caches-write-cases, caches-push-cases, vacates-if-clean-cases}
 use Rattle.walk_steps.proofs.RepliedCases.{replied-cases}
 use Rattle.walk_steps.proofs.SendCases.{pushed}
 use Rattle.walk_steps.proofs.StepCases.{evicted-cases}
@@ -98,7 +103,8 @@ more-says g g' more (error xid e) h = absurd h
 
 -- `g` were known before the step, and only this host's writes may have come to them. The step is of this incarnation, which gave no
 -- number above `most`
-pub record Knows (g : Bodies) (old : Who) (most : ℕ) (who : Who) (number : ℕ) (call : Option UnderWay) (ticket : Option Ticket) (dirty : List Push) (push : Option Push) (sends : List Message) : Type 0 where
+pub record Knows (g : Bodies) (old : Who) (most : ℕ) (who : Who) (number : ℕ) (call : Option UnderWay) (ticket : Option Ticket) (dirty : List Push)
+    (push : Option Push) (sends : List Message) : Type 0 where
   pub kept : who ≡ old
   pub host : who.host < 2 ^ 32
   pub inc : who.inc ≤ most
@@ -157,7 +163,8 @@ begun-knows g most c one fit h = record {
 abbrev written-at : Who → (file block number : ℕ) → Written
 written-at who file block number = record { host = who.host; inc = who.inc; file = file; block = block; last = number }
 
-same-key : (who : Who) (file block number : ℕ) (p : Push) → is_push_at file block p ≡ true → written-at who file block number ≡ written-at who p.file p.block number
+same-key : (who : Who) (file block number : ℕ) (p : Push) → is_push_at file block p ≡ true → written-at who file block number ≡ written-at who p.file
+    p.block number
 same-key who file block number p on =
     let a = and_parts _ _ on in
     let f : p.file ≡ file = same-number p.file file a.0 in
@@ -200,14 +207,17 @@ module _ (g : Bodies) (who : Who) (file block number : ℕ) (body : List ℕ) wh
       (omega arith, λ e. omega arith)
   grown-fresh fresh v b (inr i) own = let f = fresh v b i own in (f.0, λ e. let early = f.1 e in omega arith)
 
-grown-fit : (g : Bodies) (who : Who) (file block number : ℕ) (body : List ℕ) → IsBody (written-at who file block number) body → AllFit g → AllFit (grown g who file block number body)
+grown-fit : (g : Bodies) (who : Who) (file block number : ℕ) (body : List ℕ) → IsBody (written-at who file block number) body → AllFit g
+    → AllFit (grown g who file block number body)
 grown-fit g who file block number body new fit v b (inl x) = subst (λ z. IsBody z.0 z.1) x new
 grown-fit g who file block number body new fit v b (inr i) = fit v b i
 
 later-fresh : (g : Bodies) (who : Who) (number : ℕ) → IsFresh g who number → IsFresh g who (number + 1)
 later-fresh g who number fresh v b i own = let f = fresh v b i own in (f.0, λ e. let early = f.1 e in omega arith)
 
-others-known : (g now : Bodies) (who : Who) (file block number : ℕ) (body : List ℕ) → ((v : Written) (b : List ℕ) → In now (v, b) → (v.host ≡ who.host → ⊥) → In g (v, b)) → (v : Written) (b : List ℕ) → In (grown now who file block number body) (v, b) → (v.host ≡ who.host → ⊥) → In g (v, b)
+others-known : (g now : Bodies) (who : Who) (file block number : ℕ) (body : List ℕ) → ((v : Written) (b : List ℕ) → In now (v, b)
+    → (v.host ≡ who.host → ⊥) → In g (v, b)) → (v : Written) (b : List ℕ) → In (grown now who file block number body) (v, b) → (v.host ≡ who.host → ⊥)
+    → In g (v, b)
 others-known g now who file block number body others v b (inl x) other = absurd (other (sym (ap (λ z. z.0.host) x)))
 others-known g now who file block number body others v b (inr i) other = others v b i other
 
@@ -215,24 +225,121 @@ others-known g now who file block number body others v b (inr i) other = others 
 
 module _ (g : Bodies) (old : Who) (most : ℕ) where
   -- what is known where other things changed: the call under way, the request, what is delayed, and what was sent
-  pub with-call : (t : ClientStep) (call : Option UnderWay) → ((u : UnderWay) → call ≡ Some u → BringsBlock u.call) → (m : KnowsIn g old most t) → Knows g old most t.client.who t.client.number call t.client.ticket t.client.dirty t.client.push t.sends
-  with-call t u new m = record { kept = m.kept; host = m.host; inc = m.inc; few = m.few; now = m.now; more = m.more; others = m.others; one = m.one; fit = m.fit; fresh = m.fresh; called = new; listed = m.listed; apart = m.apart; pushes = m.pushes; asked = m.asked; sent = m.sent }
+  pub with-call : (t : ClientStep) (call : Option UnderWay) → ((u : UnderWay) → call ≡ Some u → BringsBlock u.call) → (m : KnowsIn g old most t)
+      → Knows g old most t.client.who t.client.number call t.client.ticket t.client.dirty t.client.push t.sends
+  with-call t u new m = record {
+    kept = m.kept;
+    host = m.host;
+    inc = m.inc;
+    few = m.few;
+    now = m.now;
+    more = m.more;
+    others = m.others;
+    one = m.one;
+    fit = m.fit;
+    fresh = m.fresh;
+    called = new;
+    listed = m.listed;
+    apart = m.apart;
+    pushes = m.pushes;
+    asked = m.asked;
+    sent = m.sent;
+  }
 
-  pub with-ticket : (t : ClientStep) (ticket : Option Ticket) (sends : List Message) → (m : KnowsIn g old most t) → ((k : Ticket) → ticket ≡ Some k → Asks m.now k.request) → Each (Says m.now) sends → Knows g old most t.client.who t.client.number t.client.call ticket t.client.dirty t.client.push sends
-  with-ticket t ticket sends m asked sent = record { kept = m.kept; host = m.host; inc = m.inc; few = m.few; now = m.now; more = m.more; others = m.others; one = m.one; fit = m.fit; fresh = m.fresh; called = m.called; listed = m.listed; apart = m.apart; pushes = m.pushes; asked = asked; sent = sent }
+  pub with-ticket : (t : ClientStep) (ticket : Option Ticket) (sends : List Message) → (m : KnowsIn g old most t) → ((k : Ticket) → ticket ≡ Some k
+      → Asks m.now k.request) → Each (Says m.now) sends → Knows g old most t.client.who t.client.number t.client.call ticket t.client.dirty t.client.push sends
+  with-ticket t ticket sends m asked sent = record {
+    kept = m.kept;
+    host = m.host;
+    inc = m.inc;
+    few = m.few;
+    now = m.now;
+    more = m.more;
+    others =
+        m.others;
+    one = m.one;
+    fit = m.fit;
+    fresh = m.fresh;
+    called = m.called;
+    listed = m.listed;
+    apart = m.apart;
+    pushes = m.pushes;
+    asked = asked;
+    sent = sent;
+  }
 
-  pub with-dirty : (t : ClientStep) (dirty : List Push) (push : Option Push) → (m : KnowsIn g old most t) → Each (Carries m.now t.client.who) dirty → AreApart dirty → ((p : Push) → push ≡ Some p → Carries m.now t.client.who p) → Knows g old most t.client.who t.client.number t.client.call t.client.ticket dirty push t.sends
-  with-dirty t dirty push m listed apart pushes = record { kept = m.kept; host = m.host; inc = m.inc; few = m.few; now = m.now; more = m.more; others = m.others; one = m.one; fit = m.fit; fresh = m.fresh; called = m.called; listed = listed; apart = apart; pushes = pushes; asked = m.asked; sent = m.sent }
+  pub with-dirty : (t : ClientStep) (dirty : List Push) (push : Option Push) → (m : KnowsIn g old most t) → Each (Carries m.now t.client.who) dirty
+      → AreApart dirty → ((p : Push) → push ≡ Some p → Carries m.now t.client.who p) → Knows g old most t.client.who t.client.number t.client.call
+      t.client.ticket dirty push t.sends
+  with-dirty t dirty push m listed apart pushes = record {
+    kept = m.kept;
+    host = m.host;
+    inc = m.inc;
+    few = m.few;
+    now = m.now;
+    more = m.more;
+    others = m.others;
+    one = m.one;
+    fit = m.fit;
+    fresh = m.fresh;
+    called = m.called;
+    listed = listed;
+    apart = apart;
+    pushes = pushes;
+    asked =
+        m.asked;
+    sent = m.sent;
+  }
 
-  pub with-sends : (t : ClientStep) (message : Message) → (m : KnowsIn g old most t) → Says m.now message → Knows g old most t.client.who t.client.number t.client.call t.client.ticket t.client.dirty t.client.push (t.sends ++ message ∷ [])
-  with-sends t message m says = with-ticket t t.client.ticket (t.sends ++ message ∷ []) m m.asked (each-append (Says m.now) t.sends (message ∷ []) m.sent (says, tt))
+  pub with-sends : (t : ClientStep) (message : Message) → (m : KnowsIn g old most t) → Says m.now message → Knows g old most t.client.who
+      t.client.number t.client.call t.client.ticket t.client.dirty t.client.push (t.sends ++ message ∷ [])
+  with-sends t message m says = with-ticket t t.client.ticket (t.sends ++ message ∷ []) m m.asked (each-append (Says m.now) t.sends (message ∷ [])
+      m.sent (says, tt))
 
   -- a number was given, or may be
   pub later : (t : ClientStep) → KnowsIn g old most t → KnowsIn g old (most + 1) t
-  later t m = record { kept = m.kept; host = m.host; inc = let i = m.inc in omega arith; few = let i = m.few in omega arith; now = m.now; more = m.more; others = m.others; one = m.one; fit = m.fit; fresh = m.fresh; called = m.called; listed = m.listed; apart = m.apart; pushes = m.pushes; asked = m.asked; sent = m.sent }
+  later t m = record {
+    kept = m.kept;
+    host = m.host;
+    inc = let i = m.inc in omega arith;
+    few = let i = m.few in omega arith;
+    now = m.now;
+    more =
+        m.more;
+    others = m.others;
+    one = m.one;
+    fit = m.fit;
+    fresh = m.fresh;
+    called = m.called;
+    listed = m.listed;
+    apart = m.apart;
+    pushes = m.pushes;
+    asked = m.asked;
+    sent = m.sent;
+  }
 
-  pub counted : (t : ClientStep) → (m : KnowsIn g old most t) → Knows g old (most + 1) t.client.who (t.client.number + 1) t.client.call t.client.ticket t.client.dirty t.client.push t.sends
-  counted t m = record { kept = m.kept; host = m.host; inc = let i = m.inc in omega arith; few = let i = m.few in omega arith; now = m.now; more = m.more; others = m.others; one = m.one; fit = m.fit; fresh = later-fresh m.now t.client.who t.client.number m.fresh; called = m.called; listed = m.listed; apart = m.apart; pushes = m.pushes; asked = m.asked; sent = m.sent }
+  pub counted : (t : ClientStep) → (m : KnowsIn g old most t) → Knows g old (most + 1) t.client.who (t.client.number + 1) t.client.call
+      t.client.ticket t.client.dirty t.client.push t.sends
+  counted t m = record {
+    kept = m.kept;
+    host = m.host;
+    inc = let i = m.inc in omega arith;
+    few = let i = m.few in omega arith;
+    now = m.now;
+    more =
+        m.more;
+    others = m.others;
+    one = m.one;
+    fit = m.fit;
+    fresh = later-fresh m.now t.client.who t.client.number m.fresh;
+    called = m.called;
+    listed =
+        m.listed;
+    apart = m.apart;
+    pushes = m.pushes;
+    asked = m.asked;
+    sent = m.sent;
+  }
 
   pub answered : (t : ClientStep) (q : ℕ) (a : Answer) (by : Option ℕ) → KnowsIn g old most t → KnowsIn g old most (answers t q a by)
   unfolding answers
@@ -242,11 +349,13 @@ module _ (g : Bodies) (old : Who) (most : ℕ) where
   unfolding answers
   named t q file m = with-call t None (λ u e. none-some u e) m
 
-  pub read-knows : (t : ClientStep) (u : UnderWay) (file block : ℕ) (body : List ℕ) → KnowsIn g old most t → KnowsIn g old most (reads_cached t u file block body)
+  pub read-knows : (t : ClientStep) (u : UnderWay) (file block : ℕ) (body : List ℕ) → KnowsIn g old most t
+      → KnowsIn g old most (reads_cached t u file block body)
   unfolding reads_cached answers after_read
   read-knows t u file block body m = with-call t None (λ u e. none-some u e) m
 
-  pub delayed : (t : ClientStep) (file block : ℕ) (body : List ℕ) → most < 2 ^ 32 → (file < 2 ^ 32) × (block < 2 ^ 32) × (length body ≡ 4096) → KnowsIn g old most t → KnowsIn g old (most + 1) (delays t file block body)
+  pub delayed : (t : ClientStep) (file block : ℕ) (body : List ℕ) → most < 2 ^ 32 → (file < 2 ^ 32) × (block < 2 ^ 32) × (length body ≡ 4096)
+      → KnowsIn g old most t → KnowsIn g old (most + 1) (delays t file block body)
   unfolding after_write
   delayed t file block body small brings m =
       let who = t.client.who in
@@ -271,7 +380,8 @@ module _ (g : Bodies) (old : Who) (most : ℕ) where
         apart = write-apart file block number body t.client.dirty (dirty_at file block t.client.dirty) refl m.apart;
         pushes = λ p e. inr (m.pushes p e);
         asked = λ k e. more-asks m.now (grown m.now who file block number body) (λ v b i. inr i) k.request (m.asked k e);
-        sent = each-map (Says m.now) (Says (grown m.now who file block number body)) t.sends (more-says m.now (grown m.now who file block number body) (λ v b i. inr i)) m.sent;
+        sent = each-map (Says m.now) (Says (grown m.now who file block number body)) t.sends (more-says m.now (grown m.now who file block number body)
+            (λ v b i. inr i)) m.sent;
       }
 
   pub marked : (t : ClientStep) (u : UnderWay) → BringsBlock u.call → KnowsIn g old most t → KnowsIn g old most (marks_written t u)
@@ -295,7 +405,8 @@ module _ (g : Bodies) (old : Who) (most : ℕ) where
   pub vacated-noticed : (t : ClientStep) (file : ℕ) (o : Option Notice) → KnowsIn g old most t → KnowsIn g old most (vacates_noticed t file o)
   vacated-noticed t file o m = vacates-noticed-cases t file o (KnowsIn g old most) (λ e. m) (λ n e. vacated t file n.tag m)
 
-  pub other-pushes : (now : Bodies) (who : Who) (file : ℕ) (o : Option Push) → ((p : Push) → o ≡ Some p → Carries now who p) → (p : Push) → other_push file o ≡ Some p → Carries now who p
+  pub other-pushes : (now : Bodies) (who : Who) (file : ℕ) (o : Option Push) → ((p : Push) → o ≡ Some p → Carries now who p) → (p : Push)
+      → other_push file o ≡ Some p → Carries now who p
   other-pushes now who file None h p e = none-some p e
   other-pushes now who file (Some x) h p e = step (is_push_of file x) e
     where
@@ -305,7 +416,8 @@ module _ (g : Bodies) (old : Who) (most : ℕ) where
 
   pub lost : (t : ClientStep) (file : ℕ) → KnowsIn g old most t → KnowsIn g old most (loses t file)
   unfolding loses
-  lost t file m = with-dirty t _ (other_push file t.client.push) m (each-filter (Carries m.now t.client.who) _ t.client.dirty m.listed) (apart-filter _ t.client.dirty m.apart) (other-pushes m.now t.client.who file t.client.push m.pushes)
+  lost t file m = with-dirty t _ (other_push file t.client.push) m (each-filter (Carries m.now t.client.who) _ t.client.dirty m.listed)
+      (apart-filter _ t.client.dirty m.apart) (other-pushes m.now t.client.who file t.client.push m.pushes)
 
   pub reported : (t : ClientStep) (file : ℕ) → KnowsIn g old most t → KnowsIn g old most (reports t file)
   reported t file m = reports-cases t file (KnowsIn g old most) (λ none. m) (λ u is waits. m) (λ u is waits. named t u.q file m)
@@ -315,10 +427,12 @@ module _ (g : Bodies) (old : Who) (most : ℕ) where
   held t file grant at m = m
 
   pub broken : (t : ClientStep) (file : ℕ) → KnowsIn g old most t → KnowsIn g old most (breaks_chain t file)
-  broken t file m = reported (vacates_noticed (loses t file) file (notice_on file t.client.notices)) file (vacated-noticed (loses t file) file (notice_on file t.client.notices) (lost t file m))
+  broken t file m = reported (vacates_noticed (loses t file) file (notice_on file t.client.notices)) file (vacated-noticed (loses t file) file
+      (notice_on file t.client.notices) (lost t file m))
 
   pub granted : (t : ClientStep) (file : ℕ) (grant : Grant) (at : ℕ) → KnowsIn g old most t → KnowsIn g old most (takes_grant t file grant at)
-  granted t file grant at m = held (if_broken t file grant) file grant at (if-broken-cases t file grant (KnowsIn g old most) (λ e. m) (λ lease has breaks dirty. broken t file m))
+  granted t file grant at m = held (if_broken t file grant) file grant at (if-broken-cases t file grant (KnowsIn g old most) (λ e. m)
+      (λ lease has breaks dirty. broken t file m))
 
   pub takes : (t : ClientStep) (file : ℕ) (o : Option Grant) (at : ℕ) → KnowsIn g old most t → KnowsIn g old most (takes_optional t file o at)
   takes t file o at m = takes-optional-cases t file o at (KnowsIn g old most) (λ e. m) (λ grant e. granted t file grant at m)
@@ -343,7 +457,8 @@ module _ (g : Bodies) (old : Who) (most : ℕ) where
   unfolding ends_push
   ended t m = with-dirty t t.client.dirty None m m.listed m.apart (λ p e. none-some p e)
 
-  pub through-brings : (on : Bool) (o : Option UnderWay) → ((u : UnderWay) → o ≡ Some u → BringsBlock u.call) → (u : UnderWay) → with_through on o ≡ Some u → BringsBlock u.call
+  pub through-brings : (on : Bool) (o : Option UnderWay) → ((u : UnderWay) → o ≡ Some u → BringsBlock u.call) → (u : UnderWay) → with_through on o
+      ≡ Some u → BringsBlock u.call
   through-brings on None h u e = none-some u e
   through-brings on (Some v) h u e = subst (λ z. BringsBlock z.call) (some-same _ u e) (h v refl)
 
@@ -358,32 +473,38 @@ module _ (g : Bodies) (old : Who) (most : ℕ) where
   pub answers-know : (t : ClientStep) (a : Answer) (by : Option ℕ) → KnowsIn g old most t → KnowsIn g old most (answers_call t a by)
   answers-know t a by m = answers-call-cases t a by (KnowsIn g old most) (λ e. m) (λ u e. answered t u.q a by m)
 
-  pub read-done : (t : ClientStep) (file block : ℕ) (body : List ℕ) (o : Option Grant) (at number : ℕ) → KnowsIn g old most t → KnowsIn g old most (read_done t file block body o at number)
+  pub read-done : (t : ClientStep) (file block : ℕ) (body : List ℕ) (o : Option Grant) (at number : ℕ) → KnowsIn g old most t
+      → KnowsIn g old most (read_done t file block body o at number)
   read-done t file block body o at number m =
       let k = takes t file o at m in
-      answers-know (then_caches (takes_optional t file o at) file block body o) _ _ (then-caches-cases (takes_optional t file o at) file block body o (KnowsIn g old most) (λ e. caches _ file block body k) (λ e. k))
+      answers-know (then_caches (takes_optional t file o at) file block body o) _ _ (then-caches-cases (takes_optional t file o at) file block body o
+      (KnowsIn g old most) (λ e. caches _ file block body k) (λ e. k))
 
   pub write-done : (t : ClientStep) (file block : ℕ) (body : List ℕ) (rev : ℕ) → KnowsIn g old most t → KnowsIn g old most (write_done t file block body rev)
   write-done t file block body rev m =
-      answers-know (knows_revision (caches_write t file block body rev) file rev) _ None (known (caches_write t file block body rev) file rev (caches-write-cases t file block body rev (KnowsIn g old most) (λ a b. caches t file block body m) (purged t file m)))
+      answers-know (knows_revision (caches_write t file block body rev) file rev) _ None (known (caches_write t file block body rev) file rev
+      (caches-write-cases t file block body rev (KnowsIn g old most) (λ a b. caches t file block body m) (purged t file m)))
 
   pub push-done : (t : ClientStep) (file block : ℕ) (body : List ℕ) (rev : ℕ) → KnowsIn g old most t → KnowsIn g old most (push_done t file block body rev)
   push-done t file block body rev m =
       let k = known (ends_push t) file rev (ended t m) in
       let c = caches-push-cases (knows_revision (ends_push t) file rev) file block body (KnowsIn g old most) (λ e. k) (λ e. caches _ file block body k) in
-      vacates-if-clean-cases (caches_push (knows_revision (ends_push t) file rev) file block body) file (KnowsIn g old most) c (λ n clean e. vacated _ file n.tag c)
+      vacates-if-clean-cases (caches_push (knows_revision (ends_push t) file rev) file block body) file (KnowsIn g old most) c
+      (λ n clean e. vacated _ file n.tag c)
 
   pub refused-knows : (t : ClientStep) (file : ℕ) → KnowsIn g old most t → KnowsIn g old most (push_refused t file)
   refused-knows t file m = reported _ file (vacated-noticed _ file _ (unleased _ file (lost t file m)))
 
-  pub replied-knows : (c : Client) (number : ℕ) (ticket : Ticket) (r : Reply) → fits_job ticket.job ticket.request ≡ true → reply_counts r ticket ≡ true → KnowsIn g old most (begun c) → KnowsIn g old most (replied (begun c) number ticket r)
+  pub replied-knows : (c : Client) (number : ℕ) (ticket : Ticket) (r : Reply) → fits_job ticket.job ticket.request ≡ true → reply_counts r ticket
+      ≡ true → KnowsIn g old most (begun c) → KnowsIn g old most (replied (begun c) number ticket r)
   replied-knows c number ticket r fits counts m =
       let k = spent (begun c) m in
       replied-cases c number ticket r (KnowsIn g old most) fits counts (record {
         attaching = λ who inc job asks told. attached-knows _ k;
         named = λ answer job n. answers-know _ answer None k;
         reading = λ who q file block want inc rev body grant of told. read-done _ file block body grant ticket.first number k;
-        leasing = λ who file want inc grant of told. lease-done-cases _ file grant ticket.first (KnowsIn g old most) (λ e. takes _ file grant ticket.first k) (λ e. marks true _ (takes _ file grant ticket.first k));
+        leasing = λ who file want inc grant of told. lease-done-cases _ file grant ticket.first (KnowsIn g old most)
+            (λ e. takes _ file grant ticket.first k) (λ e. marks true _ (takes _ file grant ticket.first k));
         writing = λ who seq file block first last body inc rev of told. write-done _ file block body rev k;
         resizing = λ who seq q file blocks inc rev of told. answers-know _ _ None (known _ file rev k);
         removing = λ who seq q file inc of told. answers-know _ _ None k;
@@ -429,7 +550,8 @@ module _ (g : Bodies) (old : Who) (most : ℕ) where
   unfolding at_time
   timed c now m = m
 
-  pub again : (c : Client) (now : ℕ) (ticket : Ticket) → c.ticket ≡ Some ticket → KnowsIn g old most (begun c) → KnowsIn g old most (sends_again (begun (at_time c now)) ticket)
+  pub again : (c : Client) (now : ℕ) (ticket : Ticket) → c.ticket ≡ Some ticket → KnowsIn g old most (begun c)
+      → KnowsIn g old most (sends_again (begun (at_time c now)) ticket)
   unfolding sends_again at_time
   again c now ticket is m =
       let asks = m.asked ticket is in

@@ -6,7 +6,8 @@ use Rattle.nq_base.specs.declared.Request.{Request}
 use Rattle.nq_base.specs.declared.Value.{Value}
 use Rattle.nq_base.specs.declared.Who.{Who}
 use Rattle.nq_model.specs.Client.{Client, ClientStep, Job, begun, for_call}
-use Rattle.nq_model.specs.ClientStep.{begins_call, is_called, sends_unless_cached, says_busy, client_call, at_time, sends_again, client_tick, fresh_client, starts, next_incarnation, restart}
+use Rattle.nq_model.specs.ClientStep.{begins_call, is_called, sends_unless_cached, says_busy, client_call, at_time, sends_again, client_tick}
+use Rattle.nq_model.specs.ClientStep.{fresh_client, starts, next_incarnation, restart}
 use Rattle.nq_model.specs.Hear.{replied, cancels, evicted, hear}
 use Rattle.nq_model.specs.Message.{Message}
 use Rattle.nq_model.specs.Send.{sends_request, after_seq, gives_up, send_next}
@@ -17,7 +18,8 @@ use Rattle.walk_steps.proofs.ClientMoves.{some-same, none-some}
 use Rattle.walk_steps.proofs.SendCases.{send-cases}
 use Rattle.walk_steps.proofs.SettleCases.{settle-cases}
 use Rattle.walk_steps.proofs.StepCases.{call-cases, unless-cached-cases, tick-cases, heard-cases}
-use Rattle.nq_stage.proofs.KnownClient.{Bodies, Asks, KnowsIn, later, answered, named, read-knows, delayed, marked, replied-knows, evicted-knows, begins, busy, calls, timed, again, sends-know, seq-knows, gives-knows, push-knows, through-knows}
+use Rattle.nq_stage.proofs.KnownClient.{Bodies, Asks, KnowsIn, later, answered, named, read-knows, delayed, marked, replied-knows, evicted-knows}
+use Rattle.nq_stage.proofs.KnownClient.{begins, busy, calls, timed, again, sends-know, seq-knows, gives-knows, push-knows, through-knows}
 
 -- ---- whole steps, each of which gives two numbers at most
 
@@ -43,7 +45,8 @@ module _ (g : Bodies) (old : Who) (most : ℕ) where
         renewing = λ file lease ticks free nothing unpaused due held of clean unnoticed. sends-know g old (most + 1) t Job.renewing _ k tt;
       })
     where
-      changes : (t : ClientStep) (file : ℕ) (r : Request) → KnowsIn g old (most + 1) t → ((now : Bodies) → Asks now r) → KnowsIn g old (most + 1) (sends_request (after_seq (gives_up t file)) for_call r)
+      changes : (t : ClientStep) (file : ℕ) (r : Request) → KnowsIn g old (most + 1) t → ((now : Bodies) → Asks now r) → KnowsIn g old (most + 1)
+          (sends_request (after_seq (gives_up t file)) for_call r)
       changes t file r k asks =
           let s = seq-knows g old (most + 1) (gives_up t file) (gives-knows g old (most + 1) t file k) in
           sends-know g old (most + 1) (after_seq (gives_up t file)) for_call r s (asks s.now)
@@ -79,12 +82,14 @@ module _ (g : Bodies) (old : Who) (most : ℕ) (small : most < 2 ^ 32) where
   later-twice t m = later g old (most + 1) t (later g old most t m)
 
   unless-cached : (t : ClientStep) → KnowsIn g old most t → KnowsIn g old (most + 1 + 1) (sends_unless_cached (settle t))
-  unless-cached t m = unless-cached-cases (settle t) (KnowsIn g old (most + 1 + 1)) (λ e. later g old (most + 1) (settle t) (settled g old most small t m)) (λ e. goes-on false t m)
+  unless-cached t m = unless-cached-cases (settle t) (KnowsIn g old (most + 1 + 1)) (λ e. later g old (most + 1) (settle t)
+      (settled g old most small t m)) (λ e. goes-on false t m)
 
   pub call-knows : (c : Client) (op : Call) → BringsBlock op → KnowsIn g old most (begun c) → KnowsIn g old (most + 1 + 1) (client_call c op)
   call-knows c op brings m = call-cases c op (KnowsIn g old (most + 1 + 1)) (record {
     busy = λ why. later-twice (says_busy (begins_call c op)) (busy g old most c op m);
-    telling = λ file loss losses none on of some. later-twice (names_losses (begins_call c op) (begins_call c op).client.calls file) (named g old most (begins_call c op) (begins_call c op).client.calls file (begins g old most c op m));
+    telling = λ file loss losses none on of some. later-twice (names_losses (begins_call c op) (begins_call c op).client.calls file)
+        (named g old most (begins_call c op) (begins_call c op).client.calls file (begins g old most c op m));
     going = λ none on unlost. unless-cached (is_called (begins_call c op) op) (calls g old most c op brings m);
   })
 
@@ -95,14 +100,17 @@ module _ (g : Bodies) (old : Who) (most : ℕ) (small : most < 2 ^ 32) where
     free = λ free. goes-on true (begun (at_time c now)) (timed g old most c now m);
   })
 
-  pub hear-knows : (c : Client) (k : ℕ) (m : Message) (t : ClientStep) → Alone c → hear c k m ≡ Some t → KnowsIn g old most (begun c) → KnowsIn g old (most + 1 + 1) t
+  pub hear-knows : (c : Client) (k : ℕ) (m : Message) (t : ClientStep) → Alone c → hear c k m ≡ Some t → KnowsIn g old most (begun c)
+      → KnowsIn g old (most + 1 + 1) t
   hear-knows c k m t alone hears h = heard-cases c k m t (KnowsIn g old (most + 1 + 1)) hears (record {
-    answered = λ xid r ticket is has same inc counts. goes-on false (replied (begun c) k ticket r) (replied-knows g old most c k ticket r (alone.asking.ticketed ticket has).fits counts h);
+    answered = λ xid r ticket is has same inc counts. goes-on false (replied (begun c) k ticket r) (replied-knows g old most c k ticket r
+        (alone.asking.ticketed ticket has).fits counts h);
     noticed = λ xid file tag is early. goes-on false (evicted (cancels (begun c) file) file tag) (evicted-knows g old most (begun c) file tag h);
   })
 
 -- a new incarnation has written nothing
-pub restart-knows : (g : Bodies) (old : Who) (most : ℕ) (c : Client) → KnowsIn g old most (begun c) → KnowsIn g (next_incarnation c.who) (most + 1 + 1) (restart c)
+pub restart-knows : (g : Bodies) (old : Who) (most : ℕ) (c : Client) → KnowsIn g old most (begun c) → KnowsIn g (next_incarnation c.who)
+    (most + 1 + 1) (restart c)
 unfolding starts fresh_client
 restart-knows g old most c m = record {
   kept = refl;

@@ -1,6 +1,7 @@
 -- What a packet that travels outside means: each STAGE and each body in the pool carries the body of its write, each COMMIT stands for a
 -- push that carries it, and all else that stands for an inner packet is that packet. What is sent has this meaning.
-use Rattle.std.proofs.Common.{◌≡◌, ◌<◌, ◌^◌, ℕ, zero, suc, ◌+◌, ◌==◌, Bool, true, false, List, [], ◌∷◌, ◌++◌, Option, Some, None, length, drop, map, refl, sym, subst, ap, ◌∙◌, arith}
+use Rattle.std.proofs.Common.{◌≡◌, ◌<◌, ◌^◌, ℕ, zero, suc, ◌+◌, ◌==◌, Bool, true, false, List, [], ◌∷◌, ◌++◌, Option, Some, None, length, drop, map}
+use Rattle.std.proofs.Common.{refl, sym, subst, ap, ◌∙◌, arith}
 use Rattle.std.specs.Prelude.{slice_get, slice_set}
 use Rattle.nq_base.specs.declared.Event.{Event}
 use Rattle.nq_base.specs.declared.Party.{Party}
@@ -48,7 +49,8 @@ pub record IsInner (ps : List Packet) (number : ℕ) (p : Outer) (q : Packet) : 
 -- the server's side
 pub data IsMeant (g : Bodies) (ps : List Packet) (p : Outer) : Type 0 where
   whole : (number : ℕ) (q : Packet) → IsInner ps number p q → p.bytes ≡ bytes_of q.message → IsMeant g ps p
-  short : (number : ℕ) (q : Packet) (push : Pushed) (verifier : ℕ) (body : List ℕ) → IsInner ps number p q → p.bytes ≡ commit_bytes push verifier → IsPushed push → bytes_of q.message ≡ write_bytes push body → In g (written_of push, body) → IsMeant g ps p
+  short : (number : ℕ) (q : Packet) (push : Pushed) (verifier : ℕ) (body : List ℕ) → IsInner ps number p q → p.bytes ≡ commit_bytes push verifier
+      → IsPushed push → bytes_of q.message ≡ write_bytes push body → In g (written_of push, body) → IsMeant g ps p
   ahead : (xid : ℕ) (w : Written) (body : List ℕ) → p.stands ≡ None → p.bytes ≡ stage_bytes xid w body → xid < 2 ^ 32 → In g (w, body) → IsMeant g ps p
   replied : p.stands ≡ None → p.sender ≡ Party.Server → IsMeant g ps p
 
@@ -91,7 +93,17 @@ pub record SomeMeant (most : ℕ) (o : Outside) : Type 0 where
 
 -- nothing inner happened
 pub stays : (g : Bodies) (most : ℕ) (o : Outside) → MeantIn g most o → SomeMeant (most + 1 + 1) o
-stays g most o m = record { bodies = g; meant = record { knowing = later-knowing g most o.world m.knowing; holds = m.holds; pooled = m.pooled; travels = m.travels; keeps = m.keeps; own = m.own } }
+stays g most o m = record {
+  bodies = g;
+  meant = record {
+    knowing = later-knowing g most o.world m.knowing;
+    holds = m.holds;
+    pooled = m.pooled;
+    travels = m.travels;
+    keeps = m.keeps;
+    own = m.own;
+  };
+}
 
 -- ---- more packets and more bodies
 
@@ -133,7 +145,16 @@ more-keep ps more sides h host side at =
     let k = h host side at in
     record {
       next = k.next;
-      kept = λ s e. let i = k.kept s e in record { number = i.number; packet = i.packet; number_is = i.number_is; is = get-left ps more i.number i.packet i.is; sender = i.sender; to = i.to; same = i.same };
+      kept = λ s e. let i = k.kept s e in record {
+        number = i.number;
+        packet = i.packet;
+        number_is = i.number_is;
+        is = get-left ps more i.number
+            i.packet i.is;
+        sender = i.sender;
+        to = i.to;
+        same = i.same;
+      };
     }
 
 -- ---- an inner event
@@ -157,7 +178,8 @@ pub fresh-keeps : (ps : List Packet) (host : ℕ) (who : Who) → KeepsWell ps h
 fresh-keeps ps host who = record { next = omega arith; kept = λ s e. none-some s e }
 
 -- a side in place of another
-pub set-keep : (ps : List Packet) (sides : List Side) (host : ℕ) (new : Side) → KeepsWell ps host new → AllKeep ps sides → AllKeep ps (slice_set sides host new)
+pub set-keep : (ps : List Packet) (sides : List Side) (host : ℕ) (new : Side) → KeepsWell ps host new → AllKeep ps sides
+    → AllKeep ps (slice_set sides host new)
 set-keep ps sides host new keeps h n side at = case (n == host) refl
   where
     case : (b : Bool) → (n == host) ≡ b → KeepsWell ps n side
@@ -172,7 +194,8 @@ new-keep ps None sides host h = h
 new-keep ps (Some c) sides host h = set-keep ps sides host _ (fresh-keeps ps host c.who) h
 
 -- a side in place of another of the same incarnation
-pub set-own : (sides : List Side) (clients : List Client) (host : ℕ) (old new : Side) → slice_get sides host ≡ Some old → new.stager.who ≡ old.stager.who → AreOwn sides clients → AreOwn (slice_set sides host new) clients
+pub set-own : (sides : List Side) (clients : List Client) (host : ℕ) (old new : Side) → slice_get sides host ≡ Some old → new.stager.who
+    ≡ old.stager.who → AreOwn sides clients → AreOwn (slice_set sides host new) clients
 set-own sides clients host old new is same own n side c at there = case (n == host) refl
   where
     case : (b : Bool) → (n == host) ≡ b → side.stager.who ≡ c.who
@@ -187,18 +210,21 @@ pub moved-own : (sides : List Side) (w v : World) → SameWho w v → AreOwn sid
 moved-own sides w v same own host side c at there = let k = same host c there in own host side k.0 at k.1 ∙ sym k.2
 
 -- a client that is restarted, with its new side
-pub restarted-own : (sides : List Side) (w : World) (host : ℕ) → AreOwn sides w.clients → AreOwn (new_side (slice_get (step w (Event.Restart host)).clients host) sides host) (step w (Event.Restart host)).clients
+pub restarted-own : (sides : List Side) (w : World) (host : ℕ) → AreOwn sides w.clients
+    → AreOwn (new_side (slice_get (step w (Event.Restart host)).clients host) sides host) (step w (Event.Restart host)).clients
 unfolding after_client
 restarted-own sides w host own = case (slice_get w.clients host) refl
   where
-    after : (t : ClientStep) (c : Client) → slice_get w.clients host ≡ Some c → (o : Option Client) → slice_get (after_client w host t).clients host ≡ o → AreOwn (new_side o sides host) (after_client w host t).clients
+    after : (t : ClientStep) (c : Client) → slice_get w.clients host ≡ Some c → (o : Option Client) → slice_get (after_client w host t).clients host
+        ≡ o → AreOwn (new_side o sides host) (after_client w host t).clients
     after t c is None none n side d at there = none-some t.client (sym none ∙ set-there w.clients host t.client c is)
     after t c is (Some b) some n side d at there = split (n == host) refl
       where
         split : (x : Bool) → (n == host) ≡ x → side.stager.who ≡ d.who
         split true e =
             let here : n ≡ host = same-number n host e in
-            let it = get-set-same sides host (record { stager = new_stager b.who; last = None }) side (subst (λ k. slice_get (slice_set sides host (record { stager = new_stager b.who; last = None })) k ≡ Some side) here at) in
+            let it = get-set-same sides host (record { stager = new_stager b.who; last = None }) side
+            (subst (λ k. slice_get (slice_set sides host (record { stager = new_stager b.who; last = None })) k ≡ Some side) here at) in
             let one : b ≡ d = some-same b d (sym some ∙ subst (λ k. slice_get (slice_set w.clients host t.client) k ≡ Some d) here there) in
             ap (λ (s : Side). s.stager.who) it ∙ ap (λ (z : Client). z.who) one
         split false e =
@@ -206,11 +232,13 @@ restarted-own sides w host own = case (slice_get w.clients host) refl
             (sym (get-set-other sides host n (record { stager = new_stager b.who; last = None }) (λ k. is-other n host e k)) ∙ at)
             (sym (get-set-other w.clients host n t.client (λ k. is-other n host e k)) ∙ there)
 
-    case : (o : Option Client) → slice_get w.clients host ≡ o → AreOwn (new_side (slice_get (at_client w host restart o).clients host) sides host) (at_client w host restart o).clients
+    case : (o : Option Client) → slice_get w.clients host ≡ o → AreOwn (new_side (slice_get (at_client w host restart o).clients host) sides host)
+        (at_client w host restart o).clients
     case None is = subst (λ o. AreOwn (new_side o sides host) w.clients) (sym is) own
     case (Some c) is = after (restart c) c is (slice_get (after_client w host (restart c)).clients host) refl
 
-module _ (g : Bodies) (most : ℕ) (o : Outside) (w : World) (knowing : Knowing g most w) (holds : Holds w) (pooled : Each (λ b. In g (b.0, b.1)) o.pool.bodies) (travels : Each (IsMeant g w.packets) o.sent) (keeps : AllKeep w.packets o.sides) where
+module _ (g : Bodies) (most : ℕ) (o : Outside) (w : World) (knowing : Knowing g most w) (holds : Holds w) (pooled : Each (λ b. In g (b.0, b.1))
+    o.pool.bodies) (travels : Each (IsMeant g w.packets) o.sent) (keeps : AllKeep w.packets o.sides) where
   -- an event that renews neither the pool nor a side
   pub same-meant : AreOwn o.sides w.clients → Meant g most w o.pool.bodies o.sent o.sides
   same-meant own = record { knowing = knowing; holds = holds; pooled = pooled; travels = travels; keeps = keeps; own = own }
@@ -218,8 +246,17 @@ module _ (g : Bodies) (most : ℕ) (o : Outside) (w : World) (knowing : Knowing 
   pub crashed-meant : AreOwn o.sides w.clients → Meant g most w [] o.sent o.sides
   crashed-meant own = record { knowing = knowing; holds = holds; pooled = tt; travels = travels; keeps = keeps; own = own }
 
-  pub restarted-meant : (host : ℕ) → AreOwn (new_side (slice_get w.clients host) o.sides host) w.clients → Meant g most w o.pool.bodies o.sent (new_side (slice_get w.clients host) o.sides host)
-  restarted-meant host own = record { knowing = knowing; holds = holds; pooled = pooled; travels = travels; keeps = new-keep w.packets (slice_get w.clients host) o.sides host keeps; own = own }
+  pub restarted-meant : (host : ℕ) → AreOwn (new_side (slice_get w.clients host) o.sides host) w.clients → Meant g most w o.pool.bodies o.sent
+      (new_side (slice_get w.clients host) o.sides host)
+  restarted-meant host own = record {
+    knowing = knowing;
+    holds = holds;
+    pooled = pooled;
+    travels = travels;
+    keeps = new-keep w.packets
+        (slice_get w.clients host) o.sides host keeps;
+    own = own;
+  }
 
 -- ---- sending
 
@@ -243,10 +280,20 @@ sent-to p host (IsSent.by_server h m is) by = let bad : Party.Server ≡ Party.C
 module _ (g : Bodies) (most : ℕ) where
   pub sends-meant : (o : Outside) (p : Outer) → IsMeant g o.world.packets p → MeantIn g most o → MeantIn g most (sends o p)
   unfolding sends
-  sends-meant o p new m = record { knowing = m.knowing; holds = m.holds; pooled = m.pooled; travels = each-append (IsMeant g o.world.packets) o.sent _ m.travels (new, tt); keeps = m.keeps; own = m.own }
+  sends-meant o p new m = record {
+    knowing = m.knowing;
+    holds = m.holds;
+    pooled = m.pooled;
+    travels = each-append (IsMeant g o.world.packets) o.sent _
+        m.travels (new, tt);
+    keeps = m.keeps;
+    own = m.own;
+  }
 
-  pub whole-meant : (o : Outside) (number : ℕ) (p : Packet) → slice_get o.world.packets number ≡ Some p → MeantIn g most o → MeantIn g most (sends_whole o number p)
-  whole-meant o number p there m = sends-meant o (standing number p.sender p.to (bytes_of p.message)) (whole number p (record { is = there; stands = refl; sender = refl; to = refl }) refl) m
+  pub whole-meant : (o : Outside) (number : ℕ) (p : Packet) → slice_get o.world.packets number ≡ Some p → MeantIn g most o
+      → MeantIn g most (sends_whole o number p)
+  whole-meant o number p there m = sends-meant o (standing number p.sender p.to (bytes_of p.message))
+      (whole number p (record { is = there; stands = refl; sender = refl; to = refl }) refl) m
 
   -- the push that a side shortens, with the verifier
   pub push-read : (s : Staged) (bytes : List ℕ) (push : Pushed × ℕ) → shortening s bytes ≡ Some push → push_in bytes ≡ Some push.0
@@ -260,32 +307,57 @@ module _ (g : Bodies) (most : ℕ) where
       case None is e = none-some push e
       case (Some p) is e = is ∙ found p (verifier_of (written_of p) s.acknowledged) e
 
-  pub short-meant : (o : Outside) (number host : ℕ) (p : Packet) (side : Side) (push : Pushed × ℕ) → slice_get o.sides host ≡ Some side → p.sender ≡ Party.Client host → slice_get o.world.packets number ≡ Some p → shortening side.stager (bytes_of p.message) ≡ Some push → MeantIn g most o → MeantIn g most (sends_short o number host p (shortened side.stager push.0 push.1 (bytes_of p.message)))
+  pub short-meant : (o : Outside) (number host : ℕ) (p : Packet) (side : Side) (push : Pushed × ℕ) → slice_get o.sides host ≡ Some side → p.sender
+      ≡ Party.Client host → slice_get o.world.packets number ≡ Some p → shortening side.stager (bytes_of p.message) ≡ Some push → MeantIn g most o
+      → MeantIn g most (sends_short o number host p (shortened side.stager push.0 push.1 (bytes_of p.message)))
   short-meant o number host p side push at by there e m =
       let says : Says g p.message = each-get (PacketKnown g) o.world.packets number p there m.knowing.packets host by in
       let r = says-request g p.message says in
       let read = push-read side.stager (bytes_of p.message) push e in
       let is : IsPushOf g (bytes_of p.message) push.0 =
-      subst (λ (z : Message). IsPushOf g (bytes_of z) push.0) (sym r.is) (reads-push g r.xid r.request push.0 m.knowing.fit r.asks (sym (ap (λ (z : Message). push_in (bytes_of z)) r.is) ∙ read))
+      subst (λ (z : Message). IsPushOf g (bytes_of z) push.0) (sym r.is) (reads-push g r.xid r.request push.0 m.knowing.fit r.asks
+      (sym (ap (λ (z : Message). push_in (bytes_of z)) r.is) ∙ read))
       in
       let new = side_of number (shortened side.stager push.0 push.1 (bytes_of p.message)).1 in
       let keeps : KeepsWell o.world.packets host new = record {
         next = (m.keeps host side at).next;
-        kept = λ s same. record { number = number; packet = p; number_is = refl; is = there; sender = by; to = sent-to p host (m.holds.sent p (in-get o.world.packets number p there)) by; same = ap (λ (z : Shortened). z.write) (sym (some-same _ s same)) };
+        kept = λ s same. record {
+          number = number;
+          packet = p;
+          number_is = refl;
+          is = there;
+          sender = by;
+          to = sent-to p host (m.holds.sent p (in-get o.world.packets number p there)) by;
+          same = ap (λ (z : Shortened). z.write)
+              (sym (some-same _ s same));
+        };
       } in
       let o' = record o { sides = slice_set o.sides host new } in
-      let m' : MeantIn g most o' = record { knowing = m.knowing; holds = m.holds; pooled = m.pooled; travels = m.travels; keeps = set-keep o.world.packets o.sides host new keeps m.keeps; own = set-own o.sides o.world.clients host side new at refl m.own } in
-      sends-meant o' (standing number p.sender p.to (commit_bytes push.0 push.1)) (short number p push.0 push.1 is.body (record { is = there; stands = refl; sender = refl; to = refl }) refl is.fits is.is is.known) m'
+      let m' : MeantIn g most o' = record {
+        knowing = m.knowing;
+        holds = m.holds;
+        pooled = m.pooled;
+        travels = m.travels;
+        keeps =
+            set-keep o.world.packets o.sides host new keeps m.keeps;
+        own = set-own o.sides o.world.clients host side new at refl m.own;
+      } in
+      sends-meant o' (standing number p.sender p.to (commit_bytes push.0 push.1)) (short number p push.0 push.1 is.body
+      (record { is = there; stands = refl; sender = refl; to = refl }) refl is.fits is.is is.known) m'
 
-  pub as-meant : (o : Outside) (number host : ℕ) (p : Packet) (side : Side) (short : Option (Pushed × ℕ)) → slice_get o.sides host ≡ Some side → p.sender ≡ Party.Client host → slice_get o.world.packets number ≡ Some p → shortening side.stager (bytes_of p.message) ≡ short → MeantIn g most o → MeantIn g most (sends_as o number host p side short)
+  pub as-meant : (o : Outside) (number host : ℕ) (p : Packet) (side : Side) (short : Option (Pushed × ℕ)) → slice_get o.sides host ≡ Some side
+      → p.sender ≡ Party.Client host → slice_get o.world.packets number ≡ Some p → shortening side.stager (bytes_of p.message) ≡ short
+      → MeantIn g most o → MeantIn g most (sends_as o number host p side short)
   as-meant o number host p side None at by there e m = whole-meant o number p there m
   as-meant o number host p side (Some push) at by there e m = short-meant o number host p side push at by there e m
 
-  pub by-meant : (o : Outside) (number host : ℕ) (p : Packet) (side : Option Side) → slice_get o.sides host ≡ side → p.sender ≡ Party.Client host → slice_get o.world.packets number ≡ Some p → MeantIn g most o → MeantIn g most (sends_by o number host p side)
+  pub by-meant : (o : Outside) (number host : ℕ) (p : Packet) (side : Option Side) → slice_get o.sides host ≡ side → p.sender ≡ Party.Client host
+      → slice_get o.world.packets number ≡ Some p → MeantIn g most o → MeantIn g most (sends_by o number host p side)
   by-meant o number host p None at by there m = whole-meant o number p there m
   by-meant o number host p (Some side) at by there m = as-meant o number host p side (shortening side.stager (bytes_of p.message)) at by there refl m
 
-  pub from-meant : (o : Outside) (number : ℕ) (p : Packet) (from : Party) → p.sender ≡ from → slice_get o.world.packets number ≡ Some p → MeantIn g most o → MeantIn g most (sends_from o number p from)
+  pub from-meant : (o : Outside) (number : ℕ) (p : Packet) (from : Party) → p.sender ≡ from → slice_get o.world.packets number ≡ Some p
+      → MeantIn g most o → MeantIn g most (sends_from o number p from)
   from-meant o number p Party.Server by there m = whole-meant o number p there m
   from-meant o number p (Party.Client host) by there m = by-meant o number host p (slice_get o.sides host) refl by there m
 

@@ -12,7 +12,8 @@ use Rattle.nq_stage.specs.declared.messages.Commit.{Commit}
 use Rattle.nq_stage.specs.Messages.{commit, stage}
 use Rattle.nq_stage.specs.Reading.{Stage, call_as, call_by, call_in, stage_by, stage_in, commit_by, commit_in}
 use Rattle.nq_stage.specs.Outer.{Outer, Side, Outside}
-use Rattle.nq_stage.specs.Outside.{sends, inner_delivery, takes_stage, takes_commit, served_commit, served_stage, to_server, told_side, heard_by, to_host, takes, delivers}
+use Rattle.nq_stage.specs.Outside.{sends, inner_delivery, takes_stage, takes_commit, served_commit, served_stage, to_server, told_side, heard_by}
+use Rattle.nq_stage.specs.Outside.{to_host, takes, delivers}
 use Rattle.nq_stage.specs.Hearing.{Told, acknowledged, again, other, told_by}
 use Rattle.nq_stage.specs.NotStored.{BesideStoresNothing, UnstagedStoresNothing}
 use Rattle.walk_steps.proofs.ClientMoves.{none-some}
@@ -28,7 +29,8 @@ module _ (o : Outside) where
 
   serving-commit : (host : ℕ) (p : Outer) (c : Option Commit) → p.stands ≡ None → (served_commit o host p c).world ≡ o.world
   serving-commit host p None none = subst (λ s. (inner_delivery o s).world ≡ o.world) (sym none) refl
-  serving-commit host p (Some c) none = subst (λ s. (takes_commit o host s (answered o.pool c)).world ≡ o.world) (sym none) (committing host (answered o.pool c))
+  serving-commit host p (Some c) none = subst (λ s. (takes_commit o host s (answered o.pool c)).world ≡ o.world) (sym none)
+      (committing host (answered o.pool c))
 
   serving-stage : (host : ℕ) (p : Outer) (s : Option Stage) → p.stands ≡ None → (served_stage o host p s).world ≡ o.world
   unfolding takes_stage sends
@@ -87,7 +89,8 @@ one-procedure m called e = case (m.head.procedure == commit) refl
     unlike : (a b c d : Bool) → d ≡ false → (a && b && c && d) ≡ false
     unlike a b c d off = subst (λ z. (a && b && c && z) ≡ false) (sym off) (never a b c)
 
-    case : (b : Bool) → (m.head.procedure == commit) ≡ b → given m (m.rpcvers == 2 && m.head.prog == 536890961 && m.head.vers == 1 && m.head.procedure == stage) ≡ None
+    case : (b : Bool) → (m.head.procedure == commit) ≡ b → given m (m.rpcvers == 2 && m.head.prog == 536890961 && m.head.vers == 1 && m.head.procedure
+        == stage) ≡ None
     case true on =
         let is : m.head.procedure ≡ 12 = same-number m.head.procedure 12 on in
         let differs : (m.head.procedure == stage) ≡ false = ap (λ n. n == 14) is in
@@ -130,8 +133,10 @@ pub unstaged-stores-nothing : UnstagedStoresNothing
 unstaged-stores-nothing o k host p c bytes travels to answers =
     let none = own-no-stage host p.bytes c travels.commit in
     let answer : (served_commit o host p (Some c)).world ≡ o.world = refused o host p.stands (answered o.pool c) bytes answers in
-    let commits : (served_commit o host p (own_commit host p.bytes)).world ≡ o.world = subst (λ z. (served_commit o host p z).world ≡ o.world) (sym travels.commit) answer in
-    let stages : (served_stage o host p (own_stage host p.bytes)).world ≡ o.world = subst (λ z. (served_stage o host p z).world ≡ o.world) (sym none) commits in
+    let commits : (served_commit o host p (own_commit host p.bytes)).world ≡ o.world = subst (λ z. (served_commit o host p z).world ≡ o.world)
+    (sym travels.commit) answer in
+    let stages : (served_stage o host p (own_stage host p.bytes)).world ≡ o.world = subst (λ z. (served_stage o host p z).world ≡ o.world) (sym none)
+    commits in
     let from : (to_server o p p.sender).world ≡ o.world = subst (λ z. (to_server o p z).world ≡ o.world) (sym travels.sender) stages in
     let taken : (takes o p p.to).world ≡ o.world = subst (λ z. (takes o p z).world ≡ o.world) (sym to) from in
     subst (λ q. (delivers o q).world ≡ o.world) (sym travels.is) taken

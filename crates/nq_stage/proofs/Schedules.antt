@@ -35,11 +35,25 @@ record Split (front back plain : List Event) : Type 0 where
   in_front : Inside front first
   in_back : Inside back second
 
-one-more : (front back plain : List Event) (e : Event) → ((first : List Event) → Inside front first → Inside front (e ∷ first)) → Split front back plain → Split front back (e ∷ plain)
-one-more front back plain e goes s = record { first = e ∷ s.first; second = s.second; is = ap (λ es. e ∷ es) s.is; in_front = goes s.first s.in_front; in_back = s.in_back }
+one-more : (front back plain : List Event) (e : Event) → ((first : List Event) → Inside front first → Inside front (e ∷ first))
+    → Split front back plain → Split front back (e ∷ plain)
+one-more front back plain e goes s = record {
+  first = e ∷ s.first;
+  second = s.second;
+  is = ap (λ es. e ∷ es) s.is;
+  in_front = goes s.first s.in_front;
+  in_back = s.in_back;
+}
 
-longer : (x : Event) (front back plain : List Event) (e : Event) → ((first : List Event) → Inside front first → Inside (x ∷ front) (e ∷ first)) → Split front back plain → Split (x ∷ front) back (e ∷ plain)
-longer x front back plain e goes s = record { first = e ∷ s.first; second = s.second; is = ap (λ es. e ∷ es) s.is; in_front = goes s.first s.in_front; in_back = s.in_back }
+longer : (x : Event) (front back plain : List Event) (e : Event) → ((first : List Event) → Inside front first → Inside (x ∷ front) (e ∷ first))
+    → Split front back plain → Split (x ∷ front) back (e ∷ plain)
+longer x front back plain e goes s = record {
+  first = e ∷ s.first;
+  second = s.second;
+  is = ap (λ es. e ∷ es) s.is;
+  in_front = goes s.first s.in_front;
+  in_back = s.in_back;
+}
 
 -- nothing stands in front
 all-behind : (ran back plain : List Event) → ran ≡ back → Inside ran plain → Split [] back plain
@@ -47,7 +61,8 @@ all-behind ran back plain is h = record { first = []; second = plain; is = refl;
 
 -- of an event that both have, or that has another number
 module _ (x e : Event) (both : (ran plain : List Event) → Inside ran plain → Inside (x ∷ ran) (e ∷ plain)) where
-  split-both : (ran plain front back : List Event) → Inside ran plain → ((f : List Event) → ran ≡ f ++ back → Split f back plain) → x ∷ ran ≡ front ++ back → Split front back (e ∷ plain)
+  split-both : (ran plain front back : List Event) → Inside ran plain → ((f : List Event) → ran ≡ f ++ back → Split f back plain) → x ∷ ran ≡ front
+      ++ back → Split front back (e ∷ plain)
   split-both ran plain [] back h rest is = all-behind (x ∷ ran) back (e ∷ plain) is (both ran plain h)
   split-both ran plain (y ∷ front) back h rest is =
       let head : x ≡ y = cc in
@@ -61,7 +76,8 @@ split ran plain front back none is = nothing front is
     nothing [] e = all-behind [] back [] e none
     nothing (x ∷ f) e = absurd cc
 split ran plain front back (dropped k r p h) is = one-more front back p (Event.Deliver k) (λ first i. dropped k front first i) (split r p front back h is)
-split ran plain front back (renamed n k r p h) is = split-both (Event.Deliver n) (Event.Deliver k) (λ a b i. renamed n k a b i) r p front back h (λ f e. split r p f back h e) is
+split ran plain front back (renamed n k r p h) is = split-both (Event.Deliver n) (Event.Deliver k) (λ a b i. renamed n k a b i) r p front back h
+    (λ f e. split r p f back h e) is
 split ran plain front back (same e r p h) is = split-both e e (λ a b i. same e a b i) r p front back h (λ f i. split r p f back h i) is
 
 -- ---- ticks
@@ -93,8 +109,10 @@ inside-skew hosts longest ran plain h within before part after is host few ticks
 inside-boots : (most : ℕ) (ran plain : List Event) → Inside ran plain → All (BootsWithin most) plain → All (BootsWithin most) ran
 inside-boots most ran plain none h = All-nil (BootsWithin most)
 inside-boots most ran plain (dropped k r p i) h = inside-boots most r p i (All-tail (BootsWithin most) (Event.Deliver k) p h)
-inside-boots most ran plain (renamed n k r p i) h = All-cons (BootsWithin most) (Event.Deliver n) r tt (inside-boots most r p i (All-tail (BootsWithin most) (Event.Deliver k) p h))
-inside-boots most ran plain (same e r p i) h = All-cons (BootsWithin most) e r (All-head (BootsWithin most) e p h) (inside-boots most r p i (All-tail (BootsWithin most) e p h))
+inside-boots most ran plain (renamed n k r p i) h = All-cons (BootsWithin most) (Event.Deliver n) r tt
+    (inside-boots most r p i (All-tail (BootsWithin most) (Event.Deliver k) p h))
+inside-boots most ran plain (same e r p i) h = All-cons (BootsWithin most) e r (All-head (BootsWithin most) e p h)
+    (inside-boots most r p i (All-tail (BootsWithin most) e p h))
 
 -- ---- a staged schedule
 
@@ -115,12 +133,18 @@ ran-inside head (StagedEvent.Plain (Event.Deliver k) ∷ earlier) =
     let o = outside_run head earlier in
     let plain = plain_events earlier in
     let before = ran-inside head earlier in
-    delivery-cases o (RanInside (Event.Deliver k ∷ plain)) (dropped k o.ran plain before) (λ s. dropped k o.ran plain before) (λ n. renamed n k o.ran plain before) (slice_get o.sent k)
-ran-inside head (StagedEvent.Plain (Event.Call host op) ∷ earlier) = ran-on (outside_run head earlier) (plain_events earlier) (Event.Call host op) (ran-inside head earlier)
-ran-inside head (StagedEvent.Plain Event.ServerTick ∷ earlier) = ran-on (outside_run head earlier) (plain_events earlier) Event.ServerTick (ran-inside head earlier)
-ran-inside head (StagedEvent.Plain (Event.ClientTick host) ∷ earlier) = ran-on (outside_run head earlier) (plain_events earlier) (Event.ClientTick host) (ran-inside head earlier)
-ran-inside head (StagedEvent.Plain (Event.Restart host) ∷ earlier) = ran-on (outside_run head earlier) (plain_events earlier) (Event.Restart host) (ran-inside head earlier)
-ran-inside head (StagedEvent.Plain (Event.Crash longest) ∷ earlier) = ran-on (outside_run head earlier) (plain_events earlier) (Event.Crash longest) (ran-inside head earlier)
+    delivery-cases o (RanInside (Event.Deliver k ∷ plain)) (dropped k o.ran plain before) (λ s. dropped k o.ran plain before)
+    (λ n. renamed n k o.ran plain before) (slice_get o.sent k)
+ran-inside head (StagedEvent.Plain (Event.Call host op) ∷ earlier) = ran-on (outside_run head earlier) (plain_events earlier) (Event.Call host op)
+    (ran-inside head earlier)
+ran-inside head (StagedEvent.Plain Event.ServerTick ∷ earlier) = ran-on (outside_run head earlier) (plain_events earlier) Event.ServerTick
+    (ran-inside head earlier)
+ran-inside head (StagedEvent.Plain (Event.ClientTick host) ∷ earlier) = ran-on (outside_run head earlier) (plain_events earlier)
+    (Event.ClientTick host) (ran-inside head earlier)
+ran-inside head (StagedEvent.Plain (Event.Restart host) ∷ earlier) = ran-on (outside_run head earlier) (plain_events earlier) (Event.Restart host)
+    (ran-inside head earlier)
+ran-inside head (StagedEvent.Plain (Event.Crash longest) ∷ earlier) = ran-on (outside_run head earlier) (plain_events earlier) (Event.Crash longest)
+    (ran-inside head earlier)
 
 pub inner-runs-are-lawful : InnerRunsAreLawful
 inner-runs-are-lawful most head events lawful =
@@ -128,7 +152,13 @@ inner-runs-are-lawful most head events lawful =
     let i = ran-inside head events in
     let b = lawful.bounds in
     record {
-      bounds = record { hosts = b.hosts; first_long = b.first_long; first_short = b.first_short; boots = inside-boots most o.ran (plain_events events) i b.boots };
+      bounds = record {
+        hosts = b.hosts;
+        first_long = b.first_long;
+        first_short = b.first_short;
+        boots = inside-boots most o.ran (plain_events events)
+            i b.boots;
+      };
       skew = inside-skew head.hosts most o.ran (plain_events events) i lawful.skew;
     }
 

@@ -16,7 +16,8 @@ use Rattle.nq_model.proofs.SkewTest.{skew-test-is-sound}
 use Rattle.nq_model.specs.Ask.{grant_of, sharing_row, caching_row, shared_again, renewed_row, put_off, free, put_off_by_own, granted, no_lease}
 use Rattle.nq_model.specs.ClientStep.{begins_call, is_called, says_busy, at_time, sends_again, fresh_client, attached_client, starts}
 use Rattle.nq_model.specs.Decide.{decides, creates, writes_through, stores, wrote, stores_recovering, resizes, removes, puts_off, commits}
-use Rattle.nq_model.specs.Hear.{vacates_lease, loses, without_lease, granted_lease, holds, caches_block, purges, knows_revision, marks_through, ends_push, spends, attached, pauses, cancels, notes_notice}
+use Rattle.nq_model.specs.Hear.{vacates_lease, loses, without_lease, granted_lease, holds, caches_block, purges, knows_revision, marks_through}
+use Rattle.nq_model.specs.Hear.{ends_push, spends, attached, pauses, cancels, notes_notice}
 use Rattle.nq_model.specs.Client.{Client}
 use Rattle.nq_model.specs.Journal.{Each, Exists, Covers}
 use Rattle.nq_model.specs.Kept.{new_file, written_file, resized_file, fenced_file, with_row, with_files, with_new_file}
@@ -37,7 +38,8 @@ use Rattle.nq_stage.specs.declared.messages.Commit.{Commit}
 use Rattle.nq_stage.specs.declared.messages.Pushed.{Pushed}
 use Rattle.nq_stage.specs.declared.messages.Written.{Written}
 use Rattle.nq_stage.specs.Messages.{written_bytes, stage_bytes, staged_bytes, pushed_bytes, commit_bytes, unstaged_bytes, write_bytes, IsPushed}
-use Rattle.nq_stage.specs.Reading.{call_as, call_in, results_of, results_in, end_at, written_at, body_at, base_at, front_at, stage_at, commit_at, push_at, staged_at, unstaged_at, stage_in, commit_in, push_in, verifier_in, is_unstaged_in}
+use Rattle.nq_stage.specs.Reading.{call_as, call_in, results_of, results_in, end_at, written_at, body_at, base_at, front_at, stage_at, commit_at}
+use Rattle.nq_stage.specs.Reading.{push_at, staged_at, unstaged_at, stage_in, commit_in, push_in, verifier_in, is_unstaged_in}
 use Rattle.nq_stage.proofs.Again.{commits-are-read}
 use Rattle.nq_stage.specs.declared.run.event.StagedEvent.{StagedEvent}
 use Rattle.nq_stage.specs.Outer.{Outer, Outside, outside_start}
@@ -124,8 +126,27 @@ journal =
     Entry.C first 2 (Told.Sync 1) ∷ Entry.A first 1 Said.Ok ∷ written ∷ Entry.G first 1 Mode.Writing (record { boot = 1; number = 1 }) 30 0 ∷
     Entry.C first 1 (Told.Write 1 0 5) ∷ []
 
-seen : seen-of reached ≡ record { sent = Some packet; answer = write (write_bytes pushed (filled 5)); journal = journal; hosts = first ∷ []; bodies = 1; acknowledged = ((of-write, 1) ∷ []) ∷ []; crashed = Some packet }
-unfolding filled zeros grant_of sharing_row caching_row shared_again renewed_row put_off free put_off_by_own granted no_lease begins_call is_called says_busy at_time sends_again fresh_client attached_client starts decides creates writes_through stores wrote stores_recovering resizes removes puts_off commits vacates_lease loses without_lease granted_lease holds caches_block purges knows_revision marks_through ends_push spends attached pauses cancels notes_notice new_file written_file resized_file fenced_file with_row with_files with_new_file sends_request after_seq after_number takes_push gives_up quiet drops says after_notices keeping keeping_with with_table attaches tells_later serves leases vacates ends_writing opens at_server_time boot crash answers after_read reads_cached after_write marks_written empty_table with_rows after_draw after_server after_client start bytes_of with_body auth numbers outcome spelling behind_auth call_at ended bounds_at accepted_as accepted_at denied_as denied_at outcome_at reply_at message_at written_bytes stage_bytes staged_bytes pushed_bytes commit_bytes unstaged_bytes call_as call_in results_of results_in end_at written_at body_at base_at front_at stage_at commit_at push_at staged_at unstaged_at stage_in commit_in push_in verifier_in is_unstaged_in outside_start sends takes_stage sends_stage head tag_bytes want_bytes grant_bytes base_bytes optional ok results arguments word hyper boolean padding opaque bytes_at word_at hyper_at boolean_at xdr_body_at opaque_at
+seen : seen-of reached ≡ record {
+  sent = Some packet;
+  answer = write (write_bytes pushed (filled 5));
+  journal = journal;
+  hosts = first ∷ [];
+  bodies =
+      1;
+  acknowledged = ((of-write, 1) ∷ []) ∷ [];
+  crashed = Some packet;
+}
+unfolding filled zeros grant_of sharing_row caching_row shared_again renewed_row put_off free put_off_by_own granted no_lease begins_call is_called
+    says_busy at_time sends_again fresh_client attached_client starts decides creates writes_through stores wrote stores_recovering resizes removes
+    puts_off commits vacates_lease loses without_lease granted_lease holds caches_block purges knows_revision marks_through ends_push spends attached
+    pauses cancels notes_notice new_file written_file resized_file fenced_file with_row with_files with_new_file sends_request after_seq after_number
+    takes_push gives_up quiet drops says after_notices keeping keeping_with with_table attaches tells_later serves leases vacates ends_writing opens
+    at_server_time boot crash answers after_read reads_cached after_write marks_written empty_table with_rows after_draw after_server after_client
+    start bytes_of with_body auth numbers outcome spelling behind_auth call_at ended bounds_at accepted_as accepted_at denied_as denied_at outcome_at
+    reply_at message_at written_bytes stage_bytes staged_bytes pushed_bytes commit_bytes unstaged_bytes call_as call_in results_of results_in end_at
+    written_at body_at base_at front_at stage_at commit_at push_at staged_at unstaged_at stage_in commit_in push_in verifier_in is_unstaged_in
+    outside_start sends takes_stage sends_stage head tag_bytes want_bytes grant_bytes base_bytes optional ok results arguments word hyper boolean
+    padding opaque bytes_at word_at hyper_at boolean_at xdr_body_at opaque_at
 seen = refl
 
 -- ---- the premises
@@ -151,7 +172,16 @@ lawful = record {
 fits : IsPushed pushed
 fits = record {
   xid = omega arith;
-  front = record { host = omega arith; inc = omega arith; seq = omega arith; file = omega arith; block = omega arith; first = omega arith; last = omega arith };
+  front = record {
+    host = omega arith;
+    inc = omega arith;
+    seq = omega arith;
+    file = omega arith;
+    block = omega arith;
+    first = omega arith;
+    last =
+        omega arith;
+  };
   base = record { boot = omega arith; base = omega arith };
 }
 
@@ -250,7 +280,16 @@ staging-is-met = record {
   events = one-commit;
   schedule = schedule;
   lawful = lawful;
-  rebuilt = record { k = 4; packet = packet; commit = commit; travels = travels; answers = rebuilt; other_body = other-body; no_packet = no-packet reached.world };
+  rebuilt = record {
+    k = 4;
+    packet = packet;
+    commit = commit;
+    travels = travels;
+    answers = rebuilt;
+    other_body = other-body;
+    no_packet =
+        no-packet reached.world;
+  };
   waits = record { made = made; acknowledged = ap (λ s. s.acknowledged) seen; forgotten = forgotten };
   lost = record { refused = refused; kept = λ same. kept-over reached.pool.bodies (ap (λ s. s.bodies) seen) same };
 }

@@ -8,7 +8,13 @@ use Rattle.nq_stage.specs.Writes.{is_same}
 parts : (a b c d e f g h i j : ℕ) → (a == b && c == d && e == f && g == h && i == j) ≡ true → (a ≡ b) × (c ≡ d) × (e ≡ f) × (g ≡ h) × (i ≡ j)
 parts a b c d e f g h i j on = grind (arith, nat_tests)
 
-same-parts : (a b c d e f g h i j : ℕ) → a ≡ b → c ≡ d → e ≡ f → g ≡ h → i ≡ j → (let w : Written = record { host = a; inc = c; file = e; block = g; last = i } in w) ≡ record { host = b; inc = d; file = f; block = h; last = j }
+same-parts : (a b c d e f g h i j : ℕ) → a ≡ b → c ≡ d → e ≡ f → g ≡ h → i ≡ j → (let w : Written = record {
+  host = a;
+  inc = c;
+  file = e;
+  block = g;
+  last = i;
+} in w) ≡ record { host = b; inc = d; file = f; block = h; last = j }
 same-parts a b c d e f g h i j p q r s t = rw (p, q, r, s, t) refl
 
 -- writes that are one are equal

@@ -1,20 +1,20 @@
 -- The inner world answers an event as the tests over what travels outside do.
-use Rattle.std.proofs.Common.{◌≡◌, ◌≤◌, ◌<◌, ℕ, ◌+◌, Bool, true, false, List, ◌∷◌, length, Option, Some, None, reverse, refl, sym, ap, subst, ◌∙◌, arith}
+use Rattle.std.proofs.Common.{◌≡◌, ◌≤◌, ◌<◌, ℕ, Bool, true, false, List, ◌∷◌, length, Option, Some, None, refl, sym, ap, subst, ◌∙◌, arith}
 use Rattle.std.proofs.lemmas.Bool.Decides.{nat_tests}
-use Rattle.std.specs.Prelude.{IsTrue, ◌↔◌, nat_lt, slice_get, if◌then◌else◌}
+use Rattle.std.specs.Prelude.{nat_lt, slice_get, if◌then◌else◌}
 use Rattle.nq_base.specs.declared.Event.{Event}
 use Rattle.nq_base.specs.declared.SkewBroken.{SkewBroken}
 use Rattle.nq_model.proofs.SkewNames.{each-tick-is-judged}
 use Rattle.nq_model.specs.Skew.{IsWithinSkew}
 use Rattle.nq_model.specs.SkewBroken.{skew_broken}
-use Rattle.nq_model.specs.Stepped.{Stepped as Answer, done, no_packet, out_of_skew, too_many_events, too_many_packets, most_events, most_sent, stepped, tested, tested_room, tested_skew}
+use Rattle.nq_model.specs.Stepped.{Stepped as Answer, done, no_packet, out_of_skew, too_many_events, too_many_packets, most_events, most_sent}
+use Rattle.nq_model.specs.Stepped.{stepped, tested, tested_room, tested_skew}
 use Rattle.nq_model.specs.World.{Head, run}
 use Rattle.nq_stage.specs.declared.run.event.StagedEvent.{StagedEvent}
 use Rattle.nq_stage.specs.Outer.{Outer, Outside}
 use Rattle.nq_stage.specs.Outside.{outside_run}
 use Rattle.nq_stage.proofs.Inner.{runs-inside}
 use Rattle.nq_world.specs.Answering.{told as answer_of}
-use Rattle.nq_world.specs.declared.Limit.{Limit}
 use Rattle.nq_world.specs.declared.Stepped.{Stepped}
 use Rattle.nq_staged.proofs.Bounded.{few-run, runs-fine}
 use Rattle.nq_staged.specs.Worlds.{IsLeft, IsTested, stepped_outside, tested_outside}
@@ -46,7 +46,8 @@ room-done sent left =
     let none : nat_lt most_sent sent ≡ false = room-left (nat_lt most_sent sent) left in
     ap (λ b. if b then too_many_packets else done) none
 
-skew-agrees : (packets sent : ℕ) (broken : Option SkewBroken) → packets ≤ sent → IsLeft (tested_skew sent broken) → tested_skew packets broken ≡ tested_skew sent broken
+skew-agrees : (packets sent : ℕ) (broken : Option SkewBroken) → packets ≤ sent → IsLeft (tested_skew sent broken) → tested_skew packets broken
+    ≡ tested_skew sent broken
 skew-agrees packets sent None less left = room-agrees packets sent less left
 skew-agrees packets sent (Some broken) less left = refl
 
@@ -68,7 +69,8 @@ pub no-delivery : (event : Event) → ((k : ℕ) → event ≡ Event.Deliver k �
 no-delivery (Event.Deliver k) other = absurd (other k refl)
 no-delivery event other = tt
 
-tests-agree : (head : Head) (o : Outside) (event : Event) (packets : ℕ) → NoDelivery event → packets ≤ length o.sent → IsLeft (tested_outside head o (StagedEvent.Plain event)) → tested head o.ran packets event ≡ tested_outside head o (StagedEvent.Plain event)
+tests-agree : (head : Head) (o : Outside) (event : Event) (packets : ℕ) → NoDelivery event → packets ≤ length o.sent
+    → IsLeft (tested_outside head o (StagedEvent.Plain event)) → tested head o.ran packets event ≡ tested_outside head o (StagedEvent.Plain event)
 tests-agree head o (Event.Call host op) packets free less left = room-agrees packets (length o.sent) less left
 tests-agree head o (Event.Deliver k) packets free less left = absurd free
 tests-agree head o Event.ServerTick packets free less left = skew-agrees packets (length o.sent) (skew_broken head.hosts head.longest o.ran) less left
@@ -80,25 +82,31 @@ packets-run : (head : Head) (events : List StagedEvent) → length (run head (ou
 packets-run head events =
     subst (λ w. length w.packets ≤ length (outside_run head events).sent) (runs-inside head events) (runs-fine head events).many
 
-few-inner : (head : Head) (events : List StagedEvent) → nat_lt (length events) most_events ≡ true → nat_lt (length (outside_run head events).ran) most_events ≡ true
+few-inner : (head : Head) (events : List StagedEvent) → nat_lt (length events) most_events ≡ true → nat_lt (length (outside_run head events).ran)
+    most_events ≡ true
 few-inner head events few = less-more (length (outside_run head events).ran) (length events) most_events (few-run head events) few
 
-pub inner-agrees : (head : Head) (events : List StagedEvent) (event : Event) → NoDelivery event → IsLeft (stepped_outside head events (StagedEvent.Plain event)) → stepped head (outside_run head events).ran event ≡ stepped_outside head events (StagedEvent.Plain event)
+pub inner-agrees : (head : Head) (events : List StagedEvent) (event : Event) → NoDelivery event
+    → IsLeft (stepped_outside head events (StagedEvent.Plain event)) → stepped head (outside_run head events).ran event ≡ stepped_outside head events
+    (StagedEvent.Plain event)
 inner-agrees head events event free left =
     let o = outside_run head events in
     let first = left-first (nat_lt (length events) most_events) (tested_outside head o (StagedEvent.Plain event)) left in
-    both-few (nat_lt (length events) most_events) (nat_lt (length o.ran) most_events) (tested_outside head o (StagedEvent.Plain event)) (tested head o.ran (length (run head o.ran).packets) event)
+    both-few (nat_lt (length events) most_events) (nat_lt (length o.ran) most_events) (tested_outside head o (StagedEvent.Plain event))
+    (tested head o.ran (length (run head o.ran).packets) event)
     first.0 (few-inner head events first.0) (tests-agree head o event (length (run head o.ran).packets) free (packets-run head events) first.1)
 
 -- ---- what is left and breaks no rule on skew was to be taken
 
-pub stage-done : (head : Head) (events : List StagedEvent) (host : ℕ) → IsLeft (stepped_outside head events (StagedEvent.Stage host)) → stepped_outside head events (StagedEvent.Stage host) ≡ done
+pub stage-done : (head : Head) (events : List StagedEvent) (host : ℕ) → IsLeft (stepped_outside head events (StagedEvent.Stage host))
+    → stepped_outside head events (StagedEvent.Stage host) ≡ done
 stage-done head events host left =
     let o = outside_run head events in
     let first = left-first (nat_lt (length events) most_events) (tested_room (length o.sent)) left in
     ap (λ t. if t then tested_room (length o.sent) else too_many_events) first.0 ∙ room-done (length o.sent) first.1
 
-pub deliver-done : (head : Head) (events : List StagedEvent) (k : ℕ) → IsLeft (stepped_outside head events (StagedEvent.Plain (Event.Deliver k))) → stepped_outside head events (StagedEvent.Plain (Event.Deliver k)) ≡ done
+pub deliver-done : (head : Head) (events : List StagedEvent) (k : ℕ) → IsLeft (stepped_outside head events (StagedEvent.Plain (Event.Deliver k)))
+    → stepped_outside head events (StagedEvent.Plain (Event.Deliver k)) ≡ done
 deliver-done head events k left =
     let o = outside_run head events in
     let there = nat_lt k (length o.sent) in
@@ -111,7 +119,8 @@ deliver-done head events k left =
 -- ---- a delivery
 
 -- the delivery of an inner packet for which a packet stands that travels
-pub deliver-agrees : (head : Head) (events : List StagedEvent) (n k : ℕ) (p : Outer) → slice_get (outside_run head events).sent n ≡ Some p → p.stands ≡ Some k → IsLeft (stepped_outside head events (StagedEvent.Plain (Event.Deliver n)))
+pub deliver-agrees : (head : Head) (events : List StagedEvent) (n k : ℕ) (p : Outer) → slice_get (outside_run head events).sent n ≡ Some p → p.stands
+    ≡ Some k → IsLeft (stepped_outside head events (StagedEvent.Plain (Event.Deliver n)))
     → stepped head (outside_run head events).ran (Event.Deliver k) ≡ stepped_outside head events (StagedEvent.Plain (Event.Deliver n))
 deliver-agrees head events n k p there stands left =
     let o = outside_run head events in
@@ -128,16 +137,6 @@ deliver-agrees head events n k p there stands left =
     ∙ sym (deliver-done head events n left)
 
 -- ---- the tests of the code
-
-pub events-tested : (head : Head) (events : List StagedEvent) (event : StagedEvent) (n : ℕ) → n ≡ length events → most_events ≤ n → stepped_outside head events event ≡ too_many_events
-events-tested head events event n is many =
-    let over : nat_lt (length events) most_events ≡ false = grind (arith, nat_tests) in
-    ap (λ t. if t then tested_outside head (outside_run head events) event else too_many_events) over
-
-pub few-tested : (head : Head) (events : List StagedEvent) (event : StagedEvent) (n : ℕ) → n ≡ length events → n < most_events → stepped_outside head events event ≡ tested_outside head (outside_run head events) event
-few-tested head events event n is few =
-    let under : nat_lt (length events) most_events ≡ true = grind (arith, nat_tests) in
-    ap (λ t. if t then tested_outside head (outside_run head events) event else too_many_events) under
 
 tested-as : (answer : Answer) → ((b : SkewBroken) → answer ≡ out_of_skew b → ⊥) → IsTested (answer_of answer) answer
 tested-as done free = tt
@@ -156,22 +155,23 @@ room-no-skew false b is = cc
 pub no-skew-room : (sent : ℕ) (b : SkewBroken) → tested_room sent ≡ out_of_skew b → ⊥
 no-skew-room sent b is = room-no-skew (nat_lt most_sent sent) b is
 
-pub no-skew-packet : (there : Bool) (sent : ℕ) (b : SkewBroken) → (if there then tested_room sent else no_packet) ≡ out_of_skew b → ⊥
-no-skew-packet true sent b is = no-skew-room sent b is
-no-skew-packet false sent b is = cc
-
-tested-other : (head : Head) (o : Outside) (event : Event) → ((k : ℕ) → event ≡ Event.Deliver k → ⊥) → (event ≡ Event.ServerTick → ⊥) → tested_outside head o (StagedEvent.Plain event) ≡ tested_room (length o.sent)
+tested-other : (head : Head) (o : Outside) (event : Event) → ((k : ℕ) → event ≡ Event.Deliver k → ⊥) → (event ≡ Event.ServerTick → ⊥)
+    → tested_outside head o (StagedEvent.Plain event) ≡ tested_room (length o.sent)
 tested-other head o (Event.Deliver k) delivery tick = absurd (delivery k refl)
 tested-other head o Event.ServerTick delivery tick = absurd (tick refl)
 tested-other head o other delivery tick = refl
 
 -- any other event is tested for room alone
-pub other-tested : (head : Head) (o : Outside) (event : Event) (sent : ℕ) (said : Stepped) → ((k : ℕ) → event ≡ Event.Deliver k → ⊥) → (event ≡ Event.ServerTick → ⊥) → length o.sent ≡ sent → said ≡ answer_of (tested_room sent) → IsTested said (tested_outside head o (StagedEvent.Plain event))
+pub other-tested : (head : Head) (o : Outside) (event : Event) (sent : ℕ) (said : Stepped) → ((k : ℕ) → event ≡ Event.Deliver k → ⊥)
+    → (event ≡ Event.ServerTick → ⊥) → length o.sent ≡ sent → said ≡ answer_of (tested_room sent)
+    → IsTested said (tested_outside head o (StagedEvent.Plain event))
 other-tested head o event sent said delivery tick same is =
-    subst (λ a. IsTested said a) (sym (tested-other head o event delivery tick ∙ ap tested_room same)) (tested-is said (tested_room sent) is (no-skew-room sent))
+    subst (λ a. IsTested said a) (sym (tested-other head o event delivery tick ∙ ap tested_room same)) (tested-is said (tested_room sent) is
+    (no-skew-room sent))
 
 -- a tick that keeps the rule, and one that breaks it
-pub tick-lawful : (hosts longest sent : ℕ) (earlier : List Event) (said : Stepped) → IsWithinSkew hosts longest earlier → IsWithinSkew hosts longest (Event.ServerTick ∷ earlier) → said ≡ answer_of (tested_room sent) → IsTested said (tested_skew sent (skew_broken hosts longest earlier))
+pub tick-lawful : (hosts longest sent : ℕ) (earlier : List Event) (said : Stepped) → IsWithinSkew hosts longest earlier → IsWithinSkew hosts longest
+    (Event.ServerTick ∷ earlier) → said ≡ answer_of (tested_room sent) → IsTested said (tested_skew sent (skew_broken hosts longest earlier))
 tick-lawful hosts longest sent earlier said within next is =
     let none : skew_broken hosts longest earlier ≡ None = (each-tick-is-judged hosts longest earlier within).refused next in
     subst (λ b. IsTested said (tested_skew sent b)) (sym none) (tested-is said (tested_room sent) is (no-skew-room sent))
@@ -180,11 +180,14 @@ tick-left : (sent : ℕ) (b : Option SkewBroken) → (b ≡ None → ⊥) → Is
 tick-left sent None free = absurd (free refl)
 tick-left sent (Some b) free = tt
 
-pub tick-unlawful : (hosts longest sent : ℕ) (earlier : List Event) → IsWithinSkew hosts longest earlier → (IsWithinSkew hosts longest (Event.ServerTick ∷ earlier) → ⊥) → IsTested Stepped.Done (tested_skew sent (skew_broken hosts longest earlier))
-tick-unlawful hosts longest sent earlier within not = tick-left sent (skew_broken hosts longest earlier) (λ none. not ((each-tick-is-judged hosts longest earlier within).within none))
+pub tick-unlawful : (hosts longest sent : ℕ) (earlier : List Event) → IsWithinSkew hosts longest earlier
+    → (IsWithinSkew hosts longest (Event.ServerTick ∷ earlier) → ⊥) → IsTested Stepped.Done (tested_skew sent (skew_broken hosts longest earlier))
+tick-unlawful hosts longest sent earlier within not = tick-left sent (skew_broken hosts longest earlier)
+    (λ none. not ((each-tick-is-judged hosts longest earlier within).within none))
 
 -- what is left to be delivered travels
-pub deliver-there : (head : Head) (events : List StagedEvent) (n : ℕ) → IsLeft (stepped_outside head events (StagedEvent.Plain (Event.Deliver n))) → n < length (outside_run head events).sent
+pub deliver-there : (head : Head) (events : List StagedEvent) (n : ℕ) → IsLeft (stepped_outside head events (StagedEvent.Plain (Event.Deliver n)))
+    → n < length (outside_run head events).sent
 deliver-there head events n left =
     let o = outside_run head events in
     let there = nat_lt n (length o.sent) in

@@ -1,6 +1,7 @@
 -- What travels outside stands for packets that the inner world sent, and there is at least as much of it. The inner events are no more
 -- than the events.
-use Rattle.std.proofs.Common.{◌≡◌, ◌≤◌, ◌<◌, ◌⊎◌, inl, inr, ℕ, zero, suc, ◌+◌, ◌-◌, List, [], ◌∷◌, ◌++◌, length, drop, map, Option, Some, None, refl, sym, ap, subst, ◌∙◌, arith, length-append}
+use Rattle.std.proofs.Common.{◌≡◌, ◌≤◌, ◌<◌, ◌⊎◌, inl, inr, ℕ, zero, suc, ◌+◌, ◌-◌, List, [], ◌∷◌, ◌++◌, length, drop, map, Option, Some, None, refl}
+use Rattle.std.proofs.Common.{sym, ap, subst, ◌∙◌, arith, length-append}
 use Rattle.std.proofs.lemmas.List.{length-drop}
 use Rattle.std.specs.Prelude.{slice_get, slice_set}
 use Rattle.nq_base.specs.declared.Event.{Event}
@@ -8,7 +9,7 @@ use Rattle.nq_base.specs.declared.Party.{Party}
 use Rattle.nq_datagrams.specs.Messages.{bytes_of}
 use Rattle.nq_model.specs.Client.{Client}
 use Rattle.nq_model.specs.Message.{Packet}
-use Rattle.nq_model.specs.World.{Head, World, first_clients, run, start, step}
+use Rattle.nq_model.specs.World.{Head, World, first_clients, start, step}
 use Rattle.nq_stage.specs.Answering.{Answer, write, unstaged, own_stage, own_commit, staged, answered}
 use Rattle.nq_stage.specs.Bodies.{Bodies}
 use Rattle.nq_stage.specs.declared.Commit.{Commit}
@@ -21,7 +22,9 @@ use Rattle.nq_stage.specs.Shortening.{shortened, shortening}
 use Rattle.nq_stage.specs.Staged.{Staged, new_stager}
 use Rattle.nq_stage.specs.declared.run.event.StagedEvent.{StagedEvent}
 use Rattle.nq_stage.specs.Outer.{Outer, Side, Outside, outside_start}
-use Rattle.nq_stage.specs.Outside.{sends, standing, side_of, sends_as, sends_by, sends_from, sends_all, renewed, new_side, inner, inner_delivery, takes_stage, takes_commit, served_commit, served_stage, to_server, told_side, sends_again, heard_by, to_host, takes, delivers, sends_stage, offers_body, offers, outside_step, outside_run}
+use Rattle.nq_stage.specs.Outside.{sends, standing, side_of, sends_as, sends_by, sends_from, sends_all, renewed, new_side, inner, inner_delivery}
+use Rattle.nq_stage.specs.Outside.{takes_stage, takes_commit, served_commit, served_stage, to_server, told_side, heard_by, to_host, takes, delivers}
+use Rattle.nq_stage.specs.Outside.{sends_stage, offers_body, offers, outside_step, outside_run}
 use Rattle.nq_stage.proofs.Inner.{Inner, sent-all, ran}
 use Rattle.nq_staged.proofs.Growing.{grows}
 
@@ -85,14 +88,16 @@ bounded-side n o host s below b = record {
 
 -- ---- inner packets that go out
 
-bounded-as : (n : ℕ) (o : Outside) (number host : ℕ) (p : Packet) (side : Side) (short : Option (Pushed × ℕ)) → number < n → IsBounded n o → IsBounded n (sends_as o number host p side short)
+bounded-as : (n : ℕ) (o : Outside) (number host : ℕ) (p : Packet) (side : Side) (short : Option (Pushed × ℕ)) → number < n → IsBounded n o
+    → IsBounded n (sends_as o number host p side short)
 bounded-as n o number host p side None less b = bounded-sends n o (standing number p.sender p.to (bytes_of p.message)) (below-some n number less) b
 bounded-as n o number host p side (Some push) less b =
     let short = shortened side.stager push.0 push.1 (bytes_of p.message) in
     bounded-sends n (record o { sides = slice_set o.sides host (side_of number short.1) }) (standing number p.sender p.to short.0) (below-some n number less)
     (bounded-side n o host (side_of number short.1) (below-some n number less) b)
 
-bounded-by : (n : ℕ) (o : Outside) (number host : ℕ) (p : Packet) (side : Option Side) → number < n → IsBounded n o → IsBounded n (sends_by o number host p side)
+bounded-by : (n : ℕ) (o : Outside) (number host : ℕ) (p : Packet) (side : Option Side) → number < n → IsBounded n o
+    → IsBounded n (sends_by o number host p side)
 bounded-by n o number host p None less b = bounded-sends n o (standing number p.sender p.to (bytes_of p.message)) (below-some n number less) b
 bounded-by n o number host p (Some side) less b = bounded-as n o number host p side (shortening side.stager (bytes_of p.message)) less b
 
@@ -110,7 +115,8 @@ one-more : (o : Outside) (p : Outer) → length (sends o p).sent ≡ length o.se
 unfolding sends
 one-more o p = length-append o.sent (p ∷ [])
 
-one-as : (o : Outside) (number host : ℕ) (p : Packet) (side : Side) (short : Option (Pushed × ℕ)) → length (sends_as o number host p side short).sent ≡ length o.sent + 1
+one-as : (o : Outside) (number host : ℕ) (p : Packet) (side : Side) (short : Option (Pushed × ℕ)) → length (sends_as o number host p side short).sent
+    ≡ length o.sent + 1
 one-as o number host p side None = one-more o (standing number p.sender p.to (bytes_of p.message))
 one-as o number host p side (Some push) =
     let short = shortened side.stager push.0 push.1 (bytes_of p.message) in
@@ -128,7 +134,8 @@ pub many-all : (o : Outside) (number : ℕ) (ps : List Packet) → length (sends
 many-all o number [] = omega arith
 many-all o number (p ∷ ps) =
     let one : length (sends_from o number p p.sender).sent ≡ length o.sent + 1 = one-from o number p p.sender in
-    let rest : length (sends_all (sends_from o number p p.sender) (number + 1) ps).sent ≡ length (sends_from o number p p.sender).sent + length ps = many-all (sends_from o number p p.sender) (number + 1) ps in
+    let rest : length (sends_all (sends_from o number p p.sender) (number + 1) ps).sent ≡ length (sends_from o number p p.sender).sent + length ps =
+    many-all (sends_from o number p p.sender) (number + 1) ps in
     omega arith
 
 -- ---- one event
@@ -198,7 +205,8 @@ inner-next o event fine =
     let grown : before ≤ length w.packets = grows o.world event in
     let rest : length more ≡ length w.packets - before = length-drop before w.packets in
     let bounded : IsBounded (length w.packets) (inner o event) =
-    bounded-all (length w.packets) r before more (omega arith) (renewed-bounded (length w.packets) o event w (bounded-more before (length w.packets) o grown fine.bounded)) in
+    bounded-all (length w.packets) r before more (omega arith) (renewed-bounded (length w.packets) o event w (bounded-more before (length w.packets) o
+    grown fine.bounded)) in
     let sent : length (inner o event).sent ≡ length r.sent + length more = many-all r before more in
     let same : length r.sent ≡ length o.sent = ap length (renewed-sent o event w) in
     let many : before ≤ length o.sent = fine.many in
@@ -221,14 +229,17 @@ stage-next : (o : Outside) (host : ℕ) (given : List ℕ × Bodies) → IsFine 
 unfolding takes_stage
 stage-next o host given fine =
     let p : Outer = record { sender = Party.Server; to = Party.Client host; bytes = given.0; stands = None } in
-    next-sends (record o { pool = given.1; counts = record o.counts { staged = o.counts.staged + 1 } }) p (below-none (length o.world.packets)) (record { bounded = record { sent = fine.bounded.sent; sides = fine.bounded.sides }; many = fine.many })
+    next-sends (record o { pool = given.1; counts = record o.counts { staged = o.counts.staged + 1 } }) p (below-none (length o.world.packets))
+    (record { bounded = record { sent = fine.bounded.sent; sides = fine.bounded.sides }; many = fine.many })
 
 commit-next : (o : Outside) (host : ℕ) (stands : Option ℕ) (a : Answer) → IsFine o → Next (length o.ran) (takes_commit o host stands a)
 commit-next o host stands (write bytes) fine =
-    delivery-next (record o { counts = record o.counts { commits = o.counts.commits + 1 } }) stands (record { bounded = record { sent = fine.bounded.sent; sides = fine.bounded.sides }; many = fine.many })
+    delivery-next (record o { counts = record o.counts { commits = o.counts.commits + 1 } }) stands
+    (record { bounded = record { sent = fine.bounded.sent; sides = fine.bounded.sides }; many = fine.many })
 commit-next o host stands (unstaged bytes) fine =
     let p : Outer = record { sender = Party.Server; to = Party.Client host; bytes = bytes; stands = None } in
-    next-sends (record o { counts = record o.counts { unstaged = o.counts.unstaged + 1 } }) p (below-none (length o.world.packets)) (record { bounded = record { sent = fine.bounded.sent; sides = fine.bounded.sides }; many = fine.many })
+    next-sends (record o { counts = record o.counts { unstaged = o.counts.unstaged + 1 } }) p (below-none (length o.world.packets))
+    (record { bounded = record { sent = fine.bounded.sent; sides = fine.bounded.sides }; many = fine.many })
 
 served-commit-next : (o : Outside) (host : ℕ) (p : Outer) (c : Option Commit) → IsFine o → Next (length o.ran) (served_commit o host p c)
 served-commit-next o host p None fine = delivery-next o p.stands fine
@@ -247,7 +258,13 @@ told-next : (o : Outside) (host : ℕ) (side : Side) (t : Told) → slice_get o.
 told-next o host side (again bytes) there fine =
     let s : Side = record side { stager = kept_by side.stager (again bytes) } in
     let last = fine.bounded.sides host side there in
-    next-sends (record o { sides = slice_set o.sides host s }) (record { sender = Party.Client host; to = Party.Server; bytes = bytes; stands = side.last }) last (fine-side o host s last fine)
+    next-sends (record o { sides = slice_set o.sides host s }) (record {
+      sender = Party.Client host;
+      to = Party.Server;
+      bytes = bytes;
+      stands =
+          side.last;
+    }) last (fine-side o host s last fine)
 told-next o host side (acknowledged w verifier) there fine =
     let s : Side = record side { stager = kept_by side.stager (acknowledged w verifier) } in
     record { fine = fine-side o host s (fine.bounded.sides host side there) fine; few = omega arith }
@@ -255,7 +272,8 @@ told-next o host side other there fine =
     let s : Side = record side { stager = kept_by side.stager other } in
     record { fine = fine-side o host s (fine.bounded.sides host side there) fine; few = omega arith }
 
-heard-next : (o : Outside) (host : ℕ) (p : Outer) (side : Option Side) → slice_get o.sides host ≡ side → IsFine o → Next (length o.ran) (heard_by o host p side)
+heard-next : (o : Outside) (host : ℕ) (p : Outer) (side : Option Side) → slice_get o.sides host ≡ side → IsFine o
+    → Next (length o.ran) (heard_by o host p side)
 heard-next o host p None there fine = stays o fine
 heard-next o host p (Some side) there fine = told-next o host side (told_by side.stager p.bytes) there fine
 
@@ -272,17 +290,26 @@ delivers-next o None fine = stays o fine
 delivers-next o (Some p) fine = takes-next o p p.to fine
 
 -- an offer
-offered-next : (o : Outside) (host : ℕ) (side : Side) (given : List ℕ × Staged) → slice_get o.sides host ≡ Some side → IsFine o → Next (length o.ran) (sends_stage o host side given)
+offered-next : (o : Outside) (host : ℕ) (side : Side) (given : List ℕ × Staged) → slice_get o.sides host ≡ Some side → IsFine o
+    → Next (length o.ran) (sends_stage o host side given)
 unfolding sends_stage
 offered-next o host side given there fine =
     let s : Side = record side { stager = given.1 } in
-    next-sends (record o { sides = slice_set o.sides host s }) (record { sender = Party.Client host; to = Party.Server; bytes = given.0; stands = None }) (below-none (length o.world.packets)) (fine-side o host s (fine.bounded.sides host side there) fine)
+    next-sends (record o { sides = slice_set o.sides host s }) (record {
+      sender = Party.Client host;
+      to = Party.Server;
+      bytes = given.0;
+      stands =
+          None;
+    }) (below-none (length o.world.packets)) (fine-side o host s (fine.bounded.sides host side there) fine)
 
-body-next : (o : Outside) (host : ℕ) (side : Side) (b : Option (Written × List ℕ)) → slice_get o.sides host ≡ Some side → IsFine o → Next (length o.ran) (offers_body o host side b)
+body-next : (o : Outside) (host : ℕ) (side : Side) (b : Option (Written × List ℕ)) → slice_get o.sides host ≡ Some side → IsFine o
+    → Next (length o.ran) (offers_body o host side b)
 body-next o host side None there fine = stays o fine
 body-next o host side (Some b) there fine = offered-next o host side (offered side.stager b.0 b.1) there fine
 
-offers-next : (o : Outside) (host : ℕ) (side : Option Side) (c : Option Client) → slice_get o.sides host ≡ side → IsFine o → Next (length o.ran) (offers o host side c)
+offers-next : (o : Outside) (host : ℕ) (side : Option Side) (c : Option Client) → slice_get o.sides host ≡ side → IsFine o
+    → Next (length o.ran) (offers o host side c)
 offers-next o host (Some side) (Some c) there fine = body-next o host side (offer_of side.stager c.dirty c.push) there fine
 offers-next o host None c there fine = stays o fine
 offers-next o host (Some side) None there fine = stays o fine
@@ -325,5 +352,6 @@ pub few-run : (head : Head) (events : List StagedEvent) → length (outside_run 
 few-run head [] = let none : length (outside_start head).ran ≡ 0 = begins-none head in omega arith
 few-run head (event ∷ earlier) =
     let before : length (outside_run head earlier).ran ≤ length earlier = few-run head earlier in
-    let next : length (outside_run head (event ∷ earlier)).ran ≤ length (outside_run head earlier).ran + 1 = (step-next (outside_run head earlier) event (runs-fine head earlier)).few in
+    let next : length (outside_run head (event ∷ earlier)).ran ≤ length (outside_run head earlier).ran + 1 =
+    (step-next (outside_run head earlier) event (runs-fine head earlier)).few in
     omega arith

@@ -28,20 +28,23 @@ pub keeps-ticks : (P : List StagedEvent → Type 0) (head : Beginning) (host cou
     → ((h : ℕ) → h < head.hosts → Keeps P (play_event head (StagedEvent.Plain (Event.ClientTick h)))) → Keeps P (play_ticks head host count)
 keeps-ticks P head host zero less keeps events here = here
 keeps-ticks P head host (suc count) less keeps events here =
-    ends-then P (play_event head (StagedEvent.Plain (Event.ClientTick host)) events) (play_ticks head (host + 1) count) (keeps host (omega arith) events here) (keeps-ticks P head (host + 1) count (omega arith) keeps)
+    ends-then P (play_event head (StagedEvent.Plain (Event.ClientTick host)) events) (play_ticks head (host + 1) count)
+    (keeps host (omega arith) events here) (keeps-ticks P head (host + 1) count (omega arith) keeps)
 
 pub keeps-round : (P : List StagedEvent → Type 0) (head : Beginning)
     → ((h : ℕ) → h < head.hosts → Keeps P (play_event head (StagedEvent.Plain (Event.ClientTick h))))
     → Keeps P (play_event head (StagedEvent.Plain Event.ServerTick)) → Keeps P (play_round head)
 unfolding play_round
 keeps-round P head ticks tick events here =
-    ends-then P (play_ticks head 0 head.hosts events) (play_event head (StagedEvent.Plain Event.ServerTick)) (keeps-ticks P head 0 head.hosts (omega arith) ticks events here) tick
+    ends-then P (play_ticks head 0 head.hosts events) (play_event head (StagedEvent.Plain Event.ServerTick)) (keeps-ticks P head 0 head.hosts
+    (omega arith) ticks events here) tick
 
 pub keeps-flow : (P : List StagedEvent → Type 0) (head : Beginning) (most : ℕ) → ((k : ℕ) → Keeps P (play_event head (StagedEvent.Plain (Event.Deliver k))))
     → Keeps P (play_flow head most)
 keeps-flow P head zero keeps events here = tt
 keeps-flow P head (suc most) keeps events here =
-    ends-packet P _ events _ here (λ k. ends-then P (play_event head (StagedEvent.Plain (Event.Deliver k)) events) (λ es. play_flow head most es) (keeps k events here) (keeps-flow P head most keeps))
+    ends-packet P _ events _ here (λ k. ends-then P (play_event head (StagedEvent.Plain (Event.Deliver k)) events) (λ es. play_flow head most es)
+    (keeps k events here) (keeps-flow P head most keeps))
 
 -- ---- all events can be told
 
@@ -54,11 +57,13 @@ AreTold head events = AllByRecursion (IsPlainly (IsTellable head) (deliver-told 
 module _ (head : Head) (second : head.version ≡ 2) where
   keeps_event : (event : Event) → IsTellable head event → Keeps (AreTold head) (play_event (beginning head) (StagedEvent.Plain event))
   unfolding play_event
-  keeps_event event is events so = ends-answered (AreTold head) events (StagedEvent.Plain event) (stepped_outside (beginning head) events (StagedEvent.Plain event)) (λ done. (is, so))
+  keeps_event event is events so = ends-answered (AreTold head) events (StagedEvent.Plain event) (stepped_outside (beginning head) events
+      (StagedEvent.Plain event)) (λ done. (is, so))
 
   keeps_stage : (host : ℕ) → Keeps (AreTold head) (play_event (beginning head) (StagedEvent.Stage host))
   unfolding play_event
-  keeps_stage host events so = ends-answered (AreTold head) events (StagedEvent.Stage host) (stepped_outside (beginning head) events (StagedEvent.Stage host)) (λ done. (tt, so))
+  keeps_stage host events so = ends-answered (AreTold head) events (StagedEvent.Stage host) (stepped_outside (beginning head) events
+      (StagedEvent.Stage host)) (λ done. (tt, so))
 
   keeps_line : (most : ℕ) (line : Line) (text : List ℕ) → SpellsLine head line text → Keeps (AreTold head) (play_plain (beginning head) most line)
   keeps_line most (Line.Events event times) text spelled =
@@ -89,18 +94,22 @@ module _ (head : Head) (second : head.version ≡ 2) where
       (keeps_line most line text spelled.1 earlier so)
       (λ es here on. lines_told most (number + 1) asides lines texts es events spelled.2 here on) is
   lines_told most number (Some offer ∷ asides) (line ∷ lines) (text ∷ texts) earlier events spelled so is =
-      ran_on number (play_event (beginning head) (StagedEvent.Stage offer.host) earlier) (play_lines (beginning head) most (number + 1) (mixed asides lines)) events
+      ran_on number (play_event (beginning head) (StagedEvent.Stage offer.host) earlier) (play_lines (beginning head) most (number + 1)
+      (mixed asides lines)) events
       (keeps_stage offer.host earlier so)
       (λ es here on. lines_told most (number + 1) asides lines texts es events spelled.2 here on) is
 
   pub events_told : (asides : List (Option Offer)) (lines : List Line) (text : List ℕ) (events : List StagedEvent) → SpellsSchedule head lines text
       → play head (mixed asides lines) ≡ ran events → AreTold head events
   unfolding play
-  events_told asides lines text events spelled is = lines_told (most_events + 1) (length (head_lines head) + 1) asides lines spelled.1.1.0 [] events spelled.1.1.1 tt is
+  events_told asides lines text events spelled is = lines_told (most_events + 1) (length (head_lines head) + 1) asides lines spelled.1.1.0 [] events
+      spelled.1.1.1 tt is
 
 -- ---- so can all inner events
 
-came_told : {K : Type 0} (head : Head) (asides : List (Option Offer)) (lines : List Line) (text : List ℕ) (w : StagedOver K) (told : Option Kept) (due : Ended (List StagedEvent)) → head.version ≡ 2 → SpellsSchedule head lines text → play head (mixed asides lines) ≡ due → RanTo due (λ events. PlaysOutside (beginning head) events w told) → IsTold head w told
+came_told : {K : Type 0} (head : Head) (asides : List (Option Offer)) (lines : List Line) (text : List ℕ) (w : StagedOver K) (told : Option Kept)
+    (due : Ended (List StagedEvent)) → head.version ≡ 2 → SpellsSchedule head lines text → play head (mixed asides lines) ≡ due
+    → RanTo due (λ events. PlaysOutside (beginning head) events w told) → IsTold head w told
 came_told head asides lines text w told (ran events) second spelled is plays = record {
   events = events;
   plays = plays;
@@ -109,6 +118,9 @@ came_told head asides lines text w told (ran events) second spelled is plays = r
 came_told head asides lines text w told (stopped line answer) second spelled is plays = absurd plays
 
 -- a staged schedule that was played to its end
-pub played_told : {K : Type 0} (head : Head) (asides : List (Option Offer)) (lines : List Line) (text : List ℕ) (played : Went) (w : StagedOver K) (told : Option Kept) → head.version ≡ 2 → SpellsSchedule head lines text → Comes played (play head (mixed asides lines)) (λ events. PlaysOutside (beginning head) events w told) → played ≡ Went.All → IsTold head w told
-played_told head asides lines text Went.All w told second spelled comes is = came_told head asides lines text w told (play head (mixed asides lines)) second spelled refl comes
+pub played_told : {K : Type 0} (head : Head) (asides : List (Option Offer)) (lines : List Line) (text : List ℕ) (played : Went) (w : StagedOver K)
+    (told : Option Kept) → head.version ≡ 2 → SpellsSchedule head lines text → Comes played (play head (mixed asides lines))
+    (λ events. PlaysOutside (beginning head) events w told) → played ≡ Went.All → IsTold head w told
+played_told head asides lines text Went.All w told second spelled comes is = came_told head asides lines text w told (play head (mixed asides lines))
+    second spelled refl comes
 played_told head asides lines text (Went.Stopped line answer) w told second spelled comes is = absurd (cc)

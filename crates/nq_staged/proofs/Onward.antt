@@ -21,7 +21,8 @@ ticks-step head hosts host events due below same =
     rw further at same
 
 flow-step : (head : Head) (most turn : ℕ) (events : List StagedEvent) (due : Due (List StagedEvent)) → turn < most → play_flow head (most - turn) events ≡ due
-    → with_packet (next_packet head events) events (λ packet. and_then (play_event head (StagedEvent.Plain (Event.Deliver packet)) events) (λ es. play_flow head (most - (turn + 1)) es)) ≡ due
+    → with_packet (next_packet head events) events (λ packet. and_then (play_event head (StagedEvent.Plain (Event.Deliver packet)) events)
+    (λ es. play_flow head (most - (turn + 1)) es)) ≡ due
 flow-step head most turn events due below same =
     let further : most - turn ≡ suc (most - (turn + 1)) = omega arith in
     rw further at same

@@ -24,11 +24,35 @@ use Rattle.nq_world.specs.declared.Stepped.{Stepped}
 
 text_of_run : (end : Ending) (head : Head) (events : List StagedEvent) (text : List ℕ) (held now : Option (List ℕ)) (w w' : ℕ) → RunsStaged text head events
     → EndsStagedPlayed end head (ran events) held now w w' → EndsStagedText end text held now w w'
-text_of_run Ending.Done head events text held now w w' runs (inl p) = record { head = head; events = events; runs = runs; bytes = p.bytes; are = p.are; printed = p.printed }
+text_of_run Ending.Done head events text held now w w' runs (inl p) = record {
+  head = head;
+  events = events;
+  runs = runs;
+  bytes = p.bytes;
+  are = p.are;
+  printed = p.printed;
+}
 text_of_run Ending.Done head events text held now w w' runs (inr m) = let e = m.0 in absurd (cc)
-text_of_run Ending.WriteFault head events text held now w w' runs (inl p) = (record { head = head; events = events; runs = runs; bytes = p.bytes; are = p.are; printed = p.printed.0 }, p.printed.1)
+text_of_run Ending.WriteFault head events text held now w w' runs (inl p) = (
+  record {
+    head = head;
+    events = events;
+    runs = runs;
+    bytes = p.bytes;
+    are = p.are;
+    printed = p.printed.0;
+  },
+  p.printed.1,
+)
 text_of_run Ending.WriteFault head events text held now w w' runs (inr m) = let e = m.0 in absurd (cc)
-text_of_run Ending.Memory head events text held now w w' runs (inl p) = inr (record { head = head; events = events; runs = runs; bytes = p.bytes; are = p.are; printed = p.printed })
+text_of_run Ending.Memory head events text held now w w' runs (inl p) = inr (record {
+  head = head;
+  events = events;
+  runs = runs;
+  bytes = p.bytes;
+  are = p.are;
+  printed = p.printed;
+})
 text_of_run Ending.Memory head events text held now w w' runs (inr m) = inl m.1
 text_of_run other head events text held now w w' runs (inl p) = absurd p.printed
 text_of_run other head events text held now w w' runs (inr m) = let e = m.0 in absurd (cc)
@@ -73,8 +97,10 @@ text_of_stop end head line too_many_packets text held now w w' stops tells = tex
 -- a schedule that was read
 text_of_due : (end : Ending) (head : Head) (lines : List StagedLine) (due : Ended (List StagedEvent)) (text : List ℕ) (held now : Option (List ℕ)) (w w' : ℕ)
     → SpellsStaged head lines text → play head lines ≡ due → EndsStagedPlayed end head due held now w w' → EndsStagedText end text held now w w'
-text_of_due end head lines (ran events) text held now w w' spelled is ends = text_of_run end head events text held now w w' (record { lines = lines; spelled = spelled; played = is }) ends
-text_of_due end head lines (stopped line answer) text held now w w' spelled is ends = text_of_stop end head line answer text held now w w' (record { head = head; lines = lines; spelled = spelled; stopped = is }) ends
+text_of_due end head lines (ran events) text held now w w' spelled is ends = text_of_run end head events text held now w w'
+    (record { lines = lines; spelled = spelled; played = is }) ends
+text_of_due end head lines (stopped line answer) text held now w w' spelled is ends = text_of_stop end head line answer text held now w w'
+    (record { head = head; lines = lines; spelled = spelled; stopped = is }) ends
 
 pub text_of_schedule : (end : Ending) (head : Head) (lines : List StagedLine) (text : List ℕ) (held now : Option (List ℕ)) (w w' : ℕ)
     → SpellsStaged head lines text → EndsStagedPlayed end head (play head lines) held now w w' → EndsStagedText end text held now w w'
@@ -115,25 +141,32 @@ done_unless other head events held now w w' (inl p) = absurd p.printed
 done_unless other head events held now w w' (inr m) = let e = m.0 in absurd (cc)
 
 -- the schedule that was read is the one that is spelled
-pub is_due : (head h : Head) (lines ls : List StagedLine) (due : Ended (List StagedEvent)) → (head ≡ h) × (lines ≡ ls) → play h ls ≡ due → play head lines ≡ due
+pub is_due : (head h : Head) (lines ls : List StagedLine) (due : Ended (List StagedEvent)) → (head ≡ h) × (lines ≡ ls) → play h ls ≡ due
+    → play head lines ≡ due
 is_due head h lines ls due same is = rw (same.0, same.1) is
 
 pub ends_script : (end : Ending) (head : Head) (lines : List StagedLine) (number : ℕ) (held now : Option (List ℕ)) (w w' : ℕ)
     → EndsStagedPlayed end head (play head lines) held now w w' → play head lines ≡ stopped number no_packet → IsUnlessFault end Ending.Script 0 0 w w'
-ends_script end head lines number held now w w' ends is = script_unless end number held now w w' (subst (λ due. EndsStagedPlayed end head due held now w w') is ends)
+ends_script end head lines number held now w w' ends is = script_unless end number held now w w' (subst (λ due. EndsStagedPlayed end head due held now
+    w w') is ends)
 
 pub ends_skew : (end : Ending) (head : Head) (lines : List StagedLine) (number : ℕ) (broken : SkewBroken) (held now : Option (List ℕ)) (w w' : ℕ)
-    → EndsStagedPlayed end head (play head lines) held now w w' → play head lines ≡ stopped number (out_of_skew broken) → IsUnlessFault end Ending.Skew 0 0 w w'
-ends_skew end head lines number broken held now w w' ends is = skew_unless end number broken held now w w' (subst (λ due. EndsStagedPlayed end head due held now w w') is ends)
+    → EndsStagedPlayed end head (play head lines) held now w w' → play head lines ≡ stopped number (out_of_skew broken)
+    → IsUnlessFault end Ending.Skew 0 0 w w'
+ends_skew end head lines number broken held now w w' ends is = skew_unless end number broken held now w w'
+    (subst (λ due. EndsStagedPlayed end head due held now w w') is ends)
 
-pub ends_passing : (end : Ending) (head : Head) (lines : List StagedLine) (text : List ℕ) (number : ℕ) (bound : Bound) (held now : Option (List ℕ)) (w w' : ℕ) → EndsStagedPlayed end head (play head lines) held now w w'
+pub ends_passing : (end : Ending) (head : Head) (lines : List StagedLine) (text : List ℕ) (number : ℕ) (bound : Bound) (held now : Option (List ℕ))
+    (w w' : ℕ) → EndsStagedPlayed end head (play head lines) held now w w'
     → ((h : Head) (ls : List StagedLine) → SpellsStaged h ls text → (head ≡ h) × (lines ≡ ls)) → PassesStaged text number bound
     → IsUnlessFault end Ending.Limit 0 0 w w'
 ends_passing end head lines text number Bound.Bytes held now w w' ends only passes = absurd passes
 ends_passing end head lines text number Bound.Events held now w w' ends only passes =
-    limit_unless end number Limit.Events held now w w' (subst (λ due. EndsStagedPlayed end head due held now w w') (is_due head passes.head lines passes.lines _ (only passes.head passes.lines passes.spelled) passes.stopped) ends)
+    limit_unless end number Limit.Events held now w w' (subst (λ due. EndsStagedPlayed end head due held now w w') (is_due head passes.head lines
+    passes.lines _ (only passes.head passes.lines passes.spelled) passes.stopped) ends)
 ends_passing end head lines text number Bound.Packets held now w w' ends only passes =
-    limit_unless end number Limit.Packets held now w w' (subst (λ due. EndsStagedPlayed end head due held now w w') (is_due head passes.head lines passes.lines _ (only passes.head passes.lines passes.spelled) passes.stopped) ends)
+    limit_unless end number Limit.Packets held now w w' (subst (λ due. EndsStagedPlayed end head due held now w w') (is_due head passes.head lines
+    passes.lines _ (only passes.head passes.lines passes.spelled) passes.stopped) ends)
 
 pub ends_faulty : (end : Ending) (head : Head) (lines : List StagedLine) (text : List ℕ) (number : ℕ) (held now : Option (List ℕ)) (w w' : ℕ)
     → EndsStagedPlayed end head (play head lines) held now w w'
@@ -143,7 +176,9 @@ ends_faulty end head lines text number held now w w' ends only bad (inl is) = ab
 ends_faulty end head lines text number held now w w' ends only bad (inr stops) =
     ends_script end head lines number held now w w' ends (is_due head stops.head lines stops.lines _ (only stops.head stops.lines stops.spelled) stops.stopped)
 
-pub ends_done : (end : Ending) (head : Head) (lines : List StagedLine) (h : Head) (ls : List StagedLine) (events : List StagedEvent) (held now : Option (List ℕ)) (w w' : ℕ) → EndsStagedPlayed end head (play head lines) held now w w' → (head ≡ h) × (lines ≡ ls) → play h ls ≡ ran events → IsUnlessFault end Ending.Done 0 0 w w'
+pub ends_done : (end : Ending) (head : Head) (lines : List StagedLine) (h : Head) (ls : List StagedLine) (events : List StagedEvent)
+    (held now : Option (List ℕ)) (w w' : ℕ) → EndsStagedPlayed end head (play head lines) held now w w' → (head ≡ h) × (lines ≡ ls) → play h ls
+    ≡ ran events → IsUnlessFault end Ending.Done 0 0 w w'
 ends_done end head lines h ls events held now w w' ends same is =
     done_unless end head events held now w w' (subst (λ due. EndsStagedPlayed end head due held now w w') (is_due head h lines ls _ same is) ends)
 
@@ -186,10 +221,13 @@ stop_at end head line said (ran events) held now w w' is tells = absurd is
 stop_at end head line said (stopped number answer) held now w w' is tells =
     subst (λ s. TellsStop end number s held now w w') (sym is.1) (subst (λ n. TellsStop end n said held now w w') is.0 tells)
 
-pub stop_ends : (end : Ending) (head : Head) (line : ℕ) (said : Stepped) (due : Ended (List StagedEvent)) (P : List StagedEvent → Type 0) (held now : Option (List ℕ)) (w w' : ℕ) → Comes (Played.Stopped line said) due P → TellsStop end line said held now w w' → EndsStagedPlayed end head due held now w w'
+pub stop_ends : (end : Ending) (head : Head) (line : ℕ) (said : Stepped) (due : Ended (List StagedEvent)) (P : List StagedEvent → Type 0)
+    (held now : Option (List ℕ)) (w w' : ℕ) → Comes (Played.Stopped line said) due P → TellsStop end line said held now w w' → EndsStagedPlayed end
+    head due held now w w'
 stop_ends end head line Stepped.Done due P held now w w' comes tells = absurd comes
 stop_ends end head line Stepped.NoPacket due P held now w w' comes tells = stop_at end head line Stepped.NoPacket due held now w w' comes tells
-stop_ends end head line (Stepped.SkewBroken broken) due P held now w w' comes tells = stop_at end head line (Stepped.SkewBroken broken) due held now w w' comes tells
+stop_ends end head line (Stepped.SkewBroken broken) due P held now w w' comes tells = stop_at end head line (Stepped.SkewBroken broken) due held now w
+    w' comes tells
 stop_ends end head line (Stepped.Limit limit) due P held now w w' comes tells = stop_at end head line (Stepped.Limit limit) due held now w w' comes tells
 stop_ends end head line Stepped.Fault due P held now w w' comes tells = stop_memory end head due held now w w' (silent-fault end line held now w w' tells)
 stop_ends end head line Stepped.Memory due P held now w w' comes tells = stop_memory end head due held now w w' (silent-memory end line held now w w' tells)

@@ -27,7 +27,8 @@ lawful head events w told plays =
     record { bounds = is.bounds; skew = is.skew }
 
 -- the bytes that are printed of it
-pub is-printed : {K : Type 0} (head : Head) (events : List StagedEvent) (w : StagedOver K) (told : Option Kept) (ran : List Event) (entries : List Entry) (counts : Counts) (text line : List ℕ) → PlaysOutside (beginning head) events w told
+pub is-printed : {K : Type 0} (head : Head) (events : List StagedEvent) (w : StagedOver K) (told : Option Kept) (ran : List Event)
+    (entries : List Entry) (counts : Counts) (text line : List ℕ) → PlaysOutside (beginning head) events w told
     → reverse ran ≡ (end_of head events).ran → map plain entries ≡ reverse (end_of head events).world.journal → counts ≡ (end_of head events).counts
     → SpellsSchedule head (map once ran) text → line ≡ count_line counts
     → IsPrinted head events (text ++ (journal_text 2 entries ++ line))

@@ -39,7 +39,8 @@ settings-on hosts longest term old new first second = record {
 }
 
 -- what holds of a world over two steps, of which the first was taken
-pub keeps-on : {K : Type 0} (faults : K → ℕ) (follows : K → K → Type 0) (said : Stepped) (old mid new : WorldOver K) → ((a b c : K) → follows a b → follows b c → follows a c)
+pub keeps-on : {K : Type 0} (faults : K → ℕ) (follows : K → K → Type 0) (said : Stepped) (old mid new : WorldOver K) → ((a b c : K) → follows a b
+    → follows b c → follows a c)
     → GoesOn faults follows Stepped.Done old mid → GoesOn faults follows said mid new → GoesOn faults follows said old new
 keeps-on faults follows said old mid new on first second = record {
   counts = faults-on said (faults old.server.keeper) (faults mid.server.keeper) (faults new.server.keeper) first.counts second.counts;
@@ -83,12 +84,17 @@ was-refused events event (out_of_skew broken) said is other = is
 was-refused events event too_many_events said is other = is
 was-refused events event too_many_packets said is other = is
 
-pub not-taken : {K : Type 0} (head : Head) (events : List StagedEvent) (event : StagedEvent) (said : Stepped) (new : StagedOver K) (told tells : Option Kept) (P : List StagedEvent → Type 0) → StepsOutside head events event said new told tells → (said ≡ Stepped.Done → ⊥) → Goes said (play_event head event events) P
+pub not-taken : {K : Type 0} (head : Head) (events : List StagedEvent) (event : StagedEvent) (said : Stepped) (new : StagedOver K)
+    (told tells : Option Kept) (P : List StagedEvent → Type 0) → StepsOutside head events event said new told tells → (said ≡ Stepped.Done → ⊥)
+    → Goes said (play_event head event events) P
 unfolding play_event
 not-taken head events event Stepped.Done new told tells P steps other = absurd (other refl)
-not-taken head events event Stepped.NoPacket new told tells P steps other = was-refused events event (stepped_outside head events event) Stepped.NoPacket steps.0 other
-not-taken head events event (Stepped.SkewBroken broken) new told tells P steps other = was-refused events event (stepped_outside head events event) (Stepped.SkewBroken broken) steps.0 other
-not-taken head events event (Stepped.Limit limit) new told tells P steps other = was-refused events event (stepped_outside head events event) (Stepped.Limit limit) steps.0 other
+not-taken head events event Stepped.NoPacket new told tells P steps other = was-refused events event (stepped_outside head events event)
+    Stepped.NoPacket steps.0 other
+not-taken head events event (Stepped.SkewBroken broken) new told tells P steps other = was-refused events event (stepped_outside head events event)
+    (Stepped.SkewBroken broken) steps.0 other
+not-taken head events event (Stepped.Limit limit) new told tells P steps other = was-refused events event (stepped_outside head events event)
+    (Stepped.Limit limit) steps.0 other
 not-taken head events event Stepped.Fault new told tells P steps other = tt
 not-taken head events event Stepped.Memory new told tells P steps other = tt
 

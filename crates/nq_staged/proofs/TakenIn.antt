@@ -1,5 +1,5 @@
 -- What comes of a packet that is taken in, from what the pool and the sides said.
-use Rattle.std.proofs.Common.{◌≡◌, ℕ, ◌+◌, List, [], ◌∷◌, ◌++◌, Bool, true, false, Option, Some, None, IfSome, IsSome, Vec, refl, sym, ap, subst, ◌∙◌}
+use Rattle.std.proofs.Common.{◌≡◌, ℕ, ◌+◌, List, Option, Some, None, Vec, refl, sym, ap, ◌∙◌}
 use Rattle.std.specs.Global.{Global}
 use Rattle.std.specs.Option.{option_map}
 use Rattle.std.specs.Prelude.{slice_get, slice_set}
@@ -8,46 +8,42 @@ use Rattle.nq_base.specs.declared.Party.{Party}
 use Rattle.nq_base.specs.declared.Push.{Push}
 use Rattle.nq_model.specs.Client.{Client}
 use Rattle.nq_model.specs.World.{World}
-use Rattle.nq_stage.specs.Answering.{Answer, write, unstaged, answered, own_commit, own_stage, staged}
+use Rattle.nq_stage.specs.Answering.{own_commit, own_stage, staged}
 use Rattle.nq_stage.specs.Bodies.{Bodies}
-use Rattle.nq_stage.specs.declared.Commit.{Commit}
 use Rattle.nq_stage.specs.declared.Written.{Written}
 use Rattle.nq_stage.specs.Reading.{Stage}
-use Rattle.nq_stage.specs.declared.stager.stager.HeardStage.{HeardStage}
-use Rattle.nq_stage.specs.Hearing.{Told, acknowledged, again, other, Tells, told_by, kept_by}
+use Rattle.nq_stage.specs.Hearing.{acknowledged}
 use Rattle.nq_stage.specs.Offering.{body_among, first_unknown, offer_of, offered}
 use Rattle.nq_stage.specs.Staged.{Staged}
 use Rattle.nq_stage.specs.Outer.{Outer, Side, Outside}
-use Rattle.nq_stage.specs.Outside.{beside, heard_by, inner, inner_delivery, offers, offers_body, sends, sends_stage, served_commit, served_stage, takes_commit, takes_stage, told_side}
-use Rattle.nq_staged.specs.Around.{AroundOver, counted, offers_at, once_sent, over, side_offers, side_offers_as}
-use Rattle.nq_staged.specs.Taking.{IsTakenIn, Leading, running, taken_by}
+use Rattle.nq_stage.specs.Outside.{beside, offers, offers_body, sends_stage, served_commit, served_stage, takes_stage}
+use Rattle.nq_staged.specs.Around.{AroundOver, offers_at, once_sent, over, side_offers, side_offers_as}
+use Rattle.nq_staged.specs.Taking.{IsTakenIn, Leading}
 use Rattle.nq_staged.specs.declared.commit.taking.Taken.{Taken}
-use Rattle.nq_staged.proofs.Sending.{none-due, set-same}
+use Rattle.nq_staged.proofs.Sending.{set-same}
 
--- nothing was done, and nothing was to be done
-pub nothing-taken : (a : AroundOver) (stands : Option ℕ) (leads : Leading) → a.due ≡ None → ((w : World) (ran : List Event) → over w ran a ≡ leads w ran) → IsTakenIn Taken.Beside stands a a leads
-nothing-taken a stands leads none same = (refl, λ w ran. none-due w ran a none ∙ same w ran)
-
--- the delivery of an inner packet, if it stands for one
-pub delivers-inner : (a : AroundOver) (stands : Option ℕ) → a.due ≡ None → IsTakenIn (taken_by stands) stands a a (λ w ran. inner_delivery (over w ran a) stands)
-delivers-inner a None none = nothing-taken a None (λ w ran. over w ran a) none (λ w ran. refl)
-delivers-inner a (Some number) none = (refl, refl, λ w ran. refl)
-
-pub leads-same : (r : Taken) (stands : Option ℕ) (old new : AroundOver) (leads leads' : Leading) → ((w : World) (ran : List Event) → leads w ran ≡ leads' w ran) → IsTakenIn r stands old new leads → IsTakenIn r stands old new leads'
+pub leads-same : (r : Taken) (stands : Option ℕ) (old new : AroundOver) (leads leads' : Leading) → ((w : World) (ran : List Event) → leads w ran
+    ≡ leads' w ran) → IsTakenIn r stands old new leads → IsTakenIn r stands old new leads'
 leads-same Taken.Beside stands old new leads leads' same is = (is.0, λ w ran. is.1 w ran ∙ same w ran)
 leads-same (Taken.Inner number commit) stands old new leads leads' same is = (is.0, is.1, λ w ran. is.2 w ran ∙ same w ran)
 leads-same Taken.Memory stands old new leads leads' same is = is
 
 -- ---- STAGE
 
-stage-as : (o : Outside) (host : ℕ) (p : Outer) (s : Option Stage) (reply : List ℕ) (pool : Bodies) → option_map (staged o.pool) s ≡ Some (reply, pool) → takes_stage o host (reply, pool) ≡ served_stage o host p s
+stage-as : (o : Outside) (host : ℕ) (p : Outer) (s : Option Stage) (reply : List ℕ) (pool : Bodies) → option_map (staged o.pool) s
+    ≡ Some (reply, pool) → takes_stage o host (reply, pool) ≡ served_stage o host p s
 stage-as o host p None reply pool is = absurd (cc)
 stage-as o host p (Some s) reply pool is =
     let e : staged o.pool s ≡ (reply, pool) = cc in
     ap (takes_stage o host) (sym e)
 
-pub stage_taken : (a : AroundOver) (host : ℕ) (p : Outer) (reply : List ℕ) (pool : Bodies) → option_map (staged a.pool) (own_stage host p.bytes) ≡ Some (reply, pool)
-    → IsTakenIn Taken.Beside p.stands a (record a { pool = pool; counts = record a.counts { staged = a.counts.staged + 1 }; due = Some (beside Party.Server (Party.Client host) reply) })
+pub stage_taken : (a : AroundOver) (host : ℕ) (p : Outer) (reply : List ℕ) (pool : Bodies) → option_map (staged a.pool) (own_stage host p.bytes)
+    ≡ Some (reply, pool)
+    → IsTakenIn Taken.Beside p.stands a (record a {
+      pool = pool;
+      counts = record a.counts { staged = a.counts.staged + 1 };
+      due = Some (beside Party.Server (Party.Client host) reply);
+    })
     (λ w ran. served_stage (over w ran a) host p (own_stage host p.bytes))
 unfolding takes_stage
 stage_taken a host p reply pool is = (refl, λ w ran. stage-as (over w ran a) host p (own_stage host p.bytes) reply pool is)
@@ -57,76 +53,69 @@ pub no-stage : (r : Taken) (old new : AroundOver) (host : ℕ) (p : Outer) → o
     → IsTakenIn r p.stands old new (λ w ran. served_commit (over w ran old) host p (own_commit host p.bytes))
     → IsTakenIn r p.stands old new (λ w ran. served_stage (over w ran old) host p (own_stage host p.bytes))
 no-stage r old new host p none is =
-    leads-same r p.stands old new (λ w ran. served_commit (over w ran old) host p (own_commit host p.bytes)) (λ w ran. served_stage (over w ran old) host p (own_stage host p.bytes)) (λ w ran. ap (served_stage (over w ran old) host p) (sym none)) is
+    leads-same r p.stands old new (λ w ran. served_commit (over w ran old) host p (own_commit host p.bytes)) (λ w ran. served_stage (over w ran old)
+    host p (own_stage host p.bytes)) (λ w ran. ap (served_stage (over w ran old) host p) (sym none)) is
 
 -- ---- COMMIT
 
-commit-as : (o : Outside) (host : ℕ) (p : Outer) (c : Option Commit) (answer : Answer) → option_map (answered o.pool) c ≡ Some answer → takes_commit o host p.stands answer ≡ served_commit o host p c
-commit-as o host p None answer is = absurd (cc)
-commit-as o host p (Some c) answer is =
-    let e : answered o.pool c ≡ answer = cc in
-    ap (takes_commit o host p.stands) (sym e)
-
-pub unstaged-taken : (a : AroundOver) (host : ℕ) (p : Outer) (reply : List ℕ) → option_map (answered a.pool) (own_commit host p.bytes) ≡ Some (unstaged reply)
-    → IsTakenIn Taken.Beside p.stands a (record a { counts = record a.counts { unstaged = a.counts.unstaged + 1 }; due = Some (beside Party.Server (Party.Client host) reply) })
-    (λ w ran. served_commit (over w ran a) host p (own_commit host p.bytes))
-unstaged-taken a host p reply is = (refl, λ w ran. commit-as (over w ran a) host p (own_commit host p.bytes) (unstaged reply) is)
-
--- a COMMIT that was rebuilt
-pub rebuilt-taken : (r : Taken) (old new : AroundOver) (host : ℕ) (p : Outer) (bytes : List ℕ) → option_map (answered old.pool) (own_commit host p.bytes) ≡ Some (write bytes)
-    → IsTakenIn r p.stands old new (λ w ran. inner_delivery (running true w ran old) p.stands)
-    → IsTakenIn r p.stands old new (λ w ran. served_commit (over w ran old) host p (own_commit host p.bytes))
-rebuilt-taken r old new host p bytes is taken =
-    leads-same r p.stands old new (λ w ran. inner_delivery (running true w ran old) p.stands) (λ w ran. served_commit (over w ran old) host p (own_commit host p.bytes)) (λ w ran. commit-as (over w ran old) host p (own_commit host p.bytes) (write bytes) is) taken
-
-pub no-commit : (r : Taken) (old new : AroundOver) (host : ℕ) (p : Outer) → own_commit host p.bytes ≡ None
-    → IsTakenIn r p.stands old new (λ w ran. inner_delivery (over w ran old) p.stands)
-    → IsTakenIn r p.stands old new (λ w ran. served_commit (over w ran old) host p (own_commit host p.bytes))
-no-commit r old new host p none is =
-    leads-same r p.stands old new (λ w ran. inner_delivery (over w ran old) p.stands) (λ w ran. served_commit (over w ran old) host p (own_commit host p.bytes)) (λ w ran. ap (served_commit (over w ran old) host p) (sym none)) is
-
 -- ---- an offer
 
-some-as : (side : Side) (b : Option (Written × List ℕ)) (stage : List ℕ) (kept : Staged) → option_map (λ x. offered side.stager x.0 x.1) b ≡ Some (stage, kept) → (Some stage, record side { stager = kept }) ≡ side_offers_as side b
+some-as : (side : Side) (b : Option (Written × List ℕ)) (stage : List ℕ) (kept : Staged) → option_map (λ x. offered side.stager x.0 x.1) b
+    ≡ Some (stage, kept) → (Some stage, record side { stager = kept }) ≡ side_offers_as side b
 some-as side None stage kept is = absurd (cc)
 some-as side (Some b) stage kept is =
     let e : offered side.stager b.0 b.1 ≡ (stage, kept) = cc in
     ap (λ (g : List ℕ × Staged). let r : Option (List ℕ) × Side = (Some g.0, record side { stager = g.1 }) in r) (sym e)
 
-pub offers_some : (side : Side) (dirty : List Push) (push : Option Push) (stage : List ℕ) (kept : Staged) → option_map (λ x. offered side.stager x.0 x.1) (offer_of side.stager dirty push) ≡ Some (stage, kept) → (Some stage, record side { stager = kept }) ≡ side_offers side dirty push
+pub offers_some : (side : Side) (dirty : List Push) (push : Option Push) (stage : List ℕ) (kept : Staged)
+    → option_map (λ x. offered side.stager x.0 x.1) (offer_of side.stager dirty push) ≡ Some (stage, kept)
+    → (Some stage, record side { stager = kept }) ≡ side_offers side dirty push
 offers_some side dirty push stage kept is = some-as side (offer_of side.stager dirty push) stage kept is
 
-pub offers_nothing : (side : Side) (dirty : List Push) (push : Option Push) (kept : Staged) → first_unknown side.stager.who side.stager.acknowledged dirty ≡ None → kept ≡ side.stager → (let r : Option (List ℕ) × Side = (None, record side { stager = kept }) in r) ≡ side_offers side dirty push
+pub offers_nothing : (side : Side) (dirty : List Push) (push : Option Push) (kept : Staged) → first_unknown side.stager.who side.stager.acknowledged
+    dirty ≡ None → kept ≡ side.stager → (let r : Option (List ℕ) × Side = (None, record side { stager = kept }) in r) ≡ side_offers side dirty push
 offers_nothing side dirty push kept none same =
-    ap (λ (k : Staged). let r : Option (List ℕ) × Side = (None, record side { stager = k }) in r) same ∙ ap (λ w. side_offers_as side (body_among dirty push w)) (sym none)
+    ap (λ (k : Staged). let r : Option (List ℕ) × Side = (None, record side { stager = k }) in r) same
+    ∙ ap (λ w. side_offers_as side (body_among dirty push w)) (sym none)
 
 -- what is due behind an offer
 abbrev pub stage_due : (host : ℕ) → Option (List ℕ) → Option Outer
 stage_due host None = None
 stage_due host (Some stage) = Some (beside (Party.Client host) Party.Server stage)
 
-body-shown : (w : World) (ran : List Event) (a : AroundOver) (host : ℕ) (side : Side) (b : Option (Written × List ℕ)) → a.due ≡ None → slice_get a.sides host ≡ Some side
-    → once_sent w ran (record a { sides = slice_set a.sides host (side_offers_as side b).1; due = stage_due host (side_offers_as side b).0 }) ≡ offers_body (over w ran a) host side b
+body-shown : (w : World) (ran : List Event) (a : AroundOver) (host : ℕ) (side : Side) (b : Option (Written × List ℕ)) → a.due ≡ None
+    → slice_get a.sides host ≡ Some side
+    → once_sent w ran (record a { sides = slice_set a.sides host (side_offers_as side b).1; due = stage_due host (side_offers_as side b).0 })
+    ≡ offers_body (over w ran a) host side b
 unfolding sends_stage
 body-shown w ran a host side None none there = ap (λ sides. record (over w ran a) { sides = sides }) (set-same a.sides host side there)
 body-shown w ran a host side (Some b) none there = refl
 
 side-shown : (w : World) (ran : List Event) (a : AroundOver) (host : ℕ) (c : Client) (o : Option Side) → a.due ≡ None → slice_get a.sides host ≡ o
-    → once_sent w ran (record a { sides = (offers_at a.sides host c.dirty c.push o).1; due = stage_due host (offers_at a.sides host c.dirty c.push o).0 }) ≡ offers (over w ran a) host o (Some c)
+    → once_sent w ran (record a {
+      sides = (offers_at a.sides host c.dirty c.push o).1;
+      due = stage_due host (offers_at a.sides host c.dirty c.push
+          o).0;
+    }) ≡ offers (over w ran a) host o (Some c)
 side-shown w ran a host c None none there = refl
 side-shown w ran a host c (Some side) none there = body-shown w ran a host side (offer_of side.stager c.dirty c.push) none there
 
-pub offers_shown : (w : World) (ran : List Event) (a : AroundOver) (host : ℕ) (c : Client) (dirty : List Push) (push : Option Push) (stage : Option (List ℕ)) (sides : List Side) → a.due ≡ None → c.dirty ≡ dirty → c.push ≡ push
+pub offers_shown : (w : World) (ran : List Event) (a : AroundOver) (host : ℕ) (c : Client) (dirty : List Push) (push : Option Push)
+    (stage : Option (List ℕ)) (sides : List Side) → a.due ≡ None → c.dirty ≡ dirty → c.push ≡ push
     → (stage, sides) ≡ offers_at a.sides host dirty push (slice_get a.sides host)
     → once_sent w ran (record a { sides = sides; due = stage_due host stage }) ≡ offers (over w ran a) host (slice_get a.sides host) (Some c)
 offers_shown w ran a host c dirty push stage sides none d p is =
-    let same : (stage, sides) ≡ offers_at a.sides host c.dirty c.push (slice_get a.sides host) = is ∙ ap (λ l. offers_at a.sides host l push (slice_get a.sides host)) (sym d) ∙ ap (λ q. offers_at a.sides host c.dirty q (slice_get a.sides host)) (sym p) in
+    let same : (stage, sides) ≡ offers_at a.sides host c.dirty c.push (slice_get a.sides host) = is
+    ∙ ap (λ l. offers_at a.sides host l push (slice_get a.sides host)) (sym d)
+    ∙ ap (λ q. offers_at a.sides host c.dirty q (slice_get a.sides host)) (sym p) in
     ap (λ (g : Option (List ℕ) × List Side). once_sent w ran (record a { sides = g.1; due = stage_due host g.0 })) same
     ∙ side-shown w ran a host c (slice_get a.sides host) none refl
 
 -- where a STAGE is due
-pub offer-put : (w : World) (ran : List Event) (a b : AroundOver) (host : ℕ) (c : Client) (dirty : List Push) (push : Option Push) (o : Option (Vec ℕ Global)) (v : Vec ℕ Global) (sides : List Side) (made : Outer) → a.due ≡ None → c.dirty ≡ dirty → c.push ≡ push
-    → (option_map (λ x. x.items) o, sides) ≡ offers_at a.sides host dirty push (slice_get a.sides host) → o ≡ Some v → made ≡ beside (Party.Client host) Party.Server v.items → b ≡ record a { sides = sides; due = Some made }
+pub offer-put : (w : World) (ran : List Event) (a b : AroundOver) (host : ℕ) (c : Client) (dirty : List Push) (push : Option Push)
+    (o : Option (Vec ℕ Global)) (v : Vec ℕ Global) (sides : List Side) (made : Outer) → a.due ≡ None → c.dirty ≡ dirty → c.push ≡ push
+    → (option_map (λ x. x.items) o, sides) ≡ offers_at a.sides host dirty push (slice_get a.sides host) → o ≡ Some v
+    → made ≡ beside (Party.Client host) Party.Server v.items → b ≡ record a { sides = sides; due = Some made }
     → once_sent w ran b ≡ offers (over w ran a) host (slice_get a.sides host) (Some c)
 offer-put w ran a b host c dirty push o v sides made none d p is some beside-is b-is =
     ap (once_sent w ran) (b-is ∙ ap (λ m. record a { sides = sides; due = Some m }) beside-is)
@@ -134,7 +123,8 @@ offer-put w ran a b host c dirty push o v sides made none d p is some beside-is 
     ∙ offers_shown w ran a host c dirty push (option_map (λ x. x.items) o) sides none d p is
 
 -- where there was nothing to offer
-pub offer-none : (w : World) (ran : List Event) (a : AroundOver) (host : ℕ) (c : Client) (dirty : List Push) (push : Option Push) (o : Option (Vec ℕ Global)) (sides : List Side) → a.due ≡ None → c.dirty ≡ dirty → c.push ≡ push
+pub offer-none : (w : World) (ran : List Event) (a : AroundOver) (host : ℕ) (c : Client) (dirty : List Push) (push : Option Push)
+    (o : Option (Vec ℕ Global)) (sides : List Side) → a.due ≡ None → c.dirty ≡ dirty → c.push ≡ push
     → (option_map (λ x. x.items) o, sides) ≡ offers_at a.sides host dirty push (slice_get a.sides host) → o ≡ None
     → once_sent w ran (record a { sides = sides }) ≡ offers (over w ran a) host (slice_get a.sides host) (Some c)
 offer-none w ran a host c dirty push o sides none d p is nothing =

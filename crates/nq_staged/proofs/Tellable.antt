@@ -15,7 +15,8 @@ use Rattle.nq_stage.specs.Hearing.{Told, acknowledged, again, other, told_by}
 use Rattle.nq_stage.specs.Offering.{offer_of}
 use Rattle.nq_stage.specs.declared.run.event.StagedEvent.{StagedEvent}
 use Rattle.nq_stage.specs.Outer.{Outer, Side, Outside, outside_start}
-use Rattle.nq_stage.specs.Outside.{sends, renewed, inner, inner_delivery, takes_stage, takes_commit, served_commit, served_stage, to_server, told_side, heard_by, to_host, takes, delivers, sends_stage, offers_body, offers, outside_step, outside_run}
+use Rattle.nq_stage.specs.Outside.{sends, renewed, inner, inner_delivery, takes_stage, takes_commit, served_commit, served_stage, to_server}
+use Rattle.nq_stage.specs.Outside.{told_side, heard_by, to_host, takes, delivers, sends_stage, offers_body, offers, outside_step, outside_run}
 use Rattle.nq_stage.proofs.Inner.{ran, sent-all}
 
 module _ (P : Event → Type 0) (deliver : (k : ℕ) → P (Event.Deliver k)) where
@@ -30,7 +31,8 @@ module _ (P : Event → Type 0) (deliver : (k : ℕ) → P (Event.Deliver k)) wh
   inner-all : (o : Outside) (event : Event) → P event → All o → All (inner o event)
   inner-all o event is all =
       let w = step o.world event in
-      let on : (inner o event).ran ≡ event ∷ o.ran = ap (λ i. i.1) (sent-all (renewed o event w) (length o.world.packets) (drop (length o.world.packets) w.packets) ∙ ran o event w) in
+      let on : (inner o event).ran ≡ event ∷ o.ran = ap (λ i. i.1) (sent-all (renewed o event w) (length o.world.packets)
+      (drop (length o.world.packets) w.packets) ∙ ran o event w) in
       subst (AllByRecursion P) (sym on) (is, all)
 
   delivery-all : (o : Outside) (stands : Option ℕ) → All o → All (inner_delivery o stands)

@@ -1,5 +1,5 @@
 -- What travels, as two lists that are kept side by side.
-use Rattle.std.proofs.Common.{◌≡◌, ℕ, zero, suc, ◌+◌, List, [], ◌∷◌, ◌++◌, length, map, Option, Some, None, refl, sym, ap, ◌∙◌, arith}
+use Rattle.std.proofs.Common.{◌≡◌, ℕ, zero, suc, List, [], ◌∷◌, ◌++◌, length, map, Option, Some, refl, ap, arith}
 use Rattle.std.specs.Prelude.{slice_get}
 use Rattle.nq_base.specs.declared.Party.{Party}
 use Rattle.nq_link.specs.Packets.{Datagram}
@@ -16,7 +16,8 @@ datagrams_travelling [] stands same = refl
 datagrams_travelling (d ∷ ds) [] same = absurd (omega arith)
 datagrams_travelling (d ∷ ds) (s ∷ stands) same = ap (λ l. d ∷ l) (datagrams_travelling ds stands (omega arith))
 
-pub at_travelling : (ds : List Datagram) (stands : List (Option ℕ)) (k : ℕ) (d : Datagram) (s : Option ℕ) → slice_get ds k ≡ Some d → slice_get stands k ≡ Some s
+pub at_travelling : (ds : List Datagram) (stands : List (Option ℕ)) (k : ℕ) (d : Datagram) (s : Option ℕ) → slice_get ds k ≡ Some d
+    → slice_get stands k ≡ Some s
     → slice_get (travelling ds stands) k ≡ Some (outer_of d s)
 at_travelling [] stands k d s there stood = absurd (cc)
 at_travelling (x ∷ ds) [] k d s there stood = absurd (cc)
@@ -31,5 +32,12 @@ travelling_more (x ∷ ds) [] d s same = absurd (omega arith)
 travelling_more (x ∷ ds) (y ∷ stands) d s same = ap (λ l. outer_of x y ∷ l) (travelling_more ds stands d s (omega arith))
 
 -- a packet that was read
-pub read-is : (sent : List Outer) (k : ℕ) (d : Datagram) (sender to : Party) (bytes : List ℕ) (stands : Option ℕ) → slice_get sent k ≡ Some (outer_of d stands) → sender ≡ d.sender → to ≡ d.to → bytes ≡ d.bytes → slice_get sent k ≡ Some (record { sender = sender; to = to; bytes = bytes; stands = stands })
+pub read-is : (sent : List Outer) (k : ℕ) (d : Datagram) (sender to : Party) (bytes : List ℕ) (stands : Option ℕ) → slice_get sent k
+    ≡ Some (outer_of d stands) → sender ≡ d.sender → to ≡ d.to → bytes ≡ d.bytes → slice_get sent k ≡ Some (record {
+      sender = sender;
+      to = to;
+      bytes =
+          bytes;
+      stands = stands;
+    })
 read-is sent k d sender to bytes stands there s t b = rw (s, t, b) there

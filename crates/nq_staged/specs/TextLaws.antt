@@ -13,7 +13,8 @@ use Rattle.nq_script.specs.WordsReading.{number_of}
 
 -- ---- the host of a line
 
-number-low : (hosts : ℕ) (word : List ℕ) (host : ℕ) (test : Bool) → nat_lt 0 hosts ≡ test → hosts ≤ 64 → (if test then number_of (hosts - 1) word else None) ≡ Some host → host < hosts
+number-low : (hosts : ℕ) (word : List ℕ) (host : ℕ) (test : Bool) → nat_lt 0 hosts ≡ test → hosts ≤ 64 → (if test then number_of (hosts - 1) word
+    else None) ≡ Some host → host < hosts
 number-low hosts word host false is few e = absurd (cc)
 number-low hosts word host true is few e =
     let some : 0 < hosts = grind (arith, nat_tests) in
@@ -47,7 +48,8 @@ pub is-long : (hosts : ℕ) (line : List ℕ) (offer : Offer) → offer_of hosts
 unfolding offer_of
 is-long hosts line offer says = long-by hosts line (stage_line hosts line) offer refl says
 
-of-host-by : (hosts : ℕ) (line : List ℕ) (o : Option ℕ) (offer : Offer) → hosts ≤ 64 → stage_line hosts line ≡ o → offer_by o ≡ Some offer → IsOfHost hosts offer
+of-host-by : (hosts : ℕ) (line : List ℕ) (o : Option ℕ) (offer : Offer) → hosts ≤ 64 → stage_line hosts line ≡ o → offer_by o ≡ Some offer
+    → IsOfHost hosts offer
 of-host-by hosts line None offer few is says = absurd (cc)
 of-host-by hosts line (Some host) offer few is says =
     subst (IsOfHost hosts) (same_Some (record { host = host }) offer says) (stage-low hosts host line few is)

@@ -1,6 +1,6 @@
 -- A world with staged writes over a keeper as contracts see it, and the staged run that it plays. Below, `told` is what the server's
 -- keeper told of its content before a call, and `tells` is what it tells after it.
-use Rattle.std.specs.Prelude.{◌≡◌, ◌⊎◌, ◌<◌, ◌≤◌, ℕ, Bool, List, [], ◌∷◌, ◌++◌, Option, length, reverse, nat_lt, if◌then◌else◌}
+use Rattle.std.specs.Prelude.{◌≡◌, ◌<◌, ◌≤◌, ℕ, Bool, List, [], ◌∷◌, ◌++◌, Option, length, reverse, nat_lt, if◌then◌else◌}
 use Rattle.nq_base.specs.declared.Event.{Event}
 use Rattle.nq_keeper.specs.Keeping.{StaysOrEnds}
 use Rattle.nq_model.specs.Kept.{Kept}
@@ -71,7 +71,8 @@ CanComeOutside hosts longest (StagedEvent.Plain event) = CanCome hosts longest e
 
 -- What a step leads to by its answer, where `P` says what holds of the events of a run and of what the keeper tells. `Done`: the event
 -- was to be taken, and `P` holds with it. After every other answer `P` holds as before; a keeper that failed may tell nothing any more.
-abbrev pub Leads : Head → (events : List StagedEvent) → StagedEvent → Stepped → (told tells : Option Kept) → (P : List StagedEvent → Option Kept → Type 0) → Type 0
+abbrev pub Leads : Head → (events : List StagedEvent) → StagedEvent → Stepped → (told tells : Option Kept) → (P : List StagedEvent → Option Kept
+    → Type 0) → Type 0
 Leads head events event Stepped.Done told tells P = (stepped_outside head events event ≡ done) × P (event ∷ events) tells
 Leads head events event Stepped.Fault told tells P =
     (stepped_outside head events event ≡ done) × (tells ≡ told → P events tells) × StaysOrEnds told tells
@@ -79,7 +80,8 @@ Leads head events event Stepped.Memory told tells P = P events tells × (tells �
 Leads head events event said told tells P = (answer_of (stepped_outside head events event) ≡ said) × P events tells × (tells ≡ told)
 
 -- what a step does to a world that plays the staged run of these events
-abbrev pub StepsOutside : {K : Type 0} → Head → (events : List StagedEvent) → StagedEvent → Stepped → (new : StagedOver K) → (told tells : Option Kept) → Type 0
+abbrev pub StepsOutside : {K : Type 0} → Head → (events : List StagedEvent) → StagedEvent → Stepped → (new : StagedOver K)
+    → (told tells : Option Kept) → Type 0
 StepsOutside head events event said new told tells = Leads head events event said told tells (λ es t. PlaysOutside head es new t)
 
 -- ---- the parts of a step

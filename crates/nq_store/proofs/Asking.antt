@@ -24,19 +24,23 @@ module _ {D : Type 0} (store new : StoredStore D) where
     pub refused-store : new ≡ after_asking store
     refused-store = is ∙ sym (asking-as true ended)
 
-    pub refused-reads : (X : Type 0) (told : D → Option (List ℕ)) (faults : D → ℕ) → Reads {X = X} (Err Failed) (content_of told store) (content_of told new) (faults_of faults store) (faults_of faults new)
+    pub refused-reads : (X : Type 0) (told : D → Option (List ℕ)) (faults : D → ℕ) → Reads {X = X} (Err Failed) (content_of told store)
+        (content_of told new) (faults_of faults store) (faults_of faults new)
     refused-reads X told faults =
-        let Done : StoredStore D → Type 0 = λ s. Reads {X = X} (Err Failed) (content_of told store) (content_of told s) (faults_of faults store) (faults_of faults s) in
+        let Done : StoredStore D → Type 0 = λ s. Reads {X = X} (Err Failed) (content_of told store) (content_of told s) (faults_of faults store)
+        (faults_of faults s) in
         subst Done (sym is) (inl refl, rose-refused (faults store.disk) store.refused)
 
-    pub refused-follows : (faults : D → ℕ) (follows : D → D → Type 0) → ((disk : D) → follows disk disk) → store.refused ≤ new.refused → GoesOn faults follows store new
+    pub refused-follows : (faults : D → ℕ) (follows : D → D → Type 0) → ((disk : D) → follows disk disk) → store.refused ≤ new.refused
+        → GoesOn faults follows store new
     refused-follows faults follows itself rises = record {
       disk = subst (λ (s : StoredStore D). follows store.disk s.disk) (sym is) (itself store.disk);
       refused = rises;
       cause = λ goes. absurd (true-false store.ended ended goes);
     }
 
-    pub refused-leaves : (told : D → Option (List ℕ)) (leaves : D → D → List ℕ → Type 0) → LeavesOne (content_of told store) (LeavesKept (leaves store.disk new.disk))
+    pub refused-leaves : (told : D → Option (List ℕ)) (leaves : D → D → List ℕ → Type 0) → LeavesOne (content_of told store)
+        (LeavesKept (leaves store.disk new.disk))
     refused-leaves told leaves =
         let None_told : Bool → Type 0 = λ b. LeavesOne (content_of told (record store { ended = b })) (LeavesKept (leaves store.disk new.disk)) in
         subst None_told (sym ended) (λ kept e. absurd (cc))
@@ -49,14 +53,19 @@ module _ {D : Type 0} (store new : StoredStore D) where
     pub told-store : store ≡ after_asking store
     told-store = sym (asking-as false goes)
 
-pub told-leaves : {D : Type 0} (store : StoredStore D) (told : D → Option (List ℕ)) (may : D → List ℕ → Type 0) (leaves : D → D → List ℕ → Type 0) → IsSound (told store.disk) (may store.disk) store.tables store.ended → ((disk : D) (image : List ℕ) → leaves disk disk image → may disk image) → LeavesOne (content_of told store) (LeavesKept (leaves store.disk store.disk))
-told-leaves store told may leaves sound now = leaves-same store.ended (told store.disk) store.tables (may store.disk) (leaves store.disk store.disk) sound (now store.disk)
+pub told-leaves : {D : Type 0} (store : StoredStore D) (told : D → Option (List ℕ)) (may : D → List ℕ → Type 0) (leaves : D → D → List ℕ → Type 0)
+    → IsSound (told store.disk) (may store.disk) store.tables store.ended → ((disk : D) (image : List ℕ) → leaves disk disk image → may disk image)
+    → LeavesOne (content_of told store) (LeavesKept (leaves store.disk store.disk))
+told-leaves store told may leaves sound now = leaves-same store.ended (told store.disk) store.tables (may store.disk) (leaves store.disk store.disk)
+    sound (now store.disk)
 
 -- nothing is changed by a commit that is refused
-pub refused-commits : (result : Result (Unit {0}) KeepFault) (change : Change) (ended : Bool) (told tells : Option Kept) (before now : ℕ) → ended ≡ true → result ≡ answered ended tt → Reads result told tells before now → Commits result change told tells before now
+pub refused-commits : (result : Result (Unit {0}) KeepFault) (change : Change) (ended : Bool) (told tells : Option Kept) (before now : ℕ)
+    → ended ≡ true → result ≡ answered ended tt → Reads result told tells before now → Commits result change told tells before now
 refused-commits result change ended told tells before now is answer reads =
     let failed : result ≡ Err Failed = let Answers : Bool → Type 0 = λ b. result ≡ answered b tt in subst Answers is answer in
-    subst (λ (r : Result (Unit {0}) KeepFault). Commits r change told tells before now) (sym failed) (subst (λ (r : Result (Unit {0}) KeepFault). Reads r told tells before now) failed reads)
+    subst (λ (r : Result (Unit {0}) KeepFault). Commits r change told tells before now) (sym failed) (subst (λ (r : Result (Unit {0}) KeepFault).
+    Reads r told tells before now) failed reads)
 
 pub refused-stays : {D : Type 0} (result : Result (Unit {0}) KeepFault) (ended : Bool) (before now : StoredStore D) → ended ≡ true → result ≡ answered ended tt
     → StaysForMemory result before now

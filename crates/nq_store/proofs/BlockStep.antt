@@ -1,9 +1,7 @@
 -- The block of a change, and the file that it takes away.
-use Rattle.std.proofs.Common.{◌≡◌, ◌≢◌, ◌≤◌, ◌<◌, ◌+◌, ◌*◌, ◌==◌, inl, inr, ℕ, zero, suc, Bool, true, false, List, [], ◌∷◌, Option, Some, None, map, length, get_or, if◌then◌else◌, refl, sym, ap, subst, ◌∙◌, arith}
+use Rattle.std.proofs.Common.{◌≡◌, ◌≢◌, ◌≤◌, ◌<◌, ℕ, zero, suc, true, List, [], ◌∷◌, Option, Some, None, length, get_or, refl, sym, ap, subst, ◌∙◌, arith}
 use Rattle.std.specs.List.{All}
-use Rattle.std.specs.Prelude.{IsSome, slice_get, slice_index_or}
-use Rattle.std.proofs.lemmas.Bool.{cases_eq}
-use Rattle.std.proofs.lemmas.Bool.Decides.{nat_tests}
+use Rattle.std.specs.Prelude.{slice_get}
 use Rattle.std.proofs.lemmas.List.{get_or-set_other, get_or-set_same, length-map}
 use Rattle.std.proofs.lemmas.List.Elements.{All-get_or, All-set}
 use Rattle.nq_base.specs.declared.BlockChange.{BlockChange}
@@ -11,21 +9,22 @@ use Rattle.nq_base.specs.declared.FileRow.{FileRow}
 use Rattle.nq_base.specs.declared.Heads.{Heads}
 use Rattle.nq_base.specs.declared.HostRow.{HostRow}
 use Rattle.nq_image.specs.Layout.{block_place}
-use Rattle.nq_image.specs.Standing.{IsFileBlock, PlacedFile, Standing, Stands, file_at, files_in, kept_at, overwritten, row_at, row_blocks, with_placed, with_row_cleared}
+use Rattle.nq_image.specs.Standing.{IsFileBlock, PlacedFile, Standing, Stands, file_at, kept_at, overwritten, row_at, row_blocks, with_placed}
+use Rattle.nq_image.specs.Standing.{with_row_cleared}
 use Rattle.nq_image.proofs.Giving.{IsHeld}
 use Rattle.nq_image.proofs.Overwriting.{body-written, row-cleared, whole-bodies}
 use Rattle.nq_image.proofs.Owning.{body-stands, body-written-kept, removed-kept, rows-of, standing-apart}
 use Rattle.nq_image.proofs.Placing.{cleared-stands}
 use Rattle.nq_image.proofs.Sorting.{OfRow}
 use Rattle.nq_model.specs.Change.{HasBlock, IsBody, with_block}
-use Rattle.nq_model.specs.Kept.{File, Kept, blocks_of, drop_file, find_file, with_files}
+use Rattle.nq_model.specs.Kept.{File, blocks_of, drop_file, find_file, with_files}
 use Rattle.nq_plan.specs.Finding.{file_in, slot_of}
 use Rattle.nq_plan.specs.Held.{HeldTables}
 use Rattle.nq_plan.specs.Placing.{IsPlaced, is_unused, placed_slot}
-use Rattle.nq_plan.specs.Ranges.{blocks_then, body_range, removal_ranges}
+use Rattle.nq_plan.specs.Ranges.{body_range, removal_ranges}
 use Rattle.nq_plan.specs.declared.placing.Placed.{Placed}
 use Rattle.nq_disk.specs.Ranges.{applied}
-use Rattle.nq_store.proofs.Files.{HasId, each-file, found-at, known-file, none-at, position-none, position-some, row-has-not, unknown-files}
+use Rattle.nq_store.proofs.Files.{each-file, found-at, known-file, none-at, position-some, row-has-not, unknown-files}
 use Rattle.nq_store.proofs.Filing.{of-row}
 use Rattle.nq_store.proofs.ImagesWriting.{cleared-ranges, written-over}
 
@@ -53,7 +52,8 @@ pub record IsBlockEnd (old : List ℕ) (t : Standing) (change : BlockChange) (ne
   pub no_shorter : length old ≤ length new
 
 pub block-end : (old : List ℕ) (t : Standing) → Stands old t → (change : BlockChange) (blocks : List ℕ) (file : PlacedFile) → IsOf t change.file blocks file
-    → HasBlock change.block (find_file change.file (kept_at old t).files) → IsBody change.body → IsBlockEnd old t change (applied (body_range (slice_get blocks change.block) change.body) old)
+    → HasBlock change.block (find_file change.file (kept_at old t).files) → IsBody change.body → IsBlockEnd old t change
+    (applied (body_range (slice_get blocks change.block) change.body) old)
 block-end old t stands change blocks file is has body =
     let k = change.block in
     let block = get_or file.blocks k 0 in
@@ -76,7 +76,8 @@ block-end old t stands change blocks file is has body =
     let End : List ℕ → Type 0 = λ b. IsBlockEnd old t change b in
     subst End (sym ranges) (record {
       stands = body-stands t block part old new stands w;
-      kept = body-written-kept t file k block part old new stands is.within is.at lt refl w ∙ ap (λ (id : ℕ). with_files (kept_at old t) (with_block (With id) (kept_at old t).files)) is.own;
+      kept = body-written-kept t file k block part old new stands is.within is.at lt refl w
+          ∙ ap (λ (id : ℕ). with_files (kept_at old t) (with_block (With id) (kept_at old t).files)) is.own;
       no_shorter = w.no_shorter;
     })
 
@@ -87,7 +88,8 @@ unused-none None h = refl
 unused-none (Some f) h = absurd (cc)
 
 -- in the row that a file gets no other file stands
-seat-free : (bytes : List ℕ) (held : HeldTables) (row : FileRow) (placed : Placed) (f : PlacedFile) → Stands bytes held.standing → IsPlaced held row placed → row_at held.standing placed.file.slot ≡ Some f → f.id ≡ row.id
+seat-free : (bytes : List ℕ) (held : HeldTables) (row : FileRow) (placed : Placed) (f : PlacedFile) → Stands bytes held.standing
+    → IsPlaced held row placed → row_at held.standing placed.file.slot ≡ Some f → f.id ≡ row.id
 seat-free bytes held row placed f stands is at = by (slot_of row.id held.standing.rows) refl
   where
     by : (o : Option ℕ) → slot_of row.id held.standing.rows ≡ o → f.id ≡ row.id
@@ -96,7 +98,8 @@ seat-free bytes held row placed f stands is at = by (slot_of row.id held.standin
         let empty = unused-none (row_at held.standing placed.file.slot) p.passes in
         absurd (cc)
     by (Some n) some =
-        let e : n ≡ placed.file.slot = let q : placed_slot held.standing.rows (Some n) ≡ Some placed.file.slot = ap (placed_slot held.standing.rows) (sym some) ∙ is.slot in cc in
+        let e : n ≡ placed.file.slot = let q : placed_slot held.standing.rows (Some n) ≡ Some placed.file.slot = ap (placed_slot held.standing.rows)
+        (sym some) ∙ is.slot in cc in
         let known = known-file bytes held.standing row.id n stands some in
         let At : ℕ → Type 0 = λ i. row_at held.standing i ≡ Some known.0 in
         let here = subst At (known.1.here ∙ e) known.1.at in
@@ -107,7 +110,8 @@ no-block : (k : ℕ) (o : Option File) → o ≡ None → HasBlock k o → ⊥
 no-block k o none has = let Has : Option File → Type 0 = λ f. HasBlock k f in subst Has none has
 
 -- a file of an image, whose rows stay
-pub of-known : (bytes : List ℕ) (t : Standing) (id k : ℕ) → Stands bytes t → HasBlock k (find_file id (kept_at bytes t).files) → (file : PlacedFile) × IsOf t id (row_blocks (file_in t.rows (slot_of id t.rows))) file
+pub of-known : (bytes : List ℕ) (t : Standing) (id k : ℕ) → Stands bytes t → HasBlock k (find_file id (kept_at bytes t).files) → (file : PlacedFile)
+    × IsOf t id (row_blocks (file_in t.rows (slot_of id t.rows))) file
 of-known bytes t id k stands has = by (slot_of id t.rows) refl
   where
     by : (o : Option ℕ) → slot_of id t.rows ≡ o → (file : PlacedFile) × IsOf t id (row_blocks (file_in t.rows (slot_of id t.rows))) file
@@ -125,7 +129,8 @@ of-known bytes t id k stands has = by (slot_of id t.rows) refl
         )
 
 -- a file of an image in which another one comes to stand
-module _ (before : List ℕ) (held : HeldTables) (heads : Heads) (hosts : List HostRow) (row : FileRow) (placed : Placed) (stands : Stands before held.standing) (is : IsPlaced held row placed) where
+module _ (before : List ℕ) (held : HeldTables) (heads : Heads) (hosts : List HostRow) (row : FileRow) (placed : Placed)
+    (stands : Stands before held.standing) (is : IsPlaced held row placed) where
   abbrev s : Standing
   s = held.standing
 
@@ -141,7 +146,8 @@ module _ (before : List ℕ) (held : HeldTables) (heads : Heads) (hosts : List H
   in-rows : slot < length s.rows
   in-rows = let lt = is.within in omega (arith, lt, rows-of before s stands)
 
-  pub of-other : (now : List ℕ) (id k : ℕ) → Stands now t → placed.file.id ≢ id → HasBlock k (find_file id (kept_at now t).files) → (file : PlacedFile) × IsOf t id (row_blocks (file_in s.rows (slot_of id s.rows))) file
+  pub of-other : (now : List ℕ) (id k : ℕ) → Stands now t → placed.file.id ≢ id → HasBlock k (find_file id (kept_at now t).files)
+      → (file : PlacedFile) × IsOf t id (row_blocks (file_in s.rows (slot_of id s.rows))) file
   of-other now id k stands_now ne has = by (slot_of id s.rows) refl
     where
       by : (o : Option ℕ) → slot_of id s.rows ≡ o → (file : PlacedFile) × IsOf t id (row_blocks (file_in s.rows (slot_of id s.rows))) file
@@ -176,7 +182,8 @@ pub record IsRemovalEnd (old : List ℕ) (t : Standing) (id slot : ℕ) (new : L
   pub no_shorter : length old ≤ length new
   pub within : slot < 256
 
-pub removal-end : (old : List ℕ) (t : Standing) (id slot : ℕ) → Stands old t → slot_of id t.rows ≡ Some slot → IsRemovalEnd old t id slot (applied (removal_ranges t.tables (Some slot)) old)
+pub removal-end : (old : List ℕ) (t : Standing) (id slot : ℕ) → Stands old t → slot_of id t.rows ≡ Some slot → IsRemovalEnd old t id slot
+    (applied (removal_ranges t.tables (Some slot)) old)
 removal-end old t id slot stands some =
     let known = known-file old t id slot stands some in
     let was = known.0 in
@@ -184,7 +191,8 @@ removal-end old t id slot stands some =
     let lt : slot < 256 = let w = h.within in let e = h.here in omega (arith, w, e) in
     let new = with_row_cleared t slot old in
     let w = row-cleared old t stands slot lt in
-    let Cleared : ℕ → Type 0 = λ n. kept_at (with_row_cleared t n old) (with_placed t n None) ≡ with_files (kept_at old t) (drop_file id (kept_at old t).files) in
+    let Cleared : ℕ → Type 0 = λ n. kept_at (with_row_cleared t n old) (with_placed t n None) ≡ with_files (kept_at old t)
+    (drop_file id (kept_at old t).files) in
     let gone = removed-kept t was old (with_row_cleared t was.slot old) stands h.within h.at (row-cleared old t stands was.slot h.within)
     ∙ ap (λ (i : ℕ). with_files (kept_at old t) (drop_file i (kept_at old t).files)) h.own in
     let End : List ℕ → Type 0 = λ b. IsRemovalEnd old t id slot b in

@@ -1,5 +1,6 @@
 -- The body of a block of a file.
-use Rattle.std.proofs.Common.{◌≡◌, ◌==◌, ◌≤◌, ◌<◌, ◌+◌, ℕ, zero, suc, Bool, true, false, List, [], ◌∷◌, Option, Some, None, Result, Ok, Err, length, drop, if◌then◌else◌, refl, sym, ap, subst, ◌∙◌, arith, length-drop}
+use Rattle.std.proofs.Common.{◌≡◌, ◌==◌, ◌≤◌, ◌<◌, ◌+◌, ℕ, zero, suc, Bool, true, false, List, [], ◌∷◌, Option, Some, None, Result, Ok, Err, length}
+use Rattle.std.proofs.Common.{drop, if◌then◌else◌, refl, sym, ap, subst, ◌∙◌, arith, length-drop}
 use Rattle.std.specs.List.{All, find, slice_get}
 use Rattle.std.specs.Option.{ForSome}
 use Rattle.std.specs.Prelude.{IfOk, option_map}
@@ -41,7 +42,8 @@ body-by next block (Some f) body each e = let within = each f refl in get-all Is
 -- the body of a block of a kept file is one
 pub body-within : (kept : Kept) (id block : ℕ) (body : List ℕ) → IsWithinBounds kept → body_at block (find_file id kept.files) ≡ Some body → length body ≡ 4096
 body-within kept id block body within e =
-    let is = body-by kept.next block (find_file id kept.files) body (λ f found. find-all (λ x. x.id == id) (IsFileWithin kept.next) kept.files f within.files found) e in
+    let is = body-by kept.next block (find_file id kept.files) body (λ f found. find-all (λ x. x.id == id) (IsFileWithin kept.next) kept.files f
+    within.files found) e in
     is.size
 
 whole-of : (bytes : List ℕ) (block : ℕ) → length (body_in bytes block) ≡ 4096 → block_place block + 4096 ≤ length bytes
@@ -56,7 +58,10 @@ ok-weaker (Ok x) P Q more so = more x so
 ok-weaker (Err fault) P Q more so = tt
 
 -- what is read of the physical block is the body
-pub block-told : (ended : Bool) (told : Option (List ℕ)) (held : HeldTables) (may : List ℕ → Type 0) (result : Result (List ℕ) KeepFault) (id block physical : ℕ) → IsSound told may held ended → slice_get (said.blocks_of held.standing id) block ≡ Some physical → ForSome told (λ bytes. block_place physical + 4096 ≤ length bytes → IfOk result (λ body. body ≡ body_in bytes physical)) → ForSome (content_while ended told) (λ kept. IfOk result (λ body. Some body ≡ body_at block (find_file id kept.files)))
+pub block-told : (ended : Bool) (told : Option (List ℕ)) (held : HeldTables) (may : List ℕ → Type 0) (result : Result (List ℕ) KeepFault)
+    (id block physical : ℕ) → IsSound told may held ended → slice_get (said.blocks_of held.standing id) block ≡ Some physical
+    → ForSome told (λ bytes. block_place physical + 4096 ≤ length bytes → IfOk result (λ body. body ≡ body_in bytes physical))
+    → ForSome (content_while ended told) (λ kept. IfOk result (λ body. Some body ≡ body_at block (find_file id kept.files)))
 block-told ended told held may result id block physical sound here read = λ kept e.
     let k = known ended told held may kept sound e in
     let s = held.standing in
@@ -77,7 +82,9 @@ has-body block None has e = has
 has-body block (Some f) has e = get-there f.bodies block has e
 
 -- a file has each block that it is asked for
-pub block-there : (ended : Bool) (told : Option (List ℕ)) (held : HeldTables) (may : List ℕ → Type 0) (P : Kept → Type 0) (id block : ℕ) → IsSound told may held ended → slice_get (said.blocks_of held.standing id) block ≡ None → ForSome (content_while ended told) (λ kept. HasBlock block (find_file id kept.files)) → ForSome (content_while ended told) P
+pub block-there : (ended : Bool) (told : Option (List ℕ)) (held : HeldTables) (may : List ℕ → Type 0) (P : Kept → Type 0) (id block : ℕ)
+    → IsSound told may held ended → slice_get (said.blocks_of held.standing id) block ≡ None → ForSome (content_while ended told)
+    (λ kept. HasBlock block (find_file id kept.files)) → ForSome (content_while ended told) P
 block-there ended told held may P id block sound none asked = λ kept e.
     let k = known ended told held may kept sound e in
     let s = held.standing in

@@ -1,5 +1,6 @@
 -- An image whose record is closed is read as it opens.
-use Rattle.std.proofs.Common.{◌≡◌, ◌⊎◌, ◌≤◌, ◌<◌, ◌+◌, ◌-◌, ◌&&◌, inl, inr, ℕ, Bool, true, List, [], ◌∷◌, Option, Some, None, Result, Ok, Err, drop, take, length, get_or, if◌then◌else◌, sym, ap, subst, ◌∙◌, arith, length-drop}
+use Rattle.std.proofs.Common.{◌≡◌, ◌⊎◌, ◌≤◌, ◌<◌, ◌+◌, ◌-◌, ◌&&◌, inl, inr, ℕ, Bool, true, List, [], ◌∷◌, Option, Some, None, Result, Ok, Err, drop}
+use Rattle.std.proofs.Common.{take, length, get_or, if◌then◌else◌, sym, ap, subst, ◌∙◌, arith, length-drop}
 use Rattle.std.specs.Cmp.Lexicographic.{pointwise}
 use Rattle.std.specs.Prelude.{nat_eq, nat_le, slice_index_or}
 use Rattle.std.proofs.lemmas.List.{ext_get_or, get_or-drop}
@@ -41,15 +42,18 @@ read-held bytes read is =
 stops : {A B : Type 0} (r : Result A ℕ) (place : ℕ) (f : A → Result B ℕ) → r ≡ Err place → (r >>= f) ≡ Err place
 stops r place f is = ap (λ (q : Result _ ℕ). q >>= f) is
 
-front-stops : (bytes : List ℕ) (place : ℕ) → tested (front_checks (piece 0 64 bytes)) (front_of (piece 0 64 bytes)) ≡ Err place → image_two (no_marks 16641) bytes ≡ Err place
+front-stops : (bytes : List ℕ) (place : ℕ) → tested (front_checks (piece 0 64 bytes)) (front_of (piece 0 64 bytes)) ≡ Err place
+    → image_two (no_marks 16641) bytes ≡ Err place
 unfolding image_two
 front-stops bytes place is =
     stops (tested (front_checks (piece 0 64 bytes)) (front_of (piece 0 64 bytes))) place
-    (λ f. (rows_in Version.Two bytes >>= λ rows. (tables_in f rows.slots (no_marks 16641) bytes >>= λ tables. Ok (record { front = f; rows = rows; tables = tables })))) is
+    (λ f. (rows_in Version.Two bytes >>= λ rows. (tables_in f rows.slots (no_marks 16641) bytes >>= λ tables.
+    Ok (record { front = f; rows = rows; tables = tables })))) is
 
 -- ---- the image with a blank record
 
-ends-same : (place : ℕ) (one two : List ℕ) → length one ≡ length two → ((k : ℕ) → place ≤ k → get_or one k 0 ≡ get_or two k 0) → drop place one ≡ drop place two
+ends-same : (place : ℕ) (one two : List ℕ) → length one ≡ length two → ((k : ℕ) → place ≤ k → get_or one k 0 ≡ get_or two k 0) → drop place one
+    ≡ drop place two
 ends-same place one two long same =
     ext_get_or 0 (drop place one) (drop place two) (length-drop place one ∙ ap (λ (n : ℕ). n - place) long ∙ sym (length-drop place two))
     (λ k lt. get_or-drop place one k 0 ∙ same (place + k) (omega arith) ∙ sym (get_or-drop place two k 0))
@@ -79,7 +83,8 @@ module _ (bytes : List ℕ) (is_so : IsClosedImage bytes) where
   same-behind place size le =
       ap (λ (b : List ℕ). take size b) (ends-same place blanked_bytes bytes same-length (λ k after. same-byte k (inr (omega (arith, le, after)))))
 
-  pub same-parts : (front : Front) (head window : List ℕ) (size : ℕ) → ArePartsOf bytes front head window size → ArePartsOf blanked_bytes front head window size
+  pub same-parts : (front : Front) (head window : List ℕ) (size : ℕ) → ArePartsOf bytes front head window size → ArePartsOf blanked_bytes front head
+      window size
   same-parts front head window size parts =
       let Front_is : List ℕ → Type 0 = λ b. tested (front_checks b) (front_of b) ≡ Ok front in
       record {

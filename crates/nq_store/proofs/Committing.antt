@@ -96,7 +96,8 @@ module _ (held : HeldTables) (change : Change) (placed : Option Placed) (may : L
           ∙ ap (λ (k : Kept). Some k) kept-then
 
     -- whatever a stop leaves of it stands for the state before or after
-    pub stands-either : (image : List ℕ) → OpensWhole s ranges old (zeroed fresh old) image → (kept_on image ≡ Some (kept_at old s)) ⊎ (kept_on image ≡ Some (applied (kept_at old s) change))
+    pub stands-either : (image : List ℕ) → OpensWhole s ranges old (zeroed fresh old) image → (kept_on image ≡ Some (kept_at old s))
+        ⊎ (kept_on image ≡ Some (applied (kept_at old s) change))
     stands-either image (inl before) =
         let mid = before.0 in
         let still = before.1 in
@@ -112,18 +113,22 @@ module _ (held : HeldTables) (change : Change) (placed : Option Placed) (may : L
         let more = behind.0 in
         let done = ap (λ (k : Kept). applied k change) same in
         let stands = change-stands (zeroed fresh old) held change placed can image (omega arith) behind.1 in
-        inr (stands-kept image (applied (kept_at (zeroed fresh old) s) change) stands (subst IsWithinBounds (sym done) within-then) ∙ ap (λ (k : Kept). Some k) done)
+        inr (stands-kept image (applied (kept_at (zeroed fresh old) s) change) stands (subst IsWithinBounds (sym done) within-then)
+        ∙ ap (λ (k : Kept). Some k) done)
 
   -- ---- over a disk that tells its bytes, or does not
 
-  module _ (told : Option (List ℕ)) (sound : ForSome told (IsKeptOn held may)) (fits : ForSome (kept_told told) (λ k. Fits k change)) (own : ForSome (kept_told told) (λ k. IsChangeWithin k change)) where
+  module _ (told : Option (List ℕ)) (sound : ForSome told (IsKeptOn held may)) (fits : ForSome (kept_told told) (λ k. Fits k change))
+      (own : ForSome (kept_told told) (λ k. IsChangeWithin k change)) where
     tells-kept : (old : List ℕ) → told ≡ Some old → kept_told told ≡ Some (kept_at old s)
     tells-kept old is = ap kept_told is ∙ held-kept held may old (sound old is)
 
     abbrev pub SettlesSo : Option (List ℕ) → (List ℕ → Type 0) → Type 0
-    SettlesSo tells then = (old : List ℕ) → told ≡ Some old → IsReady s fresh may old → IsFit image_area (length (zeroed fresh old)) ranges → Settled image_area (after image_area ranges (zeroed fresh old)) tells then
+    SettlesSo tells then = (old : List ℕ) → told ≡ Some old → IsReady s fresh may old → IsFit image_area (length (zeroed fresh old)) ranges
+        → Settled image_area (after image_area ranges (zeroed fresh old)) tells then
 
-    pub sound-then : (tells : Option (List ℕ)) (then : List ℕ → Type 0) → (told ≡ None → tells ≡ None) → SettlesSo tells then → ForSome tells (IsKeptOn (settled held change placed) then)
+    pub sound-then : (tells : Option (List ℕ)) (then : List ℕ → Type 0) → (told ≡ None → tells ≡ None) → SettlesSo tells then
+        → ForSome tells (IsKeptOn (settled held change placed) then)
     sound-then tells then silent settles = λ bytes is. elim (is-told told) [
       | inl none ↦ (let nothing = silent none in absurd (cc))
       | inr t ↦
@@ -135,7 +140,8 @@ module _ (held : HeldTables) (change : Change) (placed : Option Placed) (may : L
           subst (λ (b : List ℕ). IsKeptOn (settled held change placed) then b) (one-told so.now bytes tells so.tells is) (on-then old on f o tells then so)
     ]
 
-    pub told-then : (tells : Option (List ℕ)) (then : List ℕ → Type 0) → (told ≡ None → tells ≡ None) → SettlesSo tells then → kept_told tells ≡ told_after change (kept_told told)
+    pub told-then : (tells : Option (List ℕ)) (then : List ℕ → Type 0) → (told ≡ None → tells ≡ None) → SettlesSo tells then → kept_told tells
+        ≡ told_after change (kept_told told)
     told-then tells then silent settles = elim (is-told told) [
       | inl none ↦ ap kept_told (silent none) ∙ sym (ap (λ (o : Option (List ℕ)). told_after change (kept_told o)) none)
       | inr t ↦
@@ -147,7 +153,9 @@ module _ (held : HeldTables) (change : Change) (placed : Option Placed) (may : L
           tells-then old on f o tells then so ∙ sym (ap (told_after change) (tells-kept old t.1))
     ]
 
-    pub leaves-then : (leaves : List ℕ → Type 0) → ((old : List ℕ) → told ≡ Some old → IsReady s fresh may old → IsFit image_area (length (zeroed fresh old)) ranges → Each leaves (OpensWhole s ranges old (zeroed fresh old))) → LeavesTwo change (kept_told told) (LeavesKept leaves)
+    pub leaves-then : (leaves : List ℕ → Type 0) → ((old : List ℕ) → told ≡ Some old → IsReady s fresh may old
+        → IsFit image_area (length (zeroed fresh old)) ranges → Each leaves (OpensWhole s ranges old (zeroed fresh old)))
+        → LeavesTwo change (kept_told told) (LeavesKept leaves)
     leaves-then leaves whole = λ kept e found left. elim (is-told told) [
       | inl none ↦ (let nothing = ap kept_told none in absurd (cc))
       | inr t ↦
@@ -165,12 +173,19 @@ module _ (held : HeldTables) (change : Change) (placed : Option Placed) (may : L
 
     -- the same, said of a list of blocks and of ranges that are these
     module _ (blocks : List ℕ) (batch : List Range) (all : blocks ≡ fresh) (are : batch ≡ ranges) where
-      pub settles-as : (tells : Option (List ℕ)) (then : List ℕ → Type 0) → ((old : List ℕ) → told ≡ Some old → (t : Standing) → IsReady t blocks may old → IsFit image_area (length (zeroed blocks old)) batch → Settled image_area (after image_area batch (zeroed blocks old)) tells then) → SettlesSo tells then
+      pub settles-as : (tells : Option (List ℕ)) (then : List ℕ → Type 0) → ((old : List ℕ) → told ≡ Some old → (t : Standing) → IsReady t blocks may
+          old → IsFit image_area (length (zeroed blocks old)) batch → Settled image_area (after image_area batch (zeroed blocks old)) tells then)
+          → SettlesSo tells then
       settles-as tells then known = λ old is.
-          let So : List ℕ → List Range → Type 0 = λ f b. IsReady s f may old → IsFit image_area (length (zeroed f old)) b → Settled image_area (after image_area b (zeroed f old)) tells then in
+          let So : List ℕ → List Range → Type 0 = λ f b. IsReady s f may old → IsFit image_area (length (zeroed f old)) b
+          → Settled image_area (after image_area b (zeroed f old)) tells then in
           subst (λ (b : List Range). So fresh b) are (subst (λ (f : List ℕ). So f batch) all (known old is s))
 
-      pub whole-as : (leaves : List ℕ → Type 0) → ((old : List ℕ) → told ≡ Some old → (t : Standing) → IsReady t blocks may old → IsFit image_area (length (zeroed blocks old)) batch → Each leaves (OpensWhole t batch old (zeroed blocks old))) → (old : List ℕ) → told ≡ Some old → IsReady s fresh may old → IsFit image_area (length (zeroed fresh old)) ranges → Each leaves (OpensWhole s ranges old (zeroed fresh old))
+      pub whole-as : (leaves : List ℕ → Type 0) → ((old : List ℕ) → told ≡ Some old → (t : Standing) → IsReady t blocks may old
+          → IsFit image_area (length (zeroed blocks old)) batch → Each leaves (OpensWhole t batch old (zeroed blocks old))) → (old : List ℕ)
+          → told ≡ Some old → IsReady s fresh may old → IsFit image_area (length (zeroed fresh old)) ranges
+          → Each leaves (OpensWhole s ranges old (zeroed fresh old))
       whole-as leaves known = λ old is.
-          let So : List ℕ → List Range → Type 0 = λ f b. IsReady s f may old → IsFit image_area (length (zeroed f old)) b → Each leaves (OpensWhole s b old (zeroed f old)) in
+          let So : List ℕ → List Range → Type 0 = λ f b. IsReady s f may old → IsFit image_area (length (zeroed f old)) b
+          → Each leaves (OpensWhole s b old (zeroed f old)) in
           subst (λ (b : List Range). So fresh b) are (subst (λ (f : List ℕ). So f batch) all (known old is s))

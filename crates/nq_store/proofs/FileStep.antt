@@ -1,7 +1,7 @@
 -- The file of a change, which comes to stand somewhere.
-use Rattle.std.proofs.Common.{◌≡◌, ◌≢◌, ◌≤◌, ◌<◌, ◌^◌, ◌+◌, ◌-◌, ◌*◌, ◌==◌, ℕ, zero, suc, Bool, true, false, List, [], ◌∷◌, ◌++◌, Option, Some, None, take, drop, map, length, get_or, if◌then◌else◌, refl, sym, ap, subst, ◌∙◌, arith, length-append}
-use Rattle.std.specs.List.{All, position}
-use Rattle.std.specs.Prelude.{slice_index_or}
+use Rattle.std.proofs.Common.{◌≡◌, ◌≢◌, ◌≤◌, ◌<◌, ◌^◌, ◌+◌, ◌-◌, ◌*◌, ◌==◌, ℕ, suc, Bool, true, false, List, [], ◌∷◌, ◌++◌, Option, Some, None, take}
+use Rattle.std.proofs.Common.{drop, length, if◌then◌else◌, refl, sym, ap, subst, ◌∙◌, arith, length-append}
+use Rattle.std.specs.List.{All}
 use Rattle.std.proofs.lemmas.Bool.Decides.{nat_tests}
 use Rattle.std.proofs.lemmas.List.{append-nil, length-take, take_all}
 use Rattle.std.proofs.lemmas.List.Elements.{All-append, All-nil, All-drop, All-same, All-take, All-weaker}
@@ -10,7 +10,8 @@ use Rattle.nq_base.specs.declared.FileRow.{FileRow}
 use Rattle.nq_base.specs.declared.Heads.{Heads}
 use Rattle.nq_base.specs.declared.HostRow.{HostRow}
 use Rattle.nq_image.specs.Kept.{body_in}
-use Rattle.nq_image.specs.Standing.{AreDistinct, CanStand, IsApartFrom, IsFileBlock, IsNoneOf, PlacedFile, Standing, Stands, blocks_in, file_at, files_in, kept_at, others, overwritten, row_at, row_blocks, row_for, with_file_written, with_placed}
+use Rattle.nq_image.specs.Standing.{AreDistinct, CanStand, IsApartFrom, IsFileBlock, IsNoneOf, PlacedFile, Standing, Stands, blocks_in, file_at}
+use Rattle.nq_image.specs.Standing.{files_in, kept_at, others, overwritten, row_at, row_blocks, row_for, with_file_written, with_placed}
 use Rattle.nq_image.specs.Writing.{row_bytes}
 use Rattle.nq_image.proofs.Overwriting.{long-enough}
 use Rattle.nq_image.proofs.Owning.{rows-of, standing-apart}
@@ -20,14 +21,14 @@ use Rattle.nq_model.specs.Change.{with_file}
 use Rattle.nq_model.specs.Kept.{File, Kept, blocks_in_all, find_file, find_name, with_files}
 use Rattle.nq_plan.specs.Finding.{blocks_of, file_in, row_if, row_of, slot_of}
 use Rattle.nq_plan.specs.Held.{HeldTables, IsHeldOf}
-use Rattle.nq_plan.specs.Placing.{IsPlaced, file_for, free_blocks, is_unused, placed_blocks, placed_slot}
+use Rattle.nq_plan.specs.Placing.{IsPlaced, free_blocks, is_unused, placed_slot}
 use Rattle.nq_plan.specs.Ranges.{file_ranges, whole_ranges, row_range}
 use Rattle.nq_plan.specs.declared.placing.Placed.{Placed}
-use Rattle.nq_disk.specs.Ranges.{Range, applied}
+use Rattle.nq_disk.specs.Ranges.{applied}
 use Rattle.nq_store.specs.Changing.{HasZeros, new_blocks}
 use Rattle.nq_store.proofs.Files.{HasId, each-row, found-at, known-file, name-of, none-at, position-some, unknown-files, unnamed-files}
 use Rattle.nq_store.proofs.Filing.{AreOwn, IsFiled, IsRight, IsSeated, can-stand, has-bodies, new-filed, row-filed, same-filed}
-use Rattle.nq_store.proofs.Seats.{AreNew, IsNew, free-are-new, new-blocks-are}
+use Rattle.nq_store.proofs.Seats.{IsNew, free-are-new, new-blocks-are}
 use Rattle.nq_store.proofs.ImagesWriting.{file-ranges, written-over}
 
 -- what is known of a file that is new
@@ -67,7 +68,8 @@ module _ (before : List ℕ) (held : HeldTables) (is_held : IsHeldOf before held
     pub kept : kept_at new (with_placed now file.slot (Some file)) ≡ with_files (kept_at bytes now) (with_file row (kept_at bytes now).files)
     pub no_shorter : length bytes ≤ length new
 
-  module _ (bytes : List ℕ) (stands : Stands bytes now) (row : FileRow) (placed : Placed) (is : IsPlaced held row placed) (fit : IsFitRow bytes now row) (all_zeros : All (HasZeros bytes) (new_blocks (Some placed))) where
+  module _ (bytes : List ℕ) (stands : Stands bytes now) (row : FileRow) (placed : Placed) (is : IsPlaced held row placed)
+      (fit : IsFitRow bytes now row) (all_zeros : All (HasZeros bytes) (new_blocks (Some placed))) where
     abbrev s : Standing
     s = now
 
@@ -129,15 +131,18 @@ module _ (before : List ℕ) (held : HeldTables) (is_held : IsHeldOf before held
     rev-then = let r = fit.rev in omega (arith, r, own-rev)
 
     -- the file is written, so its row is
-    ended : (known_now : List ℕ) (fresh_now : List ℕ) (seat : IsSeated bytes s file known_now fresh_now) (own : AreOwn bytes s stands file known_now fresh_now seat) (new : List ℕ) → IsFiled bytes s stands file known_now fresh_now seat own new → IsEnd bytes row file new
+    ended : (known_now : List ℕ) (fresh_now : List ℕ) (seat : IsSeated bytes s file known_now fresh_now) (own : AreOwn bytes s stands file known_now
+        fresh_now seat) (new : List ℕ) → IsFiled bytes s stands file known_now fresh_now seat own new → IsEnd bytes row file new
     ended known_now fresh_now seat own new filed =
-        let Kept : FileRow → Type 0 = λ r. kept_at new (with_placed s file.slot (Some file)) ≡ with_files (kept_at bytes s) (with_file r (kept_at bytes s).files) in
+        let Kept : FileRow → Type 0 = λ r. kept_at new (with_placed s file.slot (Some file)) ≡ with_files (kept_at bytes s)
+        (with_file r (kept_at bytes s).files) in
         record { stands = filed.stood; kept = subst Kept own-row filed.kept; no_shorter = filed.no_shorter }
 
     whole-ranges-are : CanStand s file → applied (whole_ranges s.tables row file) bytes ≡ with_file_written s file bytes
     whole-ranges-are can = ap (λ (r : FileRow). applied (whole_ranges s.tables r file) bytes) (sym own-row) ∙ file-ranges bytes s stands file can
 
-    row-range-is : CanStand s file → applied (row_range file.slot row ∷ []) bytes ≡ overwritten (2112 + 96 * file.slot) (row_bytes file.name (length file.blocks) file.rev) bytes
+    row-range-is : CanStand s file → applied (row_range file.slot row ∷ []) bytes ≡ overwritten (2112 + 96 * file.slot)
+        (row_bytes file.name (length file.blocks) file.rev) bytes
     row-range-is can =
         let lt = is.within in
         ap (λ (r : FileRow). applied (row_range file.slot r ∷ []) bytes) (sym own-row)
@@ -176,7 +181,8 @@ module _ (before : List ℕ) (held : HeldTables) (is_held : IsHeldOf before held
           let Apart : PlacedFile → Type 0 = λ f. (f.name ≢ file.name) × (f.id ≢ file.id) in
           let all = each-row Apart s (λ k d lt. (λ e. unnamed k d lt (e ∙ own-name), (let below = last-then k d lt in omega (arith, below)))) in
           let rows = All-weaker (OfRow Apart) (IsApartFrom file) (λ r own. one r own) s.rows all in
-          All-append (IsApartFrom file) (take file.slot s.rows) (drop (suc file.slot) s.rows) (All-take (IsApartFrom file) file.slot s.rows rows) (All-drop (IsApartFrom file) (suc file.slot) s.rows rows)
+          All-append (IsApartFrom file) (take file.slot s.rows) (drop (suc file.slot) s.rows) (All-take (IsApartFrom file) file.slot s.rows rows)
+          (All-drop (IsApartFrom file) (suc file.slot) s.rows rows)
         where
           one : (r : Option PlacedFile) → OfRow (λ f. (f.name ≢ file.name) × (f.id ≢ file.id)) r → IsApartFrom file r
           one None own = tt
@@ -199,7 +205,8 @@ module _ (before : List ℕ) (held : HeldTables) (is_held : IsHeldOf before held
             some = omega (arith, n, d);
             short = omega (arith, n, e);
             apart = new-apart;
-            kept = new-kept s file bytes bytes in-rows row-unused new-apart last-then (has-bodies bytes s stands file known fresh new-seat) (same-bodies (blocks_in (others file.slot s.rows)));
+            kept = new-kept s file bytes bytes in-rows row-unused new-apart last-then (has-bodies bytes s stands file known fresh new-seat)
+                (same-bodies (blocks_in (others file.slot s.rows)));
             few = few-then;
           }
 
@@ -211,7 +218,8 @@ module _ (before : List ℕ) (held : HeldTables) (is_held : IsHeldOf before held
           let End : List ℕ → Type 0 = λ b. IsEnd bytes row file b in
           let ranges = ap (λ (o : Option ℕ). applied (file_ranges s.tables (row_if (file_in s.rows o)) row file) bytes) none in
           subst End (sym (ranges ∙ whole-ranges-are new-can))
-          (ended known fresh new-seat new-own (with_file_written s file bytes) (new-filed bytes s stands file known fresh new-seat new-own new-can row-unused last-then))
+          (ended known fresh new-seat new-own (with_file_written s file bytes) (new-filed bytes s stands file known fresh new-seat new-own new-can
+          row-unused last-then))
 
     -- ---- a file that is kept
 
@@ -286,7 +294,8 @@ module _ (before : List ℕ) (held : HeldTables) (is_held : IsHeldOf before held
             some = omega (arith, n, d);
             short = omega (arith, n, e);
             apart = apart;
-            kept = same-kept s was file bytes bytes in-rows at same-id apart (has-bodies bytes s stands file known fresh seat) (same-bodies (blocks_in (others file.slot s.rows)));
+            kept = same-kept s was file bytes bytes in-rows at same-id apart (has-bodies bytes s stands file known fresh seat)
+                (same-bodies (blocks_in (others file.slot s.rows)));
             few = few-then;
           }
 
@@ -310,12 +319,14 @@ module _ (before : List ℕ) (held : HeldTables) (is_held : IsHeldOf before held
           ∙ append-nil known
           ∙ known-are
 
-      by-length : (b : Bool) → (length was.blocks == row.blocks) ≡ b → IsEnd bytes row file (applied (if b then row_range file.slot row ∷ [] else whole_ranges s.tables row file) bytes)
+      by-length : (b : Bool) → (length was.blocks == row.blocks) ≡ b → IsEnd bytes row file (applied (if b then row_range file.slot row ∷ []
+          else whole_ranges s.tables row file) bytes)
       by-length true test =
           let same : length was.blocks ≡ row.blocks = grind (arith, nat_tests) in
           let End : List ℕ → Type 0 = λ b. IsEnd bytes row file b in
           subst End (sym (row-range-is can))
-          (ended known fresh seat own (overwritten (2112 + 96 * file.slot) (row_bytes file.name (length file.blocks) file.rev) bytes) (row-filed bytes s stands file known fresh seat own can was at same-id (same-blocks same)))
+          (ended known fresh seat own (overwritten (2112 + 96 * file.slot) (row_bytes file.name (length file.blocks) file.rev) bytes)
+          (row-filed bytes s stands file known fresh seat own can was at same-id (same-blocks same)))
       by-length false test =
           let End : List ℕ → Type 0 = λ b. IsEnd bytes row file b in
           subst End (sym (whole-ranges-are can))

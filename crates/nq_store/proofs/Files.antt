@@ -1,14 +1,15 @@
 -- The file of an id, and of a name: in the rows of an image, and in what is kept.
-use Rattle.std.proofs.Common.{◌≡◌, ◌≢◌, ◌≤◌, ◌<◌, ◌+◌, ◌==◌, ◌&&◌, ℕ, zero, suc, Bool, true, false, List, [], ◌∷◌, Option, Some, None, map, length, get_or, if◌then◌else◌, refl, sym, ap, subst, ◌∙◌, arith}
+use Rattle.std.proofs.Common.{◌≡◌, ◌≢◌, ◌≤◌, ◌<◌, ◌+◌, ◌==◌, ◌&&◌, ℕ, zero, suc, Bool, true, false, List, [], ◌∷◌, Option, Some, None, map, length}
+use Rattle.std.proofs.Common.{get_or, if◌then◌else◌, refl, sym, ap, subst, ◌∙◌, arith}
 use Rattle.std.specs.List.{All, position, position_or_len}
-use Rattle.std.specs.Prelude.{nat_lt, not, slice_index_or}
+use Rattle.std.specs.Prelude.{nat_lt, not}
 use Rattle.std.proofs.lemmas.Bool.Decides.{nat_tests}
 use Rattle.std.proofs.lemmas.List.{get_or_past}
 use Rattle.std.proofs.lemmas.List.Elements.{All-cons, All-head, All-nil, All-tail, All-weaker}
-use Rattle.std.proofs.lemmas.List.Sums.{prefix_len-le-length, prefix_len_passes, prefix_len_stops}
+use Rattle.std.proofs.lemmas.List.Sums.{prefix_len_passes, prefix_len_stops}
 use Rattle.nq_model.specs.Kept.{File, find_file, find_name}
 use Rattle.nq_model.specs.Profile.{same_bytes}
-use Rattle.nq_image.specs.Standing.{AreNumbered, CanStand, PlacedFile, Standing, Stands, file_at, files_in, kept_at, put_file, row_at, with_rows}
+use Rattle.nq_image.specs.Standing.{AreNumbered, PlacedFile, Standing, Stands, file_at, files_in, kept_at, put_file, row_at, with_rows}
 use Rattle.nq_image.proofs.Owning.{rows-of, standing-apart}
 use Rattle.nq_image.proofs.Retaining.{apart-ids, files-some, find-none, find-put, kept-files, others-apart, other-files}
 use Rattle.nq_image.proofs.Sorting.{OfRow, of-rows}
@@ -35,7 +36,8 @@ is-above : (m n : ℕ) → nat_lt m n ≡ false → n ≤ m
 is-above m n test = grind (arith, nat_tests)
 
 module _ {X : Type 0} (p : X → Bool) (xs : List X) where
-  some-at : (b : Bool) (n : ℕ) (d : X) → nat_lt (position_or_len p xs) (length xs) ≡ b → (if b then Some (position_or_len p xs) else None) ≡ Some n → PassesAt p xs n d
+  some-at : (b : Bool) (n : ℕ) (d : X) → nat_lt (position_or_len p xs) (length xs) ≡ b → (if b then Some (position_or_len p xs) else None) ≡ Some n
+      → PassesAt p xs n d
   some-at true n d test is =
       let e : position_or_len p xs ≡ n = cc in
       let lt = is-below (position_or_len p xs) (length xs) test in
@@ -49,7 +51,8 @@ module _ {X : Type 0} (p : X → Bool) (xs : List X) where
   pub position-some : (n : ℕ) (d : X) → position p xs ≡ Some n → PassesAt p xs n d
   position-some n d is = some-at (nat_lt (position_or_len p xs) (length xs)) n d refl is
 
-  none-at-all : (b : Bool) → nat_lt (position_or_len p xs) (length xs) ≡ b → (if b then Some (position_or_len p xs) else None) ≡ None → All (λ x. p x ≡ false) xs
+  none-at-all : (b : Bool) → nat_lt (position_or_len p xs) (length xs) ≡ b → (if b then Some (position_or_len p xs) else None) ≡ None
+      → All (λ x. p x ≡ false) xs
   none-at-all true test is = absurd (cc)
   none-at-all false test is = λ k d lt.
       let le = is-above (position_or_len p xs) (length xs) test in
@@ -60,7 +63,8 @@ module _ {X : Type 0} (p : X → Bool) (xs : List X) where
 
 -- ---- what holds of each file holds of each row
 
-put-back-by : (P : PlacedFile → Type 0) (x f : PlacedFile) (files : List PlacedFile) → (All P (put_file x files) → P x × All P files) → (b : Bool) → All P (if b then x ∷ f ∷ files else f ∷ put_file x files) → P x × All P (f ∷ files)
+put-back-by : (P : PlacedFile → Type 0) (x f : PlacedFile) (files : List PlacedFile) → (All P (put_file x files) → P x × All P files) → (b : Bool)
+    → All P (if b then x ∷ f ∷ files else f ∷ put_file x files) → P x × All P (f ∷ files)
 put-back-by P x f files rest true all = (All-head P x (f ∷ files) all, All-tail P x (f ∷ files) all)
 put-back-by P x f files rest false all =
     let more = rest (All-tail P f (put_file x files) all) in
@@ -70,7 +74,8 @@ put-back : (P : PlacedFile → Type 0) (x : PlacedFile) (files : List PlacedFile
 put-back P x [] all = (All-head P x [] all, All-nil P)
 put-back P x (f ∷ files) all = put-back-by P x f files (λ a. put-back P x files a) (nat_lt x.id f.id) all
 
-rows-back : (P : PlacedFile → Type 0) (rows : List (Option PlacedFile)) (files : List PlacedFile) → All P (with_rows files rows) → All P files × All (OfRow P) rows
+rows-back : (P : PlacedFile → Type 0) (rows : List (Option PlacedFile)) (files : List PlacedFile) → All P (with_rows files rows) → All P files
+    × All (OfRow P) rows
 unfolding with_rows
 rows-back P [] files all = (all, All-nil (OfRow P))
 rows-back P (None ∷ rows) files all = let more = rows-back P rows files all in (more.0, All-cons (OfRow P) None rows tt more.1)
@@ -90,7 +95,8 @@ each-file P s all = of-rows P s.rows [] (All-nil P) all
 none-past : (rows : List (Option PlacedFile)) (slot : ℕ) → length rows ≤ slot → get_or rows slot None ≡ None
 none-past rows slot le = get_or_past rows slot None le
 
-pub numbered-at : (rows : List (Option PlacedFile)) (first slot : ℕ) (f : PlacedFile) → AreNumbered first rows → get_or rows slot None ≡ Some f → f.slot ≡ first + slot
+pub numbered-at : (rows : List (Option PlacedFile)) (first slot : ℕ) (f : PlacedFile) → AreNumbered first rows → get_or rows slot None ≡ Some f
+    → f.slot ≡ first + slot
 numbered-at [] first slot f n is = let e = none-past [] slot (omega arith) in absurd (cc)
 numbered-at (None ∷ rows) first zero f n is = absurd (cc)
 numbered-at (None ∷ rows) first (suc slot) f n is = let more = numbered-at rows (first + 1) slot f n is in omega (arith, more)
@@ -109,7 +115,8 @@ has-not id (Some f) h = other f.id id h
     other m n h = grind (arith, nat_tests)
 
 -- a file that stands in a row is found by its id
-pub found-at : (bytes : List ℕ) (s : Standing) (f : PlacedFile) → Stands bytes s → f.slot < 256 → row_at s f.slot ≡ Some f → find_file f.id (kept_at bytes s).files ≡ Some (file_at bytes f)
+pub found-at : (bytes : List ℕ) (s : Standing) (f : PlacedFile) → Stands bytes s → f.slot < 256 → row_at s f.slot ≡ Some f
+    → find_file f.id (kept_at bytes s).files ≡ Some (file_at bytes f)
 found-at bytes s f stands lt is =
     let can = standing-apart bytes s f stands lt is in
     let long = rows-of bytes s stands in
@@ -124,7 +131,8 @@ none-at bytes s id all = ap (λ (l : List File). find_file id l) (kept-files byt
 
 -- no row has an id that is not found
 pub row-has-not : (id : ℕ) (rows : List (Option PlacedFile)) → slot_of id rows ≡ None → All (OfRow (λ f. f.id ≢ id)) rows
-row-has-not id rows is = All-weaker (λ row. has_id id row ≡ false) (OfRow (λ f. f.id ≢ id)) (λ row h. has-not id row h) rows (position-none (has_id id) rows is)
+row-has-not id rows is = All-weaker (λ row. has_id id row ≡ false) (OfRow (λ f. f.id ≢ id)) (λ row h. has-not id row h) rows
+    (position-none (has_id id) rows is)
 
 pub unknown-files : (s : Standing) (id : ℕ) → slot_of id s.rows ≡ None → All (λ f. f.id ≢ id) (files_in s)
 unknown-files s id is =
@@ -170,7 +178,8 @@ pub name-of : (bytes : List ℕ) (f : PlacedFile) → (file_at bytes f).name ≡
 unfolding file_at
 name-of bytes f = refl
 
-none-named-by : (bytes name : List ℕ) (f : PlacedFile) (files : List PlacedFile) → (find_name name (map (file_at bytes) files) ≡ None → All (λ g. g.name ≢ name) files) → (b : Bool) → same_bytes (file_at bytes f).name name ≡ b
+none-named-by : (bytes name : List ℕ) (f : PlacedFile) (files : List PlacedFile) → (find_name name (map (file_at bytes) files) ≡ None
+    → All (λ g. g.name ≢ name) files) → (b : Bool) → same_bytes (file_at bytes f).name name ≡ b
     → (if b then Some (file_at bytes f) else find_name name (map (file_at bytes) files)) ≡ None → All (λ g. g.name ≢ name) (f ∷ files)
 none-named-by bytes name f files rest true is h = absurd (cc)
 none-named-by bytes name f files rest false is h =

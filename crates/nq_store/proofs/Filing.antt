@@ -1,47 +1,53 @@
 -- A file that is written: it keeps the first of the blocks that its row had, and gets new ones behind them.
-use Rattle.std.proofs.Common.{◌≡◌, ◌≢◌, ◌≤◌, ◌<◌, ◌^◌, ◌+◌, ◌-◌, ◌*◌, ℕ, zero, suc, Bool, true, false, List, [], ◌∷◌, ◌++◌, Option, Some, None, take, drop, map, length, get_or, if◌then◌else◌, refl, sym, ap, subst, ◌∙◌, arith, length-append}
-use Rattle.std.specs.List.{All, sum_by}
+use Rattle.std.proofs.Common.{◌≡◌, ◌≢◌, ◌≤◌, ◌<◌, ◌^◌, ◌+◌, ◌-◌, ◌*◌, ℕ, zero, suc, Bool, true, false, List, [], ◌∷◌, ◌++◌, Option, Some, None, take}
+use Rattle.std.proofs.Common.{drop, map, length, get_or, if◌then◌else◌, refl, sym, ap, subst, ◌∙◌, arith, length-append}
+use Rattle.std.specs.List.{All}
 use Rattle.std.specs.Prelude.{nat_lt, replicate}
-use Rattle.std.proofs.lemmas.List.{length-map, length-take, map-append, set_split, take-map, take-replicate}
-use Rattle.std.proofs.lemmas.List.Elements.{All-append, All-head, All-nil, All-same, All-tail, All-take, All-weaker}
+use Rattle.std.proofs.lemmas.List.{length-map, map-append, set_split, take-map, take-replicate}
+use Rattle.std.proofs.lemmas.List.Elements.{All-append, All-head, All-same, All-tail, All-take, All-weaker}
 use Rattle.std.proofs.lemmas.List.Sums.{sum_by-cons}
 use Rattle.nq_base.specs.Block.{zeros}
 use Rattle.nq_base.specs.Name.{IsName}
-use Rattle.nq_base.specs.declared.FileRow.{FileRow}
 use Rattle.nq_image.specs.Kept.{body_in}
-use Rattle.nq_image.specs.Standing.{AreDistinct, CanStand, HasBodies, IsApartFrom, IsFileBlock, IsNoneOf, PlacedFile, Standing, Stands, blocks_in, file_at, files_in, kept_at, others, overwritten, put_file, row_at, row_blocks, row_for, with_file_written, with_placed, with_rows}
+use Rattle.nq_image.specs.Standing.{AreDistinct, CanStand, HasBodies, IsApartFrom, IsFileBlock, IsNoneOf, PlacedFile, Standing, Stands, blocks_in}
+use Rattle.nq_image.specs.Standing.{file_at, files_in, kept_at, others, overwritten, put_file, row_at, row_blocks, row_for, with_file_written}
+use Rattle.nq_image.specs.Standing.{with_placed, with_rows}
 use Rattle.nq_image.specs.Writing.{row_bytes}
 use Rattle.nq_image.proofs.Agreeing.{all-front, all-rest, map-same}
 use Rattle.nq_image.proofs.Allotting.{apart-back, distinct-append}
 use Rattle.nq_image.proofs.FileRows.{length-row}
 use Rattle.nq_image.proofs.Giving.{IsHeld}
 use Rattle.nq_image.proofs.Overwriting.{file-leaves, file-written, rows-written, whole-bodies}
-use Rattle.nq_image.proofs.Owning.{new-file-kept, rows-of, same-file-kept, standing-apart}
+use Rattle.nq_image.proofs.Owning.{new-file-kept, rows-of, same-file-kept}
 use Rattle.nq_image.proofs.Placing.{file-stands, row-stands}
 use Rattle.nq_image.proofs.Replacing.{around-row, blocks-append, blocks-around}
-use Rattle.nq_image.proofs.Retaining.{kept-files, new-kept, same-kept}
+use Rattle.nq_image.proofs.Retaining.{kept-files}
 use Rattle.nq_model.specs.Change.{with_file}
-use Rattle.nq_model.specs.Kept.{File, Kept, blocks_in_all, blocks_of, resized, with_files}
+use Rattle.nq_model.specs.Kept.{Kept, blocks_in_all, blocks_of, resized, with_files}
 use Rattle.nq_store.specs.Changing.{HasZeros}
 use Rattle.nq_store.proofs.ImagesZeroing.{zeros-held}
 use Rattle.nq_store.proofs.Seats.{IsNew, distinct-take}
 
 -- ---- how many blocks there are
 
-sum-put : (bytes : List ℕ) (x : PlacedFile) (files : List PlacedFile) → blocks_in_all (map (file_at bytes) (put_file x files)) ≡ length x.blocks + blocks_in_all (map (file_at bytes) files)
+sum-put : (bytes : List ℕ) (x : PlacedFile) (files : List PlacedFile) → blocks_in_all (map (file_at bytes) (put_file x files)) ≡ length x.blocks
+    + blocks_in_all (map (file_at bytes) files)
 unfolding file_at
 sum-put bytes x [] = omega (arith, sum_by-cons blocks_of (file_at bytes x) [], length-map x.blocks (body_in bytes))
 sum-put bytes x (f ∷ files) = by (nat_lt x.id f.id) (sum-put bytes x files)
   where
-    own : (g : PlacedFile) (rest : List PlacedFile) → blocks_in_all (map (file_at bytes) (g ∷ rest)) ≡ length g.blocks + blocks_in_all (map (file_at bytes) rest)
+    own : (g : PlacedFile) (rest : List PlacedFile) → blocks_in_all (map (file_at bytes) (g ∷ rest)) ≡ length g.blocks + blocks_in_all
+        (map (file_at bytes) rest)
     own g rest = omega (arith, sum_by-cons blocks_of (file_at bytes g) (map (file_at bytes) rest), length-map g.blocks (body_in bytes))
 
     by : (b : Bool) → blocks_in_all (map (file_at bytes) (put_file x files)) ≡ length x.blocks + blocks_in_all (map (file_at bytes) files)
-        → blocks_in_all (map (file_at bytes) (if b then x ∷ f ∷ files else f ∷ put_file x files)) ≡ length x.blocks + blocks_in_all (map (file_at bytes) (f ∷ files))
+        → blocks_in_all (map (file_at bytes) (if b then x ∷ f ∷ files else f ∷ put_file x files)) ≡ length x.blocks + blocks_in_all
+        (map (file_at bytes) (f ∷ files))
     by true more = own x (f ∷ files)
     by false more = omega (arith, own f (put_file x files), own f files, more)
 
-sum-rows : (bytes : List ℕ) (rows : List (Option PlacedFile)) (files : List PlacedFile) → blocks_in_all (map (file_at bytes) (with_rows files rows)) ≡ blocks_in_all (map (file_at bytes) files) + length (blocks_in rows)
+sum-rows : (bytes : List ℕ) (rows : List (Option PlacedFile)) (files : List PlacedFile) → blocks_in_all (map (file_at bytes) (with_rows files rows))
+    ≡ blocks_in_all (map (file_at bytes) files) + length (blocks_in rows)
 unfolding with_rows blocks_in
 sum-rows bytes [] files = omega arith
 sum-rows bytes (None ∷ rows) files = sum-rows bytes rows files
@@ -53,17 +59,20 @@ blocks-together bytes s = omega (arith, ap blocks_in_all (kept-files bytes s), s
 
 -- ---- the blocks of one row among all
 
-pub blocks-here : (s : Standing) (slot : ℕ) → slot < length s.rows → blocks_in s.rows ≡ blocks_in (take slot s.rows) ++ (row_blocks (row_at s slot) ++ blocks_in (drop (suc slot) s.rows))
+pub blocks-here : (s : Standing) (slot : ℕ) → slot < length s.rows → blocks_in s.rows ≡ blocks_in (take slot s.rows) ++ (row_blocks (row_at s slot)
+    ++ blocks_in (drop (suc slot) s.rows))
 blocks-here s slot lt = ap blocks_in (around-row slot s.rows lt) ∙ blocks-around (take slot s.rows) (drop (suc slot) s.rows) (row_at s slot)
 
 pub blocks-others : (s : Standing) (slot : ℕ) → blocks_in (others slot s.rows) ≡ blocks_in (take slot s.rows) ++ blocks_in (drop (suc slot) s.rows)
 blocks-others s slot = blocks-append (take slot s.rows) (drop (suc slot) s.rows)
 
-pub blocks-with : (s : Standing) (slot : ℕ) (row : Option PlacedFile) → slot < length s.rows → blocks_in (with_placed s slot row).rows ≡ blocks_in (take slot s.rows) ++ (row_blocks row ++ blocks_in (drop (suc slot) s.rows))
+pub blocks-with : (s : Standing) (slot : ℕ) (row : Option PlacedFile) → slot < length s.rows → blocks_in (with_placed s slot row).rows
+    ≡ blocks_in (take slot s.rows) ++ (row_blocks row ++ blocks_in (drop (suc slot) s.rows))
 blocks-with s slot row lt = ap blocks_in (set_split s.rows slot row lt) ∙ blocks-around (take slot s.rows) (drop (suc slot) s.rows) row
 
 -- what holds of all blocks holds of those of the row, and of those of the others
-pub of-row : (P : ℕ → Type 0) (s : Standing) (slot : ℕ) → slot < length s.rows → All P (blocks_in s.rows) → All P (row_blocks (row_at s slot)) × All P (blocks_in (others slot s.rows))
+pub of-row : (P : ℕ → Type 0) (s : Standing) (slot : ℕ) → slot < length s.rows → All P (blocks_in s.rows) → All P (row_blocks (row_at s slot))
+    × All P (blocks_in (others slot s.rows))
 of-row P s slot lt all =
     let front = blocks_in (take slot s.rows) in
     let own = row_blocks (row_at s slot) in
@@ -71,7 +80,8 @@ of-row P s slot lt all =
     let flat = All-same P (front ++ (own ++ rest)) (blocks_in s.rows) (sym (blocks-here s slot lt)) all in
     let behind = all-rest P front (own ++ rest) flat in (
       all-front P own rest behind,
-      All-same P (blocks_in (others slot s.rows)) (front ++ rest) (blocks-others s slot) (All-append P front rest (all-front P front (own ++ rest) flat) (all-rest P own rest behind)),
+      All-same P (blocks_in (others slot s.rows)) (front ++ rest) (blocks-others s slot) (All-append P front rest (all-front P front (own ++ rest)
+          flat) (all-rest P own rest behind)),
     )
 
 -- ---- bodies that are cut, or get zeros behind them
@@ -104,7 +114,8 @@ pub record IsSeated (bytes : List ℕ) (s : Standing) (file : PlacedFile) (known
   pub new : All (IsNew s) fresh
   pub zeros : All (HasZeros bytes) fresh
 
-module _ (bytes : List ℕ) (s : Standing) (stands : Stands bytes s) (file : PlacedFile) (known fresh : List ℕ) (seated : IsSeated bytes s file known fresh) where
+module _ (bytes : List ℕ) (s : Standing) (stands : Stands bytes s) (file : PlacedFile) (known fresh : List ℕ) (seated : IsSeated bytes s file known
+    fresh) where
   abbrev n : ℕ
   n = length file.blocks
 
@@ -139,13 +150,15 @@ module _ (bytes : List ℕ) (s : Standing) (stands : Stands bytes s) (file : Pla
     new-apart =
         let Known : List ℕ → Type 0 = λ l. All (IsNoneOf l) fresh in
         subst Known seated.had
-        (All-weaker (IsNew s) (IsNoneOf (row_blocks (row_at s file.slot))) (λ b new. (of-row (λ other. other ≢ b) s file.slot within new.none).0) fresh seated.new)
+        (All-weaker (IsNew s) (IsNoneOf (row_blocks (row_at s file.slot))) (λ b new. (of-row (λ other. other ≢ b) s file.slot within new.none).0)
+        fresh seated.new)
 
     kept-apart : All (IsNoneOf fresh) kept_blocks
     kept-apart = All-take (IsNoneOf fresh) n known (apart-back known fresh new-apart)
 
     new-free : All (IsNoneOf (blocks_in (others file.slot s.rows))) fresh
-    new-free = All-weaker (IsNew s) (IsNoneOf (blocks_in (others file.slot s.rows))) (λ b new. (of-row (λ other. other ≢ b) s file.slot within new.none).1) fresh seated.new
+    new-free = All-weaker (IsNew s) (IsNoneOf (blocks_in (others file.slot s.rows))) (λ b new. (of-row (λ other. other ≢ b) s file.slot within
+        new.none).1) fresh seated.new
 
     blocks-distinct : AreDistinct file.blocks
     blocks-distinct = subst AreDistinct (sym seated.blocks) (distinct-append kept_blocks fresh (distinct-take n known own.once) seated.distinct kept-apart)
@@ -164,7 +177,8 @@ module _ (bytes : List ℕ) (s : Standing) (stands : Stands bytes s) (file : Pla
     blocks-held =
         let all = (of-row (IsHeld (length bytes)) s file.slot within (whole-bodies bytes s stands)).0 in
         let Held : List ℕ → Type 0 = λ l. All (IsHeld (length bytes)) l in
-        each-block (IsHeld (length bytes)) (subst Held seated.had all) (All-weaker (HasZeros bytes) (IsHeld (length bytes)) (λ b has. zeros-held bytes b has) fresh seated.zeros)
+        each-block (IsHeld (length bytes)) (subst Held seated.had all) (All-weaker (HasZeros bytes) (IsHeld (length bytes)) (λ b has. zeros-held bytes
+        b has) fresh seated.zeros)
 
     -- the blocks of the others and its own are those of all files with this one
     few-blocks : kept_at bytes (with_placed s file.slot (Some file)) ≡ with_files (kept_at bytes s) (with_file (row_for file) (kept_at bytes s).files)
@@ -175,7 +189,17 @@ module _ (bytes : List ℕ) (s : Standing) (stands : Stands bytes s) (file : Pla
         let e = ap (λ (k : Kept). blocks_in_all k.files) kept in
         let front = blocks_in (take file.slot s.rows) in
         let rest = blocks_in (drop (suc file.slot) s.rows) in
-        omega (arith, few, e, blocks-together bytes t, ap length (blocks-with s file.slot (Some file) within), ap length (blocks-others s file.slot), length-append front (file.blocks ++ rest), length-append file.blocks rest, length-append front rest)
+        omega (
+          arith,
+          few,
+          e,
+          blocks-together bytes t,
+          ap length (blocks-with s file.slot (Some file) within),
+          ap length (blocks-others s file.slot),
+          length-append front (file.blocks ++ rest),
+          length-append file.blocks rest,
+          length-append front rest,
+        )
 
     -- what a file's row has to be, that it can stand
     pub record IsRight : Type 0 where

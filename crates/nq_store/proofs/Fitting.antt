@@ -1,12 +1,13 @@
 -- The ranges of a change fit into the redo record of an image.
-use Rattle.std.proofs.Common.{◌≡◌, ◌≢◌, ◌⊎◌, ◌≤◌, ◌<◌, ◌^◌, ◌+◌, ◌-◌, ◌*◌, ◌==◌, ◌&&◌, inl, inr, max, ℕ, zero, suc, Bool, true, false, List, [], ◌∷◌, ◌++◌, Option, Some, None, take, drop, length, get_or, if◌then◌else◌, refl, sym, ap, subst, ◌∙◌, arith, length-append}
+use Rattle.std.proofs.Common.{◌≡◌, ◌⊎◌, ◌≤◌, ◌<◌, ◌^◌, ◌+◌, ◌-◌, ◌*◌, ◌==◌, inl, inr, max, ℕ, zero, suc, Bool, true, false, List, [], ◌∷◌, ◌++◌}
+use Rattle.std.proofs.Common.{Option, Some, None, take, length, if◌then◌else◌, refl, ap, subst, arith, length-append}
 use Rattle.std.specs.Int.{w32, to_be_bytes}
 use Rattle.std.specs.List.{All}
-use Rattle.std.specs.Prelude.{IfSome, nat_le, slice_get, slice_index_or}
+use Rattle.std.specs.Prelude.{IfSome, slice_get, slice_index_or}
 use Rattle.std.proofs.lemmas.Bool.{cases_lt}
 use Rattle.std.proofs.lemmas.Bool.Decides.{nat_tests}
 use Rattle.std.proofs.lemmas.List.{get_or_past}
-use Rattle.std.proofs.lemmas.List.Elements.{All-append, All-cons, All-get_or, All-head, All-nil, All-same, All-tail, All-take, All-weaker}
+use Rattle.std.proofs.lemmas.List.Elements.{All-append, All-cons, All-head, All-nil, All-same, All-tail, All-take}
 use Rattle.nq_base.specs.Name.{IsName}
 use Rattle.nq_base.specs.declared.BlockChange.{BlockChange}
 use Rattle.nq_base.specs.declared.Change.{Change}
@@ -16,7 +17,7 @@ use Rattle.nq_base.specs.declared.HostChange.{HostChange}
 use Rattle.nq_plan.specs.Standing.{image_area}
 use Rattle.nq_image.specs.Heads.{front_checks, front_of}
 use Rattle.nq_image.specs.Layout.{block_place, piece, word_in}
-use Rattle.nq_image.specs.Standing.{IsFileBlock, PlacedFile, Standing, Stands, blocks_in, found_of, front_for, row_at, row_blocks}
+use Rattle.nq_image.specs.Standing.{IsFileBlock, PlacedFile, Standing, blocks_in, found_of, front_for, row_blocks}
 use Rattle.nq_image.specs.Writing.{heads_bytes, host_bytes, row_bytes, table_of_blocks, zeros_of}
 use Rattle.nq_image.specs.declared.Front.{Front}
 use Rattle.nq_image.proofs.Allotting.{both-of}
@@ -33,13 +34,14 @@ use Rattle.nq_plan.proofs.Sizes.{length-heads, length-host}
 use Rattle.nq_plan.specs.Finding.{blocks_of, file_in, has_id, row_of, slot_of}
 use Rattle.nq_plan.specs.Held.{HeldTables, IsHeldOf}
 use Rattle.nq_plan.specs.Placing.{IsPlaced, IsPlacedFor, free_blocks}
-use Rattle.nq_plan.specs.Ranges.{blocks_then, body_range, body_ranges, file_ranges, heads_ranges, host_ranges, id_range, placed_ranges, range, ranges_of, removal_ranges, removed_ranges, row_range, table_range, whole_ranges}
+use Rattle.nq_plan.specs.Ranges.{blocks_then, body_range, body_ranges, file_ranges, heads_ranges, host_ranges, id_range, placed_ranges, range}
+use Rattle.nq_plan.specs.Ranges.{ranges_of, removal_ranges, removed_ranges, row_range, table_range, whole_ranges}
 use Rattle.nq_plan.specs.declared.placing.Placed.{Placed}
 use Rattle.nq_disk.specs.Batch.{AreAllowed, IsFit, body_of, spelled}
 use Rattle.nq_disk.specs.Ranges.{Range}
 use Rattle.nq_disk.specs.Record.{is_misplaced}
 use Rattle.nq_store.specs.Changing.{CanBeWritten, HasZeros, new_blocks}
-use Rattle.nq_store.proofs.Files.{PassesAt, position-some}
+use Rattle.nq_store.proofs.Files.{position-some}
 use Rattle.nq_store.proofs.Filing.{of-row}
 use Rattle.nq_store.proofs.ImagesZeroing.{zeros-held}
 use Rattle.nq_store.proofs.Seats.{IsNew, free-are-new, new-blocks-are, once-of}
@@ -52,7 +54,8 @@ pub record IsLaid (len : ℕ) (range : Range) : Type 0 where
   pub beside : (range.place + length range.bytes ≤ 28672) ⊎ (40960 ≤ range.place)
   pub ends : range.place + length range.bytes ≤ 68202496
 
-not-misplaced : (start size bound len place n : ℕ) → place ≤ len → 7 ≤ place → (place + n ≤ start) ⊎ (start + size ≤ place) → place + n ≤ bound → is_misplaced start size bound len place n ≡ false
+not-misplaced : (start size bound len place n : ℕ) → place ≤ len → 7 ≤ place → (place + n ≤ start) ⊎ (start + size ≤ place) → place + n ≤ bound
+    → is_misplaced start size bound len place n ≡ false
 unfolding is_misplaced
 not-misplaced start size bound len place n a b (inl c) d = grind (arith, nat_tests)
 not-misplaced start size bound len place n a b (inr c) d = grind (arith, nat_tests)
@@ -121,19 +124,26 @@ module _ (bytes : List ℕ) (held : HeldTables) (is_held : IsHeldOf bytes held) 
       omega (arith, e, a)
 
   near : s.tables ≤ 16384
-  near = let image = parts-of bytes (found_of s) is_held.stands.found in tables-word (piece 0 64 bytes) (front_for s.heads s.tables) image.parts.front image.parts.front_is
+  near = let image = parts-of bytes (found_of s) is_held.stands.found in tables-word (piece 0 64 bytes) (front_for s.heads s.tables) image.parts.front
+      image.parts.front_is
 
   heads-part : (heads : Option Heads) → IsPart (length bytes) 1 28 (heads_ranges heads)
   heads-part None = no-part (length bytes) 1 28
   heads-part (Some heads) =
       let n = length-heads heads in
-      one-part (length bytes) 28 (range 8 (heads_bytes heads)) (omega (arith, n)) (record { begins = omega (arith, long); front = omega arith; beside = inl (omega (arith, n)); ends = omega (arith, n) })
+      one-part (length bytes) 28 (range 8 (heads_bytes heads)) (omega (arith, n)) (record {
+        begins = omega (arith, long);
+        front = omega arith;
+        beside = inl (omega (arith, n));
+        ends = omega (arith, n);
+      })
 
   host-part : (change : Option HostChange) → IfSome change (λ h. h.host < 64) → IsPart (length bytes) 1 44 (host_ranges change)
   host-part None lt = no-part (length bytes) 1 44
   host-part (Some change) lt =
       let n = length-host change.row in
-      one-part (length bytes) 44 (range (64 + 32 * change.host) (host_bytes change.row)) (omega (arith, n)) (record { begins = omega (arith, long, lt); front = omega arith; beside = inl (omega (arith, n, lt)); ends = omega (arith, n, lt) })
+      one-part (length bytes) 44 (range (64 + 32 * change.host) (host_bytes change.row)) (omega (arith, n))
+      (record { begins = omega (arith, long, lt); front = omega arith; beside = inl (omega (arith, n, lt)); ends = omega (arith, n, lt) })
 
   -- a part of the rows, of the ids, or a table
   row-part : (slot : ℕ) (part : List ℕ) → slot < 256 → length part ≡ 96 → IsLaid (length bytes) (record { place = 2112 + 96 * slot; bytes = part })
@@ -145,7 +155,8 @@ module _ (bytes : List ℕ) (held : HeldTables) (is_held : IsHeldOf bytes held) 
       let n : length (to_be_bytes w32 id) ≡ 4 = refl in
       record { begins = omega (arith, whole, lt); front = omega arith; beside = inr (omega arith); ends = omega (arith, n, lt, near) }
 
-  table-part : (slot : ℕ) (blocks : List ℕ) → slot < 256 → length blocks ≤ 1024 → IsLaid (length bytes) (record { place = block_place (s.tables + slot); bytes = table_of_blocks blocks })
+  table-part : (slot : ℕ) (blocks : List ℕ) → slot < 256 → length blocks ≤ 1024 → IsLaid (length bytes)
+      (record { place = block_place (s.tables + slot); bytes = table_of_blocks blocks })
   table-part slot blocks lt short =
       let whole = whole-tables bytes s is_held.stands slot (omega (arith, lt)) in
       let n = length-of-table blocks short in
@@ -155,12 +166,19 @@ module _ (bytes : List ℕ) (held : HeldTables) (is_held : IsHeldOf bytes held) 
   abbrev IsRowRight : FileRow → Type 0
   IsRowRight row = IsName row.name × (row.blocks ≤ 1024) × (row.rev < 2 ^ 61)
 
-  row-alone : (row : FileRow) (placed : Placed) → IsPlaced held row placed → IsRowRight row → IsPart (length bytes) 3 4232 (row_range placed.file.slot row ∷ [])
+  row-alone : (row : FileRow) (placed : Placed) → IsPlaced held row placed → IsRowRight row → IsPart (length bytes) 3 4232 (row_range placed.file.slot
+      row ∷ [])
   row-alone row placed is right =
       let n = length-row row.name row.blocks row.rev right.0 right.1 right.2 in
-      record { count = omega arith; room = omega (arith, n); laid = All-cons (IsLaid (length bytes)) (row_range placed.file.slot row) [] (row-part placed.file.slot (row_bytes row.name row.blocks row.rev) is.within n) (All-nil (IsLaid (length bytes))) }
+      record {
+        count = omega arith;
+        room = omega (arith, n);
+        laid = All-cons (IsLaid (length bytes)) (row_range placed.file.slot row) []
+            (row-part placed.file.slot (row_bytes row.name row.blocks row.rev) is.within n) (All-nil (IsLaid (length bytes)));
+      }
 
-  file-whole : (row : FileRow) (placed : Placed) → IsPlaced held row placed → IsRowRight row → IsPart (length bytes) 3 4232 (whole_ranges s.tables row placed.file)
+  file-whole : (row : FileRow) (placed : Placed) → IsPlaced held row placed → IsRowRight row → IsPart (length bytes) 3 4232 (whole_ranges s.tables row
+      placed.file)
   file-whole row placed is right =
       let n = length-row row.name row.blocks row.rev right.0 right.1 right.2 in
       let i : length (to_be_bytes w32 row.id) ≡ 4 = refl in
@@ -173,12 +191,14 @@ module _ (bytes : List ℕ) (held : HeldTables) (is_held : IsHeldOf bytes held) 
       record {
         count = omega arith;
         room = omega (arith, n, i, t);
-        laid = All-cons Laid (row_range slot row) (id_range s.tables slot row.id ∷ table_range s.tables slot placed.file.blocks ∷ []) (row-part slot (row_bytes row.name row.blocks row.rev) is.within n)
+        laid = All-cons Laid (row_range slot row) (id_range s.tables slot row.id ∷ table_range s.tables slot placed.file.blocks ∷ [])
+            (row-part slot (row_bytes row.name row.blocks row.rev) is.within n)
             (All-cons Laid (id_range s.tables slot row.id) (table_range s.tables slot placed.file.blocks ∷ []) (id-part slot row.id is.within)
             (All-cons Laid (table_range s.tables slot placed.file.blocks) [] (table-part slot placed.file.blocks is.within short) (All-nil Laid)));
       }
 
-  by-known : (row : FileRow) (placed : Placed) (known : Option FileRow) → IsPlaced held row placed → IsRowRight row → IsPart (length bytes) 3 4232 (file_ranges s.tables known row placed.file)
+  by-known : (row : FileRow) (placed : Placed) (known : Option FileRow) → IsPlaced held row placed → IsRowRight row → IsPart (length bytes) 3 4232
+      (file_ranges s.tables known row placed.file)
   by-known row placed None is right = file-whole row placed is right
   by-known row placed (Some was) is right = by (was.blocks == row.blocks)
     where
@@ -186,7 +206,8 @@ module _ (bytes : List ℕ) (held : HeldTables) (is_held : IsHeldOf bytes held) 
       by true = row-alone row placed is right
       by false = file-whole row placed is right
 
-  file-part : (row : Option FileRow) (placed : Option Placed) → IsPlacedFor held row placed → IfSome row IsRowRight → IsPart (length bytes) 3 4232 (placed_ranges s row placed)
+  file-part : (row : Option FileRow) (placed : Option Placed) → IsPlacedFor held row placed → IfSome row IsRowRight → IsPart (length bytes) 3 4232
+      (placed_ranges s row placed)
   file-part None placed is right = no-part (length bytes) 3 4232
   file-part (Some row) None is right = no-part (length bytes) 3 4232
   file-part (Some row) (Some placed) is right = by-known row placed (row_of s row.id) is right
@@ -199,7 +220,8 @@ module _ (bytes : List ℕ) (held : HeldTables) (is_held : IsHeldOf bytes held) 
   all-there : All IsThere (blocks_in s.rows)
   all-there =
       let once = once-of bytes s is_held.stands in
-      both-of (IsHeld (length bytes)) (IsFileBlock s.tables) IsThere (blocks_in s.rows) (λ b h own. (h, own.below)) (whole-bodies bytes s is_held.stands) once.there
+      both-of (IsHeld (length bytes)) (IsFileBlock s.tables) IsThere (blocks_in s.rows) (λ b h own. (h, own.below))
+      (whole-bodies bytes s is_held.stands) once.there
 
   found-there : (o : Option ℕ) → All IsThere (row_blocks (file_in s.rows o))
   found-there None = All-nil IsThere
@@ -213,7 +235,8 @@ module _ (bytes : List ℕ) (held : HeldTables) (is_held : IsHeldOf bytes held) 
       past : (rows : List (Option PlacedFile)) (slot : ℕ) → length rows ≤ slot → slice_index_or rows slot None ≡ None
       past rows slot le = get_or_past rows slot None le
 
-  placed-there : (row : FileRow) (placed : Placed) → IsPlaced held row placed → All (HasZeros bytes) (new_blocks (Some placed)) → All IsThere placed.file.blocks
+  placed-there : (row : FileRow) (placed : Placed) → IsPlaced held row placed → All (HasZeros bytes) (new_blocks (Some placed))
+      → All IsThere placed.file.blocks
   placed-there row placed is zeros =
       let known = blocks_of s row.id in
       let fresh = free_blocks held (row.blocks - length known) in
@@ -224,7 +247,8 @@ module _ (bytes : List ℕ) (held : HeldTables) (is_held : IsHeldOf bytes held) 
       All-same IsThere placed.file.blocks (take row.blocks known ++ fresh) (ap (λ (f : PlacedFile). f.blocks) is.file)
       (All-append IsThere (take row.blocks known) fresh (All-take IsThere row.blocks known (found-there (slot_of row.id s.rows))) own)
 
-  then-there : (row : Option FileRow) (placed : Option Placed) (id : ℕ) → IsPlacedFor held row placed → All (HasZeros bytes) (new_blocks placed) → All IsThere (blocks_then s placed id)
+  then-there : (row : Option FileRow) (placed : Option Placed) (id : ℕ) → IsPlacedFor held row placed → All (HasZeros bytes) (new_blocks placed)
+      → All IsThere (blocks_then s placed id)
   then-there None None id is zeros = found-there (slot_of id s.rows)
   then-there None (Some placed) id is zeros = absurd is
   then-there (Some row) None id is zeros = absurd is
@@ -234,18 +258,26 @@ module _ (bytes : List ℕ) (held : HeldTables) (is_held : IsHeldOf bytes held) 
       by true = placed-there row placed is zeros
       by false = found-there (slot_of id s.rows)
 
-  slice-there : (blocks : List ℕ) (k : ℕ) (body : List ℕ) → All IsThere blocks → length body ≡ 4096 → IsPart (length bytes) 1 4108 (body_range (slice_get blocks k) body)
+  slice-there : (blocks : List ℕ) (k : ℕ) (body : List ℕ) → All IsThere blocks → length body ≡ 4096 → IsPart (length bytes) 1 4108
+      (body_range (slice_get blocks k) body)
   slice-there [] k body all n = no-part (length bytes) 1 4108
   slice-there (block ∷ blocks) zero body all n =
       let own = All-head IsThere block blocks all in
       let whole = own.0 in
       let below = own.1 in
-      one-part (length bytes) 4108 (range (block_place block) body) (omega (arith, n)) (record { begins = omega (arith, whole); front = omega arith; beside = inr (omega arith); ends = omega (arith, n, below) })
+      one-part (length bytes) 4108 (range (block_place block) body) (omega (arith, n)) (record {
+        begins = omega (arith, whole);
+        front = omega arith;
+        beside = inr (omega arith);
+        ends = omega (arith, n, below);
+      })
   slice-there (block ∷ blocks) (suc k) body all n = slice-there blocks k body (All-tail IsThere block blocks all) n
 
-  body-part : (row : Option FileRow) (placed : Option Placed) (change : Option BlockChange) → IsPlacedFor held row placed → All (HasZeros bytes) (new_blocks placed) → IfSome change (λ b. IsBody b.body) → IsPart (length bytes) 1 4108 (body_ranges s placed change)
+  body-part : (row : Option FileRow) (placed : Option Placed) (change : Option BlockChange) → IsPlacedFor held row placed → All (HasZeros bytes)
+      (new_blocks placed) → IfSome change (λ b. IsBody b.body) → IsPart (length bytes) 1 4108 (body_ranges s placed change)
   body-part row placed None is zeros right = no-part (length bytes) 1 4108
-  body-part row placed (Some change) is zeros right = slice-there (blocks_then s placed change.file) change.block change.body (then-there row placed change.file is zeros) right.size
+  body-part row placed (Some change) is zeros right = slice-there (blocks_then s placed change.file) change.block change.body
+      (then-there row placed change.file is zeros) right.size
 
   -- ---- a file that goes
 
@@ -254,7 +286,13 @@ module _ (bytes : List ℕ) (held : HeldTables) (is_held : IsHeldOf bytes held) 
       let n = length-zeros 96 in
       let i : length (to_be_bytes w32 0) ≡ 4 = refl in
       let Laid : Range → Type 0 = IsLaid (length bytes) in
-      record { count = omega arith; room = omega (arith, n, i); laid = All-cons Laid (range (2112 + 96 * slot) (zeros_of 96)) (id_range s.tables slot 0 ∷ []) (row-part slot (zeros_of 96) lt n) (All-cons Laid (id_range s.tables slot 0) [] (id-part slot 0 lt) (All-nil Laid)) }
+      record {
+        count = omega arith;
+        room = omega (arith, n, i);
+        laid = All-cons Laid (range (2112 + 96 * slot) (zeros_of 96))
+            (id_range s.tables slot 0 ∷ []) (row-part slot (zeros_of 96) lt n) (All-cons Laid (id_range s.tables slot 0) [] (id-part slot 0 lt)
+            (All-nil Laid));
+      }
 
   removed-part : (removed : Option ℕ) → IsPart (length bytes) 2 124 (removed_ranges s removed)
   removed-part None = no-part (length bytes) 2 124
@@ -267,11 +305,13 @@ module _ (bytes : List ℕ) (held : HeldTables) (is_held : IsHeldOf bytes held) 
           let lt = p.within in
           gone-part slot (omega (arith, lt, rows-of bytes s is_held.stands))
 
-right-row : (k : Kept) (heads : Option Heads) (row : Option FileRow) → IfSome row (FitsFile k heads) → IfSome row (λ r. IsName r.name × (r.rev < 2305843009213693952)) → IfSome row (λ r. IsName r.name × (r.blocks ≤ 1024) × (r.rev < 2 ^ 61))
+right-row : (k : Kept) (heads : Option Heads) (row : Option FileRow) → IfSome row (FitsFile k heads) → IfSome row (λ r. IsName r.name
+    × (r.rev < 2305843009213693952)) → IfSome row (λ r. IsName r.name × (r.blocks ≤ 1024) × (r.rev < 2 ^ 61))
 right-row k heads None fits within = tt
 right-row k heads (Some row) fits within = let r = within.1 in (within.0, fits.short, omega (arith, r))
 
-pub change-fits : (bytes : List ℕ) (held : HeldTables) (change : Change) (placed : Option Placed) → CanBeWritten bytes held change placed → IsFit image_area (length bytes) (ranges_of held.standing change placed)
+pub change-fits : (bytes : List ℕ) (held : HeldTables) (change : Change) (placed : Option Placed) → CanBeWritten bytes held change placed
+    → IsFit image_area (length bytes) (ranges_of held.standing change placed)
 change-fits bytes held change placed can =
     let s = held.standing in
     let len = length bytes in

@@ -1,5 +1,6 @@
 -- The ids that a migration writes are those of version 1: row n has the id n + 1.
-use Rattle.std.proofs.Common.{◌≡◌, ◌≤◌, ◌<◌, ◌^◌, ◌+◌, ◌-◌, ◌*◌, ◌==◌, ℕ, suc, true, false, List, [], ◌∷◌, ◌++◌, Option, Some, None, cond, length, drop, refl, sym, ap, subst, ◌∙◌, arith}
+use Rattle.std.proofs.Common.{◌≡◌, ◌≤◌, ◌<◌, ◌^◌, ◌+◌, ◌-◌, ◌*◌, ◌==◌, ℕ, suc, true, false, List, [], ◌∷◌, ◌++◌, Option, Some, None, cond, length}
+use Rattle.std.proofs.Common.{drop, refl, sym, ap, subst, ◌∙◌, arith}
 use Rattle.std.specs.List.{All, list_any}
 use Rattle.std.specs.Prelude.{is_some, nat_le, nat_lt, not, replicate, slice_index_or}
 use Rattle.std.specs.Int.{w32, to_be_bytes}
@@ -31,7 +32,8 @@ one-more-file None id start files = omega arith
 one-more-file (Some slot) id start files =
     let x = found_file id start slot in ap length (insert-is-put id x files) ∙ length-put id x files
 
-pub length-files : (files : List FoundFile) (start : ℕ) (slots : List (Option Slot)) (ids : List ℕ) → length (files_of files start slots ids) ≡ length files + files_in slots
+pub length-files : (files : List FoundFile) (start : ℕ) (slots : List (Option Slot)) (ids : List ℕ) → length (files_of files start slots ids)
+    ≡ length files + files_in slots
 unfolding files_of
 length-files files start [] ids = omega arith
 length-files files start (slot ∷ slots) ids =
@@ -51,13 +53,16 @@ few-files (Some slot ∷ slots) = omega (arith, few-files slots, files-cons (Som
 
 -- ---- one id
 
-one-id : (next place word : ℕ) (known : List ℕ) (slot : Option Slot) (slots : List (Option Slot)) (bytes rest : List ℕ) → word_in 0 bytes ≡ word → drop 4 bytes ≡ rest → is_id next known slot word ≡ true → Hold (ids_checks next (place + 4) (known ++ word ∷ []) slots rest) → Hold (ids_checks next place known (slot ∷ slots) bytes)
+one-id : (next place word : ℕ) (known : List ℕ) (slot : Option Slot) (slots : List (Option Slot)) (bytes rest : List ℕ) → word_in 0 bytes ≡ word
+    → drop 4 bytes ≡ rest → is_id next known slot word ≡ true → Hold (ids_checks next (place + 4) (known ++ word ∷ []) slots rest)
+    → Hold (ids_checks next place known (slot ∷ slots) bytes)
 unfolding ids_checks
 one-id next place word known slot slots bytes rest is behind own more =
     let P : ℕ → List ℕ → Type 0 = λ w d. Hold (check place (is_id next known slot w) ∷ ids_checks next (place + 4) (known ++ w ∷ []) slots d) in
     subst (λ (w : ℕ). P w (drop 4 bytes)) (sym is) (subst (λ (d : List ℕ). P word d) (sym behind) (own, more))
 
-one-id-is : (word : ℕ) (slot : Option Slot) (slots : List (Option Slot)) (bytes rest : List ℕ) → word_in 0 bytes ≡ word → drop 4 bytes ≡ rest → ids_of (slot ∷ slots) bytes ≡ word ∷ ids_of slots rest
+one-id-is : (word : ℕ) (slot : Option Slot) (slots : List (Option Slot)) (bytes rest : List ℕ) → word_in 0 bytes ≡ word → drop 4 bytes ≡ rest
+    → ids_of (slot ∷ slots) bytes ≡ word ∷ ids_of slots rest
 unfolding ids_of
 one-id-is word slot slots bytes rest is behind =
     ap (λ (w : ℕ). w ∷ ids_of slots (drop 4 bytes)) is ∙ ap (λ (d : List ℕ). word ∷ ids_of slots d) behind
@@ -67,7 +72,8 @@ unfolding is_id
 unused-id next known = refl
 
 not-known : (known : List ℕ) (first : ℕ) → All (λ k. k ≤ first) known → not (list_any (λ k. k == first + 1) known) ≡ true
-not-known known first all = ap not (list_any_none (λ k. k == first + 1) known (All-weaker (λ k. k ≤ first) (λ k. (k == first + 1) ≡ false) (λ k le. other k first le) known all))
+not-known known first all = ap not (list_any_none (λ k. k == first + 1) known (All-weaker (λ k. k ≤ first) (λ k. (k == first + 1) ≡ false)
+    (λ k le. other k first le) known all))
   where
     other : (k first : ℕ) → k ≤ first → (k == first + 1) ≡ false
     other k first le = grind (arith, nat_tests)
@@ -84,22 +90,28 @@ used-id next first known slot lt all =
 -- are those of version 1
 pub record AreIdsBack (next place first : ℕ) (known : List ℕ) (slots : List (Option Slot)) (rest : List ℕ) : Type 0 where
   pub holds : Hold (ids_checks next place known slots rest)
-  pub files : (done : List FoundFile) (start : ℕ) → files_of done start slots (ids_of slots rest) ≡ files_of done start slots (numbers_from (first + 1) (length slots))
+  pub files : (done : List FoundFile) (start : ℕ) → files_of done start slots (ids_of slots rest) ≡ files_of done start slots
+      (numbers_from (first + 1) (length slots))
 
 no-ids : (next place first zeros : ℕ) (known : List ℕ) → AreIdsBack next place first known [] (zeros_of zeros)
 unfolding ids_checks files_of
 no-ids next place first zeros known = record { holds = (zeros-are zeros, tt); files = λ done start. refl }
 
 -- an id of an unused row may be any
-unused-files : (done : List FoundFile) (start first word : ℕ) (slots : List (Option Slot)) (ids : List ℕ) → files_of done (start + 0) slots ids ≡ files_of done (start + 0) slots (numbers_from (first + 1 + 1) (length slots)) → files_of done start (None ∷ slots) (word ∷ ids) ≡ files_of done start (None ∷ slots) (numbers_from (first + 1) (suc (length slots)))
+unused-files : (done : List FoundFile) (start first word : ℕ) (slots : List (Option Slot)) (ids : List ℕ) → files_of done (start + 0) slots ids
+    ≡ files_of done (start + 0) slots (numbers_from (first + 1 + 1) (length slots)) → files_of done start (None ∷ slots) (word ∷ ids) ≡ files_of done
+    start (None ∷ slots) (numbers_from (first + 1) (suc (length slots)))
 unfolding files_of numbers_from
 unused-files done start first word slots ids same = same
 
-used-files : (done : List FoundFile) (start first : ℕ) (slot : Slot) (slots : List (Option Slot)) (ids : List ℕ) → ((all : List FoundFile) (from : ℕ) → files_of all from slots ids ≡ files_of all from slots (numbers_from (first + 1 + 1) (length slots))) → files_of done start (Some slot ∷ slots) ((first + 1) ∷ ids) ≡ files_of done start (Some slot ∷ slots) (numbers_from (first + 1) (suc (length slots)))
+used-files : (done : List FoundFile) (start first : ℕ) (slot : Slot) (slots : List (Option Slot)) (ids : List ℕ) → ((all : List FoundFile) (from : ℕ)
+    → files_of all from slots ids ≡ files_of all from slots (numbers_from (first + 1 + 1) (length slots))) → files_of done start (Some slot ∷ slots)
+    ((first + 1) ∷ ids) ≡ files_of done start (Some slot ∷ slots) (numbers_from (first + 1) (suc (length slots)))
 unfolding files_of numbers_from
 used-files done start first slot slots ids same = same (with_slot (first + 1) start (Some slot) done) (start + slot.blocks)
 
-unused-back : (next place first : ℕ) (known : List ℕ) (slots : List (Option Slot)) (rest : List ℕ) → AreIdsBack next (place + 4) (first + 1) (known ++ 0 ∷ []) slots rest → AreIdsBack next place first known (None ∷ slots) (0 ∷ 0 ∷ 0 ∷ 0 ∷ rest)
+unused-back : (next place first : ℕ) (known : List ℕ) (slots : List (Option Slot)) (rest : List ℕ) → AreIdsBack next (place + 4) (first + 1)
+    (known ++ 0 ∷ []) slots rest → AreIdsBack next place first known (None ∷ slots) (0 ∷ 0 ∷ 0 ∷ 0 ∷ rest)
 unused-back next place first known slots rest more = record {
   holds = one-id next place 0 known None slots (0 ∷ 0 ∷ 0 ∷ 0 ∷ rest) rest (zero-word rest) refl (unused-id next known) more.holds;
   files = λ done start.
@@ -111,25 +123,32 @@ zeros-front : (n zeros : ℕ) → zeros_of (4 * suc n + zeros) ≡ 0 ∷ 0 ∷ 0
 unfolding zeros_of
 zeros-front n zeros = let e : 4 * suc n + zeros ≡ suc (suc (suc (suc (4 * n + zeros)))) = omega arith in ap (λ (k : ℕ). replicate k 0) e
 
-unused-ids : (next place first zeros : ℕ) (known : List ℕ) (slots : List (Option Slot)) → AreFirst true slots → AreIdsBack next place first known slots (zeros_of (4 * length slots + zeros))
+unused-ids : (next place first zeros : ℕ) (known : List ℕ) (slots : List (Option Slot)) → AreFirst true slots → AreIdsBack next place first known
+    slots (zeros_of (4 * length slots + zeros))
 unused-ids next place first zeros known [] are = no-ids next place first (4 * 0 + zeros) known
 unused-ids next place first zeros known (None ∷ slots) are =
     let Back : List ℕ → Type 0 = λ b. AreIdsBack next place first known (None ∷ slots) b in
     subst Back (sym (zeros-front (length slots) zeros))
-    (unused-back next place first known slots (zeros_of (4 * length slots + zeros)) (unused-ids next (place + 4) (first + 1) zeros (known ++ 0 ∷ []) slots are))
+    (unused-back next place first known slots (zeros_of (4 * length slots + zeros)) (unused-ids next (place + 4) (first + 1) zeros (known ++ 0 ∷ [])
+    slots are))
 unused-ids next place first zeros known (Some slot ∷ slots) are = let wrong : true ≡ false = are.0 in cc
 
-used-back : (next place first : ℕ) (known : List ℕ) (slot : Slot) (slots : List (Option Slot)) (rest : List ℕ) → first + 1 < next → first + 1 < 2 ^ 32 → All (λ k. k ≤ first) known → AreIdsBack next (place + 4) (first + 1) (known ++ (first + 1) ∷ []) slots rest → AreIdsBack next place first known (Some slot ∷ slots) (to_be_bytes w32 (first + 1) ++ rest)
+used-back : (next place first : ℕ) (known : List ℕ) (slot : Slot) (slots : List (Option Slot)) (rest : List ℕ) → first + 1 < next → first + 1 < 2 ^ 32
+    → All (λ k. k ≤ first) known → AreIdsBack next (place + 4) (first + 1) (known ++ (first + 1) ∷ []) slots rest → AreIdsBack next place first known
+    (Some slot ∷ slots) (to_be_bytes w32 (first + 1) ++ rest)
 used-back next place first known slot slots rest lt fits all more =
     let bytes = to_be_bytes w32 (first + 1) ++ rest in
     record {
-      holds = one-id next place (first + 1) known (Some slot) slots bytes rest (id-word (first + 1) rest fits) refl (used-id next first known slot lt all) more.holds;
+      holds = one-id next place (first + 1) known (Some slot) slots bytes rest (id-word (first + 1) rest fits) refl (used-id next first known slot lt
+          all) more.holds;
       files = λ done start.
-          ap (λ (ids : List ℕ). files_of done start (Some slot ∷ slots) ids) (one-id-is (first + 1) (Some slot) slots bytes rest (id-word (first + 1) rest fits) refl)
+          ap (λ (ids : List ℕ). files_of done start (Some slot ∷ slots) ids) (one-id-is (first + 1) (Some slot) slots bytes rest
+          (id-word (first + 1) rest fits) refl)
           ∙ used-files done start first slot slots (ids_of slots rest) more.files;
     }
 
-entries-front : (count first zeros : ℕ) → entries_bytes (suc count) first ++ zeros_of zeros ≡ to_be_bytes w32 (first + 1) ++ (entries_bytes count (first + 1) ++ zeros_of zeros)
+entries-front : (count first zeros : ℕ) → entries_bytes (suc count) first ++ zeros_of zeros ≡ to_be_bytes w32 (first + 1)
+    ++ (entries_bytes count (first + 1) ++ zeros_of zeros)
 unfolding entries_bytes
 entries-front count first zeros = refl
 
@@ -137,7 +156,9 @@ no-entries : (first zeros : ℕ) → entries_bytes 0 first ++ zeros_of zeros ≡
 unfolding entries_bytes
 no-entries first zeros = refl
 
-pub ids-back : (next place first zeros : ℕ) (known : List ℕ) (slots : List (Option Slot)) → AreFirst false slots → All (λ k. k ≤ first) known → first + files_in slots < next → next ≤ 2147483648 → 4 * length slots ≤ 4 * files_in slots + zeros → AreIdsBack next place first known slots (entries_bytes (files_in slots) first ++ zeros_of zeros)
+pub ids-back : (next place first zeros : ℕ) (known : List ℕ) (slots : List (Option Slot)) → AreFirst false slots → All (λ k. k ≤ first) known
+    → first + files_in slots < next → next ≤ 2147483648 → 4 * length slots ≤ 4 * files_in slots + zeros → AreIdsBack next place first known slots
+    (entries_bytes (files_in slots) first ++ zeros_of zeros)
 ids-back next place first zeros known [] are all lt few long =
     let Back : List ℕ → Type 0 = λ b. AreIdsBack next place first known [] b in
     subst Back (sym (no-entries first zeros)) (no-ids next place first zeros known)
@@ -157,5 +178,6 @@ ids-back next place first zeros known (Some slot ∷ slots) are all lt few long 
     let wider = All-weaker Below Next (λ k le. omega arith) known all in
     let then_known = All-append Next known ((first + 1) ∷ []) wider (All-cons Next (first + 1) [] (omega arith) (All-nil Next)) in
     subst Back (sym (ap (λ (n : ℕ). entries_bytes n first ++ zeros_of zeros) count ∙ entries-front (files_in slots) first zeros))
-    (used-back next place first known slot slots (entries_bytes (files_in slots) (first + 1) ++ zeros_of zeros) (omega (arith, count)) (omega (arith, count)) all
+    (used-back next place first known slot slots (entries_bytes (files_in slots) (first + 1) ++ zeros_of zeros) (omega (arith, count))
+    (omega (arith, count)) all
     (ids-back next (place + 4) (first + 1) zeros (known ++ (first + 1) ∷ []) slots are.1 then_known (omega (arith, count)) few (omega (arith, count))))

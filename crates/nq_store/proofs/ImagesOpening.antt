@@ -1,17 +1,14 @@
 -- What a disk stands for behind a change, and whenever a stop comes within it.
-use Rattle.std.proofs.Common.{◌≡◌, ◌≢◌, ◌⊎◌, ◌≤◌, ◌<◌, ◌+◌, ◌*◌, ◌&&◌, inl, inr, ℕ, Bool, true, false, List, [], ◌∷◌, Option, Some, None, Result, Ok, Err, length, get_or, if◌then◌else◌, refl, sym, ap, subst, ◌∙◌, arith}
+use Rattle.std.proofs.Common.{◌≡◌, ◌⊎◌, ◌≤◌, ◌<◌, ◌+◌, ◌&&◌, inl, inr, ℕ, Bool, true, false, List, [], ◌∷◌, Option, Some, None, Ok, length, get_or}
+use Rattle.std.proofs.Common.{if◌then◌else◌, sym, ap, subst, ◌∙◌, arith}
 use Rattle.std.specs.Cmp.Lexicographic.{pointwise}
 use Rattle.std.specs.List.{All}
 use Rattle.std.specs.Prelude.{nat_eq, nat_le, replicate}
-use Rattle.std.proofs.lemmas.Bool.{cases_lt}
 use Rattle.std.proofs.lemmas.Bool.Decides.{nat_tests}
-use Rattle.std.proofs.lemmas.List.{get_or_past, length-replicate}
+use Rattle.std.proofs.lemmas.List.{length-replicate}
 use Rattle.nq_base.specs.declared.Change.{Change}
-use Rattle.nq_disk.specs.Bytes.{written}
-use Rattle.nq_plan.specs.Standing.{begins_as_image, image_area, settled_as, stands_as}
-use Rattle.nq_image.specs.Kept.{opened}
-use Rattle.nq_image.specs.Layout.{block_place, piece}
-use Rattle.nq_image.specs.Standing.{Agree, IsInBlock, IsUsed, Standing, Stands, found_of, kept_at, overwritten}
+use Rattle.nq_plan.specs.Standing.{image_area, settled_as, stands_as}
+use Rattle.nq_image.specs.Standing.{Agree, IsUsed, Standing, Stands, found_of, kept_at, overwritten}
 use Rattle.nq_image.specs.Whole.{has_image_name}
 use Rattle.nq_image.proofs.Agreeing.{agree-kept, agree-stands}
 use Rattle.nq_image.proofs.Gathering.{stands-opens}
@@ -20,7 +17,7 @@ use Rattle.nq_image.proofs.Parting.{parts-of}
 use Rattle.nq_image.proofs.Pieces.{piece-same}
 use Rattle.nq_model.specs.Change.{Fits, IsChangeWithin, applied as changed}
 use Rattle.nq_model.specs.Kept.{Kept}
-use Rattle.nq_plan.specs.Held.{HeldTables, IsHeldOf}
+use Rattle.nq_plan.specs.Held.{HeldTables}
 use Rattle.nq_plan.specs.Ranges.{ranges_of}
 use Rattle.nq_plan.specs.Settling.{settled}
 use Rattle.nq_plan.specs.declared.placing.Placed.{Placed}
@@ -48,12 +45,14 @@ record-long = length-replicate {A = ℕ} 12288 0
 pub blank-agrees : (bytes : List ℕ) (s : Standing) → Stands bytes s → Agree s bytes (blank bytes)
 blank-agrees bytes s stands =
     let As : List ℕ → Type 0 = λ b. Agree s bytes b in
-    subst As (sym (blank-over bytes (long-enough bytes s stands))) (record-written bytes s stands 28672 (replicate 12288 0) (omega arith) (omega (arith, record-long)))
+    subst As (sym (blank-over bytes (long-enough bytes s stands))) (record-written bytes s stands 28672 (replicate 12288 0) (omega arith)
+    (omega (arith, record-long)))
 
 blank-zeros : (bytes : List ℕ) (s : Standing) (blocks : List ℕ) → Stands bytes s → All (HasZeros bytes) blocks → All (HasZeros (blank bytes)) blocks
 blank-zeros bytes s blocks stands all =
     let Zeros : List ℕ → Type 0 = λ b. All (HasZeros b) blocks in
-    subst Zeros (sym (blank-over bytes (long-enough bytes s stands))) (zeros-behind bytes s stands 28672 (replicate 12288 0) blocks (omega (arith, record-long)) all)
+    subst Zeros (sym (blank-over bytes (long-enough bytes s stands))) (zeros-behind bytes s stands 28672 (replicate 12288 0) blocks
+    (omega (arith, record-long)) all)
 
 -- a place in the record is one where nothing stands
 used-outside : (s : Standing) (place : ℕ) → IsUsed s place → (place < 28672) ⊎ (28672 + 12288 ≤ place)
@@ -64,7 +63,8 @@ used-outside s place (inr (inr b)) = let le = b.2.0 in inr (omega (arith, le))
 pub unblank-agrees : (bytes : List ℕ) (s : Standing) → 40960 ≤ length bytes → Stands (blank bytes) s → Agree s (blank bytes) bytes
 unblank-agrees bytes s long stands =
     let same = length-blanked 28672 12288 0 bytes (omega (arith, long)) in
-    bytes-agree (blank bytes) s stands bytes (omega (arith, same)) (λ place lt used. sym (blanked-outside 28672 12288 0 bytes place (used-outside s place used)))
+    bytes-agree (blank bytes) s stands bytes (omega (arith, same)) (λ place lt used. sym (blanked-outside 28672 12288 0 bytes place
+    (used-outside s place used)))
 
 -- ---- what an image opens as
 
@@ -76,7 +76,8 @@ both true b h k = k
 both false b h k = absurd (cc)
 
 -- an image that opens as bytes where a state stands, stands for that state
-pub stands-so : (image bytes : List ℕ) (s : Standing) → 40960 ≤ length image → found image_area image ≡ Ok bytes → Stands bytes s → stands_as image ≡ Some (Ok (kept_at bytes s))
+pub stands-so : (image bytes : List ℕ) (s : Standing) → 40960 ≤ length image → found image_area image ≡ Ok bytes → Stands bytes s → stands_as image
+    ≡ Some (Ok (kept_at bytes s))
 unfolding stands_as
 stands-so image bytes s long is stands =
     let begins = (parts-of bytes (found_of s) stands.found).begins in
@@ -91,7 +92,8 @@ stands-so image bytes s long is stands =
     front : (k : ℕ) → k < 7 → get_or bytes (0 + k) 0 ≡ get_or image (0 + k) 0
     front k lt = front-stays image_area image bytes (0 + k) (omega (arith, lt)) (omega (arith, lt)) is
 
-pub closed-stands : (old image : List ℕ) (s : Standing) → Stands old s → IsClosed image_area old → 40960 ≤ length image → found image_area image ≡ found image_area old → stands_as image ≡ Some (Ok (kept_at old s))
+pub closed-stands : (old image : List ℕ) (s : Standing) → Stands old s → IsClosed image_area old → 40960 ≤ length image → found image_area image
+    ≡ found image_area old → stands_as image ≡ Some (Ok (kept_at old s))
 closed-stands old image s stands closed long is =
     let agree = blank-agrees old s stands in
     stands-so image (blank old) s long (is ∙ opened-closed 28672 12288 68202496 old closed.shut) (agree-stands s old (blank old) stands agree)
@@ -100,7 +102,8 @@ closed-stands old image s stands closed long is =
 -- ---- a change
 
 -- it can be written to the image with a blank record
-blank-can : (old : List ℕ) (held : HeldTables) (change : Change) (placed : Option Placed) → CanBeWritten old held change placed → CanBeWritten (blank old) held change placed
+blank-can : (old : List ℕ) (held : HeldTables) (change : Change) (placed : Option Placed) → CanBeWritten old held change placed
+    → CanBeWritten (blank old) held change placed
 blank-can old held change placed can =
     let s = held.standing in
     let agree = blank-agrees old s can.is_held.stands in
@@ -130,11 +133,13 @@ module _ (old : List ℕ) (held : HeldTables) (change : Change) (placed : Option
       let agree = blank-agrees old held.standing can.is_held.stands in
       written-blank.kept ∙ ap (λ (k : Kept). changed k change) (agree-kept held.standing old (blank old) agree.blocks)
 
-  pub change-stands : (image : List ℕ) → 40960 ≤ length image → found image_area image ≡ after image_area (ranges_of held.standing change placed) old → stands_as image ≡ Some (Ok (changed (kept_at old held.standing) change))
+  pub change-stands : (image : List ℕ) → 40960 ≤ length image → found image_area image ≡ after image_area (ranges_of held.standing change placed) old
+      → stands_as image ≡ Some (Ok (changed (kept_at old held.standing) change))
   change-stands image long is =
       stands-so image then_bytes then_held.standing long is written-blank.is_held.stands ∙ ap (λ (k : Kept). Some (Ok k)) kept-then
 
-  pub change-settled : (new : List ℕ) → IsClosed image_area new → found image_area new ≡ after image_area (ranges_of held.standing change placed) old → IsWritten old new held change placed
+  pub change-settled : (new : List ℕ) → IsClosed image_area new → found image_area new ≡ after image_area (ranges_of held.standing change placed) old
+      → IsWritten old new held change placed
   change-settled new closed is =
       let same : blank new ≡ then_bytes = let e = sym (opened-closed 28672 12288 68202496 new closed.shut) ∙ is in cc in
       let t = then_held.standing in

@@ -1,5 +1,6 @@
 -- The rows of an image of version 1 are rows of version 2.
-use Rattle.std.proofs.Common.{◌≡◌, ◌≤◌, ◌+◌, ◌||◌, ℕ, zero, suc, Bool, true, false, List, [], ◌∷◌, ◌++◌, Option, Some, None, take, drop, if◌then◌else◌, refl, sym, ap, ◌∙◌, arith}
+use Rattle.std.proofs.Common.{◌≡◌, ◌≤◌, ◌+◌, ◌||◌, ℕ, zero, suc, Bool, true, false, List, [], ◌∷◌, ◌++◌, Option, Some, None, take, drop}
+use Rattle.std.proofs.Common.{if◌then◌else◌, refl, sym, ap, ◌∙◌, arith}
 use Rattle.std.specs.List.{All, list_any, sum_by}
 use Rattle.std.specs.Prelude.{nat_le}
 use Rattle.std.proofs.lemmas.List.Elements.{All-cons, All-nil}
@@ -17,20 +18,25 @@ use Rattle.nq_image.proofs.Rowing.{AllNew, IsNewTo, rows-new}
 
 -- ---- each row is right in version 2
 
-used-two : (place : ℕ) (slots : List (Option Slot)) (row : List ℕ) → Hold (used_checks Version.One place slots row) → Hold (used_checks Version.Two place slots row)
+used-two : (place : ℕ) (slots : List (Option Slot)) (row : List ℕ) → Hold (used_checks Version.One place slots row)
+    → Hold (used_checks Version.Two place slots row)
 unfolding used_checks
 used-two place slots row h = (h.0, (h.1.0, (h.1.1.0, (refl, (h.1.1.1.1.0, (h.1.1.1.1.1.0, tt))))))
 
-row-two-by : (zeros shut : Bool) (place : ℕ) (slots : List (Option Slot)) (row : List ℕ) → Hold (if zeros then [] else if shut then check (least_not_zeros place row) false ∷ [] else used_checks Version.One place slots row) → Hold (if zeros then [] else used_checks Version.Two place slots row)
+row-two-by : (zeros shut : Bool) (place : ℕ) (slots : List (Option Slot)) (row : List ℕ) → Hold (if zeros then [] else if shut
+    then check (least_not_zeros place row) false ∷ [] else used_checks Version.One place slots row)
+    → Hold (if zeros then [] else used_checks Version.Two place slots row)
 row-two-by true shut place slots row h = tt
 row-two-by false true place slots row h = let wrong : false ≡ true = h.0 in cc
 row-two-by false false place slots row h = used-two place slots row h
 
-row-two : (place : ℕ) (slots : List (Option Slot)) (row : List ℕ) → Hold (row_checks Version.One place slots row) → Hold (row_checks Version.Two place slots row)
+row-two : (place : ℕ) (slots : List (Option Slot)) (row : List ℕ) → Hold (row_checks Version.One place slots row)
+    → Hold (row_checks Version.Two place slots row)
 unfolding row_checks
 row-two place slots row h = row-two-by (are_zeros row) (is_shut Version.One slots) place slots row h
 
-pub rows-two : (count place : ℕ) (before : List (Option Slot)) (rows : List ℕ) → Hold (rows_checks Version.One count place before rows) → Hold (rows_checks Version.Two count place before rows)
+pub rows-two : (count place : ℕ) (before : List (Option Slot)) (rows : List ℕ) → Hold (rows_checks Version.One count place before rows)
+    → Hold (rows_checks Version.Two count place before rows)
 unfolding rows_checks
 rows-two zero place before rows h = tt
 rows-two (suc count) place before rows h =
@@ -43,11 +49,13 @@ rows-two (suc count) place before rows h =
 
 -- ---- the blocks of all files are not too many
 
-few-by : (before : List (Option Slot)) (slot : Option Slot) → sum_by blocks_of before ≤ 16384 → IsNewTo before slot → sum_by blocks_of before + blocks_of slot ≤ 16384
+few-by : (before : List (Option Slot)) (slot : Option Slot) → sum_by blocks_of before ≤ 16384 → IsNewTo before slot → sum_by blocks_of before
+    + blocks_of slot ≤ 16384
 few-by before None few new = omega arith
 few-by before (Some slot) few new = new.1
 
-all-few : (before slots : List (Option Slot)) → sum_by blocks_of before ≤ 16384 → AllNew before slots → sum_by blocks_of before + sum_by blocks_of slots ≤ 16384
+all-few : (before slots : List (Option Slot)) → sum_by blocks_of before ≤ 16384 → AllNew before slots → sum_by blocks_of before + sum_by blocks_of
+    slots ≤ 16384
 all-few before [] few new = omega arith
 all-few before (slot ∷ slots) few new =
     let own = few-by before slot few new.0 in
@@ -68,7 +76,8 @@ AreFirst over [] = Unit {0}
 AreFirst over (None ∷ slots) = AreFirst true slots
 AreFirst over (Some slot ∷ slots) = (over ≡ false) × AreFirst over slots
 
-first-step : (zeros over : Bool) (slot : Slot) (slots : List (Option Slot)) → (zeros ≡ false → over ≡ false) → AreFirst (if zeros then true else over) slots → AreFirst over ((if zeros then None else Some slot) ∷ slots)
+first-step : (zeros over : Bool) (slot : Slot) (slots : List (Option Slot)) → (zeros ≡ false → over ≡ false) → AreFirst (if zeros then true else over)
+    slots → AreFirst over ((if zeros then None else Some slot) ∷ slots)
 first-step true over slot slots shut rest = rest
 first-step false over slot slots shut rest = (shut refl, rest)
 
@@ -78,21 +87,25 @@ over-by true false slot = refl
 over-by false true slot = refl
 over-by false false slot = refl
 
-over-then : (zeros over : Bool) (slot : Slot) (before : List (Option Slot)) → list_any is_unused before ≡ over → list_any is_unused (before ++ (if zeros then None else Some slot) ∷ []) ≡ (if zeros then true else over)
+over-then : (zeros over : Bool) (slot : Slot) (before : List (Option Slot)) → list_any is_unused before ≡ over
+    → list_any is_unused (before ++ (if zeros then None else Some slot) ∷ []) ≡ (if zeros then true else over)
 over-then zeros over slot before is =
     let last : List (Option Slot) = (if zeros then None else Some slot) ∷ [] in
     list_any-append is_unused before last ∙ ap (λ (b : Bool). b || list_any is_unused last) is ∙ over-by zeros over slot
 
-not-shut : (zeros shut : Bool) (place : ℕ) (slots : List (Option Slot)) (row : List ℕ) → Hold (if zeros then [] else if shut then check (least_not_zeros place row) false ∷ [] else used_checks Version.One place slots row) → zeros ≡ false → shut ≡ false
+not-shut : (zeros shut : Bool) (place : ℕ) (slots : List (Option Slot)) (row : List ℕ) → Hold (if zeros then [] else if shut
+    then check (least_not_zeros place row) false ∷ [] else used_checks Version.One place slots row) → zeros ≡ false → shut ≡ false
 not-shut true shut place slots row h e = cc
 not-shut false true place slots row h e = let wrong : false ≡ true = h.0 in cc
 not-shut false false place slots row h e = refl
 
-row-shut : (place : ℕ) (before : List (Option Slot)) (row : List ℕ) → Hold (row_checks Version.One place before row) → are_zeros row ≡ false → list_any is_unused before ≡ false
+row-shut : (place : ℕ) (before : List (Option Slot)) (row : List ℕ) → Hold (row_checks Version.One place before row) → are_zeros row ≡ false
+    → list_any is_unused before ≡ false
 unfolding row_checks
 row-shut place before row h e = not-shut (are_zeros row) (list_any is_unused before) place before row h e
 
-rows-first : (count place : ℕ) (over : Bool) (before : List (Option Slot)) (rows : List ℕ) → list_any is_unused before ≡ over → Hold (rows_checks Version.One count place before rows) → AreFirst over (slots_of count rows)
+rows-first : (count place : ℕ) (over : Bool) (before : List (Option Slot)) (rows : List ℕ) → list_any is_unused before ≡ over
+    → Hold (rows_checks Version.One count place before rows) → AreFirst over (slots_of count rows)
 unfolding rows_checks slots_of slot_of
 rows-first zero place over before rows is h = tt
 rows-first (suc count) place over before rows is h =
@@ -103,14 +116,16 @@ rows-first (suc count) place over before rows is h =
     let behind = rows_checks Version.One count (place + 96) more (drop 96 rows) in
     first-step zeros over (used_slot row) (slots_of count (drop 96 rows))
     (λ e. sym is ∙ row-shut place before row (hold-front front behind h) e)
-    (rows-first count (place + 96) (if zeros then true else over) more (drop 96 rows) (over-then zeros over (used_slot row) before is) (hold-behind front behind h))
+    (rows-first count (place + 96) (if zeros then true else over) more (drop 96 rows) (over-then zeros over (used_slot row) before is)
+    (hold-behind front behind h))
 
 pub used-first : (count place : ℕ) (rows : List ℕ) → Hold (rows_checks Version.One count place [] rows) → AreFirst false (slots_of count rows)
 used-first count place rows h = rows-first count place false [] rows refl h
 
 -- ---- no file is too long
 
-row-short-by : (zeros : Bool) (place : ℕ) (before : List (Option Slot)) (row : List ℕ) → Hold (if zeros then [] else used_checks Version.Two place before row) → blocks_of (if zeros then None else Some (used_slot row)) ≤ 1024
+row-short-by : (zeros : Bool) (place : ℕ) (before : List (Option Slot)) (row : List ℕ) → Hold (if zeros then [] else used_checks Version.Two place
+    before row) → blocks_of (if zeros then None else Some (used_slot row)) ≤ 1024
 unfolding used_checks used_slot
 row-short-by true place before row h = omega arith
 row-short-by false place before row h =
@@ -121,7 +136,8 @@ row-short : (place : ℕ) (before : List (Option Slot)) (row : List ℕ) → Hol
 unfolding row_checks slot_of
 row-short place before row h = row-short-by (are_zeros row) place before row h
 
-rows-short : (count place : ℕ) (before : List (Option Slot)) (rows : List ℕ) → Hold (rows_checks Version.Two count place before rows) → All (λ slot. blocks_of slot ≤ 1024) (slots_of count rows)
+rows-short : (count place : ℕ) (before : List (Option Slot)) (rows : List ℕ) → Hold (rows_checks Version.Two count place before rows)
+    → All (λ slot. blocks_of slot ≤ 1024) (slots_of count rows)
 unfolding rows_checks slots_of
 rows-short zero place before rows h = All-nil (λ (slot : Option Slot). blocks_of slot ≤ 1024)
 rows-short (suc count) place before rows h =
@@ -131,5 +147,6 @@ rows-short (suc count) place before rows h =
     All-cons (λ (slot : Option Slot). blocks_of slot ≤ 1024) (slot_of (take 96 rows)) (slots_of count (drop 96 rows))
     (row-short place before (take 96 rows) (hold-front front behind h)) (rows-short count (place + 96) more (drop 96 rows) (hold-behind front behind h))
 
-pub short-rows : (count place : ℕ) (before : List (Option Slot)) (rows : List ℕ) → Hold (rows_checks Version.One count place before rows) → All (λ slot. blocks_of slot ≤ 1024) (slots_of count rows)
+pub short-rows : (count place : ℕ) (before : List (Option Slot)) (rows : List ℕ) → Hold (rows_checks Version.One count place before rows)
+    → All (λ slot. blocks_of slot ≤ 1024) (slots_of count rows)
 short-rows count place before rows h = rows-short count place before rows (rows-two count place before rows h)

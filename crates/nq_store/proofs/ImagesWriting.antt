@@ -1,21 +1,20 @@
 -- The ranges of a change, as parts that are overwritten in an image.
-use Rattle.std.proofs.Common.{◌≡◌, ◌≤◌, ◌<◌, ◌+◌, ◌-◌, ◌*◌, ℕ, List, [], ◌∷◌, ◌++◌, Option, Some, None, take, drop, length, refl, sym, ap, ◌∙◌, arith}
+use Rattle.std.proofs.Common.{◌≡◌, ◌≤◌, ◌<◌, ◌+◌, ◌-◌, ℕ, List, [], ◌∷◌, ◌++◌, Some, take, drop, length, refl, sym, ap, ◌∙◌, arith}
 use Rattle.std.specs.List.{All}
 use Rattle.std.specs.Prelude.{replicate}
 use Rattle.std.specs.Int.{w32, to_be_bytes}
-use Rattle.std.proofs.lemmas.List.{append-nil, take-append-drop, take-append-le}
+use Rattle.std.proofs.lemmas.List.{take-append-drop, take-append-le}
 use Rattle.std.proofs.lemmas.List.Elements.{All-weaker}
 use Rattle.nq_disk.specs.Bytes.{written}
-use Rattle.nq_image.specs.Kept.{body_in}
 use Rattle.nq_image.specs.Layout.{block_place}
 use Rattle.nq_image.specs.Standing.{CanStand, PlacedFile, Standing, Stands, id_place, overwritten, row_for, row_place, with_file_written, with_row_cleared}
 use Rattle.nq_image.specs.Writing.{row_bytes, table_of_blocks, zeros_of}
 use Rattle.nq_image.proofs.FileRows.{length-row}
-use Rattle.nq_image.proofs.Overwriting.{block-behind, length-of-table, long-enough, whole-tables}
+use Rattle.nq_image.proofs.Overwriting.{block-behind, long-enough, whole-tables}
 use Rattle.nq_image.proofs.Pieces.{length-over}
 use Rattle.nq_image.proofs.ReadBack.{length-zeros}
 use Rattle.nq_disk.specs.Ranges.{Range, applied}
-use Rattle.nq_plan.specs.Ranges.{id_range, range, removal_ranges, whole_ranges}
+use Rattle.nq_plan.specs.Ranges.{removal_ranges, whole_ranges}
 use Rattle.nq_store.specs.Changing.{HasZeros}
 use Rattle.nq_store.proofs.ImagesZeroing.{zeros-held}
 
@@ -55,8 +54,10 @@ module _ (bytes : List ℕ) (s : Standing) (stands : Stands bytes s) where
       let two = overwritten (id_place s.tables slot) id one in
       let length_one = length-over (row_place slot) row bytes (omega (arith, lt, row_long, long)) in
       let length_two = length-over (id_place s.tables slot) id one (omega (arith, lt, id_long, ids, length_one)) in
-      ap (λ (b : List ℕ). written (block_place (s.tables + slot)) table (written (id_place s.tables slot) id b)) (written-over (row_place slot) row bytes (omega (arith, lt, long)))
-      ∙ ap (λ (b : List ℕ). written (block_place (s.tables + slot)) table b) (written-over (id_place s.tables slot) id one (omega (arith, lt, ids, length_one)))
+      ap (λ (b : List ℕ). written (block_place (s.tables + slot)) table (written (id_place s.tables slot) id b)) (written-over (row_place slot) row
+      bytes (omega (arith, lt, long)))
+      ∙ ap (λ (b : List ℕ). written (block_place (s.tables + slot)) table b) (written-over (id_place s.tables slot) id one
+      (omega (arith, lt, ids, length_one)))
       ∙ written-over (block_place (s.tables + slot)) table two (omega (arith, own, length_two, length_one))
 
   -- a row and an id of zeros
@@ -73,7 +74,8 @@ module _ (bytes : List ℕ) (s : Standing) (stands : Stands bytes s) where
       ∙ ap (λ (z : List ℕ). overwritten (id_place s.tables slot) z one) zero-id
 
   -- zeros stay where the numbers and rows are written
-  pub zeros-behind : (place : ℕ) (part blocks : List ℕ) → place + length part ≤ 40960 → All (HasZeros bytes) blocks → All (HasZeros (overwritten place part bytes)) blocks
+  pub zeros-behind : (place : ℕ) (part blocks : List ℕ) → place + length part ≤ 40960 → All (HasZeros bytes) blocks
+      → All (HasZeros (overwritten place part bytes)) blocks
   zeros-behind place part blocks fits all =
       All-weaker (HasZeros bytes) (HasZeros (overwritten place part bytes))
       (λ block has. block-behind block place part bytes fits (long-enough bytes s stands) (zeros-held bytes block has) ∙ has) blocks all

@@ -1,6 +1,7 @@
 -- What is written to free blocks changes nothing that stands in an image.
-use Rattle.std.proofs.Common.{◌≡◌, ◌≢◌, ◌≤◌, ◌<◌, ◌+◌, ◌-◌, ◌⊎◌, inl, inr, max, min, ℕ, false, List, [], ◌∷◌, take, drop, length, get_or, refl, sym, ap, subst, ◌∙◌, arith, length-drop}
-use Rattle.std.specs.List.{All, Contains}
+use Rattle.std.proofs.Common.{◌≡◌, ◌≢◌, ◌≤◌, ◌<◌, ◌+◌, ◌-◌, ◌⊎◌, inl, inr, ℕ, List, [], ◌∷◌, drop, length, get_or, refl, sym, ap, subst, ◌∙◌, arith}
+use Rattle.std.proofs.Common.{length-drop}
+use Rattle.std.specs.List.{All}
 use Rattle.std.proofs.lemmas.Bool.{cases_eq}
 use Rattle.std.proofs.lemmas.List.{ext_get_or, length-take}
 use Rattle.std.proofs.lemmas.List.Elements.{All-cons, All-contains, All-head, All-nil, All-tail}
@@ -10,7 +11,7 @@ use Rattle.nq_disk.specs.Bytes.{Torn, written}
 use Rattle.nq_disk.specs.BytesLaws.{length-written, torn-written, written-within, written-outside}
 use Rattle.nq_image.specs.Kept.{body_in}
 use Rattle.nq_image.specs.Layout.{block_place, piece}
-use Rattle.nq_image.specs.Standing.{Agree, HaveSameBlocks, IsFree, IsInBlock, IsUsed, Standing, Stands, blocks_in}
+use Rattle.nq_image.specs.Standing.{Agree, IsFree, IsInBlock, IsUsed, Standing, Stands, blocks_in}
 use Rattle.nq_image.proofs.Agreeing.{agree-stands}
 use Rattle.nq_image.proofs.Allotting.{both-of}
 use Rattle.nq_image.proofs.Giving.{IsHeld}
@@ -40,7 +41,8 @@ pub torn-agrees : (s : Standing) (block : ℕ) (old new : List ℕ) → Stands o
 torn-agrees s block old new stands free torn =
     bytes-agree old s stands new torn.no_shorter (λ place lt used. torn.outside place lt (used-beside s block place free used))
 
-pub written-agrees : (bytes : List ℕ) (s : Standing) (block : ℕ) (part : List ℕ) → Stands bytes s → IsFree s block → length part ≡ 4096 → Agree s bytes (written (block_place block) part bytes)
+pub written-agrees : (bytes : List ℕ) (s : Standing) (block : ℕ) (part : List ℕ) → Stands bytes s → IsFree s block → length part ≡ 4096
+    → Agree s bytes (written (block_place block) part bytes)
 written-agrees bytes s block part stands free long =
     let IsTorn : ℕ → Type 0 = λ n. Torn (block_place block) n bytes (written (block_place block) part bytes) in
     torn-agrees s block bytes (written (block_place block) part bytes) stands free (subst IsTorn long (torn-written (block_place block) part bytes))
@@ -63,7 +65,8 @@ agree-on s one two three a b = record {
   blocks = record {
     no_shorter = let x = a.blocks.no_shorter in let y = b.blocks.no_shorter in omega arith;
     tables = λ n lt. b.blocks.tables n lt ∙ a.blocks.tables n lt;
-    bodies = both-of (λ block. body_in two block ≡ body_in one block) (λ block. body_in three block ≡ body_in two block) (λ block. body_in three block ≡ body_in one block) (blocks_in s.rows) (λ block p q. q ∙ p) a.blocks.bodies b.blocks.bodies;
+    bodies = both-of (λ block. body_in two block ≡ body_in one block) (λ block. body_in three block ≡ body_in two block) (λ block. body_in three block
+        ≡ body_in one block) (blocks_in s.rows) (λ block p q. q ∙ p) a.blocks.bodies b.blocks.bodies;
   };
 }
 
@@ -105,7 +108,8 @@ body-there bytes block part long =
         ∙ ap (λ (i : ℕ). get_or part i 0) (back (block_place block) k)
 
 -- a block that is held keeps its body where another one is written
-pub body-beside : (bytes : List ℕ) (a b : ℕ) (part : List ℕ) → length part ≡ 4096 → a ≢ b → IsHeld (length bytes) a → body_in (written (block_place b) part bytes) a ≡ body_in bytes a
+pub body-beside : (bytes : List ℕ) (a b : ℕ) (part : List ℕ) → length part ≡ 4096 → a ≢ b → IsHeld (length bytes) a
+    → body_in (written (block_place b) part bytes) a ≡ body_in bytes a
 body-beside bytes a b part long ne whole =
     let new = written (block_place b) part bytes in
     let size = length-written (block_place b) part bytes (inr (omega (arith, long))) in

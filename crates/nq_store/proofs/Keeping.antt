@@ -1,5 +1,6 @@
 -- What a store tells of what it keeps, and what a stop leaves of it.
-use Rattle.std.proofs.Common.{◌≡◌, ◌<◌, ◌+◌, ◌-◌, ◌^◌, ℕ, Bool, true, false, List, [], Option, Some, None, Result, Ok, if◌then◌else◌, refl, sym, ap, subst, ◌∙◌, inl, inr, arith}
+use Rattle.std.proofs.Common.{◌≡◌, ◌<◌, ◌+◌, ◌-◌, ◌^◌, ℕ, Bool, true, false, List, [], Option, Some, None, Result, Ok, if◌then◌else◌, refl, sym, ap}
+use Rattle.std.proofs.Common.{subst, ◌∙◌, inl, inr, arith}
 use Rattle.std.specs.Prelude.{IfOk}
 use Rattle.std.specs.Option.{ForSome}
 use Rattle.std.proofs.lemmas.Bool.{cases_lt}
@@ -42,7 +43,8 @@ pub record IsKnown (held : HeldTables) (may : List ℕ → Type 0) (told : Optio
 one-kept : (a b : Kept) (o : Option Kept) → o ≡ Some a → o ≡ Some b → a ≡ b
 one-kept a b o one two = cc
 
-pub known : (ended : Bool) (told : Option (List ℕ)) (held : HeldTables) (may : List ℕ → Type 0) (kept : Kept) → IsSound told may held ended → content_while ended told ≡ Some kept → IsKnown held may told kept
+pub known : (ended : Bool) (told : Option (List ℕ)) (held : HeldTables) (may : List ℕ → Type 0) (kept : Kept) → IsSound told may held ended
+    → content_while ended told ≡ Some kept → IsKnown held may told kept
 known true told held may kept sound e = absurd (cc)
 known false told held may kept sound e =
     let t = tells-bytes false told kept e in
@@ -52,7 +54,8 @@ known false told held may kept sound e =
 -- each row of an image stands apart
 pub apart-in : (bytes : List ℕ) (held : HeldTables) → IsHeldOf bytes held → AreApartRows held.standing.rows
 apart-in bytes held is_held =
-    rows-apart held.standing (λ file lt here. standing-apart bytes held.standing file is_held.stands lt here) (rows-of bytes held.standing is_held.stands) held.standing.rows [] refl is_held.stands.numbered
+    rows-apart held.standing (λ file lt here. standing-apart bytes held.standing file is_held.stands lt here) (rows-of bytes held.standing
+    is_held.stands) held.standing.rows [] refl is_held.stands.numbered
 
 -- ---- an answer out of memory
 
@@ -60,20 +63,24 @@ if-answered : {X : Type 0} (ended : Bool) (x z : X) → x ≡ z → IfOk (answer
 if-answered true x z same = tt
 if-answered false x z same = same
 
-pub told-answer : {X : Type 0} (result : Result X KeepFault) (x : X) (y : Kept → X) (ended : Bool) (told : Option (List ℕ)) (held : HeldTables) (may : List ℕ → Type 0) → IsSound told may held ended → result ≡ answered ended x → ((bytes : List ℕ) → IsHeldOf bytes held → x ≡ y (kept_at bytes held.standing)) → ForSome (content_while ended told) (λ kept. IfOk result (λ r. r ≡ y kept))
+pub told-answer : {X : Type 0} (result : Result X KeepFault) (x : X) (y : Kept → X) (ended : Bool) (told : Option (List ℕ)) (held : HeldTables)
+    (may : List ℕ → Type 0) → IsSound told may held ended → result ≡ answered ended x → ((bytes : List ℕ) → IsHeldOf bytes held
+    → x ≡ y (kept_at bytes held.standing)) → ForSome (content_while ended told) (λ kept. IfOk result (λ r. r ≡ y kept))
 told-answer {X} result x y ended told held may sound is same = λ kept e.
     let k = known ended told held may kept sound e in
     subst (λ (r : Result X KeepFault). IfOk r (λ v. v ≡ y kept)) (sym is) (if-answered ended x (y kept) (same k.bytes k.on.is_held ∙ ap y k.same))
 
 -- ---- what a stop leaves of a call that reads
 
-pub leaves-same : (ended : Bool) (told : Option (List ℕ)) (held : HeldTables) (may leaves : List ℕ → Type 0) → IsSound told may held ended → ((image : List ℕ) → leaves image → may image) → LeavesOne (content_while ended told) (LeavesKept leaves)
+pub leaves-same : (ended : Bool) (told : Option (List ℕ)) (held : HeldTables) (may leaves : List ℕ → Type 0) → IsSound told may held ended
+    → ((image : List ℕ) → leaves image → may image) → LeavesOne (content_while ended told) (LeavesKept leaves)
 leaves-same ended told held may leaves sound more = λ kept e found left.
     let k = known ended told held may kept sound e in
     left.2 ∙ ap kept_on (k.on.alone left.0 (more left.0 left.1)) ∙ held-kept held may k.bytes k.on ∙ ap (λ (x : Kept). Some x) k.same
 
 -- tables that were sound stay so where a stop leaves no more
-pub sound-still : (ended : Bool) (told tells : Option (List ℕ)) (held : HeldTables) (may now : List ℕ → Type 0) → IsSound told may held ended → tells ≡ told → ((image : List ℕ) → now image → may image) → IsSound tells now held ended
+pub sound-still : (ended : Bool) (told tells : Option (List ℕ)) (held : HeldTables) (may now : List ℕ → Type 0) → IsSound told may held ended
+    → tells ≡ told → ((image : List ℕ) → now image → may image) → IsSound tells now held ended
 sound-still ended told tells held may now sound same more = λ goes bytes is.
     let on = sound goes bytes (sym same ∙ is) in
     record { is_held = on.is_held; closed = on.closed; alone = λ image left. on.alone image (more image left); within = on.within }

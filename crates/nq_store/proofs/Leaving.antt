@@ -1,5 +1,6 @@
 -- What a stop leaves of a migration, and what is there behind it, stands for the same.
-use Rattle.std.proofs.Common.{◌≡◌, ◌≤◌, ◌<◌, ◌+◌, ◌⊎◌, ℕ, Bool, true, false, List, [], ◌∷◌, Option, Some, None, Ok, length, get_or, if◌then◌else◌, refl, sym, ap, subst, ◌∙◌, inl, inr, arith}
+use Rattle.std.proofs.Common.{◌≡◌, ◌≤◌, ◌<◌, ◌+◌, ◌⊎◌, ℕ, Bool, true, false, List, [], ◌∷◌, Option, Some, None, Ok, length, get_or, if◌then◌else◌}
+use Rattle.std.proofs.Common.{refl, sym, ap, subst, ◌∙◌, inl, inr, arith}
 use Rattle.std.specs.Cmp.Lexicographic.{pointwise}
 use Rattle.std.specs.List.{All}
 use Rattle.std.specs.Prelude.{nat_eq, nat_le, nat_lt}
@@ -39,12 +40,18 @@ blank bytes = blanked 28672 12288 bytes
 pub blank-rows : (bytes : List ℕ) → 40960 ≤ length bytes → piece 0 28672 (blank bytes) ≡ piece 0 28672 bytes
 blank-rows bytes long =
     let same = length-blanked 28672 12288 0 bytes (omega (arith, long)) in
-    piece-same 0 28672 (blank bytes) bytes (omega (arith, same, long)) (omega (arith, long)) (λ k lt. blanked-outside 28672 12288 0 bytes (0 + k) (inl (omega (arith, lt))))
+    piece-same 0 28672 (blank bytes) bytes (omega (arith, same, long)) (omega (arith, long)) (λ k lt. blanked-outside 28672 12288 0 bytes (0 + k)
+    (inl (omega (arith, lt))))
 
 blank-agrees : (end : ℕ) (bytes : List ℕ) → 40960 ≤ length bytes → AgreeUpTo end bytes (blank bytes)
 blank-agrees end bytes long =
     let same = length-blanked 28672 12288 0 bytes (omega (arith, long)) in
-    record { no_shorter = omega (arith, same); rows = blank-rows bytes long; blocks = λ k le lt. blanked-outside 28672 12288 0 bytes k (inr (omega (arith, le))) }
+    record {
+      no_shorter = omega (arith, same);
+      rows = blank-rows bytes long;
+      blocks = λ k le lt. blanked-outside 28672 12288 0 bytes k
+          (inr (omega (arith, le)));
+    }
 
 -- ---- what a closed image of version 1 stands for
 
@@ -65,9 +72,11 @@ stands-one found bytes is closed =
     ∙ one-opens-same found bytes (blank bytes) is (blank-agrees (block_place (blocks_in found.rows.slots)) bytes p.long)
 
 -- what opens as bytes that begin as an image does so, too
-front-name : (image opens : List ℕ) → 40960 ≤ length image → 7 ≤ length opens → found_by image_area image ≡ Ok opens → has_image_name opens ≡ true → begins_as_image image ≡ true
+front-name : (image opens : List ℕ) → 40960 ≤ length image → 7 ≤ length opens → found_by image_area image ≡ Ok opens → has_image_name opens ≡ true
+    → begins_as_image image ≡ true
 front-name image opens long some is name =
-    let first = piece-same 0 7 image opens (omega (arith, long)) (omega (arith, some)) (λ k lt. sym (front-stays image_area image opens (0 + k) (omega (arith, lt)) (omega (arith, lt)) is)) in
+    let first = piece-same 0 7 image opens (omega (arith, long)) (omega (arith, some)) (λ k lt. sym (front-stays image_area image opens (0 + k)
+    (omega (arith, lt)) (omega (arith, lt)) is)) in
     both-begin image long (ap (λ (b : List ℕ). pointwise nat_eq b (78 ∷ 81 ∷ 78 ∷ 70 ∷ 83 ∷ 73 ∷ 77 ∷ [])) first ∙ name)
 
 not-lt : (m n : ℕ) → n ≤ m → nat_lt m n ≡ false
@@ -108,14 +117,16 @@ module _ (found : FoundOne) (old : List ℕ) (is : image_in old ≡ Some (Ok (of
         ∙ one-opens-same found old image is (record { no_shorter = same.no_shorter; rows = below-rows; blocks = λ k le lt. same.same k lt })
         ∙ sym (stands-one found old is closed)
 
-  pub as-before : (mid image : List ℕ) → SameBelow (block_place (blocks_in found.rows.slots)) old mid → OpensAs image_area mid image → stands_as image ≡ stands_as old
+  pub as-before : (mid image : List ℕ) → SameBelow (block_place (blocks_in found.rows.slots)) old mid → OpensAs image_area mid image → stands_as image
+      ≡ stands_as old
   as-before mid image same opens =
       let q = parts-of-one mid found (below-one mid same) in
       let long = q.long in
       let longer = opens.0 in
       let so = opens.1 ∙ closed-found mid (below-closed mid same) in
       let size = length-blanked 28672 12288 0 mid (omega (arith, long)) in
-      let first = piece-same 0 7 (blank mid) mid (omega (arith, size, long)) (omega (arith, long)) (λ k lt. blanked-outside 28672 12288 0 mid (0 + k) (inl (omega (arith, lt)))) in
+      let first = piece-same 0 7 (blank mid) mid (omega (arith, size, long)) (omega (arith, long)) (λ k lt. blanked-outside 28672 12288 0 mid (0 + k)
+      (inl (omega (arith, lt)))) in
       let name = ap (λ (b : List ℕ). pointwise nat_eq b (78 ∷ 81 ∷ 78 ∷ 70 ∷ 83 ∷ 73 ∷ 77 ∷ [])) first ∙ q.name in
       stands-found image (blank mid) (front-name image (blank mid) (omega (arith, long, longer)) (omega (arith, size, long)) so name) so
       ∙ sym (stands-found mid (blank mid) (both-begin mid q.long q.name) (closed-found mid (below-closed mid same)))
@@ -152,7 +163,11 @@ module _ (found : FoundOne) (old : List ℕ) (is : image_in old ≡ Some (Ok (of
   fits = record {
     few = omega arith;
     short = omega (arith, body-size);
-    allowed = (ap (λ (n : ℕ). is_misplaced 28672 12288 68202496 (length (prepared found.rows.slots old)) 7 n) size-of ∙ misplaced (length (prepared found.rows.slots old)) (omega (arith, mid-long)), tt);
+    allowed = (
+      ap (λ (n : ℕ). is_misplaced 28672 12288 68202496 (length (prepared found.rows.slots old)) 7 n) size-of
+          ∙ misplaced (length (prepared found.rows.slots old)) (omega (arith, mid-long)),
+      tt,
+    );
   }
 
   abbrev then_bytes : List ℕ
@@ -174,18 +189,23 @@ module _ (found : FoundOne) (old : List ℕ) (is : image_in old ≡ Some (Ok (of
       let below = ready.below in
       record {
         whole = omega (arith, whole, then-long);
-        name = piece-same 0 7 then_bytes old (omega (arith, then-long, mid-long)) (let long = p.long in omega (arith, long)) (λ k lt. then-same (0 + k) (inl (omega (arith, lt))) (inl (omega (arith, lt))) ∙ below.same (0 + k) (omega (arith, lt)));
+        name = piece-same 0 7 then_bytes old (omega (arith, then-long, mid-long)) (let long = p.long in omega (arith, long))
+            (λ k lt. then-same (0 + k) (inl (omega (arith, lt))) (inl (omega (arith, lt))) ∙ below.same (0 + k) (omega (arith, lt)));
         numbers = written-there 7 21 (numbers_then found) (blank mid) (omega arith) size-of;
-        rows = piece-same 28 28644 then_bytes old (omega (arith, then-long, mid-long)) (let long = p.long in omega (arith, long)) (λ k lt. then-same (28 + k) (inr (omega arith)) (inl (omega (arith, lt))) ∙ below.same (28 + k) (omega (arith, lt)));
+        rows = piece-same 28 28644 then_bytes old (omega (arith, then-long, mid-long)) (let long = p.long in omega (arith, long))
+            (λ k lt. then-same (28 + k) (inr (omega arith)) (inl (omega (arith, lt))) ∙ below.same (28 + k) (omega (arith, lt)));
         blocks = λ k le lt. then-same k (inr (omega (arith, le))) (inr le) ∙ below.same k lt;
-        tables = tables-stay end 0 found.rows.slots mid then_bytes (omega (arith, whole, every)) (omega (arith, whole, every, then-long)) (λ k le lt. then-same k (inr (omega (arith, le))) (inr (omega (arith, le)))) ready.has;
-        ids = piece-same (end + 1048576) 4096 then_bytes mid (omega (arith, whole, then-long)) (omega (arith, whole)) (λ k lt. then-same (end + 1048576 + k) (inr (omega arith)) (inr (omega arith))) ∙ ready.ids;
+        tables = tables-stay end 0 found.rows.slots mid then_bytes (omega (arith, whole, every)) (omega (arith, whole, every, then-long))
+            (λ k le lt. then-same k (inr (omega (arith, le))) (inr (omega (arith, le)))) ready.has;
+        ids = piece-same (end + 1048576) 4096 then_bytes mid (omega (arith, whole, then-long)) (omega (arith, whole))
+            (λ k lt. then-same (end + 1048576 + k) (inr (omega arith)) (inr (omega arith))) ∙ ready.ids;
       }
 
   then-name : has_image_name then_bytes ≡ true
   then-name = ap (λ (b : List ℕ). pointwise nat_eq b (78 ∷ 81 ∷ 78 ∷ 70 ∷ 83 ∷ 73 ∷ 77 ∷ [])) migrated.name ∙ p.name
 
-  module _ (image : List ℕ) (long : 40960 ≤ length image) (so : found_by image_area image ≡ after image_area (change_of found) (prepared found.rows.slots old)) where
+  module _ (image : List ℕ) (long : 40960 ≤ length image) (so : found_by image_area image ≡ after image_area (change_of found)
+      (prepared found.rows.slots old)) where
     pub then-begins : begins_as_image image ≡ true
     then-begins = front-name image then_bytes long (omega (arith, then-long, mid-long)) so then-name
 

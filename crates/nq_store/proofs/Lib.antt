@@ -1,4 +1,3 @@
-mod Faults
 mod Sought
 mod Rows
 mod Zeroing

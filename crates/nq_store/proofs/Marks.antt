@@ -1,5 +1,5 @@
 -- The marks of the blocks that files have, once the blocks of one row become others.
-use Rattle.std.proofs.Common.{◌≡◌, ◌≢◌, ◌≤◌, ◌<◌, inl, inr, ℕ, Bool, true, false, List, [], ◌∷◌, ◌++◌, length, get_or, set, refl, sym, ap, subst, ◌∙◌, arith}
+use Rattle.std.proofs.Common.{◌≡◌, ◌≢◌, ◌<◌, inl, inr, ℕ, Bool, true, false, List, [], ◌∷◌, ◌++◌, length, get_or, refl, sym, ap, subst, ◌∙◌, arith}
 use Rattle.std.specs.List.{All}
 use Rattle.std.specs.Prelude.{slice_set}
 use Rattle.std.proofs.lemmas.Bool.{cases_eq, cases_lt}
@@ -11,7 +11,7 @@ use Rattle.nq_image.specs.Tables.{is_marked}
 use Rattle.nq_image.proofs.Agreeing.{all-front, all-rest}
 use Rattle.nq_image.proofs.Allotting.{all-given, apart-back, distinct-apart, distinct-behind, each-given, length-with}
 use Rattle.nq_image.proofs.Giving.{IsGiven}
-use Rattle.nq_image.proofs.Imaging.{length-marks, no-marks}
+use Rattle.nq_image.proofs.Imaging.{no-marks}
 use Rattle.nq_plan.specs.Settling.{marked_all}
 
 -- ---- marks that say the same
@@ -57,7 +57,8 @@ pub unmark-keeps : (blocks : List ℕ) (marks : List Bool) (k : ℕ) → IsGiven
 unmark-keeps [] marks k given none = given
 unmark-keeps (block ∷ blocks) marks k given none =
     let ne = All-head (λ other. other ≢ k) block blocks none in
-    unmark-keeps blocks (slice_set marks block false) k (get_or-set_other marks block k false false (turned block k ne) ∙ given) (All-tail (λ other. other ≢ k) block blocks none)
+    unmark-keeps blocks (slice_set marks block false) k (get_or-set_other marks block k false false (turned block k ne) ∙ given)
+    (All-tail (λ other. other ≢ k) block blocks none)
 
 -- ---- blocks that are given
 
@@ -98,7 +99,8 @@ module _ (front own rest then_own : List ℕ) (marks : List Bool) where
   abbrev none : List Bool
   none = no_marks 16641
 
-  module _ (is : marks ≡ marks_with none all) (once : AreDistinct all) (below : All (λ b. b < length none) all) (below_then : All (λ b. b < length none) all_then) where
+  module _ (is : marks ≡ marks_with none all) (once : AreDistinct all) (below : All (λ b. b < length none) all)
+      (below_then : All (λ b. b < length none) all_then) where
     abbrev free : List Bool
     free = marked_all false own marks
 
@@ -126,7 +128,8 @@ module _ (front own rest then_own : List ℕ) (marks : List Bool) where
         let Unless : (b : ℕ) → IsGiven M b → P b = λ b g. λ none. g in
         let each =
         All-append P front (own ++ rest) (All-weaker (IsGiven M) P Unless front (all-front (IsGiven M) front (then_own ++ rest) given-then))
-        (All-append P own rest (All-weaker (λ b. IsNoneOf own b → ⊥) P (λ b no. λ none. absurd (no none)) own (not-none own)) (All-weaker (IsGiven M) P Unless rest (all-rest (IsGiven M) then_own rest behind))) in
+        (All-append P own rest (All-weaker (λ b. IsNoneOf own b → ⊥) P (λ b no. λ none. absurd (no none)) own (not-none own))
+        (All-weaker (IsGiven M) P Unless rest (all-rest (IsGiven M) then_own rest behind))) in
         each-given (IsGiven M) free then_own (all-front (IsGiven M) then_own rest behind) k
         (λ g.
         let was = unmarked own marks k g in
@@ -141,16 +144,19 @@ module _ (front own rest then_own : List ℕ) (marks : List Bool) where
         let Below : ℕ → Type 0 = λ n. All (λ b. b < n) then_own in
         let own_below = all-front (λ b. b < length none) then_own rest (all-rest (λ b. b < length none) front (then_own ++ rest) below_then) in
         let own_given = all-given free then_own (subst Below (sym long-free) own_below) in
-        let apart_front = All-weaker (IsNoneOf (own ++ rest)) (IsNoneOf own) (λ b no. all-front (λ o. o ≢ b) own rest no) front (distinct-apart front (own ++ rest) once) in
+        let apart_front = All-weaker (IsNoneOf (own ++ rest)) (IsNoneOf own) (λ b no. all-front (λ o. o ≢ b) own rest no) front
+        (distinct-apart front (own ++ rest) once) in
         let apart_rest = apart-back rest own (distinct-apart own rest (distinct-behind front (own ++ rest) once)) in
         let given_front = all-front (IsGiven marks) front (own ++ rest) given-now in
         let given_rest = all-rest (IsGiven marks) own rest (all-rest (IsGiven marks) front (own ++ rest) given-now) in
         each-given (IsGiven M) none all_then
-        (All-append (IsGiven M) front (then_own ++ rest) (both front given_front apart_front) (All-append (IsGiven M) then_own rest own_given (both rest given_rest apart_rest)))
+        (All-append (IsGiven M) front (then_own ++ rest) (both front given_front apart_front) (All-append (IsGiven M) then_own rest own_given
+        (both rest given_rest apart_rest)))
         k (λ h. never (IsGiven M k) k h) given
       where
         both : (blocks : List ℕ) → All (IsGiven marks) blocks → All (IsNoneOf own) blocks → All (IsGiven (marks_with free then_own)) blocks
-        both blocks given apart = λ k d lt. with-keeps then_own free (get_or blocks k d) (unmark-keeps own marks (get_or blocks k d) (given k d lt) (apart k d lt))
+        both blocks given apart = λ k d lt. with-keeps then_own free (get_or blocks k d) (unmark-keeps own marks (get_or blocks k d) (given k d lt)
+            (apart k d lt))
 
     pub marks-then : marked_all true then_own (marked_all false own marks) ≡ marks_with none all_then
     marks-then =

@@ -1,5 +1,6 @@
 -- The first bytes of an image that was migrated.
-use Rattle.std.proofs.Common.{◌≡◌, ◌≤◌, ◌<◌, ◌+◌, ◌==◌, ◌&&◌, ℕ, zero, suc, Bool, true, false, List, [], ◌∷◌, ◌++◌, length, take, drop, refl, sym, ap, ◌∙◌, arith}
+use Rattle.std.proofs.Common.{◌≡◌, ◌≤◌, ◌<◌, ◌+◌, ◌==◌, ◌&&◌, ℕ, zero, suc, Bool, true, false, List, [], ◌∷◌, ◌++◌, length, take, drop, refl, sym, ap}
+use Rattle.std.proofs.Common.{◌∙◌, arith}
 use Rattle.std.specs.Prelude.{replicate}
 use Rattle.std.proofs.lemmas.Bool.Decides.{nat_tests}
 use Rattle.std.proofs.lemmas.List.{drop-drop}
@@ -39,7 +40,8 @@ piece-join place m n bytes =
     split m n (drop place bytes) ∙ ap (λ (l : List ℕ). take m (drop place bytes) ++ take n l) (drop-drop m place bytes)
 
 -- a piece behind the numbers
-pub piece-behind : (k size : ℕ) (old new : List ℕ) → k + size ≤ 28644 → piece 28 28644 new ≡ piece 28 28644 old → piece (28 + k) size new ≡ piece (28 + k) size old
+pub piece-behind : (k size : ℕ) (old new : List ℕ) → k + size ≤ 28644 → piece 28 28644 new ≡ piece 28 28644 old → piece (28 + k) size new
+    ≡ piece (28 + k) size old
 piece-behind k size old new le same =
     sym (piece-in 28 28644 k size new le) ∙ ap (λ (b : List ℕ). piece k size b) same ∙ piece-in 28 28644 k size old le
 
@@ -112,7 +114,8 @@ joined-front : (found : FoundOne) → image_name ++ (numbers_then found ++ repli
 unfolding front_bytes heads_bytes
 joined-front found = refl
 
-pub front-then : (found : FoundOne) (old new : List ℕ) → HasPartsOfOne old found → IsMigrated found old new → piece 0 64 new ≡ front_bytes (blocks_in found.rows.slots) (numbered found)
+pub front-then : (found : FoundOne) (old new : List ℕ) → HasPartsOfOne old found → IsMigrated found old new → piece 0 64 new
+    ≡ front_bytes (blocks_in found.rows.slots) (numbered found)
 front-then found old new p m =
     let long = p.long in
     let name : piece 0 7 new ≡ image_name = m.name ∙ (bytes_eq-Decides (piece 0 7 old) image_name).0 p.name in

@@ -61,7 +61,8 @@ rows-parts bytes rows h =
       gap = three.0;
     })
 
-reached-by : (b : Bool) (size blocks place : ℕ) (x : Unit {0}) → nat_le blocks (whole_blocks size) ≡ b → (if b then Ok tt else Err place) ≡ Ok x → blocks ≤ whole_blocks size
+reached-by : (b : Bool) (size blocks place : ℕ) (x : Unit {0}) → nat_le blocks (whole_blocks size) ≡ b → (if b then Ok tt else Err place) ≡ Ok x
+    → blocks ≤ whole_blocks size
 reached-by true size blocks place x is h = test-le blocks (whole_blocks size) is
 reached-by false size blocks place x is h = cc
 
@@ -76,8 +77,10 @@ unfolding image_one
 one-parts bytes found h =
     let start = piece 0 64 bytes in
     let made : Boots → FoundRows → FoundOne = λ boots rows. record { boots = boots; rows = rows } in
-    let one = then-ok (tested (boots_checks start) (boots_of start)) (λ boots. rows_in Version.One bytes >>= λ rows. reached (length bytes) (sum_by blocks_of rows.slots) >>= λ reaches. Ok (made boots rows)) found h in
-    let two = then-ok (rows_in Version.One bytes) (λ rows. reached (length bytes) (sum_by blocks_of rows.slots) >>= λ reaches. Ok (made one.0 rows)) found one.2 in
+    let one = then-ok (tested (boots_checks start) (boots_of start)) (λ boots. rows_in Version.One bytes >>= λ rows. reached (length bytes)
+    (sum_by blocks_of rows.slots) >>= λ reaches. Ok (made boots rows)) found h in
+    let two = then-ok (rows_in Version.One bytes) (λ rows. reached (length bytes) (sum_by blocks_of rows.slots) >>= λ reaches. Ok (made one.0 rows))
+    found one.2 in
     let sum = sum_by blocks_of two.0.slots in
     let three = then-ok (reached (length bytes) sum) (λ reaches. Ok (made one.0 two.0)) found two.2 in
     let same = ok-is (made one.0 two.0) found (Ok (made one.0 two.0)) refl three.2 in
@@ -93,9 +96,11 @@ one-parts bytes found h =
 some-is : (a b : Result Found ℕ) → Some a ≡ Some b → a ≡ b
 some-is a b h = cc
 
-by-version : (bytes : List ℕ) (found : FoundOne) (version : Option Version) → in_versions version bytes ≡ Some (Ok (of_one found)) → (version ≡ Some Version.One) × HasOne bytes found
+by-version : (bytes : List ℕ) (found : FoundOne) (version : Option Version) → in_versions version bytes ≡ Some (Ok (of_one found))
+    → (version ≡ Some Version.One) × HasOne bytes found
 by-version bytes found None h = cc
-by-version bytes found (Some Version.Two) h = absurd (not-two (image_two (no_marks 16641) bytes) (some-is (image_two (no_marks 16641) bytes >>= λ f. Ok (of_two f)) (Ok (of_one found)) h))
+by-version bytes found (Some Version.Two) h = absurd (not-two (image_two (no_marks 16641) bytes) (some-is (image_two (no_marks 16641) bytes >>= λ f.
+    Ok (of_two f)) (Ok (of_one found)) h))
   where
     not-two : (r : Result FoundTwo ℕ) → (r >>= λ f. Ok (of_two f)) ≡ Ok (of_one found) → ⊥
     not-two (Ok x) h = cc
@@ -106,7 +111,8 @@ by-version bytes found (Some Version.One) h = (refl, one-parts bytes found (by-o
     by-one (Ok x) h = let same : x ≡ found = cc in ap Ok same
     by-one (Err p) h = cc
 
-by-name : (b : Bool) (bytes : List ℕ) (found : FoundOne) (version : Option Version) → (if b then in_versions version bytes else None) ≡ Some (Ok (of_one found)) → (b ≡ true) × (version ≡ Some Version.One) × HasOne bytes found
+by-name : (b : Bool) (bytes : List ℕ) (found : FoundOne) (version : Option Version) → (if b then in_versions version bytes else None)
+    ≡ Some (Ok (of_one found)) → (b ≡ true) × (version ≡ Some Version.One) × HasOne bytes found
 by-name true bytes found version h = let rest = by-version bytes found version h in (refl, rest.0, rest.1)
 by-name false bytes found version h = cc
 
@@ -142,8 +148,10 @@ rows-join bytes rows p =
     let host_rows = tested (hosts_checks 64 64 (piece 64 2048 bytes)) (hosts_of 64 (piece 64 2048 bytes)) in
     let file_rows = tested (rows_checks Version.One 256 2112 [] (piece 2112 24576 bytes)) (slots_of 256 (piece 2112 24576 bytes)) in
     let last : List HostRow → List (Option Slot) → Result FoundRows ℕ = λ h s. if are_zeros (piece 26688 1984 bytes) then Ok (made h s) else Err 26688 in
-    then-goes host_rows rows.hosts (λ h. file_rows >>= λ s. last h s) (tested-as (hosts_checks 64 64 (piece 64 2048 bytes)) (hosts_of 64 (piece 64 2048 bytes)) rows.hosts p.hosts p.hosts_are)
-    ∙ then-goes file_rows rows.slots (λ s. last rows.hosts s) (tested-as (rows_checks Version.One 256 2112 [] (piece 2112 24576 bytes)) (slots_of 256 (piece 2112 24576 bytes)) rows.slots p.rows p.rows_are)
+    then-goes host_rows rows.hosts (λ h. file_rows >>= λ s. last h s) (tested-as (hosts_checks 64 64 (piece 64 2048 bytes))
+    (hosts_of 64 (piece 64 2048 bytes)) rows.hosts p.hosts p.hosts_are)
+    ∙ then-goes file_rows rows.slots (λ s. last rows.hosts s) (tested-as (rows_checks Version.One 256 2112 [] (piece 2112 24576 bytes))
+    (slots_of 256 (piece 2112 24576 bytes)) rows.slots p.rows p.rows_are)
     ∙ goes-if (are_zeros (piece 26688 1984 bytes)) (Ok (made rows.hosts rows.slots)) (Err 26688) p.gap
 
 one-join : (bytes : List ℕ) (found : FoundOne) → HasPartsOfOne bytes found → image_one bytes ≡ Ok found
@@ -152,9 +160,12 @@ one-join bytes found p =
     let made : Boots → FoundRows → FoundOne = λ boots rows. record { boots = boots; rows = rows } in
     let first = tested (boots_checks (piece 0 64 bytes)) (boots_of (piece 0 64 bytes)) in
     let sum = sum_by blocks_of found.rows.slots in
-    then-goes first found.boots (λ b. rows_in Version.One bytes >>= λ r. reached (length bytes) (sum_by blocks_of r.slots) >>= λ x. Ok (made b r)) (tested-as (boots_checks (piece 0 64 bytes)) (boots_of (piece 0 64 bytes)) found.boots p.boots p.boots_are)
-    ∙ then-goes (rows_in Version.One bytes) found.rows (λ r. reached (length bytes) (sum_by blocks_of r.slots) >>= λ x. Ok (made found.boots r)) (rows-join bytes found.rows p.rows)
-    ∙ then-goes (reached (length bytes) sum) tt (λ x. Ok (made found.boots found.rows)) (goes-if (nat_le sum (whole_blocks (length bytes))) (Ok tt) (Err (block_place (whole_blocks (length bytes)))) (le-true sum sum (whole_blocks (length bytes)) refl p.reaches))
+    then-goes first found.boots (λ b. rows_in Version.One bytes >>= λ r. reached (length bytes) (sum_by blocks_of r.slots) >>= λ x. Ok (made b r))
+    (tested-as (boots_checks (piece 0 64 bytes)) (boots_of (piece 0 64 bytes)) found.boots p.boots p.boots_are)
+    ∙ then-goes (rows_in Version.One bytes) found.rows (λ r. reached (length bytes) (sum_by blocks_of r.slots) >>= λ x. Ok (made found.boots r))
+    (rows-join bytes found.rows p.rows)
+    ∙ then-goes (reached (length bytes) sum) tt (λ x. Ok (made found.boots found.rows)) (goes-if (nat_le sum (whole_blocks (length bytes))) (Ok tt)
+    (Err (block_place (whole_blocks (length bytes)))) (le-true sum sum (whole_blocks (length bytes)) refl p.reaches))
 
 pub image-of-one : (bytes : List ℕ) (found : FoundOne) → HasPartsOfOne bytes found → image_in bytes ≡ Some (Ok (of_one found))
 unfolding image_in

@@ -1,5 +1,6 @@
 -- What the tables say of a file is what is kept of it.
-use Rattle.std.proofs.Common.{◌≡◌, ◌≢◌, ◌<◌, ◌+◌, ◌==◌, ℕ, suc, Bool, true, false, List, [], ◌∷◌, ◌++◌, Option, Some, None, get_or, map, length, take, drop, if◌then◌else◌, refl, sym, ap, subst, ◌∙◌, arith, length-append}
+use Rattle.std.proofs.Common.{◌≡◌, ◌≢◌, ◌<◌, ◌+◌, ◌==◌, ℕ, suc, Bool, true, false, List, [], ◌∷◌, ◌++◌, Option, Some, None, get_or, map, length, take}
+use Rattle.std.proofs.Common.{drop, if◌then◌else◌, refl, sym, ap, subst, ◌∙◌, arith, length-append}
 use Rattle.std.specs.List.{All, find, position, slice_get, sum_by}
 use Rattle.std.specs.Prelude.{count_by, is_some, nat_eq, nat_lt, option_map, slice_index_or}
 use Rattle.std.specs.Cmp.Lexicographic.{pointwise}
@@ -55,14 +56,18 @@ module _ (s : Standing) (apart : (file : PlacedFile) → file.slot < 256 → row
   next : (front rest : List (Option PlacedFile)) (row : Option PlacedFile) → s.rows ≡ front ++ row ∷ rest → s.rows ≡ (front ++ row ∷ []) ++ rest
   next front rest row is = is ∙ sym (append_assoc front (row ∷ []) rest)
 
-  numbered-next : (front rest : List (Option PlacedFile)) (row : Option PlacedFile) → AreNumbered (length front + 1) rest → AreNumbered (length (front ++ row ∷ [])) rest
+  numbered-next : (front rest : List (Option PlacedFile)) (row : Option PlacedFile) → AreNumbered (length front + 1) rest
+      → AreNumbered (length (front ++ row ∷ [])) rest
   numbered-next front rest row numbered = subst (λ (n : ℕ). AreNumbered n rest) (sym (length-append front (row ∷ []))) numbered
 
   pub rows-apart : (rest front : List (Option PlacedFile)) → s.rows ≡ front ++ rest → AreNumbered (length front) rest → AreApartRows rest
   rows-apart [] front is numbered = tt
   rows-apart (None ∷ rest) front is numbered = rows-apart rest (front ++ None ∷ []) (next front rest None is) (numbered-next front rest None numbered)
-  rows-apart (Some f ∷ rest) front is numbered =
-      (one-apart front rest f is numbered.0, rows-apart rest (front ++ Some f ∷ []) (next front rest (Some f) is) (numbered-next front rest (Some f) numbered.1))
+  rows-apart (Some f ∷ rest) front is numbered = (
+    one-apart front rest f is numbered.0,
+    rows-apart rest (front ++ Some f ∷ []) (next front rest (Some f) is) (numbered-next front rest (Some f)
+        numbered.1),
+  )
 
 -- ---- one row of an id, and of a name
 
@@ -84,10 +89,12 @@ module _ (id : ℕ) where
   other-id f None is apart = refl
   other-id f (Some g) is apart = number-other g.id id (λ e. apart.1 (e ∙ sym (number-same f.id id is)))
 
-  others-id : (f : PlacedFile) (rows : List (Option PlacedFile)) → (f.id == id) ≡ true → All (IsApartFrom f) rows → All (λ row. said.has_id id row ≡ false) rows
+  others-id : (f : PlacedFile) (rows : List (Option PlacedFile)) → (f.id == id) ≡ true → All (IsApartFrom f) rows
+      → All (λ row. said.has_id id row ≡ false) rows
   others-id f [] is all = All-nil (λ row. said.has_id id row ≡ false)
   others-id f (row ∷ rows) is all =
-      All-cons (λ r. said.has_id id r ≡ false) row rows (other-id f row is (All-head (IsApartFrom f) row rows all)) (others-id f rows is (All-tail (IsApartFrom f) row rows all))
+      All-cons (λ r. said.has_id id r ≡ false) row rows (other-id f row is (All-head (IsApartFrom f) row rows all))
+      (others-id f rows is (All-tail (IsApartFrom f) row rows all))
 
   one-id : (rows : List (Option PlacedFile)) → AreApartRows rows → IsOne has (said.has_id id) refl (λ f. refl) rows
   one-id [] apart = tt
@@ -104,29 +111,35 @@ module _ (name : List ℕ) where
   other-name : (f : PlacedFile) (row : Option PlacedFile) → pointwise nat_eq f.name name ≡ true → IsApartFrom f row → said.has_name name row ≡ false
   other-name f None is apart = refl
   other-name f (Some g) is apart =
-      bytes-other (pointwise nat_eq g.name name) (g.name ≡ name) ((bytes_eq-Decides g.name name).0) (λ e. apart.0 (e ∙ sym ((bytes_eq-Decides f.name name).0 is)))
+      bytes-other (pointwise nat_eq g.name name) (g.name ≡ name) ((bytes_eq-Decides g.name name).0)
+      (λ e. apart.0 (e ∙ sym ((bytes_eq-Decides f.name name).0 is)))
 
-  others-name : (f : PlacedFile) (rows : List (Option PlacedFile)) → pointwise nat_eq f.name name ≡ true → All (IsApartFrom f) rows → All (λ row. said.has_name name row ≡ false) rows
+  others-name : (f : PlacedFile) (rows : List (Option PlacedFile)) → pointwise nat_eq f.name name ≡ true → All (IsApartFrom f) rows
+      → All (λ row. said.has_name name row ≡ false) rows
   others-name f [] is all = All-nil (λ row. said.has_name name row ≡ false)
   others-name f (row ∷ rows) is all =
-      All-cons (λ r. said.has_name name r ≡ false) row rows (other-name f row is (All-head (IsApartFrom f) row rows all)) (others-name f rows is (All-tail (IsApartFrom f) row rows all))
+      All-cons (λ r. said.has_name name r ≡ false) row rows (other-name f row is (All-head (IsApartFrom f) row rows all))
+      (others-name f rows is (All-tail (IsApartFrom f) row rows all))
 
   one-name : (rows : List (Option PlacedFile)) → AreApartRows rows → IsOne named (said.has_name name) refl (λ f. refl) rows
   one-name [] apart = tt
   one-name (None ∷ rows) apart = ((λ is. absurd (cc)), one-name rows apart)
   one-name (Some f ∷ rows) apart = ((λ is. others-name f rows is apart.0), one-name rows apart.1)
 
-  pub name-found : (rows : List (Option PlacedFile)) → AreApartRows rows → said.file_in rows (position (said.has_name name) rows) ≡ find named (with_rows [] rows)
+  pub name-found : (rows : List (Option PlacedFile)) → AreApartRows rows → said.file_in rows (position (said.has_name name) rows)
+      ≡ find named (with_rows [] rows)
   name-found rows apart = in-order named (said.has_name name) refl (λ f. refl) rows (one-name rows apart)
 
 -- ---- what is kept of them
 
-find-map : (bytes : List ℕ) (p : File → Bool) (q : PlacedFile → Bool) → ((f : PlacedFile) → p (file_at bytes f) ≡ q f) → (files : List PlacedFile) → find p (map (file_at bytes) files) ≡ option_map (file_at bytes) (find q files)
+find-map : (bytes : List ℕ) (p : File → Bool) (q : PlacedFile → Bool) → ((f : PlacedFile) → p (file_at bytes f) ≡ q f) → (files : List PlacedFile)
+    → find p (map (file_at bytes) files) ≡ option_map (file_at bytes) (find q files)
 find-map bytes p q same [] = refl
 find-map bytes p q same (f ∷ files) =
     ap (λ (b : Bool). if b then Some (file_at bytes f) else find p (map (file_at bytes) files)) (same f) ∙ by (q f) (find-map bytes p q same files)
   where
-    by : (b : Bool) → find p (map (file_at bytes) files) ≡ option_map (file_at bytes) (find q files) → (if b then Some (file_at bytes f) else find p (map (file_at bytes) files)) ≡ option_map (file_at bytes) (if b then Some f else find q files)
+    by : (b : Bool) → find p (map (file_at bytes) files) ≡ option_map (file_at bytes) (find q files) → (if b then Some (file_at bytes f)
+        else find p (map (file_at bytes) files)) ≡ option_map (file_at bytes) (if b then Some f else find q files)
     by true more = refl
     by false more = more
 
@@ -160,7 +173,8 @@ module _ (bytes : List ℕ) (s : Standing) (apart : AreApartRows s.rows) where
   pub row-is : (id : ℕ) → said.row_of s id ≡ row_of_found (find_file id (kept_at bytes s).files)
   row-is id = row-kept bytes (said.file_in s.rows (said.slot_of id s.rows)) ∙ ap row_of_found (sym (kept-id id))
 
-  kept-name : (name : List ℕ) → find_name name (kept_at bytes s).files ≡ option_map (file_at bytes) (said.file_in s.rows (position (said.has_name name) s.rows))
+  kept-name : (name : List ℕ) → find_name name (kept_at bytes s).files ≡ option_map (file_at bytes)
+      (said.file_in s.rows (position (said.has_name name) s.rows))
   unfolding kept_at
   kept-name name =
       find-map bytes (λ f. pointwise nat_eq f.name name) (λ f. pointwise nat_eq f.name name) (name-of name) (files_in s)
@@ -224,7 +238,8 @@ files-are bytes s =
     let c = rows-sum (λ f. 1) (λ row. if is_some row then 1 else 0) refl (λ f. refl) s.rows [] in
     omega arith
 
-pub space-is : (bytes : List ℕ) (s : Standing) (space : Space) → space.files ≡ count_by (λ row. is_some row) s.rows → space.blocks ≡ sum_by (λ row. length (row_blocks row)) s.rows → space ≡ space_of (kept_at bytes s)
+pub space-is : (bytes : List ℕ) (s : Standing) (space : Space) → space.files ≡ count_by (λ row. is_some row) s.rows → space.blocks
+    ≡ sum_by (λ row. length (row_blocks row)) s.rows → space ≡ space_of (kept_at bytes s)
 space-is bytes s space files blocks =
     let made : ℕ → ℕ → Space = λ f b. record { files = f; blocks = b } in
     ap (λ (f : ℕ). made f space.blocks) (files ∙ files-are bytes s) ∙ ap (made (length (kept_at bytes s).files)) (blocks ∙ blocks-are bytes s)
@@ -239,7 +254,8 @@ pub heads-are : (bytes : List ℕ) (s : Standing) → s.heads ≡ heads_of (kept
 unfolding kept_at
 heads-are bytes s = refl
 
-pub space-in : (s : Standing) (space : Space) → space.files ≡ count_by (λ row. is_some row) s.rows → space.blocks ≡ sum_by (λ row. length (row_blocks row)) s.rows → space ≡ space_in s
+pub space-in : (s : Standing) (space : Space) → space.files ≡ count_by (λ row. is_some row) s.rows → space.blocks
+    ≡ sum_by (λ row. length (row_blocks row)) s.rows → space ≡ space_in s
 space-in s space files blocks =
     let made : ℕ → ℕ → Space = λ f b. record { files = f; blocks = b } in
     ap (λ (f : ℕ). made f space.blocks) files ∙ ap (made (count_by (λ row. is_some row) s.rows)) blocks

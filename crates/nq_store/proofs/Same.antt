@@ -28,18 +28,27 @@ use Rattle.nq_store.proofs.Parts.{HasPartsOfOne, image-of-one, parts-of-one}
 abbrev pub SameBodies : (end : ℕ) (old new : List ℕ) → Type 0
 SameBodies end old new = (block : ℕ) → block < end → body_in new block ≡ body_in old block
 
-pub same-kept : (old new : List ℕ) (found : FoundKept) → All (λ block. body_in new block ≡ body_in old block) found.blocks → kept_in new found ≡ kept_in old found
+pub same-kept : (old new : List ℕ) (found : FoundKept) → All (λ block. body_in new block ≡ body_in old block) found.blocks → kept_in new found
+    ≡ kept_in old found
 unfolding kept_in
 same-kept old new found all =
     let Same : ℕ → Type 0 = λ block. body_in new block ≡ body_in old block in
-    let with : List File → Kept = λ files. record { files = files; hosts = found.hosts; boot = found.heads.boot; opened = found.heads.opened; longest = found.heads.longest; next = found.heads.next } in
+    let with : List File → Kept = λ files. record {
+      files = files;
+      hosts = found.hosts;
+      boot = found.heads.boot;
+      opened = found.heads.opened;
+      longest = found.heads.longest;
+      next = found.heads.next;
+    } in
     ap with (map-same (file_in new found.blocks) (file_in old found.blocks) found.files (each found.files))
   where
     of-file : (f : FoundFile) → file_in new found.blocks f ≡ file_in old found.blocks f
     of-file f =
         let own = take f.row.blocks (drop f.start found.blocks) in
         let made : List (List ℕ) → File = λ bodies. record { id = f.row.id; name = f.row.name; rev = f.row.rev; bodies = bodies } in
-        ap made (map-same (body_in new) (body_in old) own (All-take (λ block. body_in new block ≡ body_in old block) f.row.blocks (drop f.start found.blocks) (All-drop (λ block. body_in new block ≡ body_in old block) f.start found.blocks all)))
+        ap made (map-same (body_in new) (body_in old) own (All-take (λ block. body_in new block ≡ body_in old block) f.row.blocks
+        (drop f.start found.blocks) (All-drop (λ block. body_in new block ≡ body_in old block) f.start found.blocks all)))
 
     each : (files : List FoundFile) → All (λ f. file_in new found.blocks f ≡ file_in old found.blocks f) files
     each files = λ i d lt. of-file (get_or files i d)
@@ -53,9 +62,11 @@ pub reaches-end : (size blocks : ℕ) → 40960 ≤ size → blocks ≤ whole_bl
 unfolding whole_blocks
 reaches-end size blocks long le = let e = div-add-mod' (size - 40960) 4096 in omega (arith, e, le, long)
 
-pub same-bodies : (total : ℕ) (old new : List ℕ) → block_place total ≤ length old → block_place total ≤ length new → ((k : ℕ) → 40960 ≤ k → k < block_place total → get_or new k 0 ≡ get_or old k 0) → SameBodies total old new
+pub same-bodies : (total : ℕ) (old new : List ℕ) → block_place total ≤ length old → block_place total ≤ length new
+    → ((k : ℕ) → 40960 ≤ k → k < block_place total → get_or new k 0 ≡ get_or old k 0) → SameBodies total old new
 same-bodies total old new one two same block lt =
-    piece-same (block_place block) 4096 new old (omega (arith, two, lt)) (omega (arith, one, lt)) (λ k less. same (block_place block + k) (omega arith) (omega (arith, less, lt)))
+    piece-same (block_place block) 4096 new old (omega (arith, two, lt)) (omega (arith, one, lt)) (λ k less. same (block_place block + k)
+    (omega arith) (omega (arith, less, lt)))
 
 -- ---- an image of version 1
 
@@ -66,7 +77,8 @@ more-blocks m n le = let e = div-add-mod' (m - 40960) 4096 in let f = div-add-mo
 eighth-same : (old new : List ℕ) → piece 0 28672 new ≡ piece 0 28672 old → get_or new 7 0 ≡ get_or old 7 0
 eighth-same old new same = sym (at-piece 0 28672 7 new (omega arith)) ∙ ap (λ (b : List ℕ). get_or b 7 0) same ∙ at-piece 0 28672 7 old (omega arith)
 
-pub one-stays : (old new : List ℕ) (found : FoundOne) → length old ≤ length new → piece 0 28672 new ≡ piece 0 28672 old → HasPartsOfOne old found → HasPartsOfOne new found
+pub one-stays : (old new : List ℕ) (found : FoundOne) → length old ≤ length new → piece 0 28672 new ≡ piece 0 28672 old → HasPartsOfOne old found
+    → HasPartsOfOne new found
 one-stays old new found longer same p =
     let first = piece-by-first 28672 0 64 new old (omega arith) same in
     let name = piece-by-first 28672 0 7 new old (omega arith) same in
@@ -99,11 +111,13 @@ pub opens-as-one : (bytes : List ℕ) (found : FoundOne) → image_in bytes ≡ 
 unfolding opened
 opens-as-one bytes found is = ap (stands_for bytes) is
 
-pub kept-stays : (old new : List ℕ) (found : FoundOne) → SameBodies (blocks_in found.rows.slots) old new → kept_in new (kept_one found) ≡ kept_in old (kept_one found)
+pub kept-stays : (old new : List ℕ) (found : FoundOne) → SameBodies (blocks_in found.rows.slots) old new → kept_in new (kept_one found)
+    ≡ kept_in old (kept_one found)
 unfolding kept_one
 kept-stays old new found same = same-kept old new (kept_one found) (numbers-same (blocks_in found.rows.slots) old new same)
 
-pub one-opens-same : (found : FoundOne) (old new : List ℕ) → image_in old ≡ Some (Ok (of_one found)) → AgreeUpTo (block_place (blocks_in found.rows.slots)) old new → opened new ≡ opened old
+pub one-opens-same : (found : FoundOne) (old new : List ℕ) → image_in old ≡ Some (Ok (of_one found))
+    → AgreeUpTo (block_place (blocks_in found.rows.slots)) old new → opened new ≡ opened old
 one-opens-same found old new is agree =
     let p = parts-of-one old found is in
     let total = blocks_in found.rows.slots in

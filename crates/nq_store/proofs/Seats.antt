@@ -1,5 +1,6 @@
 -- Where the file of a change comes to stand: its blocks are those that it had, and free ones.
-use Rattle.std.proofs.Common.{◌≡◌, ◌≢◌, ◌≤◌, ◌<◌, ◌+◌, ◌-◌, ◌&&◌, min, ℕ, zero, suc, Bool, true, false, List, [], ◌∷◌, ◌++◌, Option, Some, None, take, drop, length, if◌then◌else◌, refl, sym, ap, subst, ◌∙◌, arith}
+use Rattle.std.proofs.Common.{◌≡◌, ◌≢◌, ◌≤◌, ◌<◌, ◌+◌, ◌-◌, ◌&&◌, ℕ, zero, suc, Bool, true, false, List, [], ◌∷◌, Option, Some, None, take, drop}
+use Rattle.std.proofs.Common.{length, if◌then◌else◌, refl, sym, ap, subst, ◌∙◌, arith}
 use Rattle.std.specs.List.{All, filter}
 use Rattle.std.specs.Prelude.{not}
 use Rattle.std.proofs.lemmas.List.{drop_at, length-take}
@@ -9,14 +10,14 @@ use Rattle.nq_image.specs.Image.{no_marks}
 use Rattle.nq_image.specs.Kept.{numbers_from}
 use Rattle.nq_image.specs.Standing.{AreDistinct, IsFileBlock, IsFree, IsNoneOf, PlacedFile, Standing, Stands, blocks_in, found_of, marks_with}
 use Rattle.nq_image.specs.Tables.{is_marked, is_of_tables}
-use Rattle.nq_image.proofs.Allotting.{AreGivenOnce, all-given, both-of}
+use Rattle.nq_image.proofs.Allotting.{AreGivenOnce, all-given}
 use Rattle.nq_image.proofs.Giving.{IsGiven}
 use Rattle.nq_image.proofs.Imaging.{length-marks}
 use Rattle.nq_image.proofs.Parting.{parts-of}
 use Rattle.nq_image.proofs.Replacing.{all-once}
 use Rattle.nq_plan.specs.Finding.{blocks_of}
 use Rattle.nq_plan.specs.Held.{HeldTables, IsHeldOf}
-use Rattle.nq_plan.specs.Placing.{IsPlaced, IsPlacedFor, file_for, free_blocks, is_free, placed_blocks}
+use Rattle.nq_plan.specs.Placing.{IsPlaced, IsPlacedFor, free_blocks, is_free}
 use Rattle.nq_plan.specs.declared.placing.Placed.{Placed}
 use Rattle.nq_store.specs.Changing.{new_blocks}
 
@@ -26,13 +27,15 @@ record IsRun (p : ℕ → Bool) (first n : ℕ) (xs : List ℕ) : Type 0 where
   distinct : AreDistinct xs
   each : All (λ x. (first ≤ x) × (x < first + n) × (p x ≡ true)) xs
 
-run-more : (p : ℕ → Bool) (n first : ℕ) (rest : List ℕ) (b : Bool) → p first ≡ b → IsRun p (first + 1) n rest → IsRun p first (suc n) (if b then first ∷ rest else rest)
+run-more : (p : ℕ → Bool) (n first : ℕ) (rest : List ℕ) (b : Bool) → p first ≡ b → IsRun p (first + 1) n rest → IsRun p first (suc n) (if b then first
+    ∷ rest else rest)
 run-more p n first rest true is more =
     let Here : ℕ → Type 0 = λ x. (first ≤ x) × (x < first + suc n) × (p x ≡ true) in
     let There : ℕ → Type 0 = λ x. (first + 1 ≤ x) × (x < first + 1 + n) × (p x ≡ true) in
     record {
       distinct = (All-weaker There (λ x. x ≢ first) (λ x r. let le = r.0 in omega (arith, le)) rest more.each, more.distinct);
-      each = All-cons Here first rest (omega arith, omega arith, is) (All-weaker There Here (λ x r. let a = r.0 in let b = r.1 in (omega (arith, a), omega (arith, b), r.2)) rest more.each);
+      each = All-cons Here first rest (omega arith, omega arith, is) (All-weaker There Here (λ x r. let a = r.0 in let b = r.1 in
+          (omega (arith, a), omega (arith, b), r.2)) rest more.each);
     }
 run-more p n first rest false is more =
     let Here : ℕ → Type 0 = λ x. (first ≤ x) × (x < first + suc n) × (p x ≡ true) in
@@ -67,7 +70,8 @@ both-not : (a b : Bool) → (not a && not b) ≡ true → (a ≡ false) × (b �
 both-not true b h = absurd (cc)
 both-not false b h = (refl, not-of b h)
 
-unmarked-none : (marks : List Bool) (blocks : List ℕ) (block : ℕ) → All (λ b. b < length marks) blocks → is_marked (marks_with marks blocks) block ≡ false → IsNoneOf blocks block
+unmarked-none : (marks : List Bool) (blocks : List ℕ) (block : ℕ) → All (λ b. b < length marks) blocks → is_marked (marks_with marks blocks) block
+    ≡ false → IsNoneOf blocks block
 unmarked-none marks blocks block below free =
     All-weaker (IsGiven (marks_with marks blocks)) (λ other. other ≢ block) (λ other given. not-that other given) blocks (all-given marks blocks below)
   where
@@ -113,7 +117,8 @@ module _ (bytes : List ℕ) (held : HeldTables) (is_held : IsHeldOf bytes held) 
       }
 
   -- the blocks that a file gets are those behind the ones that stay
-  pub new-blocks-are : (row : FileRow) (placed : Placed) → IsPlaced held row placed → new_blocks (Some placed) ≡ free_blocks held (row.blocks - length (blocks_of s row.id))
+  pub new-blocks-are : (row : FileRow) (placed : Placed) → IsPlaced held row placed → new_blocks (Some placed) ≡ free_blocks held
+      (row.blocks - length (blocks_of s row.id))
   new-blocks-are row placed is =
       let known = blocks_of s row.id in
       let blocks = ap (λ (f : PlacedFile). f.blocks) is.file in
@@ -127,4 +132,5 @@ module _ (bytes : List ℕ) (held : HeldTables) (is_held : IsHeldOf bytes held) 
   new-are-free (Some row) (Some placed) is =
       let new = free-are-new (row.blocks - length (blocks_of s row.id)) in
       All-same (IsFree s) (new_blocks (Some placed)) (free_blocks held (row.blocks - length (blocks_of s row.id))) (new-blocks-are row placed is)
-      (All-weaker (IsNew s) (IsFree s) (λ block own. record { apart = own.there.apart; none = own.none }) (free_blocks held (row.blocks - length (blocks_of s row.id))) new.each)
+      (All-weaker (IsNew s) (IsFree s) (λ block own. record { apart = own.there.apart; none = own.none })
+      (free_blocks held (row.blocks - length (blocks_of s row.id))) new.each)

@@ -1,5 +1,6 @@
 -- What is found in the rows of an image is found among its files in order of their ids.
-use Rattle.std.proofs.Common.{◌≡◌, ◌≢◌, ◌≤◌, ◌<◌, ◌+◌, ◌==◌, ◌&&◌, ℕ, zero, suc, Bool, true, false, List, [], ◌∷◌, Option, Some, None, get_or, length, if◌then◌else◌, refl, sym, ap, subst, ◌∙◌, inl, inr, arith}
+use Rattle.std.proofs.Common.{◌≡◌, ◌≢◌, ◌≤◌, ◌<◌, ◌+◌, ◌==◌, ◌&&◌, ℕ, zero, suc, Bool, true, false, List, [], ◌∷◌, Option, Some, None, get_or, length}
+use Rattle.std.proofs.Common.{if◌then◌else◌, refl, sym, ap, subst, ◌∙◌, inl, inr, arith}
 use Rattle.std.specs.List.{All, find, position, position_or_len, slice_get, sum_by}
 use Rattle.std.specs.Prelude.{nat_lt}
 use Rattle.std.proofs.lemmas.Bool.{cases_lt}
@@ -51,7 +52,8 @@ module _ (p : PlacedFile → Bool) where
 
   pub all-put : (P : PlacedFile → Type 0) (x : PlacedFile) (files : List PlacedFile) → P x → All P files → All P (put_file x files)
   all-put P x [] own all = All-cons P x [] own (All-nil P)
-  all-put P x (f ∷ files) own all = either (nat_lt x.id f.id) (All-cons P x (f ∷ files) own all) (All-cons P f (put_file x files) (All-head P f files all) (all-put P x files own (All-tail P f files all)))
+  all-put P x (f ∷ files) own all = either (nat_lt x.id f.id) (All-cons P x (f ∷ files) own all) (All-cons P f (put_file x files)
+      (All-head P f files all) (all-put P x files own (All-tail P f files all)))
     where
       either : (b : Bool) → All P (x ∷ f ∷ files) → All P (f ∷ put_file x files) → All P (if b then x ∷ f ∷ files else f ∷ put_file x files)
       either true a c = a
@@ -109,13 +111,15 @@ module _ (p : PlacedFile → Bool) where
         rows-other rows (put_file y files) (All-tail MissesRow (Some y) rows all)
         ∙ put-other y files (sym (some y) ∙ All-head MissesRow (Some y) rows all)
 
-    pub rows-found : (rows : List (Option PlacedFile)) (files : List PlacedFile) → All Misses files → IsOne rows → find p (with_rows files rows) ≡ joined (find q rows)
+    pub rows-found : (rows : List (Option PlacedFile)) (files : List PlacedFile) → All Misses files → IsOne rows → find p (with_rows files rows)
+        ≡ joined (find q rows)
     unfolding with_rows
     rows-found [] files all one = find-none files all
     rows-found (None ∷ rows) files all one = rows-found rows files all one.1 ∙ sym (ap joined (row-later None rows none))
     rows-found (Some x ∷ rows) files all one = by (p x) refl (λ is. rows-found rows (put_file x files) (all-put Misses x files is all) one.1)
       where
-        by : (b : Bool) → p x ≡ b → (p x ≡ false → find p (with_rows (put_file x files) rows) ≡ joined (find q rows)) → find p (with_rows (put_file x files) rows) ≡ joined (find q (Some x ∷ rows))
+        by : (b : Bool) → p x ≡ b → (p x ≡ false → find p (with_rows (put_file x files) rows) ≡ joined (find q rows))
+            → find p (with_rows (put_file x files) rows) ≡ joined (find q (Some x ∷ rows))
         by true is more =
             rows-other rows (put_file x files) (one.0 (some x ∙ is))
             ∙ put-sought x files is all
@@ -168,7 +172,8 @@ module _ (after : ℕ) where
   put-closer f [] = refl
   put-closer f (g ∷ gs) = by (nat_lt f.id g.id) (nat_lt after f.id) (nat_lt after g.id) refl refl refl (put-closer f gs)
     where
-      by : (a b c : Bool) → nat_lt f.id g.id ≡ a → nat_lt after f.id ≡ b → nat_lt after g.id ≡ c → find above (put_file f gs) ≡ closer after f (find above gs) → find above (if a then f ∷ g ∷ gs else g ∷ put_file f gs) ≡ closer after f (find above (g ∷ gs))
+      by : (a b c : Bool) → nat_lt f.id g.id ≡ a → nat_lt after f.id ≡ b → nat_lt after g.id ≡ c → find above (put_file f gs) ≡ closer after f
+          (find above gs) → find above (if a then f ∷ g ∷ gs else g ∷ put_file f gs) ≡ closer after f (find above (g ∷ gs))
       by true true true a b c more =
           find-first above f (g ∷ gs) b ∙ sym (closer-above f g b a) ∙ ap (λ (o : Option PlacedFile). closer after f o) (sym (find-first above g gs c))
       by true true false a b c more = let p = lt-of f.id g.id a in let q = lt-of after f.id b in let r = ge-of after g.id c in absurd (omega arith)
@@ -195,7 +200,8 @@ module _ (after : ℕ) where
       by true = refl
       by false = refl
 
-  pub rows-nearest : (rows : List (Option PlacedFile)) (files : List PlacedFile) → nearest after (id_if (find above files)) rows ≡ id_if (find above (with_rows files rows))
+  pub rows-nearest : (rows : List (Option PlacedFile)) (files : List PlacedFile) → nearest after (id_if (find above files)) rows
+      ≡ id_if (find above (with_rows files rows))
   unfolding with_rows
   rows-nearest [] files = refl
   rows-nearest (None ∷ rows) files =
@@ -240,14 +246,6 @@ module _ (after : ℕ) where
           find-later (λ x. x.id == f.id) g gs test ∙ more rest
 
 -- ---- how many there are
-
-put-length : (f : PlacedFile) (files : List PlacedFile) → length (put_file f files) ≡ suc (length files)
-put-length f [] = refl
-put-length f (g ∷ gs) = by (nat_lt f.id g.id) (put-length f gs)
-  where
-    by : (b : Bool) → length (put_file f gs) ≡ suc (length gs) → length (if b then f ∷ g ∷ gs else g ∷ put_file f gs) ≡ suc (length (g ∷ gs))
-    by true more = refl
-    by false more = ap suc more
 
 put-sum : (v : PlacedFile → ℕ) (f : PlacedFile) (files : List PlacedFile) → sum_by v (put_file f files) ≡ v f + sum_by v files
 put-sum v f [] = sum_by-cons v f []

@@ -1,11 +1,7 @@
 -- The parts of a change, one after another: the numbers, a host, a file, a block, a file that goes.
-use Rattle.std.proofs.Common.{◌≡◌, ◌≢◌, ◌≤◌, ◌<◌, ◌^◌, ◌+◌, ◌-◌, ◌*◌, ◌==◌, ℕ, zero, suc, Bool, true, false, List, [], ◌∷◌, ◌++◌, Option, Some, None, take, drop, map, length, get_or, if◌then◌else◌, refl, sym, ap, subst, ◌∙◌, arith, length-append}
-use Rattle.std.specs.List.{All, position}
-use Rattle.std.specs.Prelude.{IfSome, IsSome, slice_get, slice_index_or}
-use Rattle.std.proofs.lemmas.Bool.Decides.{nat_tests}
-use Rattle.std.proofs.lemmas.List.{length-take}
-use Rattle.std.proofs.lemmas.List.Elements.{All-same, All-weaker}
-use Rattle.nq_base.specs.declared.FileRow.{FileRow}
+use Rattle.std.proofs.Common.{◌≡◌, ◌≤◌, ◌<◌, ◌+◌, ◌*◌, ℕ, List, Option, Some, None, length, refl, sym, subst, ◌∙◌, arith}
+use Rattle.std.specs.List.{All}
+use Rattle.std.specs.Prelude.{IfSome}
 use Rattle.nq_base.specs.declared.Heads.{Heads}
 use Rattle.nq_base.specs.declared.HostChange.{HostChange}
 use Rattle.nq_base.specs.declared.HostRow.{HostRow}
@@ -35,7 +31,8 @@ as-itself k = refl
 -- ---- the numbers
 
 pub heads-step : (heads : Option Heads) (s : Standing) (old fresh : List ℕ) → Stands old s → IfSome heads (AreHeadsWithin s.heads.next)
-    → IsStep old (applied (heads_ranges heads) old) fresh (with_heads s (heads_with heads s.heads)) (kept_as (kept_at old s).files (kept_at old s).hosts (heads_with heads (heads_of (kept_at old s))))
+    → IsStep old (applied (heads_ranges heads) old) fresh (with_heads s (heads_with heads s.heads)) (kept_as (kept_at old s).files
+    (kept_at old s).hosts (heads_with heads (heads_of (kept_at old s))))
 heads-step None s old fresh stands within = record { stands = stands; kept = as-itself (kept_at old s); zeros = λ all. all; no_shorter = omega arith }
 heads-step (Some heads) s old fresh stands within =
     let part = heads_bytes heads in
@@ -55,12 +52,15 @@ heads-step (Some heads) s old fresh stands within =
 
 -- ---- a host
 
-with-row-as : (k : Kept) (host : ℕ) (row : HostRow) → with_row k host row ≡ kept_as k.files (hosts_with (Some (record { host = host; row = row })) k.hosts) (heads_of k)
+with-row-as : (k : Kept) (host : ℕ) (row : HostRow) → with_row k host row ≡ kept_as k.files (hosts_with (Some (record { host = host; row = row }))
+    k.hosts) (heads_of k)
 unfolding kept_as with_row
 with-row-as k host row = refl
 
-pub host-step : (change : Option HostChange) (s : Standing) (old fresh : List ℕ) → Stands old s → IfSome change (λ h. h.host < 64) → IfSome change (λ h. IsHostWithin h.row)
-    → IsStep old (applied (host_ranges change) old) fresh (record s { hosts = hosts_with change s.hosts }) (kept_as (kept_at old s).files (hosts_with change (kept_at old s).hosts) (heads_of (kept_at old s)))
+pub host-step : (change : Option HostChange) (s : Standing) (old fresh : List ℕ) → Stands old s → IfSome change (λ h. h.host < 64)
+    → IfSome change (λ h. IsHostWithin h.row)
+    → IsStep old (applied (host_ranges change) old) fresh (record s { hosts = hosts_with change s.hosts }) (kept_as (kept_at old s).files
+    (hosts_with change (kept_at old s).hosts) (heads_of (kept_at old s)))
 host-step None s old fresh stands lt within = record { stands = stands; kept = as-itself (kept_at old s); zeros = λ all. all; no_shorter = omega arith }
 host-step (Some change) s old fresh stands lt within =
     let part = host_bytes change.row in

@@ -1,5 +1,6 @@
 -- The tables that a migration writes are read back.
-use Rattle.std.proofs.Common.{◌≡◌, ◌≤◌, ◌+◌, ◌-◌, ◌*◌, ℕ, zero, suc, Bool, true, List, [], ◌∷◌, ◌++◌, Option, Some, None, length, refl, sym, ap, subst, ◌∙◌, arith}
+use Rattle.std.proofs.Common.{◌≡◌, ◌≤◌, ◌+◌, ◌-◌, ◌*◌, ℕ, zero, suc, Bool, true, List, [], ◌∷◌, ◌++◌, Option, Some, None, length, refl, sym, ap}
+use Rattle.std.proofs.Common.{subst, ◌∙◌, arith}
 use Rattle.std.specs.List.{sum_by}
 use Rattle.std.specs.Prelude.{nat_le}
 use Rattle.std.specs.Int.{w32, to_be_bytes}
@@ -42,7 +43,8 @@ module _ (tables : ℕ) (near : tables ≤ 16384) where
   unfolding tables_checks tables_blocks tables_marks numbers_from
   no-rows place block marks bytes free = record { holds = tt; blocks = refl; free = λ k le. free k (omega arith) }
 
-  unused-row : (place block : ℕ) (slots : List (Option Slot)) (marks : List Bool) (bytes : List ℕ) → nat_le (place + 4096) (length bytes) ≡ true → AreTablesRight tables (place + 4096) (block + 0) slots marks bytes → AreTablesRight tables place block (None ∷ slots) marks bytes
+  unused-row : (place block : ℕ) (slots : List (Option Slot)) (marks : List Bool) (bytes : List ℕ) → nat_le (place + 4096) (length bytes) ≡ true
+      → AreTablesRight tables (place + 4096) (block + 0) slots marks bytes → AreTablesRight tables place block (None ∷ slots) marks bytes
   unfolding tables_checks tables_blocks tables_marks slot_checks slot_table slot_marks
   unused-row place block slots marks bytes whole more =
       let sums = sum_by-cons blocks_of None slots in
@@ -55,17 +57,26 @@ module _ (tables : ℕ) (near : tables ≤ 16384) where
         free = subst F next more.free;
       }
 
-  used-row : (place block : ℕ) (slot : Slot) (slots : List (Option Slot)) (marks : List Bool) (table bytes : List ℕ) → nat_le (place + 4096) (length bytes) ≡ true → piece place 4096 bytes ≡ table → IsTableBack tables slot.blocks place block marks table → AreTablesRight tables (place + 4096) (block + slot.blocks) slots (marks_behind slot.blocks marks table) bytes → AreTablesRight tables place block (Some slot ∷ slots) marks bytes
+  used-row : (place block : ℕ) (slot : Slot) (slots : List (Option Slot)) (marks : List Bool) (table bytes : List ℕ) → nat_le (place + 4096)
+      (length bytes) ≡ true → piece place 4096 bytes ≡ table → IsTableBack tables slot.blocks place block marks table → AreTablesRight tables
+      (place + 4096) (block + slot.blocks) slots (marks_behind slot.blocks marks table) bytes → AreTablesRight tables place block (Some slot ∷ slots)
+      marks bytes
   unfolding tables_checks tables_blocks tables_marks slot_checks slot_table slot_marks
   used-row place block slot slots marks table bytes whole is own more =
       let n = slot.blocks in
       let sums = sum_by-cons blocks_of (Some slot) slots in
-      let Checks : List ℕ → Type 0 = λ t. Hold (check place (nat_le (place + 4096) (length bytes)) ∷ (table_checks n tables place marks t ++ tables_checks tables (place + 4096) slots (marks_behind n marks t) bytes)) in
-      let Free : List ℕ → Type 0 = λ t. AreFree (block + sum_by blocks_of (Some slot ∷ slots)) (tables_marks (place + 4096) slots (marks_behind n marks t) bytes) in
+      let Checks : List ℕ → Type 0 = λ t. Hold (check place (nat_le (place + 4096) (length bytes)) ∷ (table_checks n tables place marks t
+      ++ tables_checks tables (place + 4096) slots (marks_behind n marks t) bytes)) in
+      let Free : List ℕ → Type 0 = λ t. AreFree (block + sum_by blocks_of (Some slot ∷ slots)) (tables_marks (place + 4096) slots
+      (marks_behind n marks t) bytes) in
       let F : ℕ → Type 0 = λ k. AreFree k (tables_marks (place + 4096) slots (marks_behind n marks table) bytes) in
       let next : block + n + sum_by blocks_of slots ≡ block + sum_by blocks_of (Some slot ∷ slots) = omega (arith, sums) in
       record {
-        holds = subst Checks (sym is) (whole, hold-append (table_checks n tables place marks table) (tables_checks tables (place + 4096) slots (marks_behind n marks table) bytes) own.holds more.holds);
+        holds = subst Checks (sym is) (
+          whole,
+          hold-append (table_checks n tables place marks table) (tables_checks tables (place + 4096) slots
+              (marks_behind n marks table) bytes) own.holds more.holds,
+        );
         blocks = ap (λ (t : List ℕ). table_of n t ++ tables_blocks (place + 4096) slots bytes) is
             ∙ ap (λ (l : List ℕ). l ++ tables_blocks (place + 4096) slots bytes) own.blocks
             ∙ ap (λ (l : List ℕ). numbers_from block n ++ l) more.blocks
@@ -74,7 +85,9 @@ module _ (tables : ℕ) (near : tables ≤ 16384) where
         free = subst Free (sym is) (subst F next more.free);
       }
 
-  pub tables-right : (place block : ℕ) (slots : List (Option Slot)) (marks : List Bool) (bytes : List ℕ) → HasTables place block slots bytes → place + 4096 * length slots ≤ length bytes → block + sum_by blocks_of slots ≤ tables → AreFree block marks → AreTablesRight tables place block slots marks bytes
+  pub tables-right : (place block : ℕ) (slots : List (Option Slot)) (marks : List Bool) (bytes : List ℕ) → HasTables place block slots bytes
+      → place + 4096 * length slots ≤ length bytes → block + sum_by blocks_of slots ≤ tables → AreFree block marks → AreTablesRight tables place block
+      slots marks bytes
   tables-right place block [] marks bytes has long few free = no-rows place block marks bytes free
   tables-right place block (None ∷ slots) marks bytes has long few free =
       let sums = sum_by-cons blocks_of None slots in
@@ -85,5 +98,6 @@ module _ (tables : ℕ) (near : tables ≤ 16384) where
       let n = slot.blocks in
       let sums = sum_by-cons blocks_of (Some slot) slots in
       let back = table-back tables near n place block marks (omega (arith, sums)) free in
-      used-row place block slot slots marks (table_bytes n block) bytes (ge-true (length bytes) (length bytes) (place + 4096) refl (omega arith)) (has.0 ∙ table-same n block) back
+      used-row place block slot slots marks (table_bytes n block) bytes (ge-true (length bytes) (length bytes) (place + 4096) refl (omega arith))
+      (has.0 ∙ table-same n block) back
       (tables-right (place + 4096) (block + n) slots (marks_behind n marks (table_bytes n block)) bytes has.1 (omega arith) (omega (arith, sums)) back.free)

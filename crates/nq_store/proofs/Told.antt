@@ -1,5 +1,6 @@
 -- What the calls answer that open a store.
-use Rattle.std.proofs.Common.{◌≡◌, ◌≢◌, ◌⊎◌, ◌≤◌, ◌<◌, ◌+◌, ◌&&◌, inl, inr, ⊎_elim, min, ℕ, zero, suc, Bool, true, false, List, Option, Some, None, Result, Ok, Err, take, drop, length, get_or, if◌then◌else◌, refl, sym, ap, subst, ◌∙◌, arith}
+use Rattle.std.proofs.Common.{◌≡◌, ◌≢◌, ◌⊎◌, ◌≤◌, ◌<◌, ◌+◌, ◌&&◌, inl, inr, ⊎_elim, min, ℕ, zero, suc, Bool, true, false, List, Option, Some, None}
+use Rattle.std.proofs.Common.{Result, Ok, Err, take, drop, length, get_or, if◌then◌else◌, refl, sym, ap, subst, ◌∙◌, arith}
 use Rattle.std.specs.Option.{ForSome}
 use Rattle.std.specs.Prelude.{nat_le, slice_index}
 use Rattle.std.proofs.lemmas.Bool.{cases_lt}
@@ -50,7 +51,8 @@ take-most count size xs is = elim (cases_lt size (length xs)) [
   | inr le ↦ take_all count xs (omega arith) ∙ sym (take_all size xs le)
 ]
 
-pub piece-read : (count place size : ℕ) (disk buffer part : List ℕ) → ReadsFront count place disk buffer → length buffer ≡ size → part ≡ take count buffer → part ≡ piece place size disk
+pub piece-read : (count place size : ℕ) (disk buffer part : List ℕ) → ReadsFront count place disk buffer → length buffer ≡ size
+    → part ≡ take count buffer → part ≡ piece place size disk
 unfolding piece
 piece-read count place size disk buffer part reads long is =
     let number = reads.number in
@@ -59,8 +61,10 @@ piece-read count place size disk buffer part reads long is =
 -- a stop within two calls leaves no more than one before them, where that is so of each
 pub no-more : {D : Type 0} (follows : D → D → Type 0) (may : D → List ℕ → Type 0) (leaves : D → D → List ℕ → Type 0)
     → ((first last : D) (image : List ℕ) → follows first last → may first image ⊎ may last image → leaves first last image)
-    → ((first middle last : D) (image : List ℕ) → follows first middle → follows middle last → leaves first last image → leaves first middle image ⊎ leaves middle last image)
-    → (first middle last : D) → follows first middle → follows middle last → LeavesNoMore (may first) (leaves first middle) → LeavesNoMore (may middle) (leaves middle last) → LeavesNoMore (may first) (leaves first last)
+    → ((first middle last : D) (image : List ℕ) → follows first middle → follows middle last → leaves first last image → leaves first middle image
+    ⊎ leaves middle last image)
+    → (first middle last : D) → follows first middle → follows middle last → LeavesNoMore (may first) (leaves first middle)
+    → LeavesNoMore (may middle) (leaves middle last) → LeavesNoMore (may first) (leaves first last)
 no-more follows may leaves ends parts first middle last one two before behind = λ image left.
     ⊎_elim (λ l. before image l) (λ l. before image (ends first middle image one (inr (behind image l)))) (parts first middle last image one two left)
 
@@ -91,7 +95,8 @@ held-loads bytes held are is_held = (is_held, opened-within bytes (kept_at bytes
 pub shut-still : (may now : List ℕ → Type 0) (bytes : List ℕ) → IsShut may bytes → ((image : List ℕ) → now image → may image) → IsShut now bytes
 shut-still may now bytes shut more = record { closed = shut.closed; alone = λ image left. shut.alone image (more image left); named = shut.named }
 
-pub loads-opens : (result : Result HeldTables Fault) (bytes : List ℕ) (told tells : Option (List ℕ)) (may now : List ℕ → Type 0) → told ≡ Some bytes → tells ≡ told → ((image : List ℕ) → now image → may image) → IsShut may bytes → Loads result bytes → OpensTables result bytes tells now
+pub loads-opens : (result : Result HeldTables Fault) (bytes : List ℕ) (told tells : Option (List ℕ)) (may now : List ℕ → Type 0) → told ≡ Some bytes
+    → tells ≡ told → ((image : List ℕ) → now image → may image) → IsShut may bytes → Loads result bytes → OpensTables result bytes tells now
 loads-opens (Ok held) bytes told tells may now is same more shut loads = record {
   now = bytes;
   told = same ∙ is;
@@ -104,14 +109,16 @@ loads-opens (Err Failed) bytes told tells may now is same more shut loads = tt
 loads-opens (Err Memory) bytes told tells may now is same more shut loads = tt
 
 -- a wrong field, and want of memory, are told in either way
-pub gives-opens : {X : Type 0} (fault : Fault) (P : X → Type 0) (bytes : List ℕ) (tells : Option (List ℕ)) (may : List ℕ → Type 0) → Gives (Err fault) P → OpensTables (Err fault) bytes tells may
+pub gives-opens : {X : Type 0} (fault : Fault) (P : X → Type 0) (bytes : List ℕ) (tells : Option (List ℕ)) (may : List ℕ → Type 0)
+    → Gives (Err fault) P → OpensTables (Err fault) bytes tells may
 gives-opens NotAnImage P bytes tells may gives = absurd gives
 gives-opens (BadField place) P bytes tells may gives = absurd gives
 gives-opens Failed P bytes tells may gives = tt
 gives-opens Memory P bytes tells may gives = tt
 
 -- what opens as bytes that stand for the same, opens so
-pub opens-as : (result : Result HeldTables Fault) (bytes now : List ℕ) (tells : Option (List ℕ)) (may : List ℕ → Type 0) → stands_as now ≡ stands_as bytes → OpensTables result now tells may → OpensTables result bytes tells may
+pub opens-as : (result : Result HeldTables Fault) (bytes now : List ℕ) (tells : Option (List ℕ)) (may : List ℕ → Type 0) → stands_as now
+    ≡ stands_as bytes → OpensTables result now tells may → OpensTables result bytes tells may
 opens-as (Ok held) bytes now tells may same opens = record { now = opens.now; told = opens.told; kept = opens.kept; same = opens.same ∙ same }
 opens-as (Err NotAnImage) bytes now tells may same opens = sym same ∙ opens
 opens-as (Err (BadField place)) bytes now tells may same opens = sym same ∙ opens
@@ -129,7 +136,8 @@ closed-image may bytes shut = record { closed = shut.closed; named = shut.named 
 pub version-byte : (bytes head : List ℕ) → head ≡ piece 0 28672 bytes → slice_index head 7 ≡ slice_index bytes 7
 version-byte bytes head is = ap (λ (b : List ℕ). get_or b 7 0) is ∙ at-piece 0 28672 7 bytes (omega arith)
 
-pub head-of : (may : List ℕ → Type 0) (bytes head : List ℕ) → IsShut may bytes → head ≡ piece 0 28672 bytes → version_of (slice_index bytes 7) ≡ Some Version.Two → IsHeadOf bytes head
+pub head-of : (may : List ℕ → Type 0) (bytes head : List ℕ) → IsShut may bytes → head ≡ piece 0 28672 bytes → version_of (slice_index bytes 7)
+    ≡ Some Version.Two → IsHeadOf bytes head
 head-of may bytes head shut is two = record { closed = record { image = closed-image may bytes shut; two = two }; front = is }
 
 pub two-is : (byte : ℕ) → byte ≡ 50 → version_of byte ≡ Some Version.Two
@@ -141,32 +149,31 @@ unfolding version_of
 one-is byte is = grind (arith, nat_tests)
 
 -- the numbers among the first bytes are those of the image
-pub first-numbers : (bytes head first : List ℕ) (result : Result Front ℕ) → IsHeadOf bytes head → first ≡ piece 0 64 head → result ≡ tested (front_checks first) (front_of first) → tested (front_checks (piece 0 64 bytes)) (front_of (piece 0 64 bytes)) ≡ result
+pub first-numbers : (bytes head first : List ℕ) (result : Result Front ℕ) → IsHeadOf bytes head → first ≡ piece 0 64 head → result
+    ≡ tested (front_checks first) (front_of first) → tested (front_checks (piece 0 64 bytes)) (front_of (piece 0 64 bytes)) ≡ result
 first-numbers bytes head first result so first_is is =
     let there : first ≡ piece 0 64 bytes = first_is ∙ ap (piece 0 64) so.front ∙ piece-of-first 28672 0 64 bytes (omega arith) in
     sym (is ∙ ap (λ (b : List ℕ). tested (front_checks b) (front_of b)) there)
 
-pub front-loads : (bytes head : List ℕ) (place : ℕ) → IsHeadOf bytes head → tested (front_checks (piece 0 64 bytes)) (front_of (piece 0 64 bytes)) ≡ Err place → Loads (Err (BadField place)) bytes
+pub front-loads : (bytes head : List ℕ) (place : ℕ) → IsHeadOf bytes head → tested (front_checks (piece 0 64 bytes)) (front_of (piece 0 64 bytes))
+    ≡ Err place → Loads (Err (BadField place)) bytes
 front-loads bytes head place so wrong = front-wrong bytes so.closed.image so.closed.two place wrong
 
 -- what is read of all parts is what the image opens as
-pub parts-read : (bytes head : List ℕ) (front : Front) (window : List ℕ) (size : ℕ) (result : Result HeldTables ImageFault) → AreFrontOf bytes head front → window ≡ piece (block_place front.tables) 1052672 bytes → size ≡ length bytes → ((i : List ℕ) → ArePartsOf i front head window size → HoldsIn i result (image_two (no_marks 16641) i)) → ReadsImage bytes result
+pub parts-read : (bytes head : List ℕ) (front : Front) (window : List ℕ) (size : ℕ) (result : Result HeldTables ImageFault) → AreFrontOf bytes head
+    front → window ≡ piece (block_place front.tables) 1052672 bytes → size ≡ length bytes → ((i : List ℕ) → ArePartsOf i front head window size
+    → HoldsIn i result (image_two (no_marks 16641) i)) → ReadsImage bytes result
 parts-read bytes head front window size result so window_is size_is holds =
     let is = so.head_is.closed.image in
-    let parts : ArePartsOf bytes front head window size = record { front_is = so.front_is; head_is = so.head_is.front; window_is = window_is; size_is = size_is } in
+    let parts : ArePartsOf bytes front head window size = record {
+      front_is = so.front_is;
+      head_is = so.head_is.front;
+      window_is = window_is;
+      size_is = size_is;
+    } in
     read-so bytes is so.head_is.closed.two result (holds (blanked_bytes bytes is) (same-parts bytes is front head window size parts))
 
 -- ---- whether bytes begin as an image
-
-pub short-begins : (bytes : List ℕ) (size : ℕ) → size ≡ length bytes → size < 40960 → false ≡ begins_as_image bytes
-short-begins bytes size is short =
-    let less : nat_le 40960 (length bytes) ≡ false = grind (arith, nat_tests) in
-    sym (ap (λ (b : Bool). b && has_image_name bytes) less)
-
-pub long-begins : (bytes name : List ℕ) (size : ℕ) (named : Bool) → size ≡ length bytes → 40960 ≤ size → name ≡ piece 0 7 bytes → named ≡ is_name name → named ≡ begins_as_image bytes
-long-begins bytes name size named is long name_is named_is =
-    let enough : nat_le 40960 (length bytes) ≡ true = grind (arith, nat_tests) in
-    named_is ∙ ap is_name name_is ∙ sym (ap (λ (b : Bool). b && has_image_name bytes) enough)
 
 pub both-of : (a b : Bool) → (a && b) ≡ true → (a ≡ true) × (b ≡ true)
 both-of true b is = (refl, is)
@@ -179,14 +186,16 @@ pub not-begins : (bytes : List ℕ) (named : Bool) → named ≡ begins_as_image
 unfolding stands_as
 not-begins bytes named is not_so = ap (λ (b : Bool). if b then settled_as (found image_area bytes) else None) (sym is ∙ not_so)
 
-pub says-named : {X D : Type 0} (result : Result X (OpenFault D)) (o mid : Option (List ℕ)) → mid ≡ o → ForSome o (λ bytes. true ≡ begins_as_image bytes) → ForSome mid (λ bytes. begins_as_image bytes ≡ true → SaysWrong result mid) → SaysWrong result o
+pub says-named : {X D : Type 0} (result : Result X (OpenFault D)) (o mid : Option (List ℕ)) → mid ≡ o
+    → ForSome o (λ bytes. true ≡ begins_as_image bytes) → ForSome mid (λ bytes. begins_as_image bytes ≡ true → SaysWrong result mid) → SaysWrong result o
 says-named (Ok opened) o mid same named says = tt
 says-named (Err (opening.NotAnImage back)) o mid same named says = λ bytes is. says bytes (same ∙ is) (sym (named bytes is)) bytes (same ∙ is)
 says-named (Err (opening.BadField back place)) o mid same named says = λ bytes is. says bytes (same ∙ is) (sym (named bytes is)) bytes (same ∙ is)
 says-named (Err (opening.Failed back)) o mid same named says = tt
 says-named (Err (opening.Memory back)) o mid same named says = tt
 
-pub says-given : (X : Type 0) {Y D : Type 0} (fault : Fault) (disk : D) (result : OpenFault D) (o : Option (List ℕ)) (P : List ℕ → Y → Type 0) → result ≡ open_fault disk fault → ForSome o (λ bytes. Gives (Err fault) (P bytes)) → SaysWrong {X = X} (Err result) o
+pub says-given : (X : Type 0) {Y D : Type 0} (fault : Fault) (disk : D) (result : OpenFault D) (o : Option (List ℕ)) (P : List ℕ → Y → Type 0)
+    → result ≡ open_fault disk fault → ForSome o (λ bytes. Gives (Err fault) (P bytes)) → SaysWrong {X = X} (Err result) o
 says-given X {Y} {D} fault disk result o P is gives = subst (λ (f : OpenFault D). SaysWrong {X = X} (Err f) o) (sym is) (by fault gives)
   where
     by : (fault : Fault) → ForSome o (λ bytes. Gives (Err fault) (P bytes)) → SaysWrong {X = X} (Err (open_fault disk fault)) o
@@ -197,13 +206,16 @@ says-given X {Y} {D} fault disk result o P is gives = subst (λ (f : OpenFault D
 
 -- ---- tables of an image of either version
 
-pub no-image : (may : List ℕ → Type 0) (bytes head : List ℕ) → IsShut may bytes → head ≡ piece 0 28672 bytes → version_of (slice_index head 7) ≡ None → stands_as bytes ≡ None
+pub no-image : (may : List ℕ → Type 0) (bytes head : List ℕ) → IsShut may bytes → head ≡ piece 0 28672 bytes → version_of (slice_index head 7) ≡ None
+    → stands_as bytes ≡ None
 no-image may bytes head shut is none = no-version bytes (closed-image may bytes shut) (ap version_of (sym (version-byte bytes head is)) ∙ none)
 
-pub new-head : (may : List ℕ → Type 0) (bytes head : List ℕ) → IsShut may bytes → head ≡ piece 0 28672 bytes → version_of (slice_index head 7) ≡ Some Version.Two → IsHeadOf bytes head
+pub new-head : (may : List ℕ → Type 0) (bytes head : List ℕ) → IsShut may bytes → head ≡ piece 0 28672 bytes → version_of (slice_index head 7)
+    ≡ Some Version.Two → IsHeadOf bytes head
 new-head may bytes head shut is two = head-of may bytes head shut is (ap version_of (sym (version-byte bytes head is)) ∙ two)
 
-pub old-head : (may : List ℕ → Type 0) (bytes head : List ℕ) → IsShut may bytes → head ≡ piece 0 28672 bytes → version_of (slice_index head 7) ≡ Some Version.One → IsOld head may bytes
+pub old-head : (may : List ℕ → Type 0) (bytes head : List ℕ) → IsShut may bytes → head ≡ piece 0 28672 bytes → version_of (slice_index head 7)
+    ≡ Some Version.One → IsOld head may bytes
 old-head may bytes head shut is one = record {
   closed = shut.closed;
   alone = shut.alone;
@@ -212,7 +224,8 @@ old-head may bytes head shut is one = record {
   one = one-is (slice_index bytes 7) (ap version_of (sym (version-byte bytes head is)) ∙ one);
 }
 
-pub migrates-opens : (fault : Fault) (bytes : List ℕ) (tells : Option (List ℕ)) (may : List ℕ → Type 0) → Migrates (Err fault) bytes tells may → OpensTables (Err fault) bytes tells may
+pub migrates-opens : (fault : Fault) (bytes : List ℕ) (tells : Option (List ℕ)) (may : List ℕ → Type 0) → Migrates (Err fault) bytes tells may
+    → OpensTables (Err fault) bytes tells may
 migrates-opens NotAnImage bytes tells may migrates = absurd migrates
 migrates-opens (BadField place) bytes tells may migrates = migrates.0
 migrates-opens Failed bytes tells may migrates = tt
@@ -230,12 +243,15 @@ stands-settled bytes begins = ap (λ (b : Bool). if b then settled_as (found ima
 pub wrong-record : (bytes : List ℕ) (place : ℕ) → begins_as_image bytes ≡ true → found image_area bytes ≡ Err place → stands_as bytes ≡ Some (Err place)
 wrong-record bytes place begins wrong = stands-settled bytes begins ∙ ap settled_as wrong
 
-pub wrong-opened : {D : Type 0} (result : Result (Redo D) (RedoOpen D)) (back : D) (place : ℕ) (bytes : List ℕ) (tells : Option (List ℕ)) (may : List ℕ → Type 0) → result ≡ Err (RedoOpen.BadField back place) → begins_as_image bytes ≡ true → Opens image_area result bytes tells may → stands_as bytes ≡ Some (Err place)
+pub wrong-opened : {D : Type 0} (result : Result (Redo D) (RedoOpen D)) (back : D) (place : ℕ) (bytes : List ℕ) (tells : Option (List ℕ))
+    (may : List ℕ → Type 0) → result ≡ Err (RedoOpen.BadField back place) → begins_as_image bytes ≡ true → Opens image_area result bytes tells may
+    → stands_as bytes ≡ Some (Err place)
 wrong-opened {D} result back place bytes tells may is begins opens =
     let there = subst (λ (r : Result (Redo D) (RedoOpen D)). Opens image_area r bytes tells may) is opens in
     wrong-record bytes place begins there.0
 
-module _ (old now : List ℕ) (begins : begins_as_image old ≡ true) (closed : IsClosed image_area now) (opens : found image_area now ≡ found image_area old) where
+module _ (old now : List ℕ) (begins : begins_as_image old ≡ true) (closed : IsClosed image_area now) (opens : found image_area now ≡ found image_area
+    old) where
   opens-blank : found image_area old ≡ Ok (blank now)
   opens-blank = sym opens ∙ opened-closed 28672 12288 68202496 now closed.shut
 
@@ -243,7 +259,8 @@ module _ (old now : List ℕ) (begins : begins_as_image old ≡ true) (closed : 
   long-now = let long = closed.long in omega (arith, long)
 
   same-name : (k : ℕ) → k < 7 → get_or now (0 + k) 0 ≡ get_or old (0 + k) 0
-  same-name k lt = sym (blanked-outside 28672 12288 0 now (0 + k) (inl (omega (arith, lt)))) ∙ front-stays image_area old (blank now) (0 + k) (omega (arith, lt)) (omega (arith, lt)) opens-blank
+  same-name k lt = sym (blanked-outside 28672 12288 0 now (0 + k) (inl (omega (arith, lt)))) ∙ front-stays image_area old (blank now) (0 + k)
+      (omega (arith, lt)) (omega (arith, lt)) opens-blank
 
   named-now : has_image_name now ≡ true
   named-now =

@@ -71,10 +71,18 @@ module _ (found : FoundOne) (old new : List ℕ) (p : HasPartsOfOne old found) (
   ids-are : AreIdsBack (count + 1) (block_place total + 1048576) 0 [] slots last
   ids-are =
       let first = subst (λ (s : List (Option Slot)). AreFirst false s) p.rows.rows_are (used-first 256 2112 (piece 2112 24576 old) p.rows.rows) in
-      ids-back (count + 1) (block_place total + 1048576) 0 (4096 - 4 * count) [] slots first (All-nil (λ (k : ℕ). k ≤ 0)) (omega arith) (omega (arith, few)) (omega (arith, few, every))
+      ids-back (count + 1) (block_place total + 1048576) 0 (4096 - 4 * count) [] slots first (All-nil (λ (k : ℕ). k ≤ 0)) (omega arith)
+      (omega (arith, few)) (omega (arith, few, every))
 
   abbrev numbers : Front
-  numbers = record { boot = found.boots.boot; opened = found.boots.opened; longest = 60; next = files_in found.rows.slots + 1; tables = sum_by blocks_of found.rows.slots }
+  numbers = record {
+    boot = found.boots.boot;
+    opened = found.boots.opened;
+    longest = 60;
+    next = files_in found.rows.slots + 1;
+    tables =
+        sum_by blocks_of found.rows.slots;
+  }
 
   abbrev tables_found : FoundTables
   tables_found = record {
@@ -119,7 +127,8 @@ module _ (found : FoundOne) (old new : List ℕ) (p : HasPartsOfOne old found) (
         ids_whole = omega (arith, whole);
         ids = subst Ids_hold (sym ids-there) ids-are.holds;
         ids_are = ap (ids_of slots) ids-there;
-        held_all = all-held (length new) total tables_found.marks free (tables-length (block_place total) slots (no_marks 16641) new ∙ length-marks 16641) near (omega (arith, whole));
+        held_all = all-held (length new) total tables_found.marks free (tables-length (block_place total) slots (no_marks 16641) new
+            ∙ length-marks 16641) near (omega (arith, whole));
       }
 
   eighth : get_or new 7 0 ≡ 50

@@ -1,10 +1,10 @@
 -- A change, whole: what its ranges make of an image.
-use Rattle.std.proofs.Common.{◌≡◌, ◌≢◌, ◌≤◌, ◌<◌, ◌^◌, ◌+◌, ◌==◌, ℕ, zero, suc, Bool, true, false, List, [], ◌∷◌, ◌++◌, Option, Some, None, take, drop, length, get_or, if◌then◌else◌, refl, sym, ap, subst, ◌∙◌, arith}
+use Rattle.std.proofs.Common.{◌≡◌, ◌≢◌, ◌≤◌, ◌<◌, ◌+◌, ◌==◌, ℕ, suc, Bool, true, false, List, [], ◌++◌, Option, Some, None, take, drop, length}
+use Rattle.std.proofs.Common.{get_or, if◌then◌else◌, refl, sym, ap, subst, ◌∙◌, arith}
 use Rattle.std.specs.List.{All}
-use Rattle.std.specs.Prelude.{IfSome, IsSome, slice_get, slice_index_or, slice_set}
+use Rattle.std.specs.Prelude.{IfSome, IsSome, slice_set}
 use Rattle.std.proofs.lemmas.Bool.Decides.{nat_tests}
-use Rattle.std.proofs.lemmas.List.{append-nil}
-use Rattle.std.proofs.lemmas.List.Elements.{All-from_get_or, All-nil, All-same}
+use Rattle.std.proofs.lemmas.List.Elements.{All-from_get_or}
 use Rattle.nq_base.specs.Name.{IsName}
 use Rattle.nq_base.specs.declared.BlockChange.{BlockChange}
 use Rattle.nq_base.specs.declared.Change.{Change}
@@ -14,23 +14,25 @@ use Rattle.nq_base.specs.declared.HostChange.{HostChange}
 use Rattle.nq_base.specs.declared.HostRow.{HostRow}
 use Rattle.nq_image.specs.Image.{no_marks}
 use Rattle.nq_image.specs.Layout.{piece}
-use Rattle.nq_image.specs.Standing.{AreDistinct, PlacedFile, Standing, Stands, blocks_in, files_in, found_of, front_for, kept_at, marks_with, row_at, row_blocks, with_rows as files_of_rows}
+use Rattle.nq_image.specs.Standing.{AreDistinct, PlacedFile, Standing, Stands, blocks_in, files_in, found_of, front_for, kept_at, marks_with, row_at}
+use Rattle.nq_image.specs.Standing.{row_blocks, with_rows as files_of_rows}
 use Rattle.nq_image.proofs.Changing.{first-id}
 use Rattle.nq_image.proofs.Owning.{rows-of, standing-apart}
 use Rattle.nq_image.proofs.Parting.{parts-of}
 use Rattle.nq_image.proofs.Sorting.{OfRow}
-use Rattle.nq_model.specs.Change.{AreHeadsWithin, IsHostWithin, FitsFile, FitsRemoval, HasBlock, IsBody, IsRowOf, RaisesNext, applied as changed, blocks_with, files_with, files_without, heads_of, heads_with, hosts_with, kept_as, with_file}
+use Rattle.nq_model.specs.Change.{AreHeadsWithin, IsHostWithin, FitsFile, FitsRemoval, HasBlock, IsBody, IsRowOf, RaisesNext, blocks_with, files_with}
+use Rattle.nq_model.specs.Change.{files_without, heads_of, heads_with, hosts_with, kept_as, with_file}
 use Rattle.nq_model.specs.Kept.{File, Kept, blocks_in_all, find_file, find_name, with_files}
 use Rattle.nq_plan.specs.Finding.{blocks_of, file_in, slot_of}
 use Rattle.nq_plan.specs.Held.{HeldTables, IsHeldOf}
 use Rattle.nq_plan.specs.Placing.{IsPlacedFor}
 use Rattle.nq_plan.specs.Ranges.{blocks_then, body_ranges, heads_ranges, host_ranges, placed_ranges, ranges_of, removal_ranges, removed_ranges}
-use Rattle.nq_plan.specs.Settling.{marked_all, settled, with_file_at, with_file_if, with_rows, without, without_at, without_slot}
+use Rattle.nq_plan.specs.Settling.{marked_all, with_file_at, with_file_if, with_rows, without, without_at, without_slot}
 use Rattle.nq_plan.specs.declared.placing.Placed.{Placed}
 use Rattle.nq_disk.specs.Ranges.{applied}
 use Rattle.nq_store.specs.Changing.{CanBeWritten, HasZeros, IsWritten, new_blocks}
-use Rattle.nq_store.proofs.BlockStep.{IsBlockEnd, IsOf, IsRemovalEnd, block-end, of-known, of-other, of-placed, removal-end}
-use Rattle.nq_store.proofs.FileStep.{IsEnd, IsFitRow, IsNewRow, file-end, known-here, own-row-id}
+use Rattle.nq_store.proofs.BlockStep.{IsBlockEnd, IsOf, block-end, of-known, of-other, of-placed, removal-end}
+use Rattle.nq_store.proofs.FileStep.{IsFitRow, IsNewRow, file-end, known-here, own-row-id}
 use Rattle.nq_store.proofs.Files.{each-file, none-at, numbered-at, unknown-files}
 use Rattle.nq_store.proofs.Filing.{blocks-here, blocks-with}
 use Rattle.nq_store.proofs.Marks.{marks-then}
@@ -80,26 +82,22 @@ with-files-as : (files more : List File) (hosts : List HostRow) (heads : Heads) 
 unfolding kept_as with_files
 with-files-as files more hosts heads = refl
 
-with-own-files : (k : Kept) → k ≡ with_files k k.files
-unfolding with_files
-with-own-files k = refl
-
-host-as : (files : List File) (hosts : List HostRow) (heads : Heads) (change : Option HostChange) → kept_as (kept_as files hosts heads).files (hosts_with change (kept_as files hosts heads).hosts) (heads_of (kept_as files hosts heads)) ≡ kept_as files (hosts_with change hosts) heads
+host-as : (files : List File) (hosts : List HostRow) (heads : Heads) (change : Option HostChange) → kept_as (kept_as files hosts heads).files
+    (hosts_with change (kept_as files hosts heads).hosts) (heads_of (kept_as files hosts heads)) ≡ kept_as files (hosts_with change hosts) heads
 unfolding kept_as
 host-as files hosts heads change = refl
 
-files-with-files : (k : Kept) (files : List File) → (with_files k files).files ≡ files
-unfolding with_files
-files-with-files k files = refl
-
-raised : (heads : Option Heads) (k : Kept) (old : Heads) (n : ℕ) → RaisesNext k heads → IfSome heads (AreHeadsWithin n) → ((heads_with heads old).next ≡ k.next + 1) × ((heads_with heads old).next ≤ 2147483648)
+raised : (heads : Option Heads) (k : Kept) (old : Heads) (n : ℕ) → RaisesNext k heads → IfSome heads (AreHeadsWithin n)
+    → ((heads_with heads old).next ≡ k.next + 1) × ((heads_with heads old).next ≤ 2147483648)
 raised None k old n raises within = absurd raises
 raised (Some heads) k old n raises within = (raises, within.few_ids)
 
 -- ---- the file of a change fits
 
-fit-row : (before : List ℕ) (s0 : Standing) (heads : Option Heads) (row : FileRow) (bytes : List ℕ) (s : Standing) → Stands before s0 → s.rows ≡ s0.rows → s.heads ≡ heads_with heads s0.heads → (kept_at bytes s).files ≡ (kept_at before s0).files
-    → FitsFile (kept_at before s0) heads row → IfSome heads (AreHeadsWithin s0.heads.next) → IsName row.name × (row.rev < 2305843009213693952) → IsFitRow bytes s row
+fit-row : (before : List ℕ) (s0 : Standing) (heads : Option Heads) (row : FileRow) (bytes : List ℕ) (s : Standing) → Stands before s0 → s.rows
+    ≡ s0.rows → s.heads ≡ heads_with heads s0.heads → (kept_at bytes s).files ≡ (kept_at before s0).files
+    → FitsFile (kept_at before s0) heads row → IfSome heads (AreHeadsWithin s0.heads.next) → IsName row.name × (row.rev < 2305843009213693952)
+    → IsFitRow bytes s row
 fit-row before s0 heads row bytes s stands same_rows same_heads same fits within right =
     let k = kept_at before s0 in
     let Find : List File → Type 0 = λ l. IsRowOf k heads row (find_file row.id l) in
@@ -116,7 +114,8 @@ fit-row before s0 heads row bytes s stands same_rows same_heads same fits within
       rev = let r = right.1 in omega (arith, r);
     }
   where
-    new-row : (row.id ≡ (kept_at before s0).next) × (find_name row.name (kept_at before s0).files ≡ None) × RaisesNext (kept_at before s0) heads → IsNewRow bytes s row
+    new-row : (row.id ≡ (kept_at before s0).next) × (find_name row.name (kept_at before s0).files ≡ None) × RaisesNext (kept_at before s0) heads
+        → IsNewRow bytes s row
     new-row is =
         let up = raised heads (kept_at before s0) s0.heads s0.heads.next is.2 within in
         let next = next-of before s0 in
@@ -138,7 +137,8 @@ fit-row before s0 heads row bytes s stands same_rows same_heads same fits within
 -- ---- the parts of one change
 
 module _ (bytes : List ℕ) (held : HeldTables) (change : Change) (is_held : IsHeldOf bytes held)
-    (fit_host : IfSome change.host (λ h. h.host < 64)) (right_host : IfSome change.host (λ h. IsHostWithin h.row)) (right_heads : IfSome change.heads (AreHeadsWithin held.standing.heads.next)) (fresh : List ℕ) where
+    (fit_host : IfSome change.host (λ h. h.host < 64)) (right_host : IfSome change.host (λ h. IsHostWithin h.row)) (right_heads : IfSome change.heads
+    (AreHeadsWithin held.standing.heads.next)) (fresh : List ℕ) where
   abbrev s0 : Standing
   s0 = held.standing
 
@@ -198,8 +198,11 @@ module _ (bytes : List ℕ) (held : HeldTables) (change : Change) (is_held : IsH
       ∙ ap (λ (k : Kept). with_files k (files_with row k0.files)) front-step.kept
       ∙ with-files-as k0.files (files_with row k0.files) hosts heads
 
-  file-marks : (row : FileRow) (placed : Placed) (new : List ℕ) → Stands new (record s2 { rows = slice_set s0.rows placed.file.slot (Some placed.file) }) → placed.file.slot < 256 → blocks_of s0 row.id ≡ row_blocks (row_at s0 placed.file.slot) → placed.file.id ≡ row.id
-      → marked_all true placed.file.blocks (marked_all false (row_blocks (file_in s0.rows (slot_of placed.file.id s0.rows))) held.marks) ≡ marks_with (no_marks 16641) (blocks_in (slice_set s0.rows placed.file.slot (Some placed.file)))
+  file-marks : (row : FileRow) (placed : Placed) (new : List ℕ)
+      → Stands new (record s2 { rows = slice_set s0.rows placed.file.slot (Some placed.file) }) → placed.file.slot < 256 → blocks_of s0 row.id
+      ≡ row_blocks (row_at s0 placed.file.slot) → placed.file.id ≡ row.id
+      → marked_all true placed.file.blocks (marked_all false (row_blocks (file_in s0.rows (slot_of placed.file.id s0.rows))) held.marks)
+      ≡ marks_with (no_marks 16641) (blocks_in (slice_set s0.rows placed.file.slot (Some placed.file)))
   file-marks row placed new stands lt here own =
       let slot = placed.file.slot in
       let in_rows : slot < length s0.rows = omega (arith, lt, rows-of bytes s0 is_held.stands) in
@@ -213,13 +216,21 @@ module _ (bytes : List ℕ) (held : HeldTables) (change : Change) (is_held : IsH
       let Below : List ℕ → Type 0 = λ l. All (λ b. b < length (no_marks 16641)) l in
       ap (λ (l : List ℕ). marked_all true placed.file.blocks (marked_all false l held.marks)) were
       ∙ marks-then front mine rest placed.file.blocks held.marks (is_held.marks ∙ ap (marks_with (no_marks 16641)) now) (subst AreDistinct now once.distinct)
-      (subst Below now (below-of bytes s0 is_held.stands)) (subst Below after (below-of new (record s2 { rows = slice_set s0.rows slot (Some placed.file) }) stands))
+      (subst Below now (below-of bytes s0 is_held.stands))
+      (subst Below after (below-of new (record s2 { rows = slice_set s0.rows slot (Some placed.file) }) stands))
       ∙ ap (marks_with (no_marks 16641)) (sym after)
 
-  pub file-part : (row : Option FileRow) (placed : Option Placed) → IsPlacedFor held row placed → IfSome row (FitsFile k0 change.heads) → IfSome row (λ r. IsName r.name × (r.rev < 2305843009213693952)) → All (HasZeros bytes) fresh → fresh ≡ new_blocks placed
+  pub file-part : (row : Option FileRow) (placed : Option Placed) → IsPlacedFor held row placed → IfSome row (FitsFile k0 change.heads)
+      → IfSome row (λ r. IsName r.name × (r.rev < 2305843009213693952)) → All (HasZeros bytes) fresh → fresh ≡ new_blocks placed
       → IsFileEnd row placed (applied (placed_ranges s0 row placed) b2)
   unfolding with_rows with_file_at
-  file-part None None is fit right zeros same = record { stands = front-step.stands; kept = front-step.kept; marks = is_held.marks; no_shorter = front-step.no_shorter }
+  file-part None None is fit right zeros same = record {
+    stands = front-step.stands;
+    kept = front-step.kept;
+    marks = is_held.marks;
+    no_shorter =
+        front-step.no_shorter;
+  }
   file-part None (Some placed) is fit right zeros same = absurd is
   file-part (Some row) None is fit right zeros same = absurd is
   file-part (Some row) (Some placed) is fit right zeros same =
@@ -243,7 +254,8 @@ module _ (bytes : List ℕ) (held : HeldTables) (change : Change) (is_held : IsH
     pub kept : kept_at new (with_file_if held2 placed).standing ≡ kept_as (blocks_with block (files_with row k0.files)) hosts heads
     pub no_shorter : length bytes ≤ length new
 
-  whose : (row : Option FileRow) (placed : Option Placed) (old : List ℕ) → IsPlacedFor held row placed → Stands old (with_file_if held2 placed).standing → (id k : ℕ) → HasBlock k (find_file id (kept_at old (with_file_if held2 placed).standing).files)
+  whose : (row : Option FileRow) (placed : Option Placed) (old : List ℕ) → IsPlacedFor held row placed
+      → Stands old (with_file_if held2 placed).standing → (id k : ℕ) → HasBlock k (find_file id (kept_at old (with_file_if held2 placed).standing).files)
       → (file : PlacedFile) × IsOf (with_file_if held2 placed).standing id (blocks_then s0 placed id) file
   unfolding with_rows with_file_at
   whose None None old is stands id k has = of-known old s2 id k stands has
@@ -251,11 +263,19 @@ module _ (bytes : List ℕ) (held : HeldTables) (change : Change) (is_held : IsH
   whose (Some row) None old is stands id k has = absurd is
   whose (Some row) (Some placed) old is stands id k has = by (placed.file.id == id) refl
     where
-      by : (b : Bool) → (placed.file.id == id) ≡ b → (file : PlacedFile) × IsOf (record s2 { rows = slice_set s0.rows placed.file.slot (Some placed.file) }) id (if b then placed.file.blocks else row_blocks (file_in s0.rows (slot_of id s0.rows))) file
-      by true test = let e : placed.file.id ≡ id = grind (arith, nat_tests) in (placed.file, of-placed bytes held heads hosts row placed is_held.stands is id e)
-      by false test = let ne : placed.file.id ≢ id = grind (arith, nat_tests) in of-other bytes held heads hosts row placed is_held.stands is old id k stands ne has
+      by : (b : Bool) → (placed.file.id == id) ≡ b → (file : PlacedFile)
+          × IsOf (record s2 { rows = slice_set s0.rows placed.file.slot (Some placed.file) }) id (if b then placed.file.blocks
+          else row_blocks (file_in s0.rows (slot_of id s0.rows))) file
+      by true test = let e : placed.file.id ≡ id = grind (arith, nat_tests) in (
+        placed.file,
+        of-placed bytes held heads hosts row placed
+            is_held.stands is id e,
+      )
+      by false test = let ne : placed.file.id ≢ id = grind (arith, nat_tests) in of-other bytes held heads hosts row placed is_held.stands is old id k
+          stands ne has
 
-  block-done : (row : Option FileRow) (placed : Option Placed) (change : BlockChange) (old new : List ℕ) → IsFileEnd row placed old → IsBlockEnd old (with_file_if held2 placed).standing change new → IsBlockPart row placed (Some change) new
+  block-done : (row : Option FileRow) (placed : Option Placed) (change : BlockChange) (old new : List ℕ) → IsFileEnd row placed old
+      → IsBlockEnd old (with_file_if held2 placed).standing change new → IsBlockPart row placed (Some change) new
   block-done row placed change old new file end =
       let F = files_with row k0.files in
       let t = (with_file_if held2 placed).standing in
@@ -269,8 +289,10 @@ module _ (bytes : List ℕ) (held : HeldTables) (change : Change) (is_held : IsH
         no_shorter = let a = file.no_shorter in let b = end.no_shorter in omega arith;
       }
 
-  pub block-part : (row : Option FileRow) (placed : Option Placed) (block : Option BlockChange) (old : List ℕ) → IsPlacedFor held row placed → IsFileEnd row placed old
-      → IfSome block (λ b. HasBlock b.block (find_file b.file (files_with row k0.files))) → IfSome block (λ b. IsBody b.body) → IsBlockPart row placed block (applied (body_ranges s0 placed block) old)
+  pub block-part : (row : Option FileRow) (placed : Option Placed) (block : Option BlockChange) (old : List ℕ) → IsPlacedFor held row placed
+      → IsFileEnd row placed old
+      → IfSome block (λ b. HasBlock b.block (find_file b.file (files_with row k0.files))) → IfSome block (λ b. IsBody b.body) → IsBlockPart row placed
+      block (applied (body_ranges s0 placed block) old)
   block-part row placed None old is file fits right = record { stands = file.stands; kept = file.kept; no_shorter = file.no_shorter }
   block-part row placed (Some change) old is file fits right =
       let t = (with_file_if held2 placed).standing in
@@ -287,7 +309,8 @@ module _ (bytes : List ℕ) (held : HeldTables) (change : Change) (is_held : IsH
     pub kept : kept_at new h.standing ≡ kept_as files hosts heads
     pub marks : h.marks ≡ marks_with (no_marks 16641) (blocks_in h.standing.rows)
 
-  removed-marks : (slot : ℕ) → slot < 256 → (new : List ℕ) → Stands new (record s2 { rows = slice_set s0.rows slot None }) → marked_all false (row_blocks (row_at s0 slot)) held.marks ≡ marks_with (no_marks 16641) (blocks_in (slice_set s0.rows slot None))
+  removed-marks : (slot : ℕ) → slot < 256 → (new : List ℕ) → Stands new (record s2 { rows = slice_set s0.rows slot None })
+      → marked_all false (row_blocks (row_at s0 slot)) held.marks ≡ marks_with (no_marks 16641) (blocks_in (slice_set s0.rows slot None))
   removed-marks slot lt new stands =
       let in_rows : slot < length s0.rows = omega (arith, lt, rows-of bytes s0 is_held.stands) in
       let front = blocks_in (take slot s0.rows) in
@@ -322,10 +345,12 @@ module _ (bytes : List ℕ) (held : HeldTables) (change : Change) (is_held : IsH
       let Goal : Option ℕ → Type 0 = λ o. IsRemoved (without_at held2 o) (files_without (Some id) k0.files) (applied (removal_ranges s0.tables o) old) in
       subst Goal (sym found) (record { stands = end.stands; kept = kept_then; marks = removed-marks slot end.within _ end.stands })
 
-  pub removal-part : (row : Option FileRow) (placed : Option Placed) (block : Option BlockChange) (removed : Option ℕ) (old : List ℕ) → IsPlacedFor held row placed → IsBlockPart row placed block old
+  pub removal-part : (row : Option FileRow) (placed : Option Placed) (block : Option BlockChange) (removed : Option ℕ) (old : List ℕ)
+      → IsPlacedFor held row placed → IsBlockPart row placed block old
       → (with_file_if held2 placed).marks ≡ marks_with (no_marks 16641) (blocks_in (with_file_if held2 placed).standing.rows)
       → IfSome removed (λ id. IsSome (find_file id k0.files) × (row ≡ None) × (block ≡ None))
-      → IsRemoved (without (with_file_if held2 placed) removed) (blocks_with block (files_with row (files_without removed k0.files))) (applied (removed_ranges s0 removed) old)
+      → IsRemoved (without (with_file_if held2 placed) removed) (blocks_with block (files_with row (files_without removed k0.files)))
+      (applied (removed_ranges s0 removed) old)
   unfolding with_rows
   removal-part row placed block None old is part marks fits = record { stands = part.stands; kept = part.kept; marks = marks }
   removal-part None None None (Some id) old is part marks fits = removed-one id old part.stands part.kept fits.0 (slot_of id s0.rows) refl
@@ -335,13 +360,15 @@ module _ (bytes : List ℕ) (held : HeldTables) (change : Change) (is_held : IsH
 
 -- ---- all parts
 
-fits-removal : (k : Kept) (change : Change) (removed : Option ℕ) → IfSome removed (FitsRemoval k change) → IfSome removed (λ id. IsSome (find_file id k.files) × (change.file ≡ None) × (change.block ≡ None))
+fits-removal : (k : Kept) (change : Change) (removed : Option ℕ) → IfSome removed (FitsRemoval k change)
+    → IfSome removed (λ id. IsSome (find_file id k.files) × (change.file ≡ None) × (change.block ≡ None))
 fits-removal k change None fits = tt
 fits-removal k change (Some id) fits = (fits.is_kept, fits.no_file, fits.no_block)
 
 -- the ranges of a change, one part after another
 parts-of-ranges : (s : Standing) (change : Change) (placed : Option Placed) (bytes : List ℕ)
-    → applied (ranges_of s change placed) bytes ≡ applied (removed_ranges s change.removed) (applied (body_ranges s placed change.block) (applied (placed_ranges s change.file placed) (applied (host_ranges change.host) (applied (heads_ranges change.heads) bytes))))
+    → applied (ranges_of s change placed) bytes ≡ applied (removed_ranges s change.removed) (applied (body_ranges s placed change.block)
+    (applied (placed_ranges s change.file placed) (applied (host_ranges change.host) (applied (heads_ranges change.heads) bytes))))
 parts-of-ranges s change placed bytes =
     let h = heads_ranges change.heads in
     let o = host_ranges change.host in
@@ -353,7 +380,8 @@ parts-of-ranges s change placed bytes =
     ∙ applied-both f (b ++ r) (applied o (applied h bytes))
     ∙ applied-both b r (applied f (applied o (applied h bytes)))
 
-pub change-is-written : (bytes : List ℕ) (held : HeldTables) (change : Change) (placed : Option Placed) → CanBeWritten bytes held change placed → IsWritten bytes (applied (ranges_of held.standing change placed) bytes) held change placed
+pub change-is-written : (bytes : List ℕ) (held : HeldTables) (change : Change) (placed : Option Placed) → CanBeWritten bytes held change placed
+    → IsWritten bytes (applied (ranges_of held.standing change placed) bytes) held change placed
 change-is-written bytes held change placed can =
     let s0 = held.standing in
     let k0 = kept_at bytes s0 in
@@ -363,9 +391,12 @@ change-is-written bytes held change placed can =
     let fresh = new_blocks placed in
     let Right : ℕ → Type 0 = λ n. IfSome change.heads (AreHeadsWithin n) in
     let right_heads = subst Right (next-of bytes s0) within.heads in
-    let file = file-part bytes held change is_held fits.host within.host right_heads fresh change.file placed can.is_placed fits.file within.file can.zeros refl in
-    let block = block-part bytes held change is_held fits.host within.host right_heads fresh change.file placed change.block _ can.is_placed file fits.block within.block in
-    let all = removal-part bytes held change is_held fits.host within.host right_heads fresh change.file placed change.block change.removed _ can.is_placed block file.marks (fits-removal k0 change change.removed fits.removed) in
+    let file = file-part bytes held change is_held fits.host within.host right_heads fresh change.file placed can.is_placed fits.file within.file
+    can.zeros refl in
+    let block = block-part bytes held change is_held fits.host within.host right_heads fresh change.file placed change.block _ can.is_placed file
+    fits.block within.block in
+    let all = removal-part bytes held change is_held fits.host within.host right_heads fresh change.file placed change.block change.removed _
+    can.is_placed block file.marks (fits-removal k0 change change.removed fits.removed) in
     let files = blocks_with change.block (files_with change.file (files_without change.removed k0.files)) in
     let kept = all.kept
     ∙ ap (λ (h : List HostRow). kept_as files (hosts_with change.host h) (heads_with change.heads s0.heads)) (sym (hosts-are bytes s0))

@@ -49,10 +49,12 @@ written-below end place size part bytes le some long =
     let all = length-written place part bytes (inr (omega (arith, long, some))) in
     record { no_shorter = omega (arith, all); same = λ k lt. written-outside place part bytes k (inl (omega (arith, le, lt))) }
 
-pub piece-below : (end place size : ℕ) (old new : List ℕ) → place + size ≤ end → end ≤ length old → SameBelow end old new → piece place size new ≡ piece place size old
+pub piece-below : (end place size : ℕ) (old new : List ℕ) → place + size ≤ end → end ≤ length old → SameBelow end old new → piece place size new
+    ≡ piece place size old
 piece-below end place size old new within long same =
     let longer = same.no_shorter in
-    piece-same place size new old (omega (arith, within, long, longer)) (omega (arith, within, long)) (λ k lt. same.same (place + k) (omega (arith, within, lt)))
+    piece-same place size new old (omega (arith, within, long, longer)) (omega (arith, within, long)) (λ k lt. same.same (place + k)
+    (omega (arith, within, lt)))
 
 -- ---- the tables
 
@@ -64,7 +66,8 @@ pub record IsTabled (place block : ℕ) (slots : List (Option Slot)) (old new : 
   pub has : HasTables place block slots new
   pub whole : place + 4096 * length slots ≤ length new
 
-pub tabled-is : (place block : ℕ) (slots : List (Option Slot)) (old : List ℕ) → place ≤ length old → All (λ slot. blocks_of slot ≤ 1024) slots → IsTabled place block slots old (tabled place block slots old)
+pub tabled-is : (place block : ℕ) (slots : List (Option Slot)) (old : List ℕ) → place ≤ length old → All (λ slot. blocks_of slot ≤ 1024) slots
+    → IsTabled place block slots old (tabled place block slots old)
 tabled-is place block [] old long few = record {
   below = record { no_shorter = omega arith; same = λ k lt. refl };
   has = tt;
@@ -78,23 +81,28 @@ tabled-is place block (slot ∷ slots) old long few =
     let all = length-written place table old (inr (omega (arith, size))) in
     let reach : place + 4096 ≤ length mid = omega (arith, all, size) in
     let more = tabled-is (place + 4096) (block + n) slots mid reach (All-tail (λ (s : Option Slot). blocks_of s ≤ 1024) slot slots few) in
-    let first = same-on place old mid (tabled (place + 4096) (block + n) slots mid) (written-below place place 4096 table old (omega arith) (omega arith) size) (same-less place (place + 4096) mid (tabled (place + 4096) (block + n) slots mid) (omega arith) more.below) in
+    let first = same-on place old mid (tabled (place + 4096) (block + n) slots mid) (written-below place place 4096 table old (omega arith)
+    (omega arith) size) (same-less place (place + 4096) mid (tabled (place + 4096) (block + n) slots mid) (omega arith) more.below) in
     let whole = more.whole in
     record {
       below = first;
       has = (
-        piece-below (place + 4096) place 4096 mid (tabled (place + 4096) (block + n) slots mid) (omega arith) reach more.below ∙ written-there place 4096 table old (omega arith) size,
+        piece-below (place + 4096) place 4096 mid (tabled (place + 4096) (block + n) slots mid) (omega arith) reach more.below ∙ written-there place
+            4096 table old (omega arith) size,
         more.has,
       );
       whole = omega (arith, whole);
     }
 
 -- tables stay where the bytes stay
-pub tables-stay : (place block : ℕ) (slots : List (Option Slot)) (old new : List ℕ) → place + 4096 * length slots ≤ length old → place + 4096 * length slots ≤ length new → ((k : ℕ) → place ≤ k → k < place + 4096 * length slots → get_or new k 0 ≡ get_or old k 0) → HasTables place block slots old → HasTables place block slots new
+pub tables-stay : (place block : ℕ) (slots : List (Option Slot)) (old new : List ℕ) → place + 4096 * length slots ≤ length old → place + 4096 * length
+    slots ≤ length new → ((k : ℕ) → place ≤ k → k < place + 4096 * length slots → get_or new k 0 ≡ get_or old k 0) → HasTables place block slots old
+    → HasTables place block slots new
 tables-stay place block [] old new one two same has = tt
 tables-stay place block (slot ∷ slots) old new one two same has = (
   piece-same place 4096 new old (omega (arith, two)) (omega (arith, one)) (λ k lt. same (place + k) (omega arith) (omega (arith, lt))) ∙ has.0,
-  tables-stay (place + 4096) (block + blocks_of slot) slots old new (omega (arith, one)) (omega (arith, two)) (λ k le lt. same k (omega (arith, le)) (omega (arith, lt))) has.1,
+  tables-stay (place + 4096) (block + blocks_of slot) slots old new (omega (arith, one)) (omega (arith, two)) (λ k le lt. same k (omega (arith, le))
+      (omega (arith, lt))) has.1,
 )
 
 -- ---- all that is written before the change
@@ -105,7 +113,8 @@ pub record IsPrepared (slots : List (Option Slot)) (old new : List ℕ) : Type 0
   pub ids : piece (block_place (blocks_in slots) + 1048576) 4096 new ≡ table_of_blocks (numbers_from 0 (files_in slots))
   pub whole : block_place (blocks_in slots) + 1052672 ≤ length new
 
-pub prepared-is : (slots : List (Option Slot)) (old : List ℕ) → length slots ≡ 256 → files_in slots ≤ 256 → All (λ slot. blocks_of slot ≤ 1024) slots → block_place (blocks_in slots) ≤ length old → IsPrepared slots old (prepared slots old)
+pub prepared-is : (slots : List (Option Slot)) (old : List ℕ) → length slots ≡ 256 → files_in slots ≤ 256 → All (λ slot. blocks_of slot ≤ 1024) slots
+    → block_place (blocks_in slots) ≤ length old → IsPrepared slots old (prepared slots old)
 prepared-is slots old every few short long =
     let place = block_place (blocks_in slots) in
     let behind = block_place (blocks_in slots + 256) in

@@ -1,5 +1,6 @@
 -- Zeros are written over blocks that no file has.
-use Rattle.std.proofs.Common.{◌≡◌, ◌⊎◌, ◌≤◌, ◌<◌, ◌+◌, ◌*◌, ℕ, zero, suc, List, ◌∷◌, Result, Ok, Err, length, get_or, take, drop, refl, sym, ap, subst, ◌∙◌, inl, inr, arith}
+use Rattle.std.proofs.Common.{◌≡◌, ◌⊎◌, ◌≤◌, ◌<◌, ◌+◌, ◌*◌, ℕ, zero, suc, List, ◌∷◌, Result, Ok, Err, length, get_or, take, drop, refl, sym, ap}
+use Rattle.std.proofs.Common.{subst, ◌∙◌, inl, inr, arith}
 use Rattle.std.specs.List.{All}
 use Rattle.std.specs.Prelude.{OnOk, replicate}
 use Rattle.std.proofs.lemmas.List.{at_drop_more, at_drop_all, take_all}
@@ -39,7 +40,8 @@ still-itself s bytes closed = record {
   closed = closed;
 }
 
-pub still-torn : (s : Standing) (old mid image : List ℕ) (block n : ℕ) → n ≡ 4096 → Stands old s → IsFree s block → StandsStill s old mid → Torn (block_place block) n mid image → StandsStill s old image
+pub still-torn : (s : Standing) (old mid image : List ℕ) (block n : ℕ) → n ≡ 4096 → Stands old s → IsFree s block → StandsStill s old mid
+    → Torn (block_place block) n mid image → StandsStill s old image
 still-torn s old mid image block n size stands free still torn =
     let tears : Torn (block_place block) 4096 mid image = subst (λ (m : ℕ). Torn (block_place block) m mid image) size torn in
     let long = still.closed.long in
@@ -55,7 +57,8 @@ still-torn s old mid image block n size stands free still torn =
 pub free-at : (s : Standing) (i block : ℕ) (blocks : List ℕ) → All (IsFree s) blocks → i < length blocks → block ≡ get_or blocks i 0 → IsFree s block
 free-at s i block blocks all lt is = subst (IsFree s) (sym is) (all i 0 lt)
 
-pub zeroed-passes : (i block : ℕ) (blocks bytes part whole : List ℕ) → part ≡ zeros → i < length blocks → block ≡ get_or blocks i 0 → zeroed (drop i blocks) bytes ≡ whole → zeroed (drop (i + 1) blocks) (written (block_place block) part bytes) ≡ whole
+pub zeroed-passes : (i block : ℕ) (blocks bytes part whole : List ℕ) → part ≡ zeros → i < length blocks → block ≡ get_or blocks i 0
+    → zeroed (drop i blocks) bytes ≡ whole → zeroed (drop (i + 1) blocks) (written (block_place block) part bytes) ≡ whole
 zeroed-passes i block blocks bytes part whole same lt is so =
     let F : List ℕ → List ℕ = λ bs. zeroed bs bytes in
     let step : F (drop i blocks) ≡ zeroed (drop (i + 1) blocks) (written (block_place (get_or blocks i 0)) zeros bytes) = at_drop_more F blocks i 0 lt in
@@ -85,7 +88,8 @@ zeros-are bytes is = is ∙ sym (repeated-zeros 1024)
 
 -- ---- a body is read
 
-pub read-whole : (count block : ℕ) (disk buffer : List ℕ) → ReadsFront count (block_place block) disk buffer → length buffer ≡ 4096 → block_place block + 4096 ≤ length disk → buffer ≡ body_in disk block
+pub read-whole : (count block : ℕ) (disk buffer : List ℕ) → ReadsFront count (block_place block) disk buffer → length buffer ≡ 4096
+    → block_place block + 4096 ≤ length disk → buffer ≡ body_in disk block
 unfolding piece
 read-whole count block disk buffer front size whole =
     let number = front.number in

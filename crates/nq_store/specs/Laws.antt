@@ -1,5 +1,6 @@
 -- The laws of a store as a keeper.
-use Rattle.std.proofs.Common.{◌≡◌, ◌⊎◌, ◌<◌, ◌≤◌, ◌-◌, ◌^◌, ℕ, Bool, true, false, List, Option, Some, None, Result, Ok, Err, if◌then◌else◌, refl, sym, subst, ◌∙◌, inl, inr, ⊎_elim, arith}
+use Rattle.std.proofs.Common.{◌≡◌, ◌⊎◌, ◌≤◌, ◌-◌, ◌^◌, ℕ, Bool, true, false, List, Option, Some, None, Result, Ok, Err, if◌then◌else◌, refl, sym}
+use Rattle.std.proofs.Common.{subst, ◌∙◌, inl, inr, ⊎_elim, arith}
 use Rattle.std.proofs.lemmas.Bool.{cases_lt}
 use Rattle.nq_io.specs.Faults.{Rose}
 use Rattle.nq_plan.specs.Standing.{stands_as}
@@ -26,12 +27,14 @@ while-within false None found e = cc
 while-within false (Some bytes) found e = of-within (stands_as bytes) found e
 
 -- a disk that tells a kept state tells bytes that stand for it
-pub tells-bytes : (ended : Bool) (told : Option (List ℕ)) (kept : Kept) → content_while ended told ≡ Some kept → (bytes : List ℕ) × (told ≡ Some bytes) × (kept_on bytes ≡ Some kept)
+pub tells-bytes : (ended : Bool) (told : Option (List ℕ)) (kept : Kept) → content_while ended told ≡ Some kept → (bytes : List ℕ)
+    × (told ≡ Some bytes) × (kept_on bytes ≡ Some kept)
 tells-bytes true told kept e = cc
 tells-bytes false None kept e = cc
 tells-bytes false (Some bytes) kept e = (bytes, refl, e)
 
-rises-with : (faults last_faults refused last_refused : ℕ) → faults ≤ last_faults → refused ≤ last_refused → counted faults refused ≤ counted last_faults last_refused
+rises-with : (faults last_faults refused last_refused : ℕ) → faults ≤ last_faults → refused ≤ last_refused → counted faults refused
+    ≤ counted last_faults last_refused
 rises-with faults last_faults refused last_refused one two = omega arith
 
 pub told-is-within : {D : Type 0} (told : D → Option (List ℕ)) (store : StoredStore D) (kept : Kept) → content_of told store ≡ Some kept → IsWithinBounds kept
@@ -82,12 +85,14 @@ module _ {D : Type 0} (faults : D → ℕ) (follows : D → D → Type 0) where
             goes) two.cause;
       }
 
-  pub goes-rising : ((first last : D) → follows first last → faults first ≤ faults last) → (first last : StoredStore D) → GoesOn faults follows first last → faults_of faults first ≤ faults_of faults last
+  pub goes-rising : ((first last : D) → follows first last → faults first ≤ faults last) → (first last : StoredStore D) → GoesOn faults follows first
+      last → faults_of faults first ≤ faults_of faults last
   goes-rising rises first last goes =
       rises-with (faults first.disk) (faults last.disk) first.refused last.refused (rises first.disk last.disk goes.disk) goes.refused
 
   module _ (told : D → Option (List ℕ)) (may : D → List ℕ → Type 0) (leaves : D → D → List ℕ → Type 0) where
-    told-left : ((disk : D) (bytes : List ℕ) → told disk ≡ Some bytes → may disk bytes) → (store : StoredStore D) (kept : Kept) → content_of told store ≡ Some kept → (bytes : List ℕ) × may store.disk bytes × (Some kept ≡ kept_on bytes)
+    told-left : ((disk : D) (bytes : List ℕ) → told disk ≡ Some bytes → may disk bytes) → (store : StoredStore D) (kept : Kept)
+        → content_of told store ≡ Some kept → (bytes : List ℕ) × may store.disk bytes × (Some kept ≡ kept_on bytes)
     told-left stay store kept e =
         let t = tells-bytes store.ended (told store.disk) kept e in
         (t.0, stay store.disk t.0 t.1, sym t.2)
@@ -95,7 +100,8 @@ module _ {D : Type 0} (faults : D → ℕ) (follows : D → D → Type 0) where
     -- what is kept at the beginning may be left, and what is kept at the end
     pub may-leave : ((disk : D) (bytes : List ℕ) → told disk ≡ Some bytes → may disk bytes)
         → ((first last : D) (bytes : List ℕ) → follows first last → may first bytes ⊎ may last bytes → leaves first last bytes)
-        → (first last : StoredStore D) (kept : Kept) → GoesOn faults follows first last → (content_of told first ≡ Some kept) ⊎ (content_of told last ≡ Some kept) → LeavesKept (leaves first.disk last.disk) (Some kept)
+        → (first last : StoredStore D) (kept : Kept) → GoesOn faults follows first last → (content_of told first ≡ Some kept)
+        ⊎ (content_of told last ≡ Some kept) → LeavesKept (leaves first.disk last.disk) (Some kept)
     may-leave stay ends first last kept goes (inl e) =
         let t = told-left stay first kept e in
         (t.0, ends first.disk last.disk t.0 goes.disk (inl t.1), t.2)
@@ -105,7 +111,10 @@ module _ {D : Type 0} (faults : D → ℕ) (follows : D → D → Type 0) where
 
   module _ (leaves : D → D → List ℕ → Type 0) where
     -- what is left between two moments is left before a third, or behind it
-    pub leaves-parts : ((first middle last : D) (bytes : List ℕ) → follows first middle → follows middle last → leaves first last bytes → leaves first middle bytes ⊎ leaves middle last bytes) → (first middle last : StoredStore D) (found : Option Kept) → GoesOn faults follows first middle → GoesOn faults follows middle last → LeavesKept (leaves first.disk last.disk) found → LeavesKept (leaves first.disk middle.disk) found ⊎ LeavesKept (leaves middle.disk last.disk) found
+    pub leaves-parts : ((first middle last : D) (bytes : List ℕ) → follows first middle → follows middle last → leaves first last bytes
+        → leaves first middle bytes ⊎ leaves middle last bytes) → (first middle last : StoredStore D) (found : Option Kept) → GoesOn faults follows
+        first middle → GoesOn faults follows middle last → LeavesKept (leaves first.disk last.disk) found → LeavesKept (leaves first.disk middle.disk)
+        found ⊎ LeavesKept (leaves middle.disk last.disk) found
     leaves-parts parts first middle last found one two left =
         ⊎_elim (λ here. inl (left.0, here, left.2)) (λ there. inr (left.0, there, left.2))
         (parts first.disk middle.disk last.disk left.0 one.disk two.disk left.1)

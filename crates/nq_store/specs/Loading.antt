@@ -27,7 +27,8 @@ Gives (Err Failed) P = Unit {0}
 Gives (Err Memory) P = Unit {0}
 
 -- between these two moments a disk was only asked: it tells the same, and a stop leaves no more than one before might have left
-pub record OnlyAsked {D : Type 0} (told : D → Option (List ℕ)) (goes : D → D → Type 0) (may_leave : D → List ℕ → Type 0) (left : D → D → List ℕ → Type 0) (first last : D) : Type 0 where
+pub record OnlyAsked {D : Type 0} (told : D → Option (List ℕ)) (goes : D → D → Type 0) (may_leave : D → List ℕ → Type 0) (left : D → D → List ℕ
+    → Type 0) (first last : D) : Type 0 where
   pub same : told last ≡ told first
   pub follows : goes first last
   pub leaves : LeavesNoMore (may_leave first) (left first last)

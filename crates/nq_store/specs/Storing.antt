@@ -1,5 +1,6 @@
 -- A store as contracts see it.
-use Rattle.std.specs.Prelude.{◌≡◌, ◌⊎◌, ◌<◌, ◌≤◌, All, ◌^◌, ℕ, ◌+◌, ◌-◌, Bool, true, false, List, Option, Some, None, Result, Ok, Err, count_by, is_some, length, min, sum_by, if◌then◌else◌}
+use Rattle.std.specs.Prelude.{◌≡◌, ◌⊎◌, ◌<◌, ◌≤◌, All, ◌^◌, ℕ, ◌+◌, ◌-◌, Bool, true, false, List, Option, Some, None, Result, Ok, Err, count_by}
+use Rattle.std.specs.Prelude.{is_some, length, min, sum_by, if◌then◌else◌}
 use Rattle.std.specs.Option.{ForSome}
 use Rattle.nq_base.specs.declared.Space.{Space}
 use Rattle.nq_io.specs.Faults.{Rose, count_up}

@@ -20,7 +20,8 @@ not_done Stormed.Fault events before now other asks = asks
 not_done Stormed.Memory events before now other asks = asks
 
 -- where a storm ended early, the fate may have been asked for the next event
-pub cut_short : (ended : Stormed) (events before then now : ℕ) → (ended ≡ Stormed.Done → ⊥) → then ≡ asked_for events before → AsksForNext 0 then now → AsksOnce ended events before now
+pub cut_short : (ended : Stormed) (events before then now : ℕ) → (ended ≡ Stormed.Done → ⊥) → then ≡ asked_for events before → AsksForNext 0 then now
+    → AsksOnce ended events before now
 cut_short ended events before then now other here (inl same) = not_done ended events before now other (inl (same ∙ here))
 cut_short ended events before then now other here (inr more) = not_done ended events before now other (inr (once_more events before then now here more))
 
@@ -29,7 +30,8 @@ few events wanted before now early (inl asked) = record { events = events; few =
 few events wanted before now early (inr asked) = record { events = events + 1; few = omega arith; asked = asked }
 
 -- of a storm that was to have so many events
-pub asks_wanted : (ended : Stormed) (events wanted before now : ℕ) → AsksOnce ended events before now → ((ended ≡ Stormed.Done → ⊥) → events < wanted) → (ended ≡ Stormed.Done → events ≡ wanted) → AsksWanted ended wanted before now
+pub asks_wanted : (ended : Stormed) (events wanted before now : ℕ) → AsksOnce ended events before now → ((ended ≡ Stormed.Done → ⊥) → events < wanted)
+    → (ended ≡ Stormed.Done → events ≡ wanted) → AsksWanted ended wanted before now
 asks_wanted Stormed.Done events wanted before now asks early whole = asks ∙ ap (λ n. asked_for n before) (whole refl)
 asks_wanted (Stormed.Limit limit) events wanted before now asks early whole = few events wanted before now (early (λ is. absurd (cc))) asks
 asks_wanted Stormed.Fault events wanted before now asks early whole = few events wanted before now (early (λ is. absurd (cc))) asks
@@ -42,7 +44,8 @@ asks_all Ending.WriteFault wanted before now asked = asked
 asks_all other wanted before now asked = record { events = wanted; few = omega arith; asked = asked }
 
 -- where it had not, and that was told
-pub asks_few : (end : Ending) (limit : Limit) (wanted before now : ℕ) (held held' : Option (List ℕ)) (w w' : ℕ) → TellsStop end 0 (Stepped.Limit limit) held held' w w' → AsksFew wanted before now → AsksFor end wanted before now
+pub asks_few : (end : Ending) (limit : Limit) (wanted before now : ℕ) (held held' : Option (List ℕ)) (w w' : ℕ)
+    → TellsStop end 0 (Stepped.Limit limit) held held' w w' → AsksFew wanted before now → AsksFor end wanted before now
 asks_few Ending.Memory limit wanted before now held held' w w' tells asks = asks
 asks_few Ending.Limit limit wanted before now held held' w w' tells asks = asks
 asks_few other limit wanted before now held held' w w' tells asks = absurd tells

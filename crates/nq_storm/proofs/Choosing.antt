@@ -9,8 +9,10 @@ use Rattle.nq_storm.specs.Rules.{Rule, chosen}
 use Rattle.nq_storm.specs.declared.fates.offers.Offer.{Offer}
 
 -- what a fate chose is chosen from the menu of the moment
-pub is_chosen : (head : Head) (start : ℕ) (events : List Event) (earlier word : ℕ) (offer : Offer) (told tells : Option Rule) (event : Event) → word ≡ word_behind start earlier → length events ≡ earlier → IsOffered head events word offer
-    → ((answer : ℕ) × (slice_get (menu offer (earlier + 1)) (answer % offer.size) ≡ Some event) × IfSome told (λ rule. (answer ≡ (chosen rule offer).0) × (tells ≡ Some (chosen rule offer).1)))
+pub is_chosen : (head : Head) (start : ℕ) (events : List Event) (earlier word : ℕ) (offer : Offer) (told tells : Option Rule) (event : Event)
+    → word ≡ word_behind start earlier → length events ≡ earlier → IsOffered head events word offer
+    → ((answer : ℕ) × (slice_get (menu offer (earlier + 1)) (answer % offer.size) ≡ Some event)
+    × IfSome told (λ rule. (answer ≡ (chosen rule offer).0) × (tells ≡ Some (chosen rule offer).1)))
     → IsChosen head start events told event tells
 is_chosen head start events earlier word offer told tells event drawn many offered choice = record {
   offer = offer;

@@ -31,7 +31,8 @@ same_losses (entry ∷ entries) =
     ∙ sym (sum_by-cons f entry entries)
 
 -- one entry more is counted
-pub one_more : (entries : List Entry) (place lost more : ℕ) (entry : Entry) → place < length entries → lost ≡ count_by is_loss (take place entries) → more ≡ cond (is_loss entry) 1 0 → entry ≡ get_or entries place entry
+pub one_more : (entries : List Entry) (place lost more : ℕ) (entry : Entry) → place < length entries → lost ≡ count_by is_loss (take place entries)
+    → more ≡ cond (is_loss entry) 1 0 → entry ≡ get_or entries place entry
     → lost + more ≡ count_by is_loss (take (place + 1) entries)
 one_more entries place lost more entry there so-far here is =
     let f : Entry → ℕ = λ e. cond (is_loss e) 1 0 in

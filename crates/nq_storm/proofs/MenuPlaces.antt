@@ -1,8 +1,9 @@
 -- What stands at the places of a menu.
-use Rattle.std.proofs.Common.{◌≡◌, ℕ, ◌+◌, ◌-◌, ◌/◌, ◌%◌, ◌<◌, ◌≤◌, Bool, true, false, List, [], ◌∷◌, ◌++◌, length, slice_get, Some, zero, suc, refl, ap, sym, subst, ◌∙◌, arith, length-append, inl, inr, ◌⊎◌}
+use Rattle.std.proofs.Common.{◌≡◌, ℕ, ◌+◌, ◌<◌, ◌≤◌, Bool, true, false, List, [], ◌∷◌, ◌++◌, length, slice_get, Some, zero, suc, refl, ap, sym, ◌∙◌}
+use Rattle.std.proofs.Common.{arith, length-append, inl, inr, ◌⊎◌}
 use Rattle.std.proofs.lemmas.Bool.{cases_lt}
 use Rattle.nq_base.specs.declared.Event.{Event}
-use Rattle.nq_storm.specs.Menu.{all_ticks, calls, each, host_call, menu, server_ticks}
+use Rattle.nq_storm.specs.Menu.{all_ticks, calls, each, host_call, menu}
 use Rattle.nq_storm.specs.Places.{tick_count}
 use Rattle.nq_storm.specs.declared.fates.offers.Offer.{Offer}
 
@@ -39,10 +40,6 @@ calls-each number = refl
 
 length-calls : (number : ℕ) → length (calls number) ≡ 104
 length-calls number = refl
-
--- the ticks of clients, and those behind the server's
-pub client-tick : (place : ℕ) → place < 4 → slice_get (each Event.ClientTick 4) place ≡ Some (Event.ClientTick place)
-client-tick place below = at-each Event.ClientTick 4 place below
 
 length-ticks : (may : Bool) → length (all_ticks may) ≡ tick_count may
 length-ticks true = refl

@@ -1,8 +1,8 @@
 -- One moment of a storm.
-use Rattle.std.proofs.Common.{◌≡◌, ℕ, ◌<◌, ◌≤◌, Bool, List, [], ◌∷◌, ◌++◌, length, Option, Some, None, refl, sym, ap, subst, ◌∙◌, arith}
+use Rattle.std.proofs.Common.{◌≡◌, ℕ, ◌<◌, Bool, List, [], ◌∷◌, ◌++◌, length, Option, refl, sym, ap, subst, ◌∙◌, arith}
 use Rattle.std.proofs.lemmas.List.{reverse-append}
 use Rattle.std.specs.List.{AllByRecursion}
-use Rattle.std.specs.Prelude.{◌↔◌, IsTrue, IfSome, reverse, unwrap_or}
+use Rattle.std.specs.Prelude.{◌↔◌, IsTrue, reverse, unwrap_or}
 use Rattle.nq_base.specs.declared.Call.{Call}
 use Rattle.nq_base.specs.declared.Event.{Event}
 use Rattle.nq_model.specs.Kept.{Kept}
@@ -50,12 +50,10 @@ filled_event other stormy = tt
 
 -- ---- what is offered
 
-pub fresh_below : (next : Option ℕ) (sent : ℕ) → IfSome next (λ packet. packet < sent) → unwrap_or next sent ≤ sent
-fresh_below None sent below = omega arith
-fresh_below (Some packet) sent below = let there : packet < sent = below in omega arith
-
-pub is_offered : {K : Type 0} (head : Head) (events : List Event) (w : WorldOver K) (told : Option Kept) (flags : List Bool) (sent word : ℕ) (next : Option ℕ) (offer : Offer) → IsAt head events w told flags
-    → sent ≡ length w.datagrams → ((es : List Event) → Marks flags es → next ≡ least_undelivered 0 sent es) → offer.packets ≡ sent → offer.fresh ≡ unwrap_or next sent
+pub is_offered : {K : Type 0} (head : Head) (events : List Event) (w : WorldOver K) (told : Option Kept) (flags : List Bool) (sent word : ℕ)
+    (next : Option ℕ) (offer : Offer) → IsAt head events w told flags
+    → sent ≡ length w.datagrams → ((es : List Event) → Marks flags es → next ≡ least_undelivered 0 sent es) → offer.packets ≡ sent → offer.fresh
+    ≡ unwrap_or next sent
     → (IsTrue offer.server_tick ↔ IsWithinSkew head.hosts head.longest (Event.ServerTick ∷ events)) → offer.word ≡ word
     → IsOffered head events word offer
 is_offered head events w told flags sent word next offer at many least packets fresh tick same =
@@ -69,7 +67,8 @@ is_offered head events w told flags sent word next offer at many least packets f
 
 -- ---- what a world answers
 
-refused : {K : Type 0} (head : Head) (events : List Event) (event : Event) (said : Stepped) (old new : WorldOver K) (told tells : Option Kept) → Steps head events event said old new told tells → Plays head events old told → (said ≡ Stepped.Done → ⊥)
+refused : {K : Type 0} (head : Head) (events : List Event) (event : Event) (said : Stepped) (old new : WorldOver K) (told tells : Option Kept)
+    → Steps head events event said old new told tells → Plays head events old told → (said ≡ Stepped.Done → ⊥)
     → Halts (ending_of said) head events × Stands (ending_of said) head events new tells
 refused head events event Stepped.Done old new told tells steps plays other = absurd (other refl)
 refused head events event Stepped.NoPacket old new told tells steps plays other =
@@ -83,7 +82,8 @@ refused head events event Stepped.Fault old new told tells steps plays other =
 refused head events event Stepped.Memory old new told tells steps plays other =
     (tt, still-plays head events old new told tells plays steps.1 steps.2)
 
-halting : {K : Type 0} (ended : Stormed) (head : Head) (events : List Event) (event : Event) (new : WorldOver K) (tells : Option Kept) (flags : List Bool) → (ended ≡ Stormed.Done → ⊥)
+halting : {K : Type 0} (ended : Stormed) (head : Head) (events : List Event) (event : Event) (new : WorldOver K) (tells : Option Kept)
+    (flags : List Bool) → (ended ≡ Stormed.Done → ⊥)
     → Halts ended head events × Stands ended head events new tells → Gives ended head events event new tells flags
 halting Stormed.Done head events event new tells flags other both = absurd (other refl)
 halting (Stormed.Limit limit) head events event new tells flags other both = both
@@ -98,14 +98,16 @@ never_done (Stepped.Limit limit) is = absurd (cc)
 never_done Stepped.Fault is = absurd (cc)
 never_done Stepped.Memory is = absurd (cc)
 
-pub not_given : {K : Type 0} (head : Head) (events : List Event) (event : Event) (said : Stepped) (ended : Stormed) (old new : WorldOver K) (told tells : Option Kept) (flags : List Bool) → ended ≡ ending_of said
+pub not_given : {K : Type 0} (head : Head) (events : List Event) (event : Event) (said : Stepped) (ended : Stormed) (old new : WorldOver K)
+    (told tells : Option Kept) (flags : List Bool) → ended ≡ ending_of said
     → Steps head events event said old new told tells → Plays head events old told → (said ≡ Stepped.Done → ⊥) → Gives ended head events event new tells flags
 not_given head events event said ended old new told tells flags is steps plays other =
     rw is (halting (ending_of said) head events event new tells flags (never_done said) (refused head events event said old new told tells steps plays other))
 
 -- ---- what the world keeps
 
-on_settings : {K : Type 0} (old new : WorldOver K) → HasSettings 4 60 30 old → HasSettings (length old.clients) old.skew.window old.term new → HasSettings 4 60 30 new
+on_settings : {K : Type 0} (old new : WorldOver K) → HasSettings 4 60 30 old → HasSettings (length old.clients) old.skew.window old.term new
+    → HasSettings 4 60 30 new
 on_settings old new first second = record {
   hosts_are = second.hosts_are ∙ first.hosts_are;
   longest_is = second.longest_is ∙ first.longest_is;
@@ -122,12 +124,15 @@ counts_refused Stepped.Memory before now other counts = counts
 
 -- behind an event that was taken in
 pub keeps_taken : {K : Type 0} (faults : K → ℕ) (follows : K → K → Type 0) (old new : WorldOver K) → HasSettings 4 60 30 old
-    → faults new.server.keeper ≡ faults old.server.keeper → follows old.server.keeper new.server.keeper → HasSettings (length old.clients) old.skew.window old.term new → KeepsOn faults follows Stormed.Done old new
+    → faults new.server.keeper ≡ faults old.server.keeper → follows old.server.keeper new.server.keeper → HasSettings (length old.clients)
+    old.skew.window old.term new → KeepsOn faults follows Stormed.Done old new
 keeps_taken faults follows old new here counts keeper settings = record { counts = counts; keeper = keeper; settings = on_settings old new here settings }
 
 -- behind one that was not
-pub keeps_refused : {K : Type 0} (faults : K → ℕ) (follows : K → K → Type 0) (said : Stepped) (ended : Stormed) (old new : WorldOver K) → HasSettings 4 60 30 old → ended ≡ ending_of said → (said ≡ Stepped.Done → ⊥)
-    → Counted said (faults old.server.keeper) (faults new.server.keeper) → follows old.server.keeper new.server.keeper → HasSettings (length old.clients) old.skew.window old.term new → KeepsOn faults follows ended old new
+pub keeps_refused : {K : Type 0} (faults : K → ℕ) (follows : K → K → Type 0) (said : Stepped) (ended : Stormed) (old new : WorldOver K)
+    → HasSettings 4 60 30 old → ended ≡ ending_of said → (said ≡ Stepped.Done → ⊥)
+    → Counted said (faults old.server.keeper) (faults new.server.keeper) → follows old.server.keeper new.server.keeper
+    → HasSettings (length old.clients) old.skew.window old.term new → KeepsOn faults follows ended old new
 keeps_refused faults follows said ended old new here is other counts keeper settings = record {
   counts = rw is (counts_refused said _ _ other counts);
   keeper = keeper;
@@ -135,7 +140,8 @@ keeps_refused faults follows said ended old new here is other counts keeper sett
 }
 
 -- what was not given
-pub gives_not : {K : Type 0} (ended : Stormed) (head : Head) (events : List Event) (event : Event) (new : WorldOver K) (tells : Option Kept) (flags : List Bool) → (ended ≡ Stormed.Done → ⊥) → Gives ended head events event new tells flags
+pub gives_not : {K : Type 0} (ended : Stormed) (head : Head) (events : List Event) (event : Event) (new : WorldOver K) (tells : Option Kept)
+    (flags : List Bool) → (ended ≡ Stormed.Done → ⊥) → Gives ended head events event new tells flags
     → Halts ended head events × Stands ended head events new tells
 gives_not Stormed.Done head events event new tells flags other gives = absurd (other refl)
 gives_not (Stormed.Limit limit) head events event new tells flags other gives = gives
@@ -147,8 +153,10 @@ gives_not Stormed.Memory head events event new tells flags other gives = gives
 newest : {A : Type 0} (xs : List A) (x : A) → reverse (xs ++ x ∷ []) ≡ x ∷ reverse xs
 newest xs x = reverse-append xs (x ∷ [])
 
-pub passed : {K : Type 0} (head : Head) (start : ℕ) (first : Option Rule) (before after : List Event) (event : Event) (told tells : Option Rule) (old new : WorldOver K) (kept keeps : Option Kept) (flags flags' : List Bool)
-    → IsInStorm head start first (reverse before) told old kept flags → IsChosen head start (reverse before) told event tells → Gives Stormed.Done head (reverse before) event new keeps flags' → after ≡ before ++ event ∷ []
+pub passed : {K : Type 0} (head : Head) (start : ℕ) (first : Option Rule) (before after : List Event) (event : Event) (told tells : Option Rule)
+    (old new : WorldOver K) (kept keeps : Option Kept) (flags flags' : List Bool)
+    → IsInStorm head start first (reverse before) told old kept flags → IsChosen head start (reverse before) told event tells
+    → Gives Stormed.Done head (reverse before) event new keeps flags' → after ≡ before ++ event ∷ []
     → IsInStorm head start first (reverse after) tells new keeps flags'
 passed head start first before after event told tells old new kept keeps flags flags' here chosen gives same =
     let last : reverse after ≡ event ∷ reverse before = ap reverse same ∙ newest before event in
@@ -156,7 +164,8 @@ passed head start first before after event told tells old new kept keeps flags f
 
 -- ---- the storm as a whole
 
-pub ends_early : (ended : Stormed) (wanted : ℕ) (head : Head) (events : List Event) → (ended ≡ Stormed.Done → ⊥) → length events < wanted → Halts ended head events → EndsAt ended wanted head events
+pub ends_early : (ended : Stormed) (wanted : ℕ) (head : Head) (events : List Event) → (ended ≡ Stormed.Done → ⊥) → length events < wanted
+    → Halts ended head events → EndsAt ended wanted head events
 ends_early Stormed.Done wanted head events other early halts = absurd (other refl)
 ends_early (Stormed.Limit limit) wanted head events other early halts = (early, halts)
 ends_early Stormed.Fault wanted head events other early halts = (early, halts)
@@ -167,9 +176,11 @@ all_with [] event all one = (one, tt)
 all_with (e ∷ events) event all one = (all.0, all_with events event all.1 one)
 
 -- the events are all of a menu, whether the last was kept or dropped
-pub all_behind : (ended : Stormed) (before after : List Event) (event : Event) → (ended ≡ Stormed.Done → after ≡ before ++ event ∷ []) → ((ended ≡ Stormed.Done → ⊥) → after ≡ before) → IsStormy event
+pub all_behind : (ended : Stormed) (before after : List Event) (event : Event) → (ended ≡ Stormed.Done → after ≡ before ++ event ∷ [])
+    → ((ended ≡ Stormed.Done → ⊥) → after ≡ before) → IsStormy event
     → AllByRecursion IsStormy before → AllByRecursion IsStormy after
-all_behind Stormed.Done before after event kept dropped one all = subst (λ events. AllByRecursion IsStormy events) (sym (kept refl)) (all_with before event all one)
+all_behind Stormed.Done before after event kept dropped one all = subst (λ events. AllByRecursion IsStormy events) (sym (kept refl))
+    (all_with before event all one)
 all_behind (Stormed.Limit limit) before after event kept dropped one all = subst (λ events. AllByRecursion IsStormy events) (sym (dropped (λ is. cc))) all
 all_behind Stormed.Fault before after event kept dropped one all = subst (λ events. AllByRecursion IsStormy events) (sym (dropped (λ is. cc))) all
 all_behind Stormed.Memory before after event kept dropped one all = subst (λ events. AllByRecursion IsStormy events) (sym (dropped (λ is. cc))) all

@@ -23,27 +23,32 @@ newest : (event : Event) (events rest : List Event) → reverse events ++ event 
 newest event events rest =
     sym (append_assoc (reverse events) (event ∷ []) rest) ∙ ap (λ xs. xs ++ rest) (sym (reverse-append (event ∷ []) events))
 
-one_line : (head : Beginning) (most : ℕ) (event : Event) (earlier : List Event) → stepped head earlier event ≡ done → play_line head most (once event) earlier ≡ took (event ∷ earlier)
+one_line : (head : Beginning) (most : ℕ) (event : Event) (earlier : List Event) → stepped head earlier event ≡ done → play_line head most (once event)
+    earlier ≡ took (event ∷ earlier)
 unfolding play_event
 one_line head most event earlier is = ap (λ answer. and_then (answered earlier event answer) (repeated 0 (play_event head event))) is
 
-all_lines : (head : Beginning) (most number : ℕ) (events earlier : List Event) → Taken head earlier events → play_lines head most number (map once events) earlier ≡ Ended.ran (reverse events ++ earlier)
+all_lines : (head : Beginning) (most number : ℕ) (events earlier : List Event) → Taken head earlier events → play_lines head most number
+    (map once events) earlier ≡ Ended.ran (reverse events ++ earlier)
 all_lines head most number [] earlier taken = refl
 all_lines head most number (event ∷ events) earlier taken =
     ap (λ played. at_line number played (play_lines head most (number + 1) (map once events))) (one_line head most event earlier taken.0)
     ∙ all_lines head most (number + 1) events (event ∷ earlier) taken.1
     ∙ ap Ended.ran (newest event events earlier)
 
-storm_taken : (head : Beginning) (start : ℕ) (first last : Option Rule) (events rest : List Event) → IsStorm head start first events last → Taken head events rest → Taken head [] (reverse events ++ rest)
+storm_taken : (head : Beginning) (start : ℕ) (first last : Option Rule) (events rest : List Event) → IsStorm head start first events last
+    → Taken head events rest → Taken head [] (reverse events ++ rest)
 storm_taken head start first last [] rest storm taken = taken
 storm_taken head start first last (event ∷ events) rest storm taken =
     subst (λ es. Taken head [] es) (newest event events rest) (storm_taken head start first storm.0 events (event ∷ rest) storm.1 (storm.3, taken))
 
-pub plays_storm : (head : Head) (start : ℕ) (first last : Option Rule) (events : List Event) → IsStorm (beginning head) start first (reverse events) last → play head (map once events) ≡ Ended.ran (reverse events)
+pub plays_storm : (head : Head) (start : ℕ) (first last : Option Rule) (events : List Event) → IsStorm (beginning head) start first (reverse events)
+    last → play head (map once events) ≡ Ended.ran (reverse events)
 unfolding play
 plays_storm head start first last events storm =
     let taken : Taken (beginning head) [] events =
-    subst (λ es. Taken (beginning head) [] es) (append-nil (reverse (reverse events)) ∙ reverse-reverse events) (storm_taken (beginning head) start first last (reverse events) [] storm tt) in
+    subst (λ es. Taken (beginning head) [] es) (append-nil (reverse (reverse events)) ∙ reverse-reverse events) (storm_taken (beginning head) start
+    first last (reverse events) [] storm tt) in
     all_lines (beginning head) (most_events + 1) (length (head_lines head) + 1) events [] taken ∙ ap Ended.ran (append-nil (reverse events))
 
 pub storms-are-lawful : StormsAreLawful

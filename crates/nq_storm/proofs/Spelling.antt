@@ -63,7 +63,14 @@ name_byte b low high = (omega arith, omega arith, All-cons IsNameByte b [] (omeg
 
 pub fits_head : FitsHead storm_head
 fits_head = record {
-  settings = record { known = inl refl; some_hosts = omega arith; few_hosts = omega arith; long_term = omega arith; short_term = omega arith; fit_longest = (omega arith, omega arith, λ e. refl) };
+  settings = record {
+    known = inl refl;
+    some_hosts = omega arith;
+    few_hosts = omega arith;
+    long_term = omega arith;
+    short_term = omega arith;
+    fit_longest = (omega arith, omega arith, λ e. refl);
+  };
   files = record {
     each = ((name_byte 97 (omega arith) (omega arith), omega arith, omega arith), ((name_byte 98 (omega arith) (omega arith), omega arith, omega arith), tt));
     few_files = omega arith;

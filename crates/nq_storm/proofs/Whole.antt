@@ -23,13 +23,15 @@ pub further : (start count word : ℕ) (old new : Lcg) → old ≡ generator sta
 further start count word old new here is = rw (add-one count) (subst (λ g. new ≡ (pcg32 g).1) here (ap (λ p. p.1) is))
 
 -- before the first event
-pub begins : {K : Type 0} (head : Head) (start : ℕ) (first : Option Rule) (ran : List Event) (w : WorldOver K) (told : Option Kept) (flags : List Bool) → ran ≡ [] → Plays head [] w told → Marks flags []
+pub begins : {K : Type 0} (head : Head) (start : ℕ) (first : Option Rule) (ran : List Event) (w : WorldOver K) (told : Option Kept)
+    (flags : List Bool) → ran ≡ [] → Plays head [] w told → Marks flags []
     → IsInStorm head start first (reverse ran) first w told flags
 begins head start first ran w told flags none plays marks =
     rw none (record { at = record { plays = plays; marks = marks }; storm = refl })
 
 -- behind the last event
-pub is_whole : {K : Type 0} (head : Head) (start wanted : ℕ) (first last : Option Rule) (ran : List Event) (w : WorldOver K) (told : Option Kept) (flags : List Bool) → length ran ≡ wanted
+pub is_whole : {K : Type 0} (head : Head) (start wanted : ℕ) (first last : Option Rule) (ran : List Event) (w : WorldOver K) (told : Option Kept)
+    (flags : List Bool) → length ran ≡ wanted
     → IsInStorm head start first (reverse ran) last w told flags → Storms Stormed.Done head start wanted first (reverse ran) w told
 is_whole head start wanted first last ran w told flags many here = record {
   last = last;
@@ -39,8 +41,10 @@ is_whole head start wanted first last ran w told flags many here = record {
 }
 
 -- where it ended before
-pub is_cut : {K : Type 0} (ended : Stormed) (head : Head) (start wanted earlier : ℕ) (first last : Option Rule) (before after : List Event) (old new : WorldOver K) (told tells : Option Kept) (flags : List Bool) → (ended ≡ Stormed.Done → ⊥)
-    → after ≡ before → length before ≡ earlier → earlier < wanted → IsInStorm head start first (reverse before) last old told flags → Halts ended head (reverse before) × Stands ended head (reverse before) new tells
+pub is_cut : {K : Type 0} (ended : Stormed) (head : Head) (start wanted earlier : ℕ) (first last : Option Rule) (before after : List Event)
+    (old new : WorldOver K) (told tells : Option Kept) (flags : List Bool) → (ended ≡ Stormed.Done → ⊥)
+    → after ≡ before → length before ≡ earlier → earlier < wanted → IsInStorm head start first (reverse before) last old told flags
+    → Halts ended head (reverse before) × Stands ended head (reverse before) new tells
     → Storms ended head start wanted first (reverse after) new tells
 is_cut ended head start wanted earlier first last before after old new told tells flags other same many early here halts =
     let count = length-reverse before in

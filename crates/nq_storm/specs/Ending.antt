@@ -33,7 +33,8 @@ Gives Stormed.Done head events event new tells flags =
 Gives other head events event new tells flags = Halts other head events × Stands other head events new tells
 
 -- a world plays a storm of these events, and the flags tell which packets were delivered in it
-pub record IsInStorm {K : Type 0} (head : Head) (start : ℕ) (first : Option Rule) (events : List Event) (last : Option Rule) (w : WorldOver K) (told : Option Kept) (flags : List Bool) : Type 0 where
+pub record IsInStorm {K : Type 0} (head : Head) (start : ℕ) (first : Option Rule) (events : List Event) (last : Option Rule) (w : WorldOver K)
+    (told : Option Kept) (flags : List Bool) : Type 0 where
   pub at : IsAt head events w told flags
   pub storm : IsStorm head start first events last
 
@@ -43,7 +44,8 @@ EndsAt Stormed.Done wanted head events = length events ≡ wanted
 EndsAt other wanted head events = (length events < wanted) × Halts other head events
 
 -- a storm that was to have so many events ended: these events are a storm, and the world is one that played them
-pub record Storms {K : Type 0} (ended : Stormed) (head : Head) (start wanted : ℕ) (first : Option Rule) (events : List Event) (new : WorldOver K) (tells : Option Kept) : Type 0 where
+pub record Storms {K : Type 0} (ended : Stormed) (head : Head) (start wanted : ℕ) (first : Option Rule) (events : List Event) (new : WorldOver K)
+    (tells : Option Kept) : Type 0 where
   pub last : Option Rule
   pub storm : IsStorm head start first events last
   pub ends : EndsAt ended wanted head events

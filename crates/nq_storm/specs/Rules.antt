@@ -1,5 +1,5 @@
 -- The rules by which the four fates choose.
-use Rattle.std.specs.Prelude.{ℕ, zero, suc, ◌+◌, ◌-◌, ◌/◌, ◌%◌, ◌^◌, ◌==◌, ◌&&◌, nat_lt, Bool, if◌then◌else◌}
+use Rattle.std.specs.Prelude.{ℕ, zero, suc, ◌+◌, ◌-◌, ◌/◌, ◌%◌, ◌^◌, ◌==◌, ◌&&◌, nat_lt, if◌then◌else◌}
 use Rattle.nq_io.specs.Faults.{count_up}
 use Rattle.nq_storm.specs.declared.fates.offers.Offer.{Offer}
 

@@ -39,7 +39,8 @@ one_request n r s bytes is is' =
     let p = procedure_of r in
     let P : ℕ → Type 0 = λ n. IsArguments n s bytes in
     let Q : ℕ → Type 0 = λ n. IsArguments n r bytes in
-    one_value r s (whole (request_at p bytes)) (request_whole p r bytes (subst Q (sym is.procedure_is) is)) (request_whole p s bytes (subst P (sym is.procedure_is) is'))
+    one_value r s (whole (request_at p bytes)) (request_whole p r bytes (subst Q (sym is.procedure_is) is))
+    (request_whole p s bytes (subst P (sym is.procedure_is) is'))
 
 pub replies_apart : (p : Procedure) (r s : Reply) (x y : List ℕ) → Answers r p → IsReply r → Answers s p → IsReply s
     → results r ++ x ≡ results s ++ y → (r ≡ s) × (x ≡ y)
@@ -51,7 +52,8 @@ one_reply n r s bytes is is' =
     let p = is.procedure in
     let P : ℕ → Type 0 = λ n. IsResults n s bytes in
     let Q : ℕ → Type 0 = λ n. IsResults n r bytes in
-    one_value r s (whole (reply_at p bytes)) (reply_whole p r bytes (subst Q (sym is.procedure_is) is)) (reply_whole p s bytes (subst P (sym is.procedure_is) is'))
+    one_value r s (whole (reply_at p bytes)) (reply_whole p r bytes (subst Q (sym is.procedure_is) is))
+    (reply_whole p s bytes (subst P (sym is.procedure_is) is'))
 
 -- what reading with no reply says
 no_reply : (p : Procedure) (r : Reply) (bytes : List ℕ) → reply_at p bytes ≡ Err garbage → whole (reply_at p bytes) ≡ Ok r → ⊥

@@ -13,19 +13,27 @@ use Rattle.nq_xdr.specs.Item.{word, hyper, boolean, opaque}
 use Rattle.nq_xdr.proofs.Numbers.{word_again, hyper_again}
 use Rattle.nq_xdr.proofs.Opaque.{boolean_again, opaque_again}
 use Rattle.nq_wire.specs.declared.fault.Garbage.{Garbage}
-use Rattle.nq_wire.specs.Parts.{head, tag_bytes, mode_number, want_bytes, grant_bytes, base_bytes, optional, IsWho, IsTag, IsWant, IsGrant, IsPushBase, IsWanted}
+use Rattle.nq_wire.specs.Parts.{head, tag_bytes, mode_number, want_bytes, grant_bytes, base_bytes, optional, IsWho, IsTag, IsWant, IsGrant}
+use Rattle.nq_wire.specs.Parts.{IsPushBase, IsWanted}
 use Rattle.nq_wire.specs.Reading.{head_at, tag_at, wanted_mode, want_at, granted_mode, grant_at, base_at, optional_at, name_at, body_at}
 use Rattle.nq_wire.proofs.Names.{name_of-name}
 
 pub head_again : (who : Who) (rest : List ℕ) → IsWho who → head_at (head who ++ rest) ≡ Ok (who, rest)
 unfolding head head_at
 head_again who rest fits =
-    ap head_at (append_assoc (word who.host) (word who.inc) rest) ∙ rw (word_again who.host (word who.inc ++ rest) fits.host, word_again who.inc rest fits.inc) refl
+    ap head_at (append_assoc (word who.host) (word who.inc) rest) ∙ rw (
+      word_again who.host (word who.inc ++ rest) fits.host,
+      word_again who.inc rest
+          fits.inc,
+    ) refl
 
 pub tag_again : (tag : Tag) (rest : List ℕ) → IsTag tag → tag_at (tag_bytes tag ++ rest) ≡ Ok (tag, rest)
 unfolding tag_bytes tag_at
 tag_again tag rest fits =
-    ap tag_at (append_assoc (word tag.boot) (hyper tag.number) rest) ∙ rw (word_again tag.boot (hyper tag.number ++ rest) fits.boot, hyper_again tag.number rest fits.number) refl
+    ap tag_at (append_assoc (word tag.boot) (hyper tag.number) rest) ∙ rw (
+      word_again tag.boot (hyper tag.number ++ rest) fits.boot,
+      hyper_again tag.number rest fits.number,
+    ) refl
 
 mode_fits : (mode : Mode) → mode_number mode < 2 ^ 32
 mode_fits NonCaching = omega arith
@@ -48,7 +56,12 @@ pub want_again : (want : Want) (rest : List ℕ) → IsWant want → IsWanted wa
 unfolding want_bytes want_at
 want_again want rest fits is =
     ap want_at (append_assoc (word (mode_number want.mode)) (word want.term) rest)
-    ∙ rw (word_again (mode_number want.mode) (word want.term ++ rest) (mode_fits want.mode), wanted_mode_again want.mode is, word_again want.term rest fits.term) refl
+    ∙ rw (
+      word_again (mode_number want.mode) (word want.term ++ rest) (mode_fits want.mode),
+      wanted_mode_again want.mode is,
+      word_again want.term rest
+          fits.term,
+    ) refl
 
 pub grant_again : (grant : Grant) (rest : List ℕ) → IsGrant grant → grant_at (grant_bytes grant ++ rest) ≡ Ok (grant, rest)
 unfolding grant_bytes grant_at
@@ -73,7 +86,10 @@ grant_again grant rest fits =
 pub base_again : (push : PushBase) (rest : List ℕ) → IsPushBase push → base_at (base_bytes push ++ rest) ≡ Ok (push, rest)
 unfolding base_bytes base_at
 base_again push rest fits =
-    ap base_at (append_assoc (word push.boot) (hyper push.base) rest) ∙ rw (word_again push.boot (hyper push.base ++ rest) fits.boot, hyper_again push.base rest fits.base) refl
+    ap base_at (append_assoc (word push.boot) (hyper push.base) rest) ∙ rw (
+      word_again push.boot (hyper push.base ++ rest) fits.boot,
+      hyper_again push.base rest fits.base,
+    ) refl
 
 pub optional_again : {A : Type 0} (part : A → List ℕ) (part_at : List ℕ → Result (A × List ℕ) Garbage) (o : Option A) (rest : List ℕ)
     → IfSome o (λ x. part_at (part x ++ rest) ≡ Ok (x, rest)) → optional_at part_at (optional part o ++ rest) ≡ Ok (o, rest)
@@ -82,7 +98,8 @@ optional_again part part_at None rest again = rw (boolean_again false rest) refl
 optional_again part part_at (Some x) rest again =
     ap (optional_at part_at) (append_assoc (boolean true) (part x) rest) ∙ rw (boolean_again true (part x ++ rest), again) refl
 
-pub want_if_there : (o : Option Want) (rest : List ℕ) → IfSome o IsWant → IfSome o (λ w. IsWanted w.mode) → optional_at want_at (optional want_bytes o ++ rest) ≡ Ok (o, rest)
+pub want_if_there : (o : Option Want) (rest : List ℕ) → IfSome o IsWant → IfSome o (λ w. IsWanted w.mode) → optional_at want_at (optional want_bytes o
+    ++ rest) ≡ Ok (o, rest)
 want_if_there None rest fits is = optional_again want_bytes want_at None rest tt
 want_if_there (Some want) rest fits is = optional_again want_bytes want_at (Some want) rest (want_again want rest fits is)
 

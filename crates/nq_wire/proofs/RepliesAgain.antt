@@ -8,7 +8,8 @@ use Rattle.nq_base.specs.declared.Reply.TheVariants as reply
 use Rattle.nq_xdr.specs.Item.{word, hyper, opaque}
 use Rattle.nq_xdr.proofs.Numbers.{word_again, hyper_again}
 use Rattle.nq_wire.specs.declared.procedure.Procedure.{Procedure}
-use Rattle.nq_wire.specs.declared.procedure.Procedure.TheVariants.{Null, Attach, Lookup, Create, GetAttr, Read, Write, GetLease, Vacated, Evicted, Resize, Remove}
+use Rattle.nq_wire.specs.declared.procedure.Procedure.TheVariants.{Null, Attach, Lookup, Create, GetAttr, Read, Write, GetLease, Vacated, Evicted}
+use Rattle.nq_wire.specs.declared.procedure.Procedure.TheVariants.{Resize, Remove}
 use Rattle.nq_wire.specs.Parts.{grant_bytes, optional}
 use Rattle.nq_wire.specs.Status.{status_number}
 use Rattle.nq_wire.specs.Reply.{ok, results, IsReply, IsRefusable, Answers}
@@ -46,11 +47,19 @@ unfolding answer_at
 refused_again p inc status rest fits =
     let s = status_again status in
     ap (answer_at p) (append_assoc (word inc) (word (status_number status)) rest)
-    ∙ rw (word_again inc (word (status_number status) ++ rest) fits, word_again (status_number status) rest (status_fits status), ne_eqb (status_number status) 0 s.0, s.1) refl
+    ∙ rw (
+      word_again inc (word (status_number status) ++ rest) fits,
+      word_again (status_number status) rest (status_fits status),
+      ne_eqb (status_number status) 0 s.0,
+      s.1,
+    ) refl
 
 ok_again : (p : Procedure) (inc : ℕ) (rest : List ℕ) → inc < 2 ^ 32 → answer_at p (ok inc ++ rest) ≡ results_at p inc rest
 unfolding ok answer_at
-ok_again p inc rest fits = ap (answer_at p) (append_assoc (word inc) (word 0) rest) ∙ rw (word_again inc (word 0 ++ rest) fits, word_again 0 rest (omega arith)) refl
+ok_again p inc rest fits = ap (answer_at p) (append_assoc (word inc) (word 0) rest) ∙ rw (
+  word_again inc (word 0 ++ rest) fits,
+  word_again 0 rest (omega arith),
+) refl
 
 -- a procedure that has a reply with a status
 answered : (p : Procedure) (bytes : List ℕ) → IsRefusable p → reply_at p bytes ≡ answer_at p bytes

@@ -9,7 +9,8 @@ use Rattle.nq_xdr.proofs.Numbers.{word_again, hyper_again}
 use Rattle.nq_wire.specs.declared.procedure.Procedure.TheVariants as procedure
 use Rattle.nq_wire.specs.Parts.{head, tag_bytes, want_bytes, base_bytes, optional, IsPushBase}
 use Rattle.nq_wire.specs.Request.{arguments, procedure_of, IsRequest, HasSpelling, IsOneWrite}
-use Rattle.nq_wire.specs.Reading.{lookup_at, create_at, get_attr_at, read_at, span_at, write_at, get_lease_at, vacated_at, evicted_at, resize_at, remove_at, asked_at, request_at}
+use Rattle.nq_wire.specs.Reading.{lookup_at, create_at, get_attr_at, read_at, span_at, write_at, get_lease_at, vacated_at, evicted_at, resize_at}
+use Rattle.nq_wire.specs.Reading.{remove_at, asked_at, request_at}
 use Rattle.nq_wire.proofs.PartsAgain.{head_again, tag_again, want_again, want_if_there, base_if_there, name_again, body_again}
 
 -- the write numbers of a push are any two, and those of another WRITE are equal
@@ -23,7 +24,8 @@ span_again first last (Some push) rest first-fits last-fits fits one =
     let b = optional base_bytes (Some push) ++ rest in
     rw (hyper_again first (hyper last ++ b) first-fits, hyper_again last b last-fits, base_if_there (Some push) rest fits) refl
 
-pub request_again : (request : Request) (rest : List ℕ) → IsRequest request → HasSpelling request → request_at (procedure_of request) (arguments request ++ rest) ≡ Ok (request, rest)
+pub request_again : (request : Request) (rest : List ℕ) → IsRequest request → HasSpelling request → request_at (procedure_of request)
+    (arguments request ++ rest) ≡ Ok (request, rest)
 unfolding arguments asked_at lookup_at create_at get_attr_at read_at write_at get_lease_at vacated_at evicted_at resize_at remove_at
 request_again Null rest fits has = refl
 request_again (Attach who) rest fits has = rw (head_again who rest fits) refl
@@ -45,7 +47,13 @@ request_again (Read who call file block want) rest fits has =
     let b = word file ++ c in
     let a = hyper call ++ b in
     let parts : arguments (Read who call file block want) ++ rest ≡ head who ++ a = simp append_assoc in
-    ap (asked_at procedure.Read) parts ∙ rw (head_again who a fits.0, hyper_again call b fits.1, word_again file c fits.2, word_again block d fits.3, want_if_there want rest fits.4 has) refl
+    ap (asked_at procedure.Read) parts ∙ rw (
+      head_again who a fits.0,
+      hyper_again call b fits.1,
+      word_again file c fits.2,
+      word_again block d fits.3,
+      want_if_there want rest fits.4 has,
+    ) refl
 request_again (Write who seq file block first last push body) rest fits has =
     let f = opaque body ++ rest in
     let d = hyper first ++ (hyper last ++ (optional base_bytes push ++ f)) in
@@ -83,7 +91,13 @@ request_again (Resize who seq call file blocks) rest fits has =
     let b = hyper call ++ c in
     let a = hyper seq ++ b in
     let parts : arguments (Resize who seq call file blocks) ++ rest ≡ head who ++ a = simp append_assoc in
-    ap (asked_at procedure.Resize) parts ∙ rw (head_again who a fits.0, hyper_again seq b fits.1, hyper_again call c fits.2, word_again file d fits.3, word_again blocks rest fits.4) refl
+    ap (asked_at procedure.Resize) parts ∙ rw (
+      head_again who a fits.0,
+      hyper_again seq b fits.1,
+      hyper_again call c fits.2,
+      word_again file d fits.3,
+      word_again blocks rest fits.4,
+    ) refl
 request_again (Remove who seq call file) rest fits has =
     let c = word file ++ rest in
     let b = hyper call ++ c in

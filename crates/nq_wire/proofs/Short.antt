@@ -14,10 +14,13 @@ use Rattle.nq_xdr.specs.Reading.{◌>>=◌, word_at, hyper_at}
 use Rattle.nq_xdr.proofs.Numbers.{bytes_at-long, length-hyper, length-word, word_at-short, hyper_at-short}
 use Rattle.nq_wire.specs.declared.fault.Garbage.{Garbage}
 use Rattle.nq_wire.specs.declared.procedure.Procedure.{Procedure}
-use Rattle.nq_wire.specs.declared.procedure.Procedure.TheVariants.{Null, Attach, Lookup, Create, GetAttr, Read, Write, GetLease, Vacated, Evicted, Resize, Remove}
+use Rattle.nq_wire.specs.declared.procedure.Procedure.TheVariants.{Null, Attach, Lookup, Create, GetAttr, Read, Write, GetLease, Vacated, Evicted}
+use Rattle.nq_wire.specs.declared.procedure.Procedure.TheVariants.{Resize, Remove}
 use Rattle.nq_wire.specs.Garbage.{garbage}
 use Rattle.nq_wire.specs.Least.{least_arguments, least_results}
-use Rattle.nq_wire.specs.Reading.{item, head_at, tag_at, wanted_mode, want_at, granted_mode, grant_at, base_at, create_at, get_attr_at, read_at, span_at, write_at, get_lease_at, vacated_at, evicted_at, resize_at, remove_at, arguments_at, found_at, created_at, attributes_at, block_at, written_at, resized_at, results_at, answer_at}
+use Rattle.nq_wire.specs.Reading.{item, head_at, tag_at, wanted_mode, want_at, granted_mode, grant_at, base_at, create_at, get_attr_at, read_at}
+use Rattle.nq_wire.specs.Reading.{span_at, write_at, get_lease_at, vacated_at, evicted_at, resize_at, remove_at, arguments_at, found_at, created_at}
+use Rattle.nq_wire.specs.Reading.{attributes_at, block_at, written_at, resized_at, results_at, answer_at}
 
 -- ---- items that are there
 

@@ -1,5 +1,6 @@
 -- What is read is spelled by the bytes that were passed over.
-use Rattle.std.proofs.Common.{◌≡◌, ℕ, ◌^◌, ◌<◌, ◌≤◌, Bool, true, false, cond, eqb, List, [], ◌++◌, length, Option, Some, None, IfSome, Result, Ok, Err, refl, sym, ap, subst, ◌∙◌, append_assoc}
+use Rattle.std.proofs.Common.{◌≡◌, ℕ, ◌^◌, ◌<◌, ◌≤◌, Bool, true, false, cond, eqb, List, [], ◌++◌, length, Option, Some, None, IfSome, Result, Ok}
+use Rattle.std.proofs.Common.{Err, refl, sym, ap, subst, ◌∙◌, append_assoc}
 use Rattle.std.specs.Prelude.{◌&&◌, not, is_none, IfOk}
 use Rattle.std.proofs.lemmas.Bool.{cond_both, eqb-true}
 use Rattle.std.proofs.lemmas.List.{append-nil}
@@ -24,14 +25,19 @@ use Rattle.nq_xdr.proofs.Opaque.{boolean_says, opaque_says}
 use Rattle.nq_xdr.proofs.Steps.{Says}
 use Rattle.nq_wire.specs.declared.fault.Garbage.{Garbage}
 use Rattle.nq_wire.specs.declared.procedure.Procedure.{Procedure}
-use Rattle.nq_wire.specs.declared.procedure.Procedure.TheVariants.{Null, Attach, Lookup, Create, GetAttr, Read, Write, GetLease, Vacated, Evicted, Resize, Remove}
+use Rattle.nq_wire.specs.declared.procedure.Procedure.TheVariants.{Null, Attach, Lookup, Create, GetAttr, Read, Write, GetLease, Vacated, Evicted}
+use Rattle.nq_wire.specs.declared.procedure.Procedure.TheVariants.{Resize, Remove}
 use Rattle.nq_wire.specs.Garbage.{garbage}
-use Rattle.nq_wire.specs.Parts.{head, tag_bytes, mode_number, want_bytes, grant_bytes, base_bytes, optional, IsWho, IsTag, IsWant, IsGrant, IsPushBase, IsWanted}
+use Rattle.nq_wire.specs.Parts.{head, tag_bytes, mode_number, want_bytes, grant_bytes, base_bytes, optional, IsWho, IsTag, IsWant, IsGrant}
+use Rattle.nq_wire.specs.Parts.{IsPushBase, IsWanted}
 use Rattle.nq_wire.specs.Procedure.{number_of}
 use Rattle.nq_wire.specs.Status.{status_number}
 use Rattle.nq_wire.specs.Request.{procedure_of, arguments, IsRequest, HasSpelling, IsOneWrite, IsArguments}
 use Rattle.nq_wire.specs.Reply.{ok, results, IsReply, IsRefusable, Answers, IsResults}
-use Rattle.nq_wire.specs.Reading.{item, head_at, tag_at, wanted_mode, want_at, granted_mode, grant_at, base_at, some_of, optional_at, name_of, name_at, body_at, lookup_at, create_at, get_attr_at, read_at, span_at, write_at, get_lease_at, vacated_at, evicted_at, resize_at, remove_at, arguments_at, asked_at, request_at, found_at, created_at, attributes_at, block_at, written_at, lease_at, resized_at, results_at, refusal_of, answer_at, reply_at}
+use Rattle.nq_wire.specs.Reading.{item, head_at, tag_at, wanted_mode, want_at, granted_mode, grant_at, base_at, some_of, optional_at, name_of}
+use Rattle.nq_wire.specs.Reading.{name_at, body_at, lookup_at, create_at, get_attr_at, read_at, span_at, write_at, get_lease_at, vacated_at}
+use Rattle.nq_wire.specs.Reading.{evicted_at, resize_at, remove_at, arguments_at, asked_at, request_at, found_at, created_at, attributes_at, block_at}
+use Rattle.nq_wire.specs.Reading.{written_at, lease_at, resized_at, results_at, refusal_of, answer_at, reply_at}
 
 -- ---- steps
 
@@ -40,13 +46,16 @@ abbrev Spelled : {A : Type 0} → (A → List ℕ) → (A → Type 0) → List �
 Spelled spelling Fits bytes x = Fits x.0 × (bytes ≡ spelling x.0 ++ x.1)
 
 -- what follows a step
-after : {A X : Type 0} (read : Result A Garbage) (f : A → Result X Garbage) (Q : A → Type 0) (P : X → Type 0) → IfOk read Q → ((x : A) → Q x → IfOk (f x) P) → IfOk (read >>= f) P
+after : {A X : Type 0} (read : Result A Garbage) (f : A → Result X Garbage) (Q : A → Type 0) (P : X → Type 0) → IfOk read Q
+    → ((x : A) → Q x → IfOk (f x) P) → IfOk (read >>= f) P
 after (Ok x) f Q P says goes_on = goes_on x says
 after (Err e) f Q P says goes_on = tt
 
 -- what follows a value that is spelled
-behind : {A X : Type 0} (spelling : A → List ℕ) (Fits : A → Type 0) (bytes : List ℕ) (read : Result (A × List ℕ) Garbage) (f : A × List ℕ → Result X Garbage) (P : X → Type 0)
-    → IsBytes bytes → IfOk read (Spelled spelling Fits bytes) → ((x : A) (rest : List ℕ) → Fits x → bytes ≡ spelling x ++ rest → IsBytes rest → IfOk (f (x, rest)) P)
+behind : {A X : Type 0} (spelling : A → List ℕ) (Fits : A → Type 0) (bytes : List ℕ) (read : Result (A × List ℕ) Garbage) (f : A × List ℕ
+    → Result X Garbage) (P : X → Type 0)
+    → IsBytes bytes → IfOk read (Spelled spelling Fits bytes) → ((x : A) (rest : List ℕ) → Fits x → bytes ≡ spelling x ++ rest → IsBytes rest
+    → IfOk (f (x, rest)) P)
     → IfOk (read >>= f) P
 behind spelling Fits bytes (Ok x) f P fits says goes_on = goes_on x.0 x.1 says.0 says.1 (IsBytes-behind (spelling x.0) x.1 (subst IsBytes says.1 fits))
 behind spelling Fits bytes (Err e) f P fits says goes_on = tt
@@ -76,7 +85,8 @@ behind_opaque : {X : Type 0} (max : ℕ) (bytes : List ℕ) (f : List ℕ × Lis
     → IfOk (item (opaque_at max bytes) >>= f) P
 behind_opaque max bytes f P fits goes_on =
     let Fits : List ℕ → Type 0 = λ body. length body ≤ max in
-    behind opaque Fits bytes (item (opaque_at max bytes)) f P fits (item_says opaque Fits (IsOpaqueFault max bytes) bytes (opaque_at max bytes) (opaque_says max bytes fits)) goes_on
+    behind opaque Fits bytes (item (opaque_at max bytes)) f P fits (item_says opaque Fits (IsOpaqueFault max bytes) bytes (opaque_at max bytes)
+    (opaque_says max bytes fits)) goes_on
 
 -- a choice by a number
 chosen : {A : Type 0} (n k : ℕ) (x y : Result A Garbage) (P : A → Type 0) → (n ≡ k → IfOk x P) → IfOk y P → IfOk (cond (eqb n k) x y) P
@@ -196,7 +206,8 @@ if_true false x P says = tt
 abbrev Span : Type 0
 Span = ℕ × ℕ × Option PushBase
 
-one_write : (first last : ℕ) (push : Option PushBase) (rest : List ℕ) (P : Span × List ℕ → Type 0) → (IsOneWrite first last push → P ((first, last, push), rest))
+one_write : (first last : ℕ) (push : Option PushBase) (rest : List ℕ) (P : Span × List ℕ → Type 0) → (IsOneWrite first last push
+    → P ((first, last, push), rest))
     → IfOk (cond (is_none push && not (eqb first last)) (Err garbage) (Ok ((first, last, push), rest))) P
 one_write first last None rest P says = if_true (eqb first last) ((first, last, None), rest) P (λ e. says (eqb-true first last e))
 one_write first last (Some push) rest P says = says tt
@@ -213,14 +224,20 @@ span_says bytes fits =
     let P : Span × List ℕ → Type 0 = Spelled span_bytes IsSpan bytes in
     behind_hyper bytes _ P fits (λ first a first-fits e a-fits.
     behind_hyper a _ P a-fits (λ last b last-fits e1 b-fits.
-    behind (optional base_bytes) (λ o. IfSome o IsPushBase) b (optional_at base_at b) _ P b-fits (optional_says base_bytes IsPushBase base_at b b-fits base_says) (λ push rest push-fits e2 _.
+    behind (optional base_bytes) (λ o. IfSome o IsPushBase) b (optional_at base_at b) _ P b-fits (optional_says base_bytes IsPushBase base_at b b-fits
+    base_says) (λ push rest push-fits e2 _.
     one_write first last push rest P (λ one. ((first-fits, last-fits, push-fits, one), rw (e, e1, e2) (simp append_assoc))))))
 
 lookup_says : (bytes : List ℕ) (who : Who) (a : List ℕ) → IsWho who → bytes ≡ head who ++ a → IsBytes a → IfOk (lookup_at who a) (Asks Lookup bytes)
 unfolding arguments lookup_at
 lookup_says bytes who a who-fits e a-fits =
     let P : Request × List ℕ → Type 0 = Asks Lookup bytes in
-    behind opaque IsName a (name_at a) _ P a-fits (name_says a a-fits) (λ name rest name-fits e1 _. (refl, (who-fits, name-fits), tt, rw (e, e1) (simp append_assoc)))
+    behind opaque IsName a (name_at a) _ P a-fits (name_says a a-fits) (λ name rest name-fits e1 _. (
+      refl,
+      (who-fits, name-fits),
+      tt,
+      rw (e, e1) (simp append_assoc),
+    ))
 
 create_says : (bytes : List ℕ) (who : Who) (a : List ℕ) → IsWho who → bytes ≡ head who ++ a → IsBytes a → IfOk (create_at who a) (Asks Create bytes)
 unfolding arguments create_at
@@ -228,7 +245,13 @@ create_says bytes who a who-fits e a-fits =
     let P : Request × List ℕ → Type 0 = Asks Create bytes in
     behind_hyper a _ P a-fits (λ seq b seq-fits e1 b-fits.
     behind opaque IsName b (name_at b) _ P b-fits (name_says b b-fits) (λ name c name-fits e2 c-fits.
-    behind_word c _ P c-fits (λ blocks rest blocks-fits e3 _. (refl, (who-fits, seq-fits, name-fits, blocks-fits), tt, rw (e, e1, e2, e3) (simp append_assoc)))))
+    behind_word c _ P c-fits (λ blocks rest blocks-fits e3 _. (
+      refl,
+      (who-fits, seq-fits, name-fits, blocks-fits),
+      tt,
+      rw (e, e1, e2, e3)
+          (simp append_assoc),
+    ))))
 
 get_attr_says : (bytes : List ℕ) (who : Who) (a : List ℕ) → IsWho who → bytes ≡ head who ++ a → IsBytes a → IfOk (get_attr_at who a) (Asks GetAttr bytes)
 unfolding arguments get_attr_at
@@ -248,7 +271,8 @@ read_says bytes who a who-fits e a-fits =
     behind_hyper a _ P a-fits (λ call b call-fits e1 b-fits.
     behind_word b _ P b-fits (λ file c file-fits e2 c-fits.
     behind_word c _ P c-fits (λ block d block-fits e3 d-fits.
-    behind (optional want_bytes) (λ o. IfSome o IsSpelledWant) d (optional_at want_at d) _ P d-fits (optional_says want_bytes IsSpelledWant want_at d d-fits want_says) (λ want rest want-fits e4 _.
+    behind (optional want_bytes) (λ o. IfSome o IsSpelledWant) d (optional_at want_at d) _ P d-fits (optional_says want_bytes IsSpelledWant want_at d
+    d-fits want_says) (λ want rest want-fits e4 _.
     let w = wants want want-fits in (refl, (who-fits, call-fits, file-fits, block-fits, w.0), w.1, rw (e, e1, e2, e3, e4) (simp append_assoc))))))
 
 write_says : (bytes : List ℕ) (who : Who) (a : List ℕ) → IsWho who → bytes ≡ head who ++ a → IsBytes a → IfOk (write_at who a) (Asks Write bytes)
@@ -279,14 +303,24 @@ unfolding arguments vacated_at
 vacated_says bytes who a who-fits e a-fits =
     let P : Request × List ℕ → Type 0 = Asks Vacated bytes in
     behind_word a _ P a-fits (λ file b file-fits e1 b-fits.
-    behind tag_bytes IsTag b (tag_at b) _ P b-fits (tag_says b b-fits) (λ tag rest tag-fits e2 _. (refl, (who-fits, file-fits, tag-fits), tt, rw (e, e1, e2) (simp append_assoc))))
+    behind tag_bytes IsTag b (tag_at b) _ P b-fits (tag_says b b-fits) (λ tag rest tag-fits e2 _. (
+      refl,
+      (who-fits, file-fits, tag-fits),
+      tt,
+      rw (e, e1, e2) (simp append_assoc),
+    )))
 
 evicted_says : (bytes : List ℕ) (who : Who) (a : List ℕ) → IsWho who → bytes ≡ head who ++ a → IsBytes a → IfOk (evicted_at who a) (Asks Evicted bytes)
 unfolding arguments evicted_at
 evicted_says bytes who a who-fits e a-fits =
     let P : Request × List ℕ → Type 0 = Asks Evicted bytes in
     behind_word a _ P a-fits (λ file b file-fits e1 b-fits.
-    behind tag_bytes IsTag b (tag_at b) _ P b-fits (tag_says b b-fits) (λ tag rest tag-fits e2 _. (refl, (who-fits, file-fits, tag-fits), tt, rw (e, e1, e2) (simp append_assoc))))
+    behind tag_bytes IsTag b (tag_at b) _ P b-fits (tag_says b b-fits) (λ tag rest tag-fits e2 _. (
+      refl,
+      (who-fits, file-fits, tag-fits),
+      tt,
+      rw (e, e1, e2) (simp append_assoc),
+    )))
 
 resize_says : (bytes : List ℕ) (who : Who) (a : List ℕ) → IsWho who → bytes ≡ head who ++ a → IsBytes a → IfOk (resize_at who a) (Asks Resize bytes)
 unfolding arguments resize_at
@@ -307,7 +341,8 @@ remove_says bytes who a who-fits e a-fits =
     behind_word c _ P c-fits (λ file rest file-fits e3 _. (refl, (who-fits, seq-fits, call-fits, file-fits), tt, rw (e, e1, e2, e3) (simp append_assoc)))))
 
 -- what follows who asks
-arguments_say : (p : Procedure) (bytes : List ℕ) (who : Who) (a : List ℕ) → IsWho who → bytes ≡ head who ++ a → IsBytes a → IfOk (arguments_at p who a) (Asks p bytes)
+arguments_say : (p : Procedure) (bytes : List ℕ) (who : Who) (a : List ℕ) → IsWho who → bytes ≡ head who ++ a → IsBytes a
+    → IfOk (arguments_at p who a) (Asks p bytes)
 unfolding arguments
 arguments_say Null bytes who a who-fits e a-fits = tt
 arguments_say Attach bytes who a who-fits e a-fits = (refl, who-fits, tt, e)
@@ -324,7 +359,8 @@ arguments_say Remove bytes who a who-fits e a-fits = remove_says bytes who a who
 
 asked_says : (p : Procedure) (bytes : List ℕ) → IsBytes bytes → IfOk (asked_at p bytes) (Asks p bytes)
 unfolding asked_at
-asked_says p bytes fits = behind head IsWho bytes (head_at bytes) _ (Asks p bytes) fits (head_says bytes fits) (λ who a who-fits e a-fits. arguments_say p bytes who a who-fits e a-fits)
+asked_says p bytes fits = behind head IsWho bytes (head_at bytes) _ (Asks p bytes) fits (head_says bytes fits) (λ who a who-fits e a-fits.
+    arguments_say p bytes who a who-fits e a-fits)
 
 request_says : (p : Procedure) (bytes : List ℕ) → IsBytes bytes → IfOk (request_at p bytes) (Asks p bytes)
 unfolding arguments
@@ -360,7 +396,8 @@ abbrev Tells : Procedure → List ℕ → Reply × List ℕ → Type 0
 Tells p bytes x = Answers x.0 p × IsReply x.0 × (bytes ≡ results x.0 ++ x.1)
 
 -- what follows the incarnation and the status OK
-results_say : (p : Procedure) (inc : ℕ) (start bytes : List ℕ) → inc < 2 ^ 32 → start ≡ ok inc ++ bytes → IsBytes bytes → IfOk (results_at p inc bytes) (Tells p start)
+results_say : (p : Procedure) (inc : ℕ) (start bytes : List ℕ) → inc < 2 ^ 32 → start ≡ ok inc ++ bytes → IsBytes bytes
+    → IfOk (results_at p inc bytes) (Tells p start)
 unfolding results found_at created_at attributes_at block_at written_at lease_at resized_at
 results_say Null inc start bytes inc-fits e fits = tt
 results_say Attach inc start bytes inc-fits e fits = (refl, inc-fits, e)
@@ -378,12 +415,14 @@ results_say Read inc start bytes inc-fits e fits =
     let P : Reply × List ℕ → Type 0 = Tells Read start in
     behind_hyper bytes _ P fits (λ rev a rev-fits e1 a-fits.
     behind opaque IsBody a (body_at a) _ P a-fits (body_says a a-fits) (λ body b size e2 b-fits.
-    behind (optional grant_bytes) (λ o. IfSome o IsGrant) b (optional_at grant_at b) _ P b-fits (optional_says grant_bytes IsGrant grant_at b b-fits grant_says) (λ grant rest grant-fits e3 _.
+    behind (optional grant_bytes) (λ o. IfSome o IsGrant) b (optional_at grant_at b) _ P b-fits (optional_says grant_bytes IsGrant grant_at b b-fits
+    grant_says) (λ grant rest grant-fits e3 _.
     (refl, (inc-fits, rev-fits, size, grant-fits), rw (e, e1, e2, e3) (simp append_assoc)))))
 results_say Write inc start bytes inc-fits e fits =
     behind_hyper bytes _ (Tells Write start) fits (λ rev rest rev-fits e1 _. (refl, (inc-fits, rev-fits), rw (e, e1) (simp append_assoc)))
 results_say GetLease inc start bytes inc-fits e fits =
-    behind (optional grant_bytes) (λ o. IfSome o IsGrant) bytes (optional_at grant_at bytes) _ (Tells GetLease start) fits (optional_says grant_bytes IsGrant grant_at bytes fits grant_says)
+    behind (optional grant_bytes) (λ o. IfSome o IsGrant) bytes (optional_at grant_at bytes) _ (Tells GetLease start) fits (optional_says grant_bytes
+    IsGrant grant_at bytes fits grant_says)
     (λ grant rest grant-fits e1 _. (refl, (inc-fits, grant-fits), rw (e, e1) (simp append_assoc)))
 results_say Vacated inc start bytes inc-fits e fits = tt
 results_say Evicted inc start bytes inc-fits e fits = tt
@@ -395,7 +434,8 @@ refusal_says : (n : ℕ) → IfOk (refusal_of n) (λ status. n ≡ status_number
 unfolding refusal_of
 refusal_says n =
     let P : Refusal → Type 0 = λ status. n ≡ status_number status in
-    chosen n 2 _ _ P (λ same. same) (chosen n 17 _ _ P (λ same. same) (chosen n 22 _ _ P (λ same. same) (chosen n 28 _ _ P (λ same. same) (chosen n 70 _ _ P (λ same. same)
+    chosen n 2 _ _ P (λ same. same) (chosen n 17 _ _ P (λ same. same) (chosen n 22 _ _ P (λ same. same) (chosen n 28 _ _ P (λ same. same)
+    (chosen n 70 _ _ P (λ same. same)
     (chosen n 501 _ _ P (λ same. same) (chosen n 502 _ _ P (λ same. same) (chosen n 503 _ _ P (λ same. same) (chosen n 504 _ _ P (λ same. same) tt))))))))
 
 answer_says : (p : Procedure) (bytes : List ℕ) → IsBytes bytes → IsRefusable p → IfOk (answer_at p bytes) (Tells p bytes)
@@ -405,7 +445,8 @@ answer_says p bytes fits is =
     behind_word bytes _ P fits (λ inc a inc-fits e a-fits.
     behind_word a _ P a-fits (λ status b _ e1 b-fits.
     chosen status 0 _ _ P (λ same. results_say p inc bytes b inc-fits (rw (e, e1, same) (simp append_assoc)) b-fits)
-    (after (refusal_of status) _ (λ refusal. status ≡ status_number refusal) P (refusal_says status) (λ refusal same. (is, inc-fits, rw (e, e1, same) (simp append_assoc))))))
+    (after (refusal_of status) _ (λ refusal. status ≡ status_number refusal) P (refusal_says status) (λ refusal same.
+    (is, inc-fits, rw (e, e1, same) (simp append_assoc))))))
 
 reply_says : (p : Procedure) (bytes : List ℕ) → IsBytes bytes → IfOk (reply_at p bytes) (Tells p bytes)
 unfolding results

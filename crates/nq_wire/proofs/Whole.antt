@@ -8,7 +8,8 @@ use Rattle.nq_wire.specs.declared.fault.Garbage.{Garbage}
 use Rattle.nq_wire.specs.declared.fault.WireFault.TheVariants as fault
 use Rattle.nq_wire.specs.Garbage.{garbage}
 use Rattle.nq_wire.specs.declared.procedure.Procedure.{Procedure}
-use Rattle.nq_wire.specs.declared.procedure.Procedure.TheVariants.{Null, Attach, Lookup, Create, GetAttr, Read, Write, GetLease, Vacated, Evicted, Resize, Remove}
+use Rattle.nq_wire.specs.declared.procedure.Procedure.TheVariants.{Null, Attach, Lookup, Create, GetAttr, Read, Write, GetLease, Vacated, Evicted}
+use Rattle.nq_wire.specs.declared.procedure.Procedure.TheVariants.{Resize, Remove}
 use Rattle.nq_wire.specs.Procedure.{number_of, numbered}
 use Rattle.nq_wire.specs.Request.{arguments, procedure_of, IsArguments}
 use Rattle.nq_wire.specs.Reply.{results, Answers, IsResults}
@@ -55,7 +56,8 @@ number_of-most Resize = omega arith
 number_of-most Remove = omega arith
 
 -- what was read with nothing behind it
-whole_of : {A : Type 0} (spelling bytes : List ℕ) (read : List ℕ → Result (A × List ℕ) Garbage) (x : A) → bytes ≡ spelling → read (spelling ++ []) ≡ Ok (x, []) → whole (read bytes) ≡ Ok x
+whole_of : {A : Type 0} (spelling bytes : List ℕ) (read : List ℕ → Result (A × List ℕ) Garbage) (x : A) → bytes ≡ spelling → read (spelling ++ [])
+    ≡ Ok (x, []) → whole (read bytes) ≡ Ok x
 whole_of spelling bytes read x e again =
     let all : read bytes ≡ Ok (x, []) = ap read (e ∙ sym (append-nil spelling)) ∙ again in
     rw all refl

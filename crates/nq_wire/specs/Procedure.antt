@@ -1,7 +1,8 @@
 -- The procedures of the program, and their numbers.
 use Rattle.std.specs.Prelude.{ℕ, ◌==◌, Option, Some, None, if◌then◌else◌}
 use Rattle.nq_wire.specs.declared.procedure.Procedure.{Procedure}
-use Rattle.nq_wire.specs.declared.procedure.Procedure.TheVariants.{Null, Attach, Lookup, Create, GetAttr, Read, Write, GetLease, Vacated, Evicted, Resize, Remove}
+use Rattle.nq_wire.specs.declared.procedure.Procedure.TheVariants.{Null, Attach, Lookup, Create, GetAttr, Read, Write, GetLease, Vacated, Evicted}
+use Rattle.nq_wire.specs.declared.procedure.Procedure.TheVariants.{Resize, Remove}
 
 -- the number of a procedure
 abbrev pub number_of : Procedure → ℕ

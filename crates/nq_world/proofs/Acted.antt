@@ -1,5 +1,6 @@
 -- What a call of a client does to the clients of a world.
-use Rattle.std.proofs.Common.{◌≡◌, ◌≤◌, ◌<◌, ◌+◌, ℕ, zero, suc, List, [], ◌∷◌, ◌++◌, Option, Some, None, length, get_or, map, refl, sym, subst, ap, ◌∙◌, arith, inl}
+use Rattle.std.proofs.Common.{◌≡◌, ◌≤◌, ◌<◌, ◌+◌, ℕ, zero, suc, List, [], ◌∷◌, ◌++◌, Option, Some, None, length, get_or, map, refl, sym, subst, ap}
+use Rattle.std.proofs.Common.{◌∙◌, arith, inl}
 use Rattle.std.specs.List.{All}
 use Rattle.std.specs.Prelude.{Ok, slice_get, slice_set}
 use Rattle.nq_base.specs.declared.Answer.{Answer}
@@ -26,7 +27,8 @@ pub record IsClientAt (host : ℕ) (clients : List Counted) (c : Counted) : Type
   pub below : host < length clients
   pub reads : c ≡ get_or clients host c
 
-pub client-at : (host place : ℕ) (clients : List Counted) (c : Counted) → place ≡ host → host < length clients → c ≡ get_or clients place c → IsClientAt host clients c
+pub client-at : (host place : ℕ) (clients : List Counted) (c : Counted) → place ≡ host → host < length clients → c ≡ get_or clients place c
+    → IsClientAt host clients c
 client-at host place clients c same below reads = record { below = below; reads = subst (λ p. c ≡ get_or clients p c) same reads }
 
 found : (clients : List Counted) (host : ℕ) (c : Counted) → host < length clients → c ≡ get_or clients host c → slice_get clients host ≡ Some c
@@ -60,7 +62,8 @@ made host step_of t old c c' out outs log logs at empty is new one grows =
     } in
     subst (λ o. Moves host o old (slice_set old host c') outs.datagrams log.entries logs.entries) (sym own) moves
 
-stayed : (host : ℕ) (old : List Counted) (c c' : Counted) (out outs : Datagrams) (log logs : EntryList) → IsClientAt host old c → Stays c c' out outs log logs → (slice_set old host c' ≡ old) × (logs.entries ≡ log.entries)
+stayed : (host : ℕ) (old : List Counted) (c c' : Counted) (out outs : Datagrams) (log logs : EntryList) → IsClientAt host old c
+    → Stays c c' out outs log logs → (slice_set old host c' ≡ old) × (logs.entries ≡ log.entries)
 stayed host old c c' out outs log logs at stays = (ap (slice_set old host) stays.client ∙ put-same old host c at.reads, stays.entries)
 
 -- a client that is there and is spent
@@ -68,7 +71,8 @@ pub spent-at : (host : ℕ) (clients : List Counted) (c : Counted) → IsClientA
 spent-at host clients c at spent = record { client = c; there = found clients host c at.below at.reads; spent = spent }
 
 -- a client that took in all that it can count changed nothing
-count-spent : (host : ℕ) (old : List Counted) (c c' : Counted) (out outs : Datagrams) (log logs : EntryList) → IsClientAt host old c → c.taken ≡ most_taken_by_client → Stays c c' out outs log logs
+count-spent : (host : ℕ) (old : List Counted) (c c' : Counted) (out outs : Datagrams) (log logs : EntryList) → IsClientAt host old c → c.taken
+    ≡ most_taken_by_client → Stays c c' out outs log logs
     → (slice_set old host c' ≡ old) × (logs.entries ≡ log.entries) × ClientIsSpent host old
 count-spent host old c c' out outs log logs at all stays =
     let same = stayed host old c c' out outs log logs at stays in
@@ -76,22 +80,29 @@ count-spent host old c c' out outs log logs at all stays =
 
 -- ---- a call of a user
 
-pub called-acts : (host : ℕ) (step_of : Client → Option ClientStep) (t : ClientStep) (old : List Counted) (c c' : Counted) (answer : Answer) (out outs : Datagrams) (log logs : EntryList)
-    → IsClientAt host old c → out.datagrams ≡ [] → step_of c.client ≡ Some t → (answer ≡ Answer.Spent → c.taken ≡ most_taken_by_client) → Called answer t c c' out outs log logs
+pub called-acts : (host : ℕ) (step_of : Client → Option ClientStep) (t : ClientStep) (old : List Counted) (c c' : Counted) (answer : Answer)
+    (out outs : Datagrams) (log logs : EntryList)
+    → IsClientAt host old c → out.datagrams ≡ [] → step_of c.client ≡ Some t → (answer ≡ Answer.Spent → c.taken ≡ most_taken_by_client)
+    → Called answer t c c' out outs log logs
     → ActsAt host step_of (called answer) old (slice_set old host c') outs.datagrams log.entries logs.entries
 called-acts host step_of t old c c' Answer.Memory out outs log logs at empty is all x = stayed host old c c' out outs log logs at x
 called-acts host step_of t old c c' Answer.Spent out outs log logs at empty is all x = count-spent host old c c' out outs log logs at (all refl) x
-called-acts host step_of t old c c' other out outs log logs at empty is all x = made host step_of t old c c' out outs log logs at empty is x.0.client (let one = x.0.taken in omega arith) x.0.grows
+called-acts host step_of t old c c' other out outs log logs at empty is all x = made host step_of t old c c' out outs log logs at empty is x.0.client
+    (let one = x.0.taken in omega arith) x.0.grows
 
 -- ---- a tick, and a datagram that counts
 
-pub heeded-acts : (host : ℕ) (step_of : Client → Option ClientStep) (t : ClientStep) (old : List Counted) (c c' : Counted) (heard : Heard) (out outs : Datagrams) (log logs : EntryList)
-    → IsClientAt host old c → out.datagrams ≡ [] → step_of c.client ≡ Some t → (heard ≡ Heard.Spent → c.taken ≡ most_taken_by_client) → Heeded heard t c c' out outs log logs
+pub heeded-acts : (host : ℕ) (step_of : Client → Option ClientStep) (t : ClientStep) (old : List Counted) (c c' : Counted) (heard : Heard)
+    (out outs : Datagrams) (log logs : EntryList)
+    → IsClientAt host old c → out.datagrams ≡ [] → step_of c.client ≡ Some t → (heard ≡ Heard.Spent → c.taken ≡ most_taken_by_client)
+    → Heeded heard t c c' out outs log logs
     → ActsAt host step_of (heeded heard) old (slice_set old host c') outs.datagrams log.entries logs.entries
 heeded-acts host step_of t old c c' Heard.Memory out outs log logs at empty is all x = stayed host old c c' out outs log logs at x
 heeded-acts host step_of t old c c' Heard.Spent out outs log logs at empty is all x = count-spent host old c c' out outs log logs at (all refl) x
-heeded-acts host step_of t old c c' Heard.Nothing out outs log logs at empty is all x = made host step_of t old c c' out outs log logs at empty is x.0.client (let one = x.0.taken in omega arith) x.0.grows
-heeded-acts host step_of t old c c' (Heard.Answered a) out outs log logs at empty is all x = made host step_of t old c c' out outs log logs at empty is x.0.client (let one = x.0.taken in omega arith) x.0.grows
+heeded-acts host step_of t old c c' Heard.Nothing out outs log logs at empty is all x = made host step_of t old c c' out outs log logs at empty is
+    x.0.client (let one = x.0.taken in omega arith) x.0.grows
+heeded-acts host step_of t old c c' (Heard.Answered a) out outs log logs at empty is all x = made host step_of t old c c' out outs log logs at empty
+    is x.0.client (let one = x.0.taken in omega arith) x.0.grows
 heeded-acts host step_of t old c c' Heard.Ignored out outs log logs at empty is all x = absurd x.1
 
 -- ---- any datagram
@@ -105,12 +116,21 @@ ignored host step_of old c c' out outs log logs at empty is counts =
     let same : clients_in (slice_set old host c') ≡ clients_in old =
     put-client old host c' ∙ ap (slice_set (clients_in old) host) counts.client ∙ sym (put-client old host c) ∙ ap clients_in (put-same old host c at.reads) in
     subst (λ o. Moves host o old (slice_set old host c') outs.datagrams log.entries logs.entries) (sym own)
-    (record { clients = same; sends = counts.datagrams ∙ empty; tells = counts.entries; counts = λ most took. took-one-more most host old c c' there (let one = counts.taken in omega arith) took })
+    (record {
+      clients = same;
+      sends = counts.datagrams ∙ empty;
+      tells = counts.entries;
+      counts = λ most took. took-one-more most host old c c' there
+          (let one = counts.taken in omega arith) took;
+    })
 
-pub received-acts : (host : ℕ) (step_of : Client → Option ClientStep) (o : Option ClientStep) (old : List Counted) (c c' : Counted) (heard : Heard) (out outs : Datagrams) (log logs : EntryList)
-    → IsClientAt host old c → out.datagrams ≡ [] → step_of c.client ≡ o → (heard ≡ Heard.Spent → c.taken ≡ most_taken_by_client) → Received heard o c c' out outs log logs
+pub received-acts : (host : ℕ) (step_of : Client → Option ClientStep) (o : Option ClientStep) (old : List Counted) (c c' : Counted) (heard : Heard)
+    (out outs : Datagrams) (log logs : EntryList)
+    → IsClientAt host old c → out.datagrams ≡ [] → step_of c.client ≡ o → (heard ≡ Heard.Spent → c.taken ≡ most_taken_by_client)
+    → Received heard o c c' out outs log logs
     → ActsAt host step_of (heeded heard) old (slice_set old host c') outs.datagrams log.entries logs.entries
-received-acts host step_of (Some t) old c c' heard out outs log logs at empty is all x = heeded-acts host step_of t old c c' heard out outs log logs at empty is all x
+received-acts host step_of (Some t) old c c' heard out outs log logs at empty is all x = heeded-acts host step_of t old c c' heard out outs log logs
+    at empty is all x
 received-acts host step_of None old c c' Heard.Ignored out outs log logs at empty is all x = ignored host step_of old c c' out outs log logs at empty is x
 received-acts host step_of None old c c' Heard.Spent out outs log logs at empty is all x = count-spent host old c c' out outs log logs at (all refl) x
 received-acts host step_of None old c c' Heard.Memory out outs log logs at empty is all x = absurd x
@@ -118,7 +138,8 @@ received-acts host step_of None old c c' Heard.Nothing out outs log logs at empt
 received-acts host step_of None old c c' (Heard.Answered a) out outs log logs at empty is all x = absurd x
 
 -- a datagram to a host that is not there
-pub nobody-acts : (host : ℕ) (step_of : Client → Option ClientStep) (clients : List Counted) (sent : List (Party × List ℕ)) (entries : List Entry) → length clients ≤ host → sent ≡ [] → ActsAt host step_of (Ok tt) clients clients sent entries entries
+pub nobody-acts : (host : ℕ) (step_of : Client → Option ClientStep) (clients : List Counted) (sent : List (Party × List ℕ)) (entries : List Entry)
+    → length clients ≤ host → sent ≡ [] → ActsAt host step_of (Ok tt) clients clients sent entries entries
 nobody-acts host step_of clients sent entries past none =
     subst (λ o. Moves host (step_at step_of o) clients clients sent entries entries) (sym (past-end clients host past))
     (record { clients = refl; sends = none; tells = refl; counts = λ most took. took-more most (most + 1) clients (omega arith) took })

@@ -24,14 +24,17 @@ use Rattle.nq_world.specs.declared.starting.NewFault.TheVariants as fault
 use Rattle.walk_steps.specs.Within.{IsHeadWithin}
 
 -- one more client behind the first ones
-pub first-clients-more : (term host count : ℕ) → first_clients term host (suc count) ≡ first_clients term host count ++ attached_client (record { host = host + count; inc = 1 }) term 0 ∷ []
+pub first-clients-more : (term host count : ℕ) → first_clients term host (suc count) ≡ first_clients term host count ++ attached_client
+    (record { host = host + count; inc = 1 }) term 0 ∷ []
 first-clients-more term host zero = let same : host ≡ host + 0 = omega arith in ap (λ h. attached_client (record { host = h; inc = 1 }) term 0 ∷ []) same
 first-clients-more term host (suc count) =
     let same : host + 1 + count ≡ host + suc count = omega arith in
     ap (λ cs. attached_client (record { host = host; inc = 1 }) term 0 ∷ cs)
-    (first-clients-more term (host + 1) count ∙ ap (λ h. first_clients term (host + 1) count ++ attached_client (record { host = h; inc = 1 }) term 0 ∷ []) same)
+    (first-clients-more term (host + 1) count ∙ ap (λ h. first_clients term (host + 1) count ++ attached_client (record { host = h; inc = 1 }) term 0
+    ∷ []) same)
 
-pub pushed : (term count : ℕ) (before after : List Counted) (c : Counted) → clients_in before ≡ first_clients term 0 count → after ≡ before ++ c ∷ [] → c.client ≡ attached_client (record { host = count; inc = 1 }) term 0 → clients_in after ≡ first_clients term 0 (suc count)
+pub pushed : (term count : ℕ) (before after : List Counted) (c : Counted) → clients_in before ≡ first_clients term 0 count → after ≡ before ++ c ∷ []
+    → c.client ≡ attached_client (record { host = count; inc = 1 }) term 0 → clients_in after ≡ first_clients term 0 (suc count)
 pushed term count before after c so_far is own =
     let same : count ≡ 0 + count = omega arith in
     ap clients_in is
@@ -41,7 +44,8 @@ pushed term count before after c so_far is own =
     ∙ sym (first-clients-more term 0 count)
 
 -- a head of files that there may be from the start
-pub head-within : (head : Head) → head.hosts ≤ most_hosts → shortest_term ≤ head.longest → head.longest ≤ longest_term → AreFirstFiles head.files → IsHeadWithin head
+pub head-within : (head : Head) → head.hosts ≤ most_hosts → shortest_term ≤ head.longest → head.longest ≤ longest_term → AreFirstFiles head.files
+    → IsHeadWithin head
 head-within head hosts long short fine = record {
   hosts = hosts;
   long = long;
@@ -67,7 +71,14 @@ new-plays head server skew w told tells within boots hosts window clocks new =
       shown = runs-begin head (seen_of w) w.skew within new.clients_are new.none_sent new.none_told
           (ap (λ s. length s.hosts) new.skew_is ∙ hosts) (ap (λ s. s.window) new.skew_is ∙ window) (subst (λ s. Follows s []) (sym new.skew_is) clocks);
       keeps = boots.keeps ∙ ap (λ s. Some s.kept) (sym first);
-      holds = ap (λ s. s.beside) new.server_is ∙ boots.holds ∙ ap (λ s. record { phase = s.phase; table = s.table; longest = s.longest; notice = s.notice; time = s.now }) (sym first);
+      holds = ap (λ s. s.beside) new.server_is ∙ boots.holds ∙ ap (λ s. record {
+        phase = s.phase;
+        table = s.table;
+        longest = s.longest;
+        notice =
+            s.notice;
+        time = s.now;
+      }) (sym first);
       counted = new.none_taken;
       term = new.term_is;
       served = let same : w.server.taken ≡ server.taken = ap (λ s. s.taken) new.server_is in let none = boots.taken in omega arith;
@@ -75,7 +86,8 @@ new-plays head server skew w told tells within boots hosts window clocks new =
     }
 
 -- a world over a server that booted begins
-pub over-begins : {K : Type 0} (head : Head) (content : K → Option Kept) (faults : K → ℕ) (r : Result (WorldOver K) (NewFault K)) (server : Holding K) (skew : SkewCounts) (told : Option Kept) (before : ℕ)
+pub over-begins : {K : Type 0} (head : Head) (content : K → Option Kept) (faults : K → ℕ) (r : Result (WorldOver K) (NewFault K)) (server : Holding K)
+    (skew : SkewCounts) (told : Option Kept) (before : ℕ)
     → IsHeadWithin head
     → Boots head.longest 0 (Ok server) told (content server.keeper) before (faults server.keeper)
     → length skew.hosts ≡ head.hosts
@@ -86,7 +98,8 @@ pub over-begins : {K : Type 0} (head : Head) (content : K → Option Kept) (faul
     → Begins head (first_kept head) r told (content (keeper_in r)) before (faults (keeper_in r))
 over-begins head content faults (Ok w) server skew told before within boots hosts window clocks new refused =
     let same = ap (λ s. s.keeper) new.server_is in (
-      λ is. subst (λ k. Plays head [] w (content k)) (sym same) (new-plays head server skew w told (content server.keeper) within (boots.0 (first_kept head) is).1 hosts window clocks new),
+      λ is. subst (λ k. Plays head [] w (content k)) (sym same) (new-plays head server skew w told (content server.keeper) within
+          (boots.0 (first_kept head) is).1 hosts window clocks new),
       record { hosts_are = new.hosts_are ∙ hosts; longest_is = ap (λ s. s.window) new.skew_is ∙ window; term_is = new.term_is },
       ap faults same ∙ boots.1,
     )
@@ -105,15 +118,19 @@ kept-begins head (Err (fault.Memory keeper)) told middle tells before counted co
 
 -- ---- what a world that begins says of its run, its settings and its keeper
 
-pub begun-plays : {K : Type 0} (head : Head) (first : Kept) (r : Result (WorldOver K) (NewFault K)) (content : K → Option Kept) (told : Option Kept) (before count : ℕ) → Begins head first r told (content (keeper_in r)) before count → told ≡ Some first → IfOk r (λ w. Plays head [] w (content w.server.keeper))
+pub begun-plays : {K : Type 0} (head : Head) (first : Kept) (r : Result (WorldOver K) (NewFault K)) (content : K → Option Kept) (told : Option Kept)
+    (before count : ℕ) → Begins head first r told (content (keeper_in r)) before count → told ≡ Some first
+    → IfOk r (λ w. Plays head [] w (content w.server.keeper))
 begun-plays head first (Ok w) content told before count begins is = begins.0 is
 begun-plays head first (Err e) content told before count begins is = tt
 
-pub begun-settings : {K : Type 0} (head : Head) (first : Kept) (r : Result (WorldOver K) (NewFault K)) (told tells : Option Kept) (before count : ℕ) → Begins head first r told tells before count → IfOk r (λ w. HasSettings head.hosts head.longest head.term w)
+pub begun-settings : {K : Type 0} (head : Head) (first : Kept) (r : Result (WorldOver K) (NewFault K)) (told tells : Option Kept) (before count : ℕ)
+    → Begins head first r told tells before count → IfOk r (λ w. HasSettings head.hosts head.longest head.term w)
 begun-settings head first (Ok w) told tells before count begins = begins.1
 begun-settings head first (Err e) told tells before count begins = tt
 
-pub begun-counts : {K : Type 0} (head : Head) (first : Kept) (r : Result (WorldOver K) (NewFault K)) (told tells : Option Kept) (before count : ℕ) → Begins head first r told tells before count → CountsBegin r before count
+pub begun-counts : {K : Type 0} (head : Head) (first : Kept) (r : Result (WorldOver K) (NewFault K)) (told tells : Option Kept) (before count : ℕ)
+    → Begins head first r told tells before count → CountsBegin r before count
 begun-counts head first (Ok w) told tells before count begins = begins.2
 begun-counts head first (Err (fault.Failed keeper)) told tells before count begins = begins
 begun-counts head first (Err (fault.Memory keeper)) told tells before count begins = begins

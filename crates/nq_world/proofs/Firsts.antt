@@ -1,5 +1,6 @@
 -- The changes by which the files and the hosts of a head are kept.
-use Rattle.std.proofs.Common.{◌≡◌, ◌≢◌, ◌≤◌, ◌<◌, ℕ, zero, suc, ◌+◌, ◌-◌, List, [], ◌∷◌, ◌++◌, Option, Some, None, length, take, refl, sym, subst, ap, ◌∙◌, arith, length-append}
+use Rattle.std.proofs.Common.{◌≡◌, ◌≢◌, ◌≤◌, ◌<◌, ℕ, zero, suc, ◌+◌, ◌-◌, List, [], ◌∷◌, ◌++◌, Option, Some, None, length, take, refl, sym, subst, ap}
+use Rattle.std.proofs.Common.{◌∙◌, arith, length-append}
 use Rattle.std.proofs.lemmas.List.Elements.{All-nil, All-cons}
 use Rattle.std.specs.List.{All, AllByRecursion}
 use Rattle.std.specs.Prelude.{slice_get, slice_set, replicate, Result, Ok, Err, OnOk}
@@ -14,7 +15,6 @@ use Rattle.nq_model.proofs.Files.{resized-none}
 use Rattle.nq_model.proofs.FreshFits.{none-has}
 use Rattle.nq_keeper.specs.Keeping.{Commits, told_after}
 use Rattle.nq_keeper.specs.declared.keeper.KeepFault.{KeepFault}
-use Rattle.nq_keeper.specs.declared.keeper.KeepFault.TheVariants.{Failed, Memory}
 use Rattle.nq_base.specs.Name.{AreDistinct, IsNew}
 use Rattle.walk_steps.specs.Within.{IsFirstFile}
 use Rattle.walk_steps.proofs.FirstNumbers.{first-unnamed, first-length, first-blocks}
@@ -23,7 +23,8 @@ use Rattle.nq_world.proofs.Outboxes.{sum-take-below}
 
 -- ---- the numbers of the server
 
-pub heads-applied : (old longest : ℕ) (files : List (List ℕ × ℕ)) (hosts : ℕ) → applied (kept_first old files hosts) (heads_change longest (length files + 1)) ≡ kept_first longest files hosts
+pub heads-applied : (old longest : ℕ) (files : List (List ℕ × ℕ)) (hosts : ℕ) → applied (kept_first old files hosts)
+    (heads_change longest (length files + 1)) ≡ kept_first longest files hosts
 unfolding kept_as
 heads-applied old longest files hosts = refl
 
@@ -45,7 +46,8 @@ host-within kept host = record { file = tt; block = tt; host = record { inc = om
 
 -- ---- files
 
-first-more : (id : ℕ) (files : List (List ℕ × ℕ)) (f : List ℕ × ℕ) → first_files id (files ++ f ∷ []) ≡ first_files id files ++ new_file (id + length files) f.0 f.1 ∷ []
+first-more : (id : ℕ) (files : List (List ℕ × ℕ)) (f : List ℕ × ℕ) → first_files id (files ++ f ∷ []) ≡ first_files id files
+    ++ new_file (id + length files) f.0 f.1 ∷ []
 first-more id [] f = let same : id ≡ id + 0 = omega arith in ap (λ n. new_file n f.0 f.1 ∷ []) same
 first-more id (g ∷ files) f =
     let same : id + 1 + length files ≡ id + length (g ∷ files) = omega arith in
@@ -69,7 +71,8 @@ others id next (f ∷ files) below =
 not-found : (files : List (List ℕ × ℕ)) → find_file (length files + 1) (first_files 1 files) ≡ None
 not-found files = none-has (length files + 1) (first_files 1 files) (others 1 (length files + 1) files (omega arith))
 
-with-first : (files : List (List ℕ × ℕ)) (f : List ℕ × ℕ) → with_file (record { id = length files + 1; name = f.0; blocks = f.1; rev = 0 }) (first_files 1 files) ≡ first_files 1 (files ++ f ∷ [])
+with-first : (files : List (List ℕ × ℕ)) (f : List ℕ × ℕ) → with_file (record { id = length files + 1; name = f.0; blocks = f.1; rev = 0 })
+    (first_files 1 files) ≡ first_files 1 (files ++ f ∷ [])
 with-first files f =
     let row : FileRow = record { id = length files + 1; name = f.0; blocks = f.1; rev = 0 } in
     let same : length files + 1 ≡ 1 + length files = omega arith in
@@ -78,12 +81,27 @@ with-first files f =
     ∙ ap (λ n. first_files 1 files ++ new_file n f.0 f.1 ∷ []) same
     ∙ sym (first-more 1 files f)
 
-pub file-applied : (longest : ℕ) (files : List (List ℕ × ℕ)) (f : List ℕ × ℕ) → applied (kept_first longest files 0) (file_change longest (length files + 1) f) ≡ kept_first longest (files ++ f ∷ []) 0
+pub file-applied : (longest : ℕ) (files : List (List ℕ × ℕ)) (f : List ℕ × ℕ) → applied (kept_first longest files 0)
+    (file_change longest (length files + 1) f) ≡ kept_first longest (files ++ f ∷ []) 0
 unfolding kept_as
 file-applied longest files f =
     let more : length files + 1 + 1 ≡ length (files ++ f ∷ []) + 1 = omega (arith, length-append files (f ∷ [])) in
-    ap (λ fs. record { files = fs; hosts = replicate 0 first_row ++ replicate (most_hosts - 0) fresh_row; boot = 0; opened = 0; longest = longest; next = length files + 1 + 1 }) (with-first files f)
-    ∙ ap (λ n. record { files = first_files 1 (files ++ f ∷ []); hosts = replicate 0 first_row ++ replicate (most_hosts - 0) fresh_row; boot = 0; opened = 0; longest = longest; next = n }) more
+    ap (λ fs. record {
+      files = fs;
+      hosts = replicate 0 first_row ++ replicate (most_hosts - 0) fresh_row;
+      boot = 0;
+      opened = 0;
+      longest = longest;
+      next = length files + 1 + 1;
+    }) (with-first files f)
+    ∙ ap (λ n. record {
+      files = first_files 1 (files ++ f ∷ []);
+      hosts = replicate 0 first_row ++ replicate (most_hosts - 0) fresh_row;
+      boot = 0;
+      opened = 0;
+      longest = longest;
+      next = n;
+    }) more
 
 new-among : (files : List (List ℕ × ℕ)) (f : List ℕ × ℕ) → AreDistinct (files ++ f ∷ []) → IsNew f.0 files
 new-among [] f distinct = tt
@@ -97,7 +115,8 @@ last-file : (files : List (List ℕ × ℕ)) (f : List ℕ × ℕ) → AllByRecu
 last-file [] f each = each.0
 last-file (g ∷ files) f each = last-file files f each.1
 
-pub file-fits : (longest : ℕ) (files : List (List ℕ × ℕ)) (f : List ℕ × ℕ) → AreFirstFiles (files ++ f ∷ []) → Fits (kept_first longest files 0) (file_change longest (length files + 1) f)
+pub file-fits : (longest : ℕ) (files : List (List ℕ × ℕ)) (f : List ℕ × ℕ) → AreFirstFiles (files ++ f ∷ []) → Fits (kept_first longest files 0)
+    (file_change longest (length files + 1) f)
 file-fits longest files f fine =
     let own : IsFirstFile f = last-file files f fine.each in
     let kept : Kept = kept_first longest files 0 in
@@ -109,8 +128,10 @@ file-fits longest files f fine =
         of_file = subst (IsRowOf kept (Some heads) row) (sym (not-found files)) (refl, first-unnamed f.0 1 files (new-among files f fine.distinct), refl);
         not_empty = own.1;
         short = own.2;
-        few_files = subst (λ (fs : List File). length fs ≤ 256) (sym after) (let size = first-length 1 (files ++ f ∷ []) in let few = fine.few_files in omega arith);
-        few_blocks = subst (λ (fs : List File). blocks_in_all fs ≤ 16384) (sym after) (let size = first-blocks 1 (files ++ f ∷ []) in let few = fine.few_blocks in omega arith);
+        few_files = subst (λ (fs : List File). length fs ≤ 256) (sym after) (let size = first-length 1 (files ++ f ∷ []) in let few =
+            fine.few_files in omega arith);
+        few_blocks = subst (λ (fs : List File). blocks_in_all fs ≤ 16384) (sym after) (let size = first-blocks 1 (files ++ f ∷ []) in let few =
+            fine.few_blocks in omega arith);
       };
       block = tt;
       host = tt;
@@ -118,7 +139,8 @@ file-fits longest files f fine =
       removed = tt;
     }
 
-pub file-within : (longest : ℕ) (files : List (List ℕ × ℕ)) (f : List ℕ × ℕ) → shortest_term ≤ longest → longest ≤ longest_term → AreFirstFiles (files ++ f ∷ []) → IsChangeWithin (kept_first longest files 0) (file_change longest (length files + 1) f)
+pub file-within : (longest : ℕ) (files : List (List ℕ × ℕ)) (f : List ℕ × ℕ) → shortest_term ≤ longest → longest ≤ longest_term
+    → AreFirstFiles (files ++ f ∷ []) → IsChangeWithin (kept_first longest files 0) (file_change longest (length files + 1) f)
 file-within longest files f long short fine =
     let own : IsFirstFile f = last-file files f fine.each in
     let few : length (files ++ f ∷ []) ≤ 256 = fine.few_files in
@@ -126,7 +148,15 @@ file-within longest files f long short fine =
       file = (own.0, omega arith);
       block = tt;
       host = tt;
-      heads = record { opened = omega arith; boot = omega arith; long = long; short = short; ids = omega arith; few_ids = omega (arith, length-append files (f ∷ [])) };
+      heads = record {
+        opened = omega arith;
+        boot = omega arith;
+        long = long;
+        short = short;
+        ids = omega arith;
+        few_ids =
+            omega (arith, length-append files (f ∷ []));
+      };
     }
 
 -- ---- the front of a list of files
@@ -170,11 +200,13 @@ taken-fine k files fine = record {
 
 -- ---- hosts
 
-next-row : (host more : ℕ) → slice_set (replicate host first_row ++ replicate (suc more) fresh_row) host first_row ≡ replicate (suc host) first_row ++ replicate more fresh_row
+next-row : (host more : ℕ) → slice_set (replicate host first_row ++ replicate (suc more) fresh_row) host first_row ≡ replicate (suc host) first_row
+    ++ replicate more fresh_row
 next-row zero more = refl
 next-row (suc host) more = ap (λ rows. first_row ∷ rows) (next-row host more)
 
-pub host-applied : (longest : ℕ) (files : List (List ℕ × ℕ)) (host : ℕ) → host < most_hosts → applied (kept_first longest files host) (host_change host) ≡ kept_first longest files (suc host)
+pub host-applied : (longest : ℕ) (files : List (List ℕ × ℕ)) (host : ℕ) → host < most_hosts → applied (kept_first longest files host)
+    (host_change host) ≡ kept_first longest files (suc host)
 unfolding kept_as
 host-applied longest files host below =
     let left : most_hosts - host ≡ suc (most_hosts - suc host) = omega arith in
@@ -186,7 +218,8 @@ host-fits longest files host below = record { file = tt; block = tt; host = belo
 
 -- ---- what is told
 
-pub told-next : (told : Option Kept) (before after : Kept) (change : Change) → Tells before told → applied before change ≡ after → told_after change told ≡ told_as after told
+pub told-next : (told : Option Kept) (before after : Kept) (change : Change) → Tells before told → applied before change ≡ after
+    → told_after change told ≡ told_as after told
 told-next None before after change tells is = refl
 told-next (Some found) before after change tells is = ap Some (ap (λ k. applied k change) (tells found refl) ∙ is)
 
@@ -194,7 +227,8 @@ pub told-told : (told tells : Option Kept) (kept : Kept) → tells ≡ told_as k
 told-told None tells kept is found e = absurd (cc)
 told-told (Some k) tells kept is found e = cc
 
-pub told-on : (told middle tells : Option Kept) (first second : Kept) → middle ≡ told_as first told → tells ≡ told_as second middle → tells ≡ told_as second told
+pub told-on : (told middle tells : Option Kept) (first second : Kept) → middle ≡ told_as first told → tells ≡ told_as second middle
+    → tells ≡ told_as second told
 told-on None middle tells first second one two = two ∙ ap (told_as second) one
 told-on (Some k) middle tells first second one two = two ∙ ap (told_as second) one
 
@@ -203,14 +237,10 @@ told-same None kept tells = refl
 told-same (Some found) kept tells = ap Some (tells found refl)
 
 -- a commit that was made leads from what was told to what is told
-pub commit-told : (r : Result Unit KeepFault) (change : Change) (told tells : Option Kept) (before count : ℕ) (next : Option Kept) → Commits r change told tells before count → told_after change told ≡ next → OnOk r (tells ≡ next)
+pub commit-told : (r : Result Unit KeepFault) (change : Change) (told tells : Option Kept) (before count : ℕ) (next : Option Kept)
+    → Commits r change told tells before count → told_after change told ≡ next → OnOk r (tells ≡ next)
 commit-told (Ok done) change told tells before count next commits is = commits.0 ∙ is
 commit-told (Err fault) change told tells before count next commits is = tt
-
-pub commit-counts : (r : Result Unit KeepFault) (change : Change) (told tells : Option Kept) (before count : ℕ) → Commits r change told tells before count → Counts r before count
-commit-counts (Ok done) change told tells before count commits = commits.1
-commit-counts (Err Memory) change told tells before count commits = commits.1
-commit-counts (Err Failed) change told tells before count commits = commits.1
 
 -- a fault after calls that met none
 pub counts-on : (fault : KeepFault) (before middle count : ℕ) → middle ≡ before → Counts (Err fault) middle count → Counts (Err fault) before count

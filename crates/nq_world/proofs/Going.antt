@@ -14,14 +14,17 @@ use Rattle.walk_steps.proofs.WorldNumbers.{numbers-stay-within}
 use Rattle.nq_world.specs.Running.{IsRunOf, stepped_seen, RunsBegin, ServersBegin, TestsAreExact, RunsGoOn, RunsAreLawful}
 use Rattle.nq_world.specs.Shown.{datagram, FitsPacket, Seen}
 
-sent-as-seen : (head : Head) (events : List Event) (seen : Seen) (skew : SkewCounts) → IsRunOf head events seen skew → length seen.datagrams ≡ length (run head events).packets
+sent-as-seen : (head : Head) (events : List Event) (seen : Seen) (skew : SkewCounts) → IsRunOf head events seen skew → length seen.datagrams
+    ≡ length (run head events).packets
 sent-as-seen head events seen skew r = ap length r.shows.datagrams ∙ length-map (run head events).packets datagram
 
-same-broken : (head : Head) (events : List Event) (seen : Seen) (skew : SkewCounts) → IsRunOf head events seen skew → skew_broken (length skew.hosts) skew.window events ≡ skew_broken head.hosts head.longest events
+same-broken : (head : Head) (events : List Event) (seen : Seen) (skew : SkewCounts) → IsRunOf head events seen skew → skew_broken (length skew.hosts)
+    skew.window events ≡ skew_broken head.hosts head.longest events
 same-broken head events seen skew r =
     ap (λ hosts. skew_broken hosts skew.window events) r.hosts ∙ ap (λ window. skew_broken head.hosts window events) r.window
 
-tests-seen : (head : Head) (events : List Event) (packets : ℕ) (event : Event) → stepped_at head events packets event ≡ stepped_seen (length events) packets (skew_broken head.hosts head.longest events) event
+tests-seen : (head : Head) (events : List Event) (packets : ℕ) (event : Event) → stepped_at head events packets event ≡ stepped_seen (length events)
+    packets (skew_broken head.hosts head.longest events) event
 tests-seen head events packets (Event.Call host op) = refl
 tests-seen head events packets (Event.Deliver k) = refl
 tests-seen head events packets Event.ServerTick = refl

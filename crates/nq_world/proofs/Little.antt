@@ -8,7 +8,8 @@ use Rattle.nq_base.specs.declared.Party.{Party}
 use Rattle.nq_datagrams.specs.Messages.{FitsMessage, bytes_of, message_of}
 use Rattle.nq_datagrams.specs.Sent.{sent}
 use Rattle.nq_model.specs.Client.{ClientStep}
-use Rattle.nq_model.specs.Message.{Message, Packet, call, reply, error, RpcError, rpc_mismatch, program_unavailable, program_mismatch, procedure_unavailable, garbage_arguments}
+use Rattle.nq_model.specs.Message.{Message, Packet, call, reply, error, RpcError, rpc_mismatch, program_unavailable, program_mismatch}
+use Rattle.nq_model.specs.Message.{procedure_unavailable, garbage_arguments}
 use Rattle.nq_model.specs.Server.{ServerStep}
 use Rattle.nq_model.specs.World.{World, from_host, after_server, after_client, run}
 use Rattle.nq_xdr.proofs.Spellings.{length-spelling}
@@ -72,7 +73,8 @@ small out count size few short = record { few = omega arith; short = omega arith
 pub server-sends-little : ServerSendsLittle
 server-sends-little head events event t out is fit put =
     let w : World = run head events in
-    let few : length (after_server w t).packets ≤ length w.packets + 64 = subst (λ v. length v.packets ≤ length w.packets + 64) is (events-send-few head events event) in
+    let few : length (after_server w t).packets ≤ length w.packets + 64 = subst (λ v. length v.packets ≤ length w.packets + 64) is
+    (events-send-few head events event) in
     let more = few-of-server w t in
     small out (length t.sends) (ap length put ∙ length-map t.sends sent) (omega arith)
     (subst (λ xs. bytes_together xs ≤ length t.sends * longest_sent) (sym put) (together t.sends fit))
@@ -80,7 +82,8 @@ server-sends-little head events event t out is fit put =
 pub clients-send-little : ClientsSendLittle
 clients-send-little head events event host t out is fit put =
     let w : World = run head events in
-    let few : length (after_client w host t).packets ≤ length w.packets + 64 = subst (λ v. length v.packets ≤ length w.packets + 64) is (events-send-few head events event) in
+    let few : length (after_client w host t).packets ≤ length w.packets + 64 = subst (λ v. length v.packets ≤ length w.packets + 64) is
+    (events-send-few head events event) in
     let more = few-of-client w host t in
     small out (length t.sends) (ap length put ∙ length-map t.sends to_server) (omega arith)
     (subst (λ xs. bytes_together xs ≤ length t.sends * longest_sent) (sym put) (together-client t.sends fit))

@@ -32,23 +32,27 @@ found-client [] host = refl
 found-client (c ∷ clients) zero = refl
 found-client (c ∷ clients) (suc host) = found-client clients host
 
-at-hearing : (w : World) (host : ℕ) (f : Client → ClientStep) (o : Option Counted) → at_client w host f (option_map (λ (c : Counted). c.client) o) ≡ after_hearing w host (step_at (λ c. Some (f c)) o)
+at-hearing : (w : World) (host : ℕ) (f : Client → ClientStep) (o : Option Counted) → at_client w host f (option_map (λ (c : Counted). c.client) o)
+    ≡ after_hearing w host (step_at (λ c. Some (f c)) o)
 at-hearing w host f None = refl
 at-hearing w host f (Some c) = refl
 
-pub client-steps : (w : World) (clients : List Counted) (host : ℕ) (f : Client → ClientStep) → clients_in clients ≡ w.clients → at_client w host f (slice_get w.clients host) ≡ after_hearing w host (step_at (λ c. Some (f c)) (slice_get clients host))
+pub client-steps : (w : World) (clients : List Counted) (host : ℕ) (f : Client → ClientStep) → clients_in clients ≡ w.clients
+    → at_client w host f (slice_get w.clients host) ≡ after_hearing w host (step_at (λ c. Some (f c)) (slice_get clients host))
 client-steps w clients host f same =
     ap (at_client w host f) (ap (λ cs. slice_get cs host) (sym same) ∙ found-client clients host) ∙ at-hearing w host f (slice_get clients host)
 
 -- a datagram to a host that is not there changes nothing
-lost : (w : World) (seen : Seen) (k host : ℕ) (d : Datagram) → Shows w seen → slice_get seen.datagrams k ≡ Some d → d.to ≡ Party.Client host → slice_get w.clients host ≡ None → deliver w k (slice_get w.packets k) ≡ w
+lost : (w : World) (seen : Seen) (k host : ℕ) (d : Datagram) → Shows w seen → slice_get seen.datagrams k ≡ Some d → d.to ≡ Party.Client host
+    → slice_get w.clients host ≡ None → deliver w k (slice_get w.packets k) ≡ w
 lost w seen k host d shows e to none =
     let found = found-packet w seen k d shows e in
     let own : found.packet.to ≡ Party.Client host = sym (ap (λ x. x.to) found.is) ∙ to in
     ap (deliver w k) found.there ∙ ap (deliver_to w k found.packet) own ∙ ap (deliver_to_client w k host found.packet.message) none
 
 heard-steps : (head : Head) (events : List Event) (seen : Seen) (clients : List Counted) (k host : ℕ) (d : Datagram) (o : Option Counted)
-    → Shows (run head events) seen → seen.clients ≡ clients_in clients → slice_get seen.datagrams k ≡ Some d → d.to ≡ Party.Client host → slice_get clients host ≡ o
+    → Shows (run head events) seen → seen.clients ≡ clients_in clients → slice_get seen.datagrams k ≡ Some d → d.to ≡ Party.Client host
+    → slice_get clients host ≡ o
     → step (run head events) (Event.Deliver k) ≡ after_hearing (run head events) host (step_at (λ c. hears_in c k d.bytes) o)
 heard-steps head events seen clients k host d None shows same e to none =
     lost (run head events) seen k host d shows e to
@@ -57,7 +61,8 @@ heard-steps head events seen clients k host d (Some c) shows same e to there =
     deliveries-to-clients head events seen k host d c.client shows e to
     (ap (λ cs. slice_get cs host) same ∙ found-client clients host ∙ ap (option_map (λ (x : Counted). x.client)) there)
 
-pub hearing-steps : {K : Type 0} (head : Head) (events : List Event) (w : WorldOver K) (told : Option Kept) (k host : ℕ) (d : Datagram) → Plays head events w told → slice_get w.datagrams k ≡ Some d → d.to ≡ Party.Client host
+pub hearing-steps : {K : Type 0} (head : Head) (events : List Event) (w : WorldOver K) (told : Option Kept) (k host : ℕ) (d : Datagram)
+    → Plays head events w told → slice_get w.datagrams k ≡ Some d → d.to ≡ Party.Client host
     → step (run head events) (Event.Deliver k) ≡ after_hearing (run head events) host (step_at (λ c. hears_in c k d.bytes) (slice_get w.clients host))
 hearing-steps head events w told k host d plays e to =
     heard-steps head events (seen_of w) w.clients k host d (slice_get w.clients host) plays.shown.shows refl e to refl
@@ -66,7 +71,11 @@ hearing-steps head events w told k host d plays e to =
 
 moves-shown : (w : World) (seen : Seen) (host : ℕ) (o : Option ClientStep) (old new : List Counted) (sent : List (Party × List ℕ)) (entries' : List Entry)
     → Shows w seen → seen.clients ≡ clients_in old → Moves host o old new sent seen.entries entries'
-    → Shows (after_hearing w host o) (record { clients = clients_in new; datagrams = seen.datagrams ++ map (sent_from (Party.Client host)) sent; entries = entries' })
+    → Shows (after_hearing w host o) (record {
+      clients = clients_in new;
+      datagrams = seen.datagrams ++ map (sent_from (Party.Client host)) sent;
+      entries = entries';
+    })
 moves-shown w seen host None old new sent entries' shows same moves = record {
   clients = moves.clients ∙ sym same ∙ shows.clients;
   datagrams = ap (λ xs. seen.datagrams ++ map (sent_from (Party.Client host)) xs) moves.sends ∙ append-nil seen.datagrams ∙ shows.datagrams;
@@ -85,12 +94,14 @@ moves-shown w seen host (Some t) old new sent entries' shows same moves =
 nothing-small : (sent : List (Party × List ℕ)) → sent ≡ [] → IsSmall sent
 nothing-small sent none = subst IsSmall (sym none) (record { few = omega arith; short = omega arith })
 
-moves-small : (head : Head) (events : List Event) (event : Event) (host : ℕ) (o : Option ClientStep) (old new : List Counted) (sent : List (Party × List ℕ)) (entries entries' : List Entry)
+moves-small : (head : Head) (events : List Event) (event : Event) (host : ℕ) (o : Option ClientStep) (old new : List Counted)
+    (sent : List (Party × List ℕ)) (entries entries' : List Entry)
     → step (run head events) event ≡ after_hearing (run head events) host o → Moves host o old new sent entries entries' → IsSmall sent
 moves-small head events event host None old new sent entries entries' is moves = nothing-small sent moves.sends
 moves-small head events event host (Some t) old new sent entries entries' is moves = clients-send-little head events event host t sent is moves.fit moves.sends
 
-moves-counts : (host : ℕ) (o : Option ClientStep) (old new : List Counted) (sent : List (Party × List ℕ)) (entries entries' : List Entry) → Moves host o old new sent entries entries' → (most : ℕ) → TookIn most old → TookIn (most + 1) new
+moves-counts : (host : ℕ) (o : Option ClientStep) (old new : List Counted) (sent : List (Party × List ℕ)) (entries entries' : List Entry)
+    → Moves host o old new sent entries entries' → (most : ℕ) → TookIn most old → TookIn (most + 1) new
 moves-counts host None old new sent entries entries' moves = moves.counts
 moves-counts host (Some t) old new sent entries entries' moves = moves.counts
 
@@ -103,7 +114,8 @@ same-server w host (Some t) = refl
 -- ---- the whole event
 
 -- what an event at the client of a host did to a world
-pub record ActsIn {K : Type 0} (head : Head) (events : List Event) (event : Event) (host : ℕ) (step_of : Client → Option ClientStep) (made : Result Unit Halt) (answer : Stepped) (old new : WorldOver K) (sent : List (Party × List ℕ)) (packets packets' : PacketList) : Type 0 where
+pub record ActsIn {K : Type 0} (head : Head) (events : List Event) (event : Event) (host : ℕ) (step_of : Client → Option ClientStep)
+    (made : Result Unit Halt) (answer : Stepped) (old new : WorldOver K) (sent : List (Party × List ℕ)) (packets packets' : PacketList) : Type 0 where
   pub fit : IsFit head events event
   pub is : step (run head events) event ≡ after_hearing (run head events) host (step_at step_of (slice_get old.clients host))
   pub acts : ActsAt host step_of made old.clients new.clients sent old.entries new.entries
@@ -115,27 +127,49 @@ pub record ActsIn {K : Type 0} (head : Head) (events : List Event) (event : Even
   pub server : new.server ≡ old.server
   pub term : new.term ≡ old.term
 
-acts-played : {K : Type 0} (head : Head) (events : List Event) (event : Event) (host : ℕ) (step_of : Client → Option ClientStep) (made : Unit) (old new : WorldOver K) (told : Option Kept) (sent : List (Party × List ℕ)) (packets packets' : PacketList)
-    → Plays head events old told → ActsIn head events event host step_of (Ok made) Stepped.Done old new sent packets packets' → Plays head (event ∷ events) new told
+acts-played : {K : Type 0} (head : Head) (events : List Event) (event : Event) (host : ℕ) (step_of : Client → Option ClientStep) (made : Unit)
+    (old new : WorldOver K) (told : Option Kept) (sent : List (Party × List ℕ)) (packets packets' : PacketList)
+    → Plays head events old told → ActsIn head events event host step_of (Ok made) Stepped.Done old new sent packets packets'
+    → Plays head (event ∷ events) new told
 acts-played {K} head events event host step_of made old new told sent packets packets' plays x =
     let w : World = run head events in
     let o : Option ClientStep = step_at step_of (slice_get old.clients host) in
-    let seen : Seen = record { clients = clients_in new.clients; datagrams = old.datagrams ++ map (sent_from (Party.Client host)) sent; entries = new.entries } in
-    let same : new.datagrams ≡ old.datagrams ++ map (sent_from (Party.Client host)) sent = x.after ∙ x.ends.0 ∙ ap (λ ds. ds ++ map (sent_from (Party.Client host)) sent) x.before in
-    let shown : Shows (after_hearing w host o) seen = moves-shown w (seen_of old) host o old.clients new.clients sent new.entries plays.shown.shows refl x.acts in
-    let shows : Shows (after_hearing w host o) (seen_of new) = record { clients = shown.clients; datagrams = same ∙ shown.datagrams; fit = shown.fit; entries = shown.entries } in
+    let seen : Seen = record {
+      clients = clients_in new.clients;
+      datagrams = old.datagrams ++ map (sent_from (Party.Client host)) sent;
+      entries =
+          new.entries;
+    } in
+    let same : new.datagrams ≡ old.datagrams ++ map (sent_from (Party.Client host)) sent = x.after ∙ x.ends.0
+    ∙ ap (λ ds. ds ++ map (sent_from (Party.Client host)) sent) x.before in
+    let shown : Shows (after_hearing w host o) seen = moves-shown w (seen_of old) host o old.clients new.clients sent new.entries plays.shown.shows
+    refl x.acts in
+    let shows : Shows (after_hearing w host o) (seen_of new) = record {
+      clients = shown.clients;
+      datagrams = same ∙ shown.datagrams;
+      fit = shown.fit;
+      entries = shown.entries;
+    } in
     let left : (step w event).server ≡ w.server = ap (λ v. v.server) x.is ∙ same-server w host o in
     plays-on head events event old new told told plays x.fit
     (subst (λ v. Shows v (seen_of new)) (sym x.is) shows)
     x.clocks
     (plays.keeps ∙ ap (λ s. Some s.kept) (sym left))
-    (ap (λ s. s.beside) x.server ∙ plays.holds ∙ ap (λ s. record { phase = s.phase; table = s.table; longest = s.longest; notice = s.notice; time = s.now }) (sym left))
+    (ap (λ s. s.beside) x.server ∙ plays.holds ∙ ap (λ s. record {
+      phase = s.phase;
+      table = s.table;
+      longest = s.longest;
+      notice = s.notice;
+      time =
+          s.now;
+    }) (sym left))
     x.ends.1
     x.term
     (let same : new.server.taken ≡ old.server.taken = ap (λ s. s.taken) x.server in let few = plays.served in omega arith)
     (moves-counts host o old.clients new.clients sent old.entries new.entries x.acts (length events) plays.heard)
 
-unmoved : {K : Type 0} (old new : WorldOver K) → new.server ≡ old.server → new.clients ≡ old.clients → new.datagrams ≡ old.datagrams → new.entries ≡ old.entries → new.skew ≡ old.skew → new.events ≡ old.events → new.term ≡ old.term → IsAsBefore old new
+unmoved : {K : Type 0} (old new : WorldOver K) → new.server ≡ old.server → new.clients ≡ old.clients → new.datagrams ≡ old.datagrams → new.entries
+    ≡ old.entries → new.skew ≡ old.skew → new.events ≡ old.events → new.term ≡ old.term → IsAsBefore old new
 unmoved old new server clients datagrams entries skew events term = record {
   server = record { beside = ap (λ s. s.beside) server; taken = ap (λ s. s.taken) server };
   clients = clients;
@@ -146,12 +180,15 @@ unmoved old new server clients datagrams entries skew events term = record {
   term = term;
 }
 
-pub acts-steps : {K : Type 0} (head : Head) (events : List Event) (event : Event) (host : ℕ) (step_of : Client → Option ClientStep) (made : Result Unit Halt) (answer : Stepped) (old new : WorldOver K) (told : Option Kept) (sent : List (Party × List ℕ)) (packets packets' : PacketList)
-    → Plays head events old told → ActsIn head events event host step_of made answer old new sent packets packets' → Steps head events event answer old new told told
+pub acts-steps : {K : Type 0} (head : Head) (events : List Event) (event : Event) (host : ℕ) (step_of : Client → Option ClientStep)
+    (made : Result Unit Halt) (answer : Stepped) (old new : WorldOver K) (told : Option Kept) (sent : List (Party × List ℕ)) (packets packets' : PacketList)
+    → Plays head events old told → ActsIn head events event host step_of made answer old new sent packets packets' → Steps head events event answer
+    old new told told
 acts-steps head events event host step_of (Ok made) Stepped.Done old new told sent packets packets' plays x =
     (x.fit.passes, acts-played head events event host step_of made old new told sent packets packets' plays x)
 acts-steps head events event host step_of (Ok made) Stepped.Memory old new told sent packets packets' plays x =
-    absurd (x.ends.0 x.room (moves-small head events event host (step_at step_of (slice_get old.clients host)) old.clients new.clients sent old.entries new.entries x.is x.acts))
+    absurd (x.ends.0 x.room (moves-small head events event host (step_at step_of (slice_get old.clients host)) old.clients new.clients sent
+    old.entries new.entries x.is x.acts))
 acts-steps head events event host step_of (Ok made) Stepped.NoPacket old new told sent packets packets' plays x = absurd x.ends
 acts-steps head events event host step_of (Ok made) (Stepped.SkewBroken b) old new told sent packets packets' plays x = absurd x.ends
 acts-steps head events event host step_of (Ok made) (Stepped.Limit l) old new told sent packets packets' plays x = absurd x.ends

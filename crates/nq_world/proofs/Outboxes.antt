@@ -14,7 +14,8 @@ there [] k below = absurd (omega arith)
 there (x ∷ xs) zero below = record { element = x; is = refl }
 there (x ∷ xs) (suc k) below = let rest = there xs k (omega arith) in record { element = rest.element; is = rest.is }
 
-pub map-take-more : {A B : Type 0} (f : A → B) (xs : List A) (k : ℕ) (x : A) → slice_get xs k ≡ Some x → map f (take (suc k) xs) ≡ map f (take k xs) ++ f x ∷ []
+pub map-take-more : {A B : Type 0} (f : A → B) (xs : List A) (k : ℕ) (x : A) → slice_get xs k ≡ Some x → map f (take (suc k) xs) ≡ map f (take k xs)
+    ++ f x ∷ []
 map-take-more f [] k x e = absurd (cc)
 map-take-more f (y ∷ xs) zero x e = let one : y ≡ x = cc in ap (λ z. f z ∷ []) one
 map-take-more f (y ∷ xs) (suc k) x e = ap (λ zs. f y ∷ zs) (map-take-more f xs k x e)
@@ -44,7 +45,8 @@ sum-take-below f (y ∷ xs) (suc k) =
     omega arith
 
 -- what was appended up to a place, and the element there
-pub appended-more : {A B : Type 0} (f : A → B) (all : List A) (place : ℕ) (x : A) (old before new : List B) → slice_get all place ≡ Some x → before ≡ old ++ map f (take place all) → new ≡ before ++ f x ∷ [] → new ≡ old ++ map f (take (suc place) all)
+pub appended-more : {A B : Type 0} (f : A → B) (all : List A) (place : ℕ) (x : A) (old before new : List B) → slice_get all place ≡ Some x → before
+    ≡ old ++ map f (take place all) → new ≡ before ++ f x ∷ [] → new ≡ old ++ map f (take (suc place) all)
 appended-more f all place x old before new there so_far next =
     next
     ∙ ap (λ ds. ds ++ f x ∷ []) so_far

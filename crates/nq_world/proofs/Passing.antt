@@ -52,7 +52,8 @@ sent-passed k packets e =
     let both = passed (nat_lt k packets) (tested_room packets) no_packet e (λ x. absurd (cc)) in
     (ltb-true k packets both.true_is, room-passed packets both.then_done)
 
-tested-passes : (events packets : ℕ) (broken : Option SkewBroken) (event : Event) → events < most_events → tested_seen broken packets event ≡ done → Passes events packets broken event
+tested-passes : (events packets : ℕ) (broken : Option SkewBroken) (event : Event) → events < most_events → tested_seen broken packets event ≡ done
+    → Passes events packets broken event
 tested-passes events packets broken (Event.Deliver k) few e = let both = sent-passed k packets e in record { few = few; room = both.1; allows = both.0 }
 tested-passes events packets broken Event.ServerTick few e = let both = skew-passed packets broken e in record { few = few; room = both.1; allows = both.0 }
 tested-passes events packets broken (Event.Call host op) few e = record { few = few; room = room-passed packets e; allows = tt }
@@ -60,13 +61,16 @@ tested-passes events packets broken (Event.ClientTick host) few e = record { few
 tested-passes events packets broken (Event.Restart host) few e = record { few = few; room = room-passed packets e; allows = tt }
 tested-passes events packets broken (Event.Crash longest) few e = record { few = few; room = room-passed packets e; allows = tt }
 
-seen-passes : (events packets : ℕ) (broken : Option SkewBroken) (event : Event) → stepped_seen events packets broken event ≡ done → Passes events packets broken event
+seen-passes : (events packets : ℕ) (broken : Option SkewBroken) (event : Event) → stepped_seen events packets broken event ≡ done
+    → Passes events packets broken event
 seen-passes events packets broken event e =
     let both = passed (nat_lt events most_events) (tested_seen broken packets event) too_many_events e (λ x. absurd (cc)) in
     tested-passes events packets broken event (ltb-true events most_events both.true_is) both.then_done
 
 -- an event that the protocol takes in passed the tests of what is seen
-pub done-passes : (head : Head) (events : List Event) (seen : Seen) (skew : SkewCounts) (event : Event) → IsRunOf head events seen skew → stepped head events event ≡ done
+pub done-passes : (head : Head) (events : List Event) (seen : Seen) (skew : SkewCounts) (event : Event) → IsRunOf head events seen skew
+    → stepped head events event ≡ done
     → Passes (length events) (length seen.datagrams) (skew_broken (length skew.hosts) skew.window events) event
 done-passes head events seen skew event r e =
-    seen-passes (length events) (length seen.datagrams) (skew_broken (length skew.hosts) skew.window events) event (sym (tests-are-exact head events seen skew event r) ∙ e)
+    seen-passes (length events) (length seen.datagrams) (skew_broken (length skew.hosts) skew.window events) event
+    (sym (tests-are-exact head events seen skew event r) ∙ e)

@@ -42,7 +42,8 @@ plays-on head events event old new told tells plays fit shows keeps kept holds c
     let before = plays.counted in
     let one_more : length events + 1 ≡ length (event ∷ events) = omega arith in
     record {
-      shown = runs-go-on head events event (seen_of old) (seen_of new) old.skew new.skew plays.shown passes.few passes.room fit.given fit.boots shows keeps.hosts keeps.window (keeps.clocks events plays.shown.clocks);
+      shown = runs-go-on head events event (seen_of old) (seen_of new) old.skew new.skew plays.shown passes.few passes.room fit.given fit.boots shows
+          keeps.hosts keeps.window (keeps.clocks events plays.shown.clocks);
       keeps = kept;
       holds = holds;
       counted = omega arith;

@@ -23,7 +23,8 @@ answer-done too_many_events e = absurd (cc)
 answer-done too_many_packets e = absurd (cc)
 
 -- the tests answer as the protocol does
-pub answers : {K : Type 0} (head : Head) (events : List Event) (event : Event) (w : WorldOver K) (told : Option Kept) (answer : Stepped) → Plays head events w told
+pub answers : {K : Type 0} (head : Head) (events : List Event) (event : Event) (w : WorldOver K) (told : Option Kept) (answer : Stepped)
+    → Plays head events w told
     → answer ≡ answer_of (stepped_seen w.events (length w.datagrams) (skew_broken (length w.skew.hosts) w.skew.window events) event)
     → answer_of (stepped head events event) ≡ answer
 answers head events event w told answer plays is =
@@ -57,7 +58,8 @@ never-memory too_many_events e = absurd (cc)
 never-memory too_many_packets e = absurd (cc)
 
 -- an event that did not pass the tests leaves the world
-pub refused-steps : {K : Type 0} (head : Head) (events : List Event) (event : Event) (answer : Stepped) (w : WorldOver K) (told : Option Kept) → answer_of (stepped head events event) ≡ answer → (answer ≡ Stepped.Done → ⊥) → Steps head events event answer w w told told
+pub refused-steps : {K : Type 0} (head : Head) (events : List Event) (event : Event) (answer : Stepped) (w : WorldOver K) (told : Option Kept)
+    → answer_of (stepped head events event) ≡ answer → (answer ≡ Stepped.Done → ⊥) → Steps head events event answer w w told told
 refused-steps head events event Stepped.Done w told is other = absurd (other refl)
 refused-steps head events event Stepped.Fault w told is other = absurd (never-fault (stepped head events event) is)
 refused-steps head events event Stepped.Memory w told is other = absurd (never-memory (stepped head events event) is)
@@ -75,7 +77,8 @@ refused-counts (Stepped.SkewBroken broken) count own = refl
 refused-counts (Stepped.Limit limit) count own = refl
 
 -- a world that is as before goes on playing its run
-pub still-plays : {K : Type 0} (head : Head) (events : List Event) (old new : WorldOver K) (told tells : Option Kept) → Plays head events old told → IsAsBefore old new → tells ≡ told → Plays head events new tells
+pub still-plays : {K : Type 0} (head : Head) (events : List Event) (old new : WorldOver K) (told tells : Option Kept) → Plays head events old told
+    → IsAsBefore old new → tells ≡ told → Plays head events new tells
 still-plays head events old new told tells plays same kept =
     let r = plays.shown in
     record {

@@ -13,7 +13,7 @@ use Rattle.nq_wire.specs.Request.{procedure_of}
 use Rattle.nq_datagrams.specs.Laws.{IsOfTicket}
 use Rattle.nq_datagrams.proofs.Readers.{client-reads-messages}
 use Rattle.walk_steps.proofs.ClientFacts.{fits_job}
-use Rattle.walk_steps.proofs.Packets.{In, in-get, Asked, Told}
+use Rattle.walk_steps.proofs.Packets.{in-get, Asked, Told}
 use Rattle.walk_steps.proofs.Worlds.{IsAt, to-told, run-holds}
 use Rattle.nq_world.specs.Replies.{RepliesAreOfTheirRequest, EachPacketIsHeard}
 use Rattle.nq_world.proofs.ServerReplies.{IsReplyOf, kind}

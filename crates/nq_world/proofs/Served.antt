@@ -42,7 +42,9 @@ use Rattle.nq_world.specs.declared.stepped.Stepped.{Stepped}
 
 -- ---- what the calls of a server do
 
-moved : {K : Type 0} (t : ServerStep) (how : _) (tells : Option Kept) (old new : Holding K) (out out' : Datagrams) (log log' : EntryList) → out.datagrams ≡ [] → TakesIn t how tells new out out' log log' → new.taken ≡ old.taken + 1 → MovesServer t old new tells out'.datagrams log.entries log'.entries
+moved : {K : Type 0} (t : ServerStep) (how : _) (tells : Option Kept) (old new : Holding K) (out out' : Datagrams) (log log' : EntryList)
+    → out.datagrams ≡ [] → TakesIn t how tells new out out' log log' → new.taken ≡ old.taken + 1 → MovesServer t old new tells out'.datagrams
+    log.entries log'.entries
 moved t how tells old new out out' log log' empty x one = record {
   keeps = x.makes.keeps;
   holds = x.makes.holds;
@@ -52,18 +54,23 @@ moved t how tells old new out out' log log' empty x one = record {
   counts = omega arith;
 }
 
-pub taken-serves : {K : Type 0} (step_of : Kept → ServerStep) (r : Received) (kept : Kept) (told tells : Option Kept) (before count : ℕ) (old new : Holding K) (out out' : Datagrams) (log log' : EntryList)
-    → told ≡ Some kept → out.datagrams ≡ [] → (r ≡ Received.Spent → old.taken ≡ most_taken_by_server) → IsTaken step_of r told tells before count old new out out' log log'
+pub taken-serves : {K : Type 0} (step_of : Kept → ServerStep) (r : Received) (kept : Kept) (told tells : Option Kept) (before count : ℕ)
+    (old new : Holding K) (out out' : Datagrams) (log log' : EntryList)
+    → told ≡ Some kept → out.datagrams ≡ [] → (r ≡ Received.Spent → old.taken ≡ most_taken_by_server) → IsTaken step_of r told tells before count old
+    new out out' log log'
     → Serves (step_of kept) (received r) old new told tells out'.datagrams log.entries log'.entries
-taken-serves step_of Received.Done kept told tells before count old new out out' log log' is empty all x = moved (step_of kept) _ tells old new out out' log log' empty (x.0 kept is) x.2
-taken-serves step_of (Received.Dropped reason) kept told tells before count old new out out' log log' is empty all x = moved (step_of kept) _ tells old new out out' log log' empty (x.0 kept is) x.2
+taken-serves step_of Received.Done kept told tells before count old new out out' log log' is empty all x = moved (step_of kept) _ tells old new out
+    out' log log' empty (x.0 kept is) x.2
+taken-serves step_of (Received.Dropped reason) kept told tells before count old new out out' log log' is empty all x = moved (step_of kept) _ tells
+    old new out out' log log' empty (x.0 kept is) x.2
 taken-serves step_of Received.Fault kept told tells before count old new out out' log log' is empty all x = (x.2.untouched, x.0, x.2.silent.entries)
 taken-serves step_of Received.Memory kept told tells before count old new out out' log log' is empty all x = (x.2.untouched, x.0, x.2.silent.entries)
 taken-serves step_of Received.Spent kept told tells before count old new out out' log log' is empty all x =
     let many = all refl in
     (x.2.untouched, x.0, x.2.silent.entries, inl (omega arith))
 
-pub reboot-serves : {K : Type 0} (longest time : ℕ) (r : Received) (kept : Kept) (told tells : Option Kept) (before count : ℕ) (old new : Holding K) (out : Datagrams) (log log' : EntryList)
+pub reboot-serves : {K : Type 0} (longest time : ℕ) (r : Received) (kept : Kept) (told tells : Option Kept) (before count : ℕ) (old new : Holding K)
+    (out : Datagrams) (log log' : EntryList)
     → told ≡ Some kept → out.datagrams ≡ [] → Reboots longest time r told tells before count old new log log'
     → Serves (crash (at_time (server_of old.beside kept) time) longest) (received r) old new told tells out.datagrams log.entries log'.entries
 unfolding crash
@@ -88,7 +95,8 @@ each-below : (xs : List ℕ) → ((i : ℕ) → get_or xs i 0 < 256) → All (λ
 each-below [] below = All-nil (λ b. b < 256)
 each-below (x ∷ xs) below = All-cons (λ b. b < 256) x xs (below 0) (each-below xs (λ i. below (suc i)))
 
-pub given-delivery : (w : World) (seen : Seen) (k : ℕ) (d : Datagram) → Shows w seen → slice_get seen.datagrams k ≡ Some d → ((i : ℕ) → get_or d.bytes i 0 < 256) → IsGiven w (Event.Deliver k)
+pub given-delivery : (w : World) (seen : Seen) (k : ℕ) (d : Datagram) → Shows w seen → slice_get seen.datagrams k ≡ Some d
+    → ((i : ℕ) → get_or d.bytes i 0 < 256) → IsGiven w (Event.Deliver k)
 given-delivery w seen k d shows e below = λ p there.
     let found = found-packet w seen k d shows e in
     let same : found.packet ≡ p = cc (found.there, there) in
@@ -98,7 +106,8 @@ given-delivery w seen k d shows e below = λ p there.
 -- ---- the whole event
 
 -- what an event at the server did to a world
-pub record ServesIn {K : Type 0} (head : Head) (events : List Event) (event : Event) (t : ServerStep) (made : Result Unit Halt) (answer : Stepped) (old new : WorldOver K) (told tells : Option Kept) (sent : List (Party × List ℕ)) (packets packets' : PacketList) : Type 0 where
+pub record ServesIn {K : Type 0} (head : Head) (events : List Event) (event : Event) (t : ServerStep) (made : Result Unit Halt) (answer : Stepped)
+    (old new : WorldOver K) (told tells : Option Kept) (sent : List (Party × List ℕ)) (packets packets' : PacketList) : Type 0 where
   pub fit : IsFit head events event
   pub is : step (run head events) event ≡ after_server (run head events) t
   pub says : SaysPlainly t
@@ -115,12 +124,15 @@ server-after : (w : World) (t : ServerStep) → (after_server w t).server ≡ t.
 unfolding after_server
 server-after w t = refl
 
-serves-played : {K : Type 0} (head : Head) (events : List Event) (event : Event) (t : ServerStep) (made : Unit) (old new : WorldOver K) (told tells : Option Kept) (sent : List (Party × List ℕ)) (packets packets' : PacketList)
-    → Plays head events old told → ServesIn head events event t (Ok made) Stepped.Done old new told tells sent packets packets' → Plays head (event ∷ events) new tells
+serves-played : {K : Type 0} (head : Head) (events : List Event) (event : Event) (t : ServerStep) (made : Unit) (old new : WorldOver K)
+    (told tells : Option Kept) (sent : List (Party × List ℕ)) (packets packets' : PacketList)
+    → Plays head events old told → ServesIn head events event t (Ok made) Stepped.Done old new told tells sent packets packets'
+    → Plays head (event ∷ events) new tells
 serves-played head events event t made old new told tells sent packets packets' plays x =
     let w : World = run head events in
     let s = server-shown w t (seen_of old) sent plays.shown.shows x.says x.serves.fit x.serves.sends in
-    let same : new.datagrams ≡ old.datagrams ++ map (sent_from Party.Server) sent = x.after ∙ x.ends.0 ∙ ap (λ ds. ds ++ map (sent_from Party.Server) sent) x.before in
+    let same : new.datagrams ≡ old.datagrams ++ map (sent_from Party.Server) sent = x.after ∙ x.ends.0 ∙ ap (λ ds. ds ++ map (sent_from Party.Server)
+    sent) x.before in
     let shows : Shows (after_server w t) (seen_of new) = record {
       clients = ap clients_in x.clients ∙ s.clients;
       datagrams = same ∙ s.datagrams;
@@ -138,8 +150,10 @@ serves-played head events event t made old new told tells sent packets packets' 
     (let one = x.serves.counts in let few = plays.served in omega arith)
     (subst (TookIn (length events + 1)) (sym x.clients) (took-more (length events) (length events + 1) old.clients (omega arith) plays.heard))
 
-pub serves-steps : {K : Type 0} (head : Head) (events : List Event) (event : Event) (t : ServerStep) (made : Result Unit Halt) (answer : Stepped) (old new : WorldOver K) (told tells : Option Kept) (sent : List (Party × List ℕ)) (packets packets' : PacketList)
-    → Plays head events old told → ServesIn head events event t made answer old new told tells sent packets packets' → Steps head events event answer old new told tells
+pub serves-steps : {K : Type 0} (head : Head) (events : List Event) (event : Event) (t : ServerStep) (made : Result Unit Halt) (answer : Stepped)
+    (old new : WorldOver K) (told tells : Option Kept) (sent : List (Party × List ℕ)) (packets packets' : PacketList)
+    → Plays head events old told → ServesIn head events event t made answer old new told tells sent packets packets' → Steps head events event answer
+    old new told tells
 serves-steps head events event t (Ok made) Stepped.Done old new told tells sent packets packets' plays x =
     (x.fit.passes, serves-played head events event t made old new told tells sent packets packets' plays x)
 serves-steps head events event t (Ok made) Stepped.Memory old new told tells sent packets packets' plays x =
@@ -181,12 +195,15 @@ serves-steps head events event t (Err halt.Memory) answer old new told tells sen
 
 -- ---- which step an event at the server is
 
-pub delivery-steps : {K : Type 0} (head : Head) (events : List Event) (w : WorldOver K) (told : Option Kept) (k : ℕ) (d : Datagram) → Plays head events w told → slice_get w.datagrams k ≡ Some d → d.to ≡ Party.Server
-    → step (run head events) (Event.Deliver k) ≡ after_server (run head events) (receive (run head events).server (sending_host d.sender) (length w.datagrams) (datagram_in d.bytes))
+pub delivery-steps : {K : Type 0} (head : Head) (events : List Event) (w : WorldOver K) (told : Option Kept) (k : ℕ) (d : Datagram)
+    → Plays head events w told → slice_get w.datagrams k ≡ Some d → d.to ≡ Party.Server
+    → step (run head events) (Event.Deliver k) ≡ after_server (run head events) (receive (run head events).server (sending_host d.sender)
+    (length w.datagrams) (datagram_in d.bytes))
 delivery-steps head events w told k d plays e to = deliveries-to-the-server head events (seen_of w) k d plays.shown.shows e to
 
 -- a tick that passed the tests is within skew
-pub not-broken : {K : Type 0} (head : Head) (events : List Event) (w : WorldOver K) (told : Option Kept) (broken : SkewBroken) → Plays head events w told → stepped head events Event.ServerTick ≡ done → skew_broken (length w.skew.hosts) w.skew.window events ≡ Some broken → ⊥
+pub not-broken : {K : Type 0} (head : Head) (events : List Event) (w : WorldOver K) (told : Option Kept) (broken : SkewBroken)
+    → Plays head events w told → stepped head events Event.ServerTick ≡ done → skew_broken (length w.skew.hosts) w.skew.window events ≡ Some broken → ⊥
 not-broken head events w told broken plays e some =
     let passes = done-passes head events (seen_of w) w.skew Event.ServerTick plays.shown e in
     let none = passes.allows in

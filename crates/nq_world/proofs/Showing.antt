@@ -62,7 +62,8 @@ server-shown w t seen out shows says fit is = record {
       ∙ ap (λ es. reverse w.journal ++ es) (reversed-plain t.entries says.plain)
       ∙ sym (reverse-append t.entries w.journal);
 } where
-  map-append-to : (ds : List Datagram) (ps : List Packet) (more : List Datagram) (sends : List Packet) → ds ≡ map datagram ps → more ≡ map datagram sends → ds ++ more ≡ map datagram (ps ++ sends)
+  map-append-to : (ds : List Datagram) (ps : List Packet) (more : List Datagram) (sends : List Packet) → ds ≡ map datagram ps
+      → more ≡ map datagram sends → ds ++ more ≡ map datagram (ps ++ sends)
   map-append-to ds ps more sends old new = ap (λ xs. xs ++ more) old ∙ ap (λ xs. map datagram ps ++ xs) new ∙ sym (map-append datagram ps sends)
 
 pub client-shown : ClientStepsAreShown
@@ -89,7 +90,12 @@ pub record IsDatagramOf (packets : List Packet) (k : ℕ) (d : Datagram) : Type 
 
 datagram-of : (packets : List Packet) (k : ℕ) (d : Datagram) → slice_get (map datagram packets) k ≡ Some d → IsDatagramOf packets k d
 datagram-of [] k d e = absurd (cc)
-datagram-of (p ∷ packets) zero d e = record { packet = p; there = refl; is = let same : Some (datagram p) ≡ Some d = e in let one : datagram p ≡ d = cc in sym one }
+datagram-of (p ∷ packets) zero d e = record {
+  packet = p;
+  there = refl;
+  is = let same : Some (datagram p) ≡ Some d = e in let one : datagram p ≡ d =
+      cc in sym one;
+}
 datagram-of (p ∷ packets) (suc k) d e = let rest = datagram-of packets k d e in record { packet = rest.packet; there = rest.there; is = rest.is }
 
 pub found-packet : (w : World) (seen : Seen) (k : ℕ) (d : Datagram) → Shows w seen → slice_get seen.datagrams k ≡ Some d → IsDatagramOf w.packets k d
@@ -106,11 +112,13 @@ packet-fits w seen k p shows e = fits-at w.packets k p shows.fit e
 datagrams-sent : (w : World) (seen : Seen) → Shows w seen → length seen.datagrams ≡ length w.packets
 datagrams-sent w seen shows = ap length shows.datagrams ∙ length-map w.packets datagram
 
-to-the-server : (w : World) (seen : Seen) (k : ℕ) (d : Datagram) (p : Packet) → Shows w seen → slice_get w.packets k ≡ Some p → d ≡ datagram p → d.to ≡ Party.Server
+to-the-server : (w : World) (seen : Seen) (k : ℕ) (d : Datagram) (p : Packet) → Shows w seen → slice_get w.packets k ≡ Some p → d ≡ datagram p
+    → d.to ≡ Party.Server
     → deliver w k (slice_get w.packets k) ≡ after_server w (receive w.server (sending_host d.sender) (length seen.datagrams) (datagram_in d.bytes))
 to-the-server w seen k d p shows there is to =
     let own : p.to ≡ Party.Server = sym (ap (λ x. x.to) is) ∙ to in
-    let read : datagram_in d.bytes ≡ datagram_of p.message = ap (λ x. datagram_in x.bytes) is ∙ server-reads-messages p.message (packet-fits w seen k p shows there) in
+    let read : datagram_in d.bytes ≡ datagram_of p.message = ap (λ x. datagram_in x.bytes) is ∙ server-reads-messages p.message
+    (packet-fits w seen k p shows there) in
     let from : sending_host d.sender ≡ sending_host p.sender = ap (λ x. sending_host x.sender) is in
     ap (deliver w k) there
     ∙ ap (deliver_to w k p) own

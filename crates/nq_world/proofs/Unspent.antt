@@ -1,5 +1,6 @@
 -- In a run that a world takes in, no number comes to its end.
-use Rattle.std.proofs.Common.{◌≡◌, ◌≤◌, ℕ, zero, suc, ◌==◌, Bool, true, false, List, [], ◌∷◌, Option, Some, ap, sym, ◌∙◌, arith, inl, inr, length, if◌then◌else◌}
+use Rattle.std.proofs.Common.{◌≡◌, ◌≤◌, ℕ, zero, suc, ◌==◌, Bool, true, false, List, [], ◌∷◌, Option, Some, ap, sym, ◌∙◌, arith, inl, inr, length}
+use Rattle.std.proofs.Common.{if◌then◌else◌}
 use Rattle.std.specs.Prelude.{slice_get}
 use Rattle.nq_base.specs.declared.Event.{Event}
 use Rattle.nq_keeper.specs.Booting.{last_boot}
@@ -72,10 +73,12 @@ module _ {K : Type 0} (head : Head) (events : List Event) (w : WorldOver K) (tol
 
   pub server-unspent : ServerIsSpent w.server told → ⊥
   server-unspent (inl many) = let few = plays.served in let all = plays.shown.few in absurd (omega arith)
-  server-unspent (inr last) = let is : (run head events).server.kept.boot ≡ last_boot = last (run head events).server.kept plays.keeps in let low = left.boot in absurd (omega arith)
+  server-unspent (inr last) = let is : (run head events).server.kept.boot ≡ last_boot = last (run head events).server.kept plays.keeps in let low =
+      left.boot in absurd (omega arith)
 
   pub server-in-time : IsLastTime w.server.beside.time → ⊥
-  server-in-time late = let same : w.server.beside.time ≡ (run head events).server.now = ap (λ b. b.time) plays.holds in let early = left.time in absurd (omega arith)
+  server-in-time late = let same : w.server.beside.time ≡ (run head events).server.now = ap (λ b. b.time) plays.holds in let early = left.time in
+      absurd (omega arith)
 
   client-at : (host : ℕ) (c : Counted) → slice_get w.clients host ≡ Some c → slice_get (run head events).clients host ≡ Some c.client
   client-at host c there = ap (λ cs. slice_get cs host) (sym plays.shown.shows.clients) ∙ found-client w.clients host c there

@@ -48,7 +48,19 @@ Counts (Err Failed) before count = Rose before count
 
 -- the change of the numbers
 abbrev pub heads_change : (longest next : ℕ) → Change
-heads_change longest next = record { file = None; block = None; host = None; heads = Some (record { boot = 0; opened = 0; longest = longest; next = next }); removed = None }
+heads_change longest next = record {
+  file = None;
+  block = None;
+  host = None;
+  heads = Some (record {
+    boot = 0;
+    opened = 0;
+    longest = longest;
+    next =
+        next;
+  });
+  removed = None;
+}
 
 -- the change by which a file is kept
 abbrev pub file_change : (longest next : ℕ) → List ℕ × ℕ → Change

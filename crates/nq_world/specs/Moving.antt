@@ -79,14 +79,16 @@ step_at step (Some c) = step c.client
 
 -- what an event at the client of a host does: the client makes its step, or all clients and the journal are as before. A client that
 -- is spent makes none
-abbrev pub ActsAt : (host : ℕ) → (step : Client → Option ClientStep) → Result Unit Halt → (old new : List Counted) (sent : List (Party × List ℕ)) (entries entries' : List Entry) → Type 0
+abbrev pub ActsAt : (host : ℕ) → (step : Client → Option ClientStep) → Result Unit Halt → (old new : List Counted) (sent : List (Party × List ℕ))
+    (entries entries' : List Entry) → Type 0
 ActsAt host step (Ok made) old new sent entries entries' = Moves host (step_at step (slice_get old host)) old new sent entries entries'
 ActsAt host step (Err halt.Memory) old new sent entries entries' = (new ≡ old) × (entries' ≡ entries)
 ActsAt host step (Err halt.Spent) old new sent entries entries' = (new ≡ old) × (entries' ≡ entries) × ClientIsSpent host old
 ActsAt host step (Err halt.Fault) old new sent entries entries' = ⊥
 
 -- the server made this step
-pub record MovesServer {K : Type 0} (t : ServerStep) (old new : Holding K) (tells : Option Kept) (sent : List (Party × List ℕ)) (entries entries' : List Entry) : Type 0 where
+pub record MovesServer {K : Type 0} (t : ServerStep) (old new : Holding K) (tells : Option Kept) (sent : List (Party × List ℕ))
+    (entries entries' : List Entry) : Type 0 where
   pub keeps : tells ≡ Some t.server.kept
   pub holds : new.beside ≡ beside t.server
   pub sends : sent ≡ map sent_packet t.sends
@@ -96,7 +98,8 @@ pub record MovesServer {K : Type 0} (t : ServerStep) (old new : Holding K) (tell
 
 -- what an event at the server does: the server makes its step, or it and the journal are as before, but for the keeper. A server
 -- that is spent makes none
-abbrev pub Serves : {K : Type 0} → (t : ServerStep) → Result Unit Halt → (old new : Holding K) (told tells : Option Kept) (sent : List (Party × List ℕ)) (entries entries' : List Entry) → Type 0
+abbrev pub Serves : {K : Type 0} → (t : ServerStep) → Result Unit Halt → (old new : Holding K) (told tells : Option Kept)
+    (sent : List (Party × List ℕ)) (entries entries' : List Entry) → Type 0
 Serves t (Ok made) old new told tells sent entries entries' = MovesServer t old new tells sent entries entries'
 Serves t (Err halt.Memory) old new told tells sent entries entries' = IsUntouched old new × (tells ≡ told) × (entries' ≡ entries)
 Serves t (Err halt.Spent) old new told tells sent entries entries' =
@@ -120,7 +123,8 @@ pub record HasRoom (packets : PacketList) : Type 0 where
   pub bytes : most_sends * longest_sent ≤ packets.spare_bytes
 
 -- an event that was made ends: what it sent is added to the packets, and it is counted. Memory is not wanting for what is small
-abbrev pub Ends : Result Unit Halt → (answer : Stepped) → (party : Party) (sent : List (Party × List ℕ)) (packets packets' : PacketList) (events events' : ℕ) → Type 0
+abbrev pub Ends : Result Unit Halt → (answer : Stepped) → (party : Party) (sent : List (Party × List ℕ)) (packets packets' : PacketList)
+    (events events' : ℕ) → Type 0
 Ends (Ok made) Stepped.Done party sent packets packets' events events' =
     (packets'.datagrams ≡ packets.datagrams ++ map (sent_from party) sent) × (events' ≡ events + 1)
 Ends (Ok made) Stepped.Memory party sent packets packets' events events' =

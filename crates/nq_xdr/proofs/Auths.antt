@@ -1,6 +1,7 @@
 -- Steps of reading a message, and credentials and verifiers: what is spelled so is passed over, and what
 -- is passed over is spelled so.
-use Rattle.std.proofs.Common.{◌≡◌, ℕ, ◌*◌, ◌^◌, ◌<◌, ◌≤◌, cond, eqb, List, ◌++◌, length, Result, Ok, Err, refl, sym, ap, subst, ◌∙◌, append_assoc, arith, inl, inr}
+use Rattle.std.proofs.Common.{◌≡◌, ℕ, ◌*◌, ◌^◌, ◌<◌, ◌≤◌, cond, eqb, List, ◌++◌, length, Result, Ok, Err, refl, sym, ap, subst, ◌∙◌, append_assoc}
+use Rattle.std.proofs.Common.{arith, inl, inr}
 use Rattle.std.proofs.lemmas.Bool.{cond_both, eqb-true, eqb-false, ne_eqb}
 use Rattle.nq_xdr.specs.declared.fault.XdrFault.{XdrFault}
 use Rattle.nq_xdr.specs.declared.fault.XdrFault.TheVariants as xdr
@@ -42,7 +43,8 @@ end_fault rest Xdr h = (refl, h)
 end_fault rest Memory h = absurd h
 
 -- a choice with a fault gives it, where no number above the highest goes on
-pub choice_ends : {X : Type 0} (top : ℕ) (rest : List ℕ) (e : RpcFault) (f : ℕ × List ℕ → Result X RpcFault) → ((n : ℕ) (r : List ℕ) → top < n → f (n, r) ≡ Err BadKind)
+pub choice_ends : {X : Type 0} (top : ℕ) (rest : List ℕ) (e : RpcFault) (f : ℕ × List ℕ → Result X RpcFault) → ((n : ℕ) (r : List ℕ) → top < n
+    → f (n, r) ≡ Err BadKind)
     → IsItemFault (Choice top) rest e → (item (word_at rest) >>= f) ≡ Err e
 choice_ends top rest Short f bad h = word_ends fault_of rest f h
 choice_ends top rest BadKind f bad h =
@@ -86,7 +88,8 @@ auth_again a rest fits =
     rw (parts, word_again a.flavor (opaque a.body ++ rest) fits.flavor, body) refl
 
 -- a body with a fault gives it
-body_ends : (flavor : ℕ) (body bytes : List ℕ) (e : XdrFault) → flavor < 2 ^ 32 → bytes ≡ word flavor ++ body → IsOpaqueFault 400 body e → behind_auth bytes ≡ Err (fault_of e)
+body_ends : (flavor : ℕ) (body bytes : List ℕ) (e : XdrFault) → flavor < 2 ^ 32 → bytes ≡ word flavor ++ body → IsOpaqueFault 400 body e
+    → behind_auth bytes ≡ Err (fault_of e)
 unfolding behind_auth
 body_ends flavor body bytes e fits is h =
     let read : word_at bytes ≡ Ok (flavor, body) = ap word_at is ∙ word_again flavor body fits in
@@ -105,7 +108,8 @@ auth_ends bytes BadAuth h = body_ends h.0 h.1.0 bytes xdr.TooLong h.1.1.0 h.1.1.
 auth_ends bytes Xdr h = body_ends h.0 h.1.0 bytes xdr.Pad h.1.1.0 h.1.1.1 h.1.1.2
 auth_ends bytes Memory h = absurd h
 
-auth_step_at : {X : Type 0} (bytes : List ℕ) (read : Result (List ℕ) RpcFault) (f : List ℕ → Result X RpcFault) (P : Result X RpcFault → Type 0) → IsBytes bytes → AuthSays bytes read
+auth_step_at : {X : Type 0} (bytes : List ℕ) (read : Result (List ℕ) RpcFault) (f : List ℕ → Result X RpcFault) (P : Result X RpcFault → Type 0)
+    → IsBytes bytes → AuthSays bytes read
     → ((e : RpcFault) → IsItemFault Authentication bytes e → P (Err e))
     → ((a : Auth) (rest : List ℕ) → IsAuth a → bytes ≡ auth a ++ rest → IsBytes rest → P (f rest))
     → P (read >>= f)

@@ -62,15 +62,18 @@ one_read m n read is was = cc
 one_fault : (d e : RpcFault) (read : Result Message RpcFault) → read ≡ Err d → read ≡ Err e → d ≡ e
 one_fault d e read a b = cc
 
-pub lent_found : (bytes : List ℕ) (r : Result LentMessage RpcFault) (read : Result Message RpcFault) → MessageSays bytes read → Gives lent_message r read → IfOk r (λ m. IsSpelled (lent_message m) bytes)
+pub lent_found : (bytes : List ℕ) (r : Result LentMessage RpcFault) (read : Result Message RpcFault) → MessageSays bytes read → Gives lent_message r
+    read → IfOk r (λ m. IsSpelled (lent_message m) bytes)
 lent_found bytes (Ok m) read says given = subst (MessageSays bytes) given says
 lent_found bytes (Err e) read says given = tt
 
-pub lent_fault : (bytes : List ℕ) (r : Result LentMessage RpcFault) (read : Result Message RpcFault) → MessageSays bytes read → Gives lent_message r read → IfErr r (IsMessageFault bytes)
+pub lent_fault : (bytes : List ℕ) (r : Result LentMessage RpcFault) (read : Result Message RpcFault) → MessageSays bytes read → Gives lent_message r
+    read → IfErr r (IsMessageFault bytes)
 lent_fault bytes (Ok m) read says given = tt
 lent_fault bytes (Err e) read says given = subst (MessageSays bytes) given says
 
-pub lent_only : (m : Message) (r : Result LentMessage RpcFault) (read : Result Message RpcFault) → read ≡ Ok m → Gives lent_message r read → IsOkAnd r (λ lent. lent_message lent ≡ m)
+pub lent_only : (m : Message) (r : Result LentMessage RpcFault) (read : Result Message RpcFault) → read ≡ Ok m → Gives lent_message r read
+    → IsOkAnd r (λ lent. lent_message lent ≡ m)
 lent_only m (Ok lent) read is given = one_read (lent_message lent) m read given is
 lent_only m (Err e) read is given = absurd cc
 

@@ -14,7 +14,8 @@ use Rattle.nq_xdr.specs.declared.rpc.message.Message.{Message}
 use Rattle.nq_xdr.specs.declared.rpc.message.Message.TheVariants.{Call, Reply}
 use Rattle.nq_xdr.specs.Message.{Auth, IsAuth, auth, null, numbers, outcome, spelling, IsCall, IsMessage, IsSpelled}
 use Rattle.nq_xdr.specs.RpcReading.{item, fault_of, behind_auth, call_at, outcome_at, reply_at, message_at}
-use Rattle.nq_xdr.specs.RpcFault.{IsItemFault, Place, Xid, MessageType, CallNumbers, Credential, Verifier, InReply, front, next, IsPlace, IsMessageFault, reply_front}
+use Rattle.nq_xdr.specs.RpcFault.{IsItemFault, Place, Xid, MessageType, CallNumbers, Credential, Verifier, InReply, front, next, IsPlace}
+use Rattle.nq_xdr.specs.RpcFault.{IsMessageFault, reply_front}
 use Rattle.nq_xdr.proofs.Auths.{chosen, not_chosen, numbers_fault, choice_ends, auth_again, auth_ends, auth_step}
 use Rattle.nq_xdr.proofs.Replies.{ReplySays, outcome_says, outcome_again, outcome_only}
 
@@ -42,7 +43,8 @@ abbrev auths_at : ℕ → ℕ → ℕ → ℕ → ℕ → List ℕ → Result Me
 auths_at xid rpcvers prog vers procedure bytes =
     behind_auth bytes >>= λ verifier. behind_auth verifier >>= λ arguments. Ok (Call (call_of xid rpcvers prog vers procedure arguments))
 
-auths_say : (bytes rest : List ℕ) (xid rpcvers prog vers procedure : ℕ) → IsCall (call_of xid rpcvers prog vers procedure []) → bytes ≡ numbers (call_of xid rpcvers prog vers procedure []) ++ rest → IsBytes rest
+auths_say : (bytes rest : List ℕ) (xid rpcvers prog vers procedure : ℕ) → IsCall (call_of xid rpcvers prog vers procedure [])
+    → bytes ≡ numbers (call_of xid rpcvers prog vers procedure []) ++ rest → IsBytes rest
     → MessageSays bytes (auths_at xid rpcvers prog vers procedure rest)
 unfolding front spelling numbers
 auths_say bytes rest xid rpcvers prog vers procedure fits e rest-fits =
@@ -80,10 +82,12 @@ numbers_step : (xid : ℕ) (bytes : List ℕ) (P : Result Message RpcFault → T
 unfolding call_at
 numbers_step xid bytes P fits short goes_on =
     word_step fault_of bytes
-    (λ rpcvers. item (word_at rpcvers.1) >>= λ prog. item (word_at prog.1) >>= λ vers. item (word_at vers.1) >>= λ procedure. auths_at xid rpcvers.0 prog.0 vers.0 procedure.0 procedure.1) P fits
+    (λ rpcvers. item (word_at rpcvers.1) >>= λ prog. item (word_at prog.1) >>= λ vers. item (word_at vers.1) >>= λ procedure. auths_at xid rpcvers.0
+    prog.0 vers.0 procedure.0 procedure.1) P fits
     (λ lt. short (omega arith))
     (λ rpcvers b rpcvers-fits e b-fits.
-    word_step fault_of b (λ prog. item (word_at prog.1) >>= λ vers. item (word_at vers.1) >>= λ procedure. auths_at xid rpcvers prog.0 vers.0 procedure.0 procedure.1) P b-fits
+    word_step fault_of b (λ prog. item (word_at prog.1) >>= λ vers. item (word_at vers.1) >>= λ procedure. auths_at xid rpcvers prog.0 vers.0
+    procedure.0 procedure.1) P b-fits
     (λ lt. short (omega (arith, few bytes b [] rpcvers 4 e lt)))
     (λ prog c prog-fits e' c-fits.
     let two = behind bytes (word rpcvers) (word prog) b c e e' in
@@ -109,7 +113,8 @@ call_says bytes rest xid xid-fits e fits =
     (λ rpcvers prog vers procedure left rpcvers-fits prog-fits vers-fits procedure-fits e' left-fits.
     auths_say bytes left xid rpcvers prog vers procedure
     (record { xid = xid-fits; rpcvers = rpcvers-fits; prog = prog-fits; vers = vers-fits; procedure = procedure-fits })
-    (e ∙ ap (λ (x : List ℕ). (word xid ++ word 0) ++ x) e' ∙ regrouped (word xid) (word 0) (word rpcvers) (word prog) (word vers) (word procedure) left) left-fits)
+    (e ∙ ap (λ (x : List ℕ). (word xid ++ word 0) ++ x) e' ∙ regrouped (word xid) (word 0) (word rpcvers) (word prog) (word vers) (word procedure)
+    left) left-fits)
 
 -- ---- replies
 
@@ -167,13 +172,15 @@ call_goes_on : (xid : ℕ) (rest : List ℕ) → xid < 2 ^ 32 → message_at ((w
 call_goes_on xid rest fits =
     ap message_at (append_assoc (word xid) (word 0) rest) ∙ xid_goes_on xid (word 0 ++ rest) fits ∙ word_goes_on fault_of 0 rest (kind_at xid) (omega arith)
 
-pub reply_goes_on : (xid : ℕ) (rest : List ℕ) → xid < 2 ^ 32 → message_at ((word xid ++ word 1) ++ rest) ≡ (outcome_at rest >>= λ outcome. Ok (Reply (record { xid = xid; outcome = outcome })))
+pub reply_goes_on : (xid : ℕ) (rest : List ℕ) → xid < 2 ^ 32 → message_at ((word xid ++ word 1) ++ rest) ≡ (outcome_at rest >>= λ outcome.
+    Ok (Reply (record { xid = xid; outcome = outcome })))
 unfolding reply_at
 reply_goes_on xid rest fits =
     ap message_at (append_assoc (word xid) (word 1) rest) ∙ xid_goes_on xid (word 1 ++ rest) fits ∙ word_goes_on fault_of 1 rest (kind_at xid) (omega arith)
 
 -- what follows the numbers of a call
-auths_go_on : (m : CallMessage) (rest : List ℕ) → IsCall m → message_at (numbers m ++ rest) ≡ auths_at m.head.xid m.rpcvers m.head.prog m.head.vers m.head.procedure rest
+auths_go_on : (m : CallMessage) (rest : List ℕ) → IsCall m → message_at (numbers m ++ rest) ≡ auths_at m.head.xid m.rpcvers m.head.prog m.head.vers
+    m.head.procedure rest
 unfolding numbers call_at
 auths_go_on m rest fits =
     let a = word m.rpcvers in
@@ -182,14 +189,23 @@ auths_go_on m rest fits =
     let d = word m.head.procedure in
     ap message_at (sym (regrouped (word m.head.xid) (word 0) a b c d rest) ∙ ap (λ (x : List ℕ). (word m.head.xid ++ word 0) ++ x) (simp append_assoc))
     ∙ call_goes_on m.head.xid (a ++ (b ++ (c ++ (d ++ rest)))) fits.xid
-    ∙ rw (word_again m.rpcvers (b ++ (c ++ (d ++ rest))) fits.rpcvers, word_again m.head.prog (c ++ (d ++ rest)) fits.prog, word_again m.head.vers (d ++ rest) fits.vers, word_again m.head.procedure rest fits.procedure) refl
+    ∙ rw (
+      word_again m.rpcvers (b ++ (c ++ (d ++ rest))) fits.rpcvers,
+      word_again m.head.prog (c ++ (d ++ rest)) fits.prog,
+      word_again m.head.vers
+          (d ++ rest) fits.vers,
+      word_again m.head.procedure rest fits.procedure,
+    ) refl
 
 credential_goes_on : (m : CallMessage) (credential : Auth) (rest : List ℕ) → IsCall m → IsAuth credential
-    → message_at ((numbers m ++ auth credential) ++ rest) ≡ (behind_auth rest >>= λ arguments. Ok (Call (call_of m.head.xid m.rpcvers m.head.prog m.head.vers m.head.procedure arguments)))
+    → message_at ((numbers m ++ auth credential) ++ rest) ≡ (behind_auth rest >>= λ arguments.
+    Ok (Call (call_of m.head.xid m.rpcvers m.head.prog m.head.vers m.head.procedure arguments)))
 credential_goes_on m credential rest fits credential-fits =
-    ap message_at (append_assoc (numbers m) (auth credential) rest) ∙ auths_go_on m (auth credential ++ rest) fits ∙ rw (auth_again credential rest credential-fits) refl
+    ap message_at (append_assoc (numbers m) (auth credential) rest) ∙ auths_go_on m (auth credential ++ rest) fits
+    ∙ rw (auth_again credential rest credential-fits) refl
 
-pub message_again : (message : Message) (credential verifier : Auth) → IsMessage message → IsAuth credential → IsAuth verifier → message_at (spelling message credential verifier) ≡ Ok message
+pub message_again : (message : Message) (credential verifier : Auth) → IsMessage message → IsAuth credential → IsAuth verifier
+    → message_at (spelling message credential verifier) ≡ Ok message
 unfolding spelling
 message_again (Call m) credential verifier fits credential-fits verifier-fits =
     ap message_at (append_assoc (numbers m ++ auth credential) (auth verifier) m.arguments)
@@ -199,13 +215,15 @@ message_again (Reply r) credential verifier fits credential-fits verifier-fits =
 
 -- ---- and a fault is the one of its place
 
-message_ends : (place : Place) (rest : List ℕ) (e : RpcFault) → IsPlace place → IsBytes (front place ++ rest) → IsItemFault (next place) rest e → message_at (front place ++ rest) ≡ Err e
+message_ends : (place : Place) (rest : List ℕ) (e : RpcFault) → IsPlace place → IsBytes (front place ++ rest) → IsItemFault (next place) rest e
+    → message_at (front place ++ rest) ≡ Err e
 unfolding front message_at call_at
 message_ends Xid rest e fits whole-fits h =
     let f = numbers_fault 1 rest e h in
     word_ends fault_of rest (λ xid. item (word_at xid.1) >>= λ kind. kind_at xid.0 kind) (omega (arith, f.1)) ∙ ap (λ (x : RpcFault). Err x) (sym f.0)
 message_ends (MessageType xid) rest e fits whole-fits h =
-    xid_goes_on xid rest fits ∙ choice_ends 1 rest e (kind_at xid) (λ n r above. not_chosen n 0 _ _ (λ e. omega arith) ∙ not_chosen n 1 _ _ (λ e. omega arith)) h
+    xid_goes_on xid rest fits ∙ choice_ends 1 rest e (kind_at xid) (λ n r above. not_chosen n 0 _ _ (λ e. omega arith) ∙ not_chosen n 1 _ _
+    (λ e. omega arith)) h
 message_ends (CallNumbers xid) rest e fits whole-fits h =
     let f = numbers_fault 4 rest e h in
     let rest-fits : IsBytes rest = IsBytes-behind (word xid ++ word 0) rest whole-fits in
@@ -230,7 +248,8 @@ message_ends (CallNumbers xid) rest e fits whole-fits h =
 message_ends (Credential m) rest e fits whole-fits h = auths_go_on m rest fits ∙ rw (auth_ends rest e h) refl
 message_ends (Verifier m credential) rest e fits whole-fits h = credential_goes_on m credential rest fits.0 fits.1 ∙ rw (auth_ends rest e h) refl
 message_ends (InReply xid place) rest e fits whole-fits h =
-    let parts : ((word xid ++ word 1) ++ reply_front place) ++ rest ≡ (word xid ++ word 1) ++ (reply_front place ++ rest) = append_assoc (word xid ++ word 1) (reply_front place) rest in
+    let parts : ((word xid ++ word 1) ++ reply_front place) ++ rest ≡ (word xid ++ word 1) ++ (reply_front place ++ rest) =
+    append_assoc (word xid ++ word 1) (reply_front place) rest in
     let reply-fits : IsBytes (reply_front place ++ rest) = IsBytes-behind (word xid ++ word 1) (reply_front place ++ rest) (subst IsBytes parts whole-fits) in
     ap message_at parts ∙ reply_goes_on xid (reply_front place ++ rest) fits.0
     ∙ rw (outcome_only (reply_front place ++ rest) (Err e) reply-fits (place, (rest, (fits.1, refl, h)))) refl

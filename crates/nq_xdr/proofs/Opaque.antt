@@ -1,8 +1,10 @@
 -- Booleans and opaque data: what is spelled so is read, and what is read is spelled so.
-use Rattle.std.proofs.Common.{◌≡◌, ◌-◌, ℕ, zero, suc, ◌+◌, ◌^◌, ◌<◌, ◌≤◌, ltb, ◌==◌, cond, Bool, true, false, List, [], ◌∷◌, ◌++◌, length, get_or, take, drop, replicate, Result, Ok, Err, refl, sym, ap, subst, ◌∙◌, append_assoc, arith, inl, inr}
+use Rattle.std.proofs.Common.{◌≡◌, ◌-◌, ℕ, zero, suc, ◌+◌, ◌^◌, ◌<◌, ◌≤◌, ltb, ◌==◌, cond, Bool, true, false, List, [], ◌∷◌, ◌++◌, length, get_or}
+use Rattle.std.proofs.Common.{take, drop, replicate, Result, Ok, Err, refl, sym, ap, subst, ◌∙◌, append_assoc, arith, inl, inr}
 use Rattle.std.specs.List.{list_all}
 use Rattle.std.proofs.lemmas.Bool.{cases_lt, lt-ltb, le-ltb, ne_eqb, and_left, both_ways, cond_both}
-use Rattle.std.proofs.lemmas.List.{take_at, drop_at, take-append-drop, length-append, length-take-le, length-drop, length-replicate, take-replicate, get_or-take, get_or-drop}
+use Rattle.std.proofs.lemmas.List.{take_at, drop_at, take-append-drop, length-append, length-take-le, length-drop, length-replicate, take-replicate}
+use Rattle.std.proofs.lemmas.List.{get_or-take, get_or-drop}
 use Rattle.nq_xdr.specs.declared.fault.XdrFault.{XdrFault}
 use Rattle.nq_xdr.specs.declared.fault.XdrFault.TheVariants as fault
 use Rattle.nq_xdr.specs.Item.{word, truth, boolean, residual, padding, opaque, opaque_len}
@@ -57,7 +59,8 @@ boolean_says bytes fits =
           ]
     ]
 
-pub boolean_only : (bytes : List ℕ) (read : Result (Bool × List ℕ) XdrFault) → Says boolean (λ _. Unit {0}) (IsBooleanFault bytes) bytes read → boolean_at bytes ≡ read
+pub boolean_only : (bytes : List ℕ) (read : Result (Bool × List ℕ) XdrFault) → Says boolean (λ _. Unit {0}) (IsBooleanFault bytes) bytes read
+    → boolean_at bytes ≡ read
 boolean_only bytes (Ok x) says = ap boolean_at says.1 ∙ boolean_again x.0 x.1
 boolean_only bytes (Err fault.Short) says = boolean_at-short bytes says
 boolean_only bytes (Err fault.Bool) says = ap boolean_at says.1.1.1 ∙ boolean_at-above says.0 says.1.0 says.1.1.0 says.1.1.2
@@ -85,7 +88,13 @@ length-padding n = length-replicate (residual n) 0
 pub length-opaque : (body : List ℕ) → length (opaque body) ≡ opaque_len (length body)
 unfolding opaque
 length-opaque body =
-    omega (arith, length-append (word (length body)) (body ++ padding (length body)), length-append body (padding (length body)), length-word (length body), length-padding (length body))
+    omega (
+      arith,
+      length-append (word (length body)) (body ++ padding (length body)),
+      length-append body (padding (length body)),
+      length-word (length body),
+      length-padding (length body),
+    )
 
 above_zero : (b : ℕ) (bytes : List ℕ) → list_all (λ x. x == 0) (suc b ∷ bytes) ≡ false
 above_zero b bytes = and_left (suc b == 0) _ (ne_eqb (suc b) 0 (λ e. omega arith))
@@ -174,7 +183,8 @@ bad_pad n rest le e =
     let w = not_zero (take (residual n) (drop n rest)) e in
     let len : length (take (residual n) (drop n rest)) ≡ residual n = length-take-le (residual n) (drop n rest) (omega (arith, length-drop n rest)) in
     let lt : w.0 < residual n = omega (arith, w.1.0) in
-    let at : get_or (take (residual n) (drop n rest)) w.0 0 ≡ get_or rest (n + w.0) 0 = get_or-take (residual n) (drop n rest) w.0 0 lt ∙ get_or-drop n rest w.0 0 in
+    let at : get_or (take (residual n) (drop n rest)) w.0 0 ≡ get_or rest (n + w.0) 0 = get_or-take (residual n) (drop n rest) w.0 0 lt
+    ∙ get_or-drop n rest w.0 0 in
     (n + w.0, (omega arith, omega arith, omega (arith, w.1.1)))
 
 bad_pad-seen : (n : ℕ) (rest : List ℕ) (k : ℕ) → n + residual n ≤ length rest → n ≤ k → k < n + residual n → 0 < get_or rest k 0
@@ -187,7 +197,8 @@ bad_pad-seen n rest k le from to above =
     get_or-take (residual n) (drop n rest) (k - n) 0 lt ∙ get_or-drop n rest (k - n) 0 ∙ ap (λ (i : ℕ). get_or rest i 0) place in
     not_all_zero (take (residual n) (drop n rest)) (k - n) (omega arith) (omega arith)
 
-pub opaque_at-bad_pad : (max n : ℕ) (rest : List ℕ) (k : ℕ) → n < 2 ^ 32 → n ≤ max → n + residual n ≤ length rest → n ≤ k → k < n + residual n → 0 < get_or rest k 0
+pub opaque_at-bad_pad : (max n : ℕ) (rest : List ℕ) (k : ℕ) → n < 2 ^ 32 → n ≤ max → n + residual n ≤ length rest → n ≤ k → k < n + residual n
+    → 0 < get_or rest k 0
     → opaque_at max (word n ++ rest) ≡ Err fault.Pad
 opaque_at-bad_pad max n rest k fits le long from to above =
     opaque_at-word max n rest fits ∙ rw (le-ltb max n le) (body_at-long n rest long ∙ rw (bad_pad-seen n rest k long from to above) refl)
@@ -220,7 +231,8 @@ body_says max n rest fits le =
     elim (cases_lt (length rest) (n + residual n)) [
       | inl lt ↦ subst P (sym (opaque_at-ends max n rest fits le lt)) (inr (n, (rest, (fits, refl, (le, lt)))))
       | inr long ↦
-          let read : opaque_at max (word n ++ rest) ≡ cond (list_all (λ b. b == 0) (take (residual n) (drop n rest))) (Ok (take n rest, drop (residual n) (drop n rest))) (Err fault.Pad) =
+          let read : opaque_at max (word n ++ rest) ≡ cond (list_all (λ b. b == 0) (take (residual n) (drop n rest)))
+          (Ok (take n rest, drop (residual n) (drop n rest))) (Err fault.Pad) =
           opaque_at-word max n rest fits ∙ rw (le-ltb max n le) (body_at-long n rest long) in
           subst P (sym read)
           (cond_both (list_all (λ b. b == 0) (take (residual n) (drop n rest))) (Ok (take n rest, drop (residual n) (drop n rest))) (Err fault.Pad) P
@@ -237,12 +249,14 @@ opaque_says max bytes fits =
           let w = word_there bytes fits le in
           let Q : List ℕ → Type 0 = λ x. OpaqueSays max x (opaque_at max x) in
           elim (cases_lt max w.0) [
-            | inl above ↦ subst P (sym (ap (opaque_at max) w.1.1 ∙ opaque_at-too_long max w.0 (drop 4 bytes) w.1.0 above)) (w.0, (drop 4 bytes, (w.1.0, w.1.1, above)))
+            | inl above ↦ subst P (sym (ap (opaque_at max) w.1.1 ∙ opaque_at-too_long max w.0 (drop 4 bytes) w.1.0 above))
+                (w.0, (drop 4 bytes, (w.1.0, w.1.1, above)))
             | inr below ↦ subst Q (sym w.1.1) (body_says max w.0 (drop 4 bytes) w.1.0 below)
           ]
     ]
 
-pub opaque_only : (max : ℕ) (bytes : List ℕ) (read : Result (List ℕ × List ℕ) XdrFault) → max < 2 ^ 32 → Says opaque (λ body. length body ≤ max) (IsOpaqueFault max bytes) bytes read → opaque_at max bytes ≡ read
+pub opaque_only : (max : ℕ) (bytes : List ℕ) (read : Result (List ℕ × List ℕ) XdrFault) → max < 2 ^ 32 → Says opaque (λ body. length body ≤ max)
+    (IsOpaqueFault max bytes) bytes read → opaque_at max bytes ≡ read
 opaque_only max bytes (Ok x) fits says = ap (opaque_at max) says.1 ∙ opaque_again max x.0 x.1 (omega (arith, says.0)) says.0
 opaque_only max bytes (Err fault.Short) fits (inl lt) = opaque_at-short max bytes lt
 opaque_only max bytes (Err fault.Short) fits (inr w) = ap (opaque_at max) w.1.1.1 ∙ opaque_at-ends max w.0 w.1.0 w.1.1.0 w.1.1.2.0 w.1.1.2.1
@@ -256,10 +270,12 @@ opaque_only max bytes (Err fault.Trailing) fits says = absurd says
 -- no opaque data begins another
 pub opaque_apart : (a b r s : List ℕ) → length a < 2 ^ 32 → length b < 2 ^ 32 → opaque a ++ r ≡ opaque b ++ s → (a ≡ b) × (r ≡ s)
 opaque_apart a b r s a-fits b-fits e =
-    apart (opaque_at (2 ^ 32)) (a, r) (b, s) (opaque a ++ r) (opaque b ++ s) e (opaque_again (2 ^ 32) a r a-fits (omega arith)) (opaque_again (2 ^ 32) b s b-fits (omega arith))
+    apart (opaque_at (2 ^ 32)) (a, r) (b, s) (opaque a ++ r) (opaque b ++ s) e (opaque_again (2 ^ 32) a r a-fits (omega arith))
+    (opaque_again (2 ^ 32) b s b-fits (omega arith))
 
 -- a length, a body and residual zeros, written one behind the other, are opaque data
-pub opaque_written : (old counted filled all body pad : List ℕ) → counted ≡ old ++ word (length body) → filled ≡ counted ++ body → all ≡ filled ++ pad → pad ≡ take (residual (length body)) (replicate 3 0)
+pub opaque_written : (old counted filled all body pad : List ℕ) → counted ≡ old ++ word (length body) → filled ≡ counted ++ body → all ≡ filled ++ pad
+    → pad ≡ take (residual (length body)) (replicate 3 0)
     → all ≡ old ++ opaque body
 unfolding opaque padding
 opaque_written old counted filled all body pad e1 e2 e3 e4 =

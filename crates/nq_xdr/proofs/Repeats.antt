@@ -1,5 +1,6 @@
 -- Words that are written many times.
-use Rattle.std.proofs.Common.{◌≡◌, ℕ, ◌+◌, ◌-◌, ◌*◌, ◌/◌, ◌%◌, ◌≤◌, List, [], ◌∷◌, ◌++◌, length, take, drop, get_or, replicate, slice_set, zero, suc, refl, ap, sym, ◌∙◌, arith}
+use Rattle.std.proofs.Common.{◌≡◌, ℕ, ◌+◌, ◌-◌, ◌*◌, ◌/◌, ◌%◌, ◌≤◌, List, [], ◌∷◌, ◌++◌, length, take, drop, get_or, replicate, slice_set, zero, suc}
+use Rattle.std.proofs.Common.{refl, ap, sym, ◌∙◌, arith}
 use Rattle.std.proofs.lemmas.List.{take_all, take_at, append_assoc, length-append, length-take-le, append-nil}
 use Rattle.std.specs.List.{copy_within}
 use Rattle.nq_xdr.specs.Item.{word, residual, padding, opaque}
@@ -39,7 +40,8 @@ pub many-all : (bytes word : List ℕ) → length bytes ≡ 256 → take 256 byt
 unfolding many
 many-all bytes word long all = sym (take_all 256 bytes (omega arith)) ∙ all
 
-first_in : (n a b c d : ℕ) → take 4 (slice_set (slice_set (slice_set (slice_set (replicate (suc (suc (suc (suc n)))) 0) 0 a) 1 b) 2 c) 3 d) ≡ a ∷ b ∷ c ∷ d ∷ []
+first_in : (n a b c d : ℕ) → take 4 (slice_set (slice_set (slice_set (slice_set (replicate (suc (suc (suc (suc n)))) 0) 0 a) 1 b) 2 c) 3 d) ≡ a ∷ b
+    ∷ c ∷ d ∷ []
 first_in n a b c d = refl
 
 four_bytes : (word : List ℕ) → length word ≡ 4 → get_or word 0 0 ∷ get_or word 1 0 ∷ get_or word 2 0 ∷ get_or word 3 0 ∷ [] ≡ word
@@ -51,7 +53,8 @@ four_bytes (a ∷ b ∷ c ∷ d ∷ []) four = refl
 four_bytes (a ∷ b ∷ c ∷ d ∷ e ∷ rest) four = absurd (omega (arith, four))
 
 pub first_word : (word : List ℕ) → length word ≡ 4
-    → take 4 (slice_set (slice_set (slice_set (slice_set (replicate 256 0) 0 (get_or word 0 0)) 1 (get_or word 1 0)) 2 (get_or word 2 0)) 3 (get_or word 3 0)) ≡ repeats 1 word
+    → take 4 (slice_set (slice_set (slice_set (slice_set (replicate 256 0) 0 (get_or word 0 0)) 1 (get_or word 1 0)) 2 (get_or word 2 0)) 3
+    (get_or word 3 0)) ≡ repeats 1 word
 first_word word four = first_in 252 _ _ _ _ ∙ four_bytes word four ∙ sym (append-nil word)
 
 pub more-words : (base : List ℕ) (done : ℕ) (word : List ℕ) → (base ++ repeats (64 * done) word) ++ many word ≡ base ++ repeats (64 * (done + 1)) word
@@ -70,7 +73,8 @@ all-words base times word four =
     ap (λ k. take (4 * (times % 64)) (repeats k word)) some ∙ repeats-take (times % 64) (64 - times % 64) word four in
     let split : times ≡ 64 * (times / 64) + times % 64 = omega arith in
     append_assoc base (repeats (64 * (times / 64)) word) (take (4 * (times % 64)) (repeats 64 word))
-    ∙ ap (λ words. base ++ words) (ap (λ rest. repeats (64 * (times / 64)) word ++ rest) first ∙ sym (ap (λ k. repeats k word) split ∙ repeats-add (64 * (times / 64)) (times % 64) word))
+    ∙ ap (λ words. base ++ words) (ap (λ rest. repeats (64 * (times / 64)) word ++ rest) first ∙ sym (ap (λ k. repeats k word) split
+    ∙ repeats-add (64 * (times / 64)) (times % 64) word))
 
 pub many-length : (word : List ℕ) → length word ≡ 4 → length (many word) ≡ 256
 unfolding many

@@ -12,7 +12,8 @@ use Rattle.nq_xdr.specs.declared.rpc.message.Outcome.{Outcome}
 use Rattle.nq_xdr.specs.declared.rpc.message.Outcome.TheVariants.{Success, ProgUnavail, ProgMismatch, ProcUnavail, GarbageArgs, RpcMismatch, AuthError}
 use Rattle.nq_xdr.specs.Message.{Auth, IsAuth, auth, null, outcome, IsOutcome, IsError}
 use Rattle.nq_xdr.specs.RpcReading.{item, fault_of, ended, bounds_at, accepted_as, accepted_at, denied_as, denied_at, outcome_at}
-use Rattle.nq_xdr.specs.RpcFault.{Numbers, IsItemFault, ReplyPlace, ReplyStat, ReplyVerifier, AcceptStat, ProgramVersions, RejectStat, RpcVersions, AuthStat, EndOfReply, reply_front, reply_next, IsReplyPlace, IsReplyFault}
+use Rattle.nq_xdr.specs.RpcFault.{Numbers, IsItemFault, ReplyPlace, ReplyStat, ReplyVerifier, AcceptStat, ProgramVersions, RejectStat, RpcVersions}
+use Rattle.nq_xdr.specs.RpcFault.{AuthStat, EndOfReply, reply_front, reply_next, IsReplyPlace, IsReplyFault}
 use Rattle.nq_xdr.proofs.Auths.{chosen, not_chosen, numbers_fault, end_fault, choice_ends, auth_again, auth_ends, auth_step}
 
 -- ---- two numbers
@@ -52,7 +53,8 @@ abbrev pub ReplySays : List ℕ → Result Outcome RpcFault → Type 0
 ReplySays bytes (Ok o) = (verifier : Auth) × (IsAuth verifier × IsOutcome o × (bytes ≡ outcome o verifier))
 ReplySays bytes (Err e) = IsReplyFault bytes e
 
-ended_says : (bytes rest : List ℕ) (o : Outcome) (verifier : Auth) → IsError o → IsOutcome o → IsAuth verifier → bytes ≡ outcome o verifier ++ rest → ReplySays bytes (ended o rest)
+ended_says : (bytes rest : List ℕ) (o : Outcome) (verifier : Auth) → IsError o → IsOutcome o → IsAuth verifier → bytes ≡ outcome o verifier ++ rest
+    → ReplySays bytes (ended o rest)
 unfolding ended reply_front
 ended_says bytes rest o verifier error fits verifier-fits e =
     chosen (length rest) 0 (Ok o) (Err Xdr) (ReplySays bytes)
@@ -65,7 +67,8 @@ joined bytes before rest n k same e =
     e ∙ ap (λ (m : ℕ). before ++ (word m ++ rest)) same ∙ sym (append_assoc before (word k) rest)
 
 -- the same of two numbers
-joined_bounds : (bytes before rest bounds : List ℕ) (low high : ℕ) → bytes ≡ before ++ bounds → bounds ≡ (word low ++ word high) ++ rest → bytes ≡ ((before ++ word low) ++ word high) ++ rest
+joined_bounds : (bytes before rest bounds : List ℕ) (low high : ℕ) → bytes ≡ before ++ bounds → bounds ≡ (word low ++ word high) ++ rest
+    → bytes ≡ ((before ++ word low) ++ word high) ++ rest
 joined_bounds bytes before rest bounds low high e e' =
     e ∙ ap (λ (x : List ℕ). before ++ x) e' ∙ simp append_assoc
 
@@ -75,7 +78,8 @@ bounds_apart before low high rest = simp append_assoc
 abbrev accepted_front : Auth → List ℕ
 accepted_front verifier = word 0 ++ auth verifier
 
-accepted_as_says : (bytes rest : List ℕ) (stat : ℕ) (verifier : Auth) → IsAuth verifier → stat < 2 ^ 32 → bytes ≡ accepted_front verifier ++ (word stat ++ rest) → IsBytes rest
+accepted_as_says : (bytes rest : List ℕ) (stat : ℕ) (verifier : Auth) → IsAuth verifier → stat < 2 ^ 32 → bytes ≡ accepted_front verifier
+    ++ (word stat ++ rest) → IsBytes rest
     → ReplySays bytes (accepted_as stat rest)
 unfolding accepted_as reply_front outcome
 accepted_as_says bytes rest stat verifier fits stat-fits e rest-fits =
@@ -107,7 +111,8 @@ accepted_says bytes rest e fits =
     (λ stat left stat-fits e'' left-fits.
     accepted_as_says bytes left stat verifier verifier-fits stat-fits (whole ∙ ap (λ (x : List ℕ). accepted_front verifier ++ x) e'') left-fits))
 
-denied_as_says : (bytes rest : List ℕ) (stat : ℕ) → stat < 2 ^ 32 → bytes ≡ word 1 ++ (word stat ++ rest) → IsBytes rest → ReplySays bytes (denied_as stat rest)
+denied_as_says : (bytes rest : List ℕ) (stat : ℕ) → stat < 2 ^ 32 → bytes ≡ word 1 ++ (word stat ++ rest) → IsBytes rest
+    → ReplySays bytes (denied_as stat rest)
 unfolding denied_as reply_front outcome
 denied_as_says bytes rest stat stat-fits e rest-fits =
     let P : Result Outcome RpcFault → Type 0 = ReplySays bytes in
@@ -118,7 +123,8 @@ denied_as_says bytes rest stat stat-fits e rest-fits =
     bounds_step rest (λ bounds. ended (RpcMismatch bounds.0 bounds.1) bounds.2) P rest-fits
     (λ lt. (RpcVersions, (rest, (tt, whole, lt))))
     (λ low high behind low-fits high-fits e' behind-fits.
-    ended_says bytes behind (RpcMismatch low high) null tt (low-fits, high-fits) null-fits (joined_bounds bytes (word 1 ++ word 0) behind rest low high whole e')))
+    ended_says bytes behind (RpcMismatch low high) null tt (low-fits, high-fits) null-fits (joined_bounds bytes (word 1 ++ word 0) behind rest low
+    high whole e')))
     (λ not_0. chosen stat 1 _ _ P
     (λ same.
     let whole = joined bytes (word 1) rest stat 1 same e in
@@ -161,12 +167,14 @@ unfolding outcome_at
 outcome_denied rest = rw (word_again 1 rest (omega arith)) refl
 
 -- what follows the verifier
-accepted_goes_on : (verifier : Auth) (rest : List ℕ) → IsAuth verifier → outcome_at (accepted_front verifier ++ rest) ≡ (item (word_at rest) >>= λ stat. accepted_as stat.0 stat.1)
+accepted_goes_on : (verifier : Auth) (rest : List ℕ) → IsAuth verifier → outcome_at (accepted_front verifier ++ rest)
+    ≡ (item (word_at rest) >>= λ stat. accepted_as stat.0 stat.1)
 unfolding accepted_at
 accepted_goes_on verifier rest fits =
     ap outcome_at (append_assoc (word 0) (auth verifier) rest) ∙ outcome_accepted (auth verifier ++ rest) ∙ rw (auth_again verifier rest fits) refl
 
-stat_goes_on : (verifier : Auth) (stat : ℕ) (rest : List ℕ) → IsAuth verifier → stat < 2 ^ 32 → outcome_at ((accepted_front verifier ++ word stat) ++ rest) ≡ accepted_as stat rest
+stat_goes_on : (verifier : Auth) (stat : ℕ) (rest : List ℕ) → IsAuth verifier → stat < 2 ^ 32 → outcome_at ((accepted_front verifier ++ word stat)
+    ++ rest) ≡ accepted_as stat rest
 stat_goes_on verifier stat rest fits stat-fits =
     ap outcome_at (append_assoc (accepted_front verifier) (word stat) rest) ∙ accepted_goes_on verifier (word stat ++ rest) fits
     ∙ word_goes_on fault_of stat rest (λ stat. accepted_as stat.0 stat.1) stat-fits
@@ -177,7 +185,8 @@ denied_goes_on stat rest fits =
     ap outcome_at (append_assoc (word 1) (word stat) rest) ∙ outcome_denied (word stat ++ rest) ∙ rw (word_again stat rest fits) refl
 
 -- an error reply, and what may follow it
-pub error_goes_on : (o : Outcome) (verifier : Auth) (rest : List ℕ) → IsError o → IsOutcome o → IsAuth verifier → outcome_at (outcome o verifier ++ rest) ≡ ended o rest
+pub error_goes_on : (o : Outcome) (verifier : Auth) (rest : List ℕ) → IsError o → IsOutcome o → IsAuth verifier
+    → outcome_at (outcome o verifier ++ rest) ≡ ended o rest
 unfolding outcome accepted_as denied_as
 error_goes_on (Success results) verifier rest error fits verifier-fits = absurd error
 error_goes_on ProgUnavail verifier rest error fits verifier-fits = stat_goes_on verifier 1 rest verifier-fits (omega arith)
@@ -220,10 +229,12 @@ outcome_again (AuthError reason) verifier fits verifier-fits = error_again (Auth
 -- ---- and a fault is the one of its place
 
 -- numbers with a fault give it
-numbers_end : (count : ℕ) (rest : List ℕ) (e : RpcFault) (read : Result Outcome RpcFault) → (length rest < 4 * count → read ≡ Err Short) → IsItemFault (Numbers count) rest e → read ≡ Err e
+numbers_end : (count : ℕ) (rest : List ℕ) (e : RpcFault) (read : Result Outcome RpcFault) → (length rest < 4 * count → read ≡ Err Short)
+    → IsItemFault (Numbers count) rest e → read ≡ Err e
 numbers_end count rest e read short h = let f = numbers_fault count rest e h in short f.1 ∙ ap (λ (x : RpcFault). Err x) (sym f.0)
 
-outcome_ends : (place : ReplyPlace) (rest : List ℕ) (e : RpcFault) → IsReplyPlace place → IsBytes rest → IsItemFault (reply_next place) rest e → outcome_at (reply_front place ++ rest) ≡ Err e
+outcome_ends : (place : ReplyPlace) (rest : List ℕ) (e : RpcFault) → IsReplyPlace place → IsBytes rest → IsItemFault (reply_next place) rest e
+    → outcome_at (reply_front place ++ rest) ≡ Err e
 unfolding reply_front outcome_at accepted_at denied_at accepted_as denied_as ended
 outcome_ends ReplyStat rest e fits rest-fits h =
     choice_ends 1 rest e (λ stat. cond (eqb stat.0 0) (accepted_at stat.1) (cond (eqb stat.0 1) (denied_at stat.1) (Err BadKind)))
@@ -248,7 +259,8 @@ outcome_ends AuthStat rest e fits rest-fits h =
     (λ lt. denied_goes_on 1 rest (omega arith) ∙ word_ends fault_of rest (λ reason. ended (AuthError reason.0) reason.1) (omega arith)) h
 outcome_ends (EndOfReply o verifier) rest e fits rest-fits h =
     let f = end_fault rest e h in
-    error_goes_on o verifier rest fits.0 fits.1 fits.2 ∙ not_chosen (length rest) 0 (Ok o) (Err Xdr) (λ e. omega (arith, f.1)) ∙ ap (λ (x : RpcFault). Err x) (sym f.0)
+    error_goes_on o verifier rest fits.0 fits.1 fits.2 ∙ not_chosen (length rest) 0 (Ok o) (Err Xdr) (λ e. omega (arith, f.1))
+    ∙ ap (λ (x : RpcFault). Err x) (sym f.0)
 
 pub outcome_only : (bytes : List ℕ) (read : Result Outcome RpcFault) → IsBytes bytes → ReplySays bytes read → outcome_at bytes ≡ read
 outcome_only bytes (Ok o) fits says = ap outcome_at says.1.2 ∙ outcome_again o says.0 says.1.1 says.1.0

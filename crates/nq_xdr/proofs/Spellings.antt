@@ -75,7 +75,8 @@ more_behind r verifier b rest xid-fits error fits verifier-fits =
 no_read : (m : Message) (e : RpcFault) (read : Result Message RpcFault) → read ≡ Ok m → read ≡ Err e → ⊥
 no_read m e read is is' = cc
 
-pub error_ends : (r : ReplyMessage) (m : Message) (bytes rest : List ℕ) → IsError r.outcome → IsSpelled (Reply r) bytes → IsSpelled m (bytes ++ rest) → rest ≡ []
+pub error_ends : (r : ReplyMessage) (m : Message) (bytes rest : List ℕ) → IsError r.outcome → IsSpelled (Reply r) bytes → IsSpelled m (bytes ++ rest)
+    → rest ≡ []
 unfolding spelling
 error_ends r m bytes [] error says says' = refl
 error_ends r m bytes (b ∷ rest) error says says' =
@@ -89,7 +90,8 @@ unfolding spelling numbers
 calls_go_on m credential verifier rest = append_assoc (numbers m ++ auth credential ++ auth verifier) m.arguments rest
 
 pub replies_go_on : (xid : ℕ) (results : List ℕ) (credential verifier : Auth) (rest : List ℕ)
-    → spelling (Reply (record { xid = xid; outcome = Success results })) credential verifier ++ rest ≡ spelling (Reply (record { xid = xid; outcome = Success (results ++ rest) })) credential verifier
+    → spelling (Reply (record { xid = xid; outcome = Success results })) credential verifier ++ rest
+    ≡ spelling (Reply (record { xid = xid; outcome = Success (results ++ rest) })) credential verifier
 unfolding spelling outcome
 replies_go_on xid results credential verifier rest =
     append_assoc (word xid ++ word 1) (word 0 ++ auth verifier ++ word 0 ++ results) rest

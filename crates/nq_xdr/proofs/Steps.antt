@@ -1,12 +1,7 @@
 -- Steps of reading that may fail.
-use Rattle.std.proofs.Common.{◌≡◌, ℕ, List, ◌++◌, Result, Ok, Err, refl, sym, ap, subst, ◌∙◌}
-use Rattle.std.specs.Prelude.{IfOk, IfErr, IsOkAnd}
-use Rattle.nq_xdr.specs.Reading.{◌>>=◌, Gives}
-
--- the value of a step that did not fail
-pub bind_ok : {A B F : Type 0} (r : Result A F) (f : A → Result B F) (y : B) → (r >>= f) ≡ Ok y → (x : A) × ((r ≡ Ok x) × (f x ≡ Ok y))
-bind_ok (Ok x) f y e = (x, (refl, e))
-bind_ok (Err d) f y e = absurd cc
+use Rattle.std.proofs.Common.{◌≡◌, ℕ, List, ◌++◌, Result, Ok, Err, sym, ap, subst, ◌∙◌}
+use Rattle.std.specs.Prelude.{IfOk, IfErr}
+use Rattle.nq_xdr.specs.Reading.{Gives}
 
 -- What bytes say where an item is read: the value that they spell, with the bytes behind it, or a fault.
 abbrev pub Says : {A F : Type 0} → (A → List ℕ) → (A → Type 0) → (F → Type 0) → List ℕ → Result (A × List ℕ) F → Type 0
@@ -14,27 +9,20 @@ Says spelling Fits IsFault bytes (Ok x) = Fits x.0 × (bytes ≡ spelling x.0 ++
 Says spelling Fits IsFault bytes (Err e) = IsFault e
 
 -- a value that was given is spelled so
-pub says_found : {X A F : Type 0} (spelling : A → List ℕ) (Fits : A → Type 0) (IsFault : F → Type 0) (bytes : List ℕ) (view : X → A × List ℕ) (r : Result X F) (read : Result (A × List ℕ) F)
+pub says_found : {X A F : Type 0} (spelling : A → List ℕ) (Fits : A → Type 0) (IsFault : F → Type 0) (bytes : List ℕ) (view : X → A × List ℕ)
+    (r : Result X F) (read : Result (A × List ℕ) F)
     → Says spelling Fits IsFault bytes read → Gives view r read → IfOk r (λ x. Fits (view x).0 × (bytes ≡ spelling (view x).0 ++ (view x).1))
 says_found {A = A} {F = F} spelling Fits IsFault bytes view (Ok x) read says given =
     let P : Result (A × List ℕ) F → Type 0 = Says spelling Fits IsFault bytes in subst P given says
 says_found spelling Fits IsFault bytes view (Err e) read says given = tt
 
 -- a fault that was given is one
-pub says_fault : {X A F : Type 0} (spelling : A → List ℕ) (Fits : A → Type 0) (IsFault : F → Type 0) (bytes : List ℕ) (view : X → A × List ℕ) (r : Result X F) (read : Result (A × List ℕ) F)
+pub says_fault : {X A F : Type 0} (spelling : A → List ℕ) (Fits : A → Type 0) (IsFault : F → Type 0) (bytes : List ℕ) (view : X → A × List ℕ)
+    (r : Result X F) (read : Result (A × List ℕ) F)
     → Says spelling Fits IsFault bytes read → Gives view r read → IfErr r IsFault
 says_fault spelling Fits IsFault bytes view (Ok x) read says given = tt
 says_fault {A = A} {F = F} spelling Fits IsFault bytes view (Err e) read says given =
     let P : Result (A × List ℕ) F → Type 0 = Says spelling Fits IsFault bytes in subst P given says
-
--- what is read is given
-pub gives_ok : {X Y F : Type 0} (view : X → Y) (r : Result X F) (y : Y) → Gives view r (Ok y) → IsOkAnd r (λ x. view x ≡ y)
-gives_ok view (Ok x) y given = cc
-gives_ok view (Err e) y given = absurd cc
-
-pub gives_err : {X Y F : Type 0} (view : X → Y) (r : Result X F) (e : F) → Gives view r (Err e) → r ≡ Err e
-gives_err view (Ok x) e given = absurd cc
-gives_err view (Err d) e given = cc
 
 abbrev err_of : {A F : Type 0} → F → Result A F
 err_of e = Err e
@@ -44,7 +32,8 @@ pub one_value : {A F : Type 0} (read : Result A F) (x y : A) → read ≡ Ok x �
 one_value read x y e f = cc
 
 -- so no spelling begins another
-pub apart : {A F : Type 0} (read : List ℕ → Result (A × List ℕ) F) (x y : A × List ℕ) (front back : List ℕ) → front ≡ back → read front ≡ Ok x → read back ≡ Ok y → (x.0 ≡ y.0) × (x.1 ≡ y.1)
+pub apart : {A F : Type 0} (read : List ℕ → Result (A × List ℕ) F) (x y : A × List ℕ) (front back : List ℕ) → front ≡ back → read front ≡ Ok x
+    → read back ≡ Ok y → (x.0 ≡ y.0) × (x.1 ≡ y.1)
 apart {A = A} read x y front back same e f =
     let all = one_value (read back) x y (ap read (sym same) ∙ e) f in
     (ap (λ (p : A × List ℕ). p.0) all, ap (λ (p : A × List ℕ). p.1) all)

@@ -1,6 +1,7 @@
 -- A file is bound while the row of its holder stands, lets him write, and began its chain no later than the tag that he
 -- holds. A tick of the server's clock keeps it bound, or ends it late enough; a crash keeps it bound.
-use Rattle.std.proofs.Common.{◌≡◌, ◌≢◌, ◌≤◌, ◌⊎◌, ℕ, ◌+◌, ◌==◌, ◌&&◌, Bool, true, false, not, List, [], ◌∷◌, Some, None, if◌then◌else◌, max, nat_le, refl, sym, subst, ap, ◌∙◌, arith, inl, inr, Option}
+use Rattle.std.proofs.Common.{◌≡◌, ◌≢◌, ◌≤◌, ◌⊎◌, ℕ, ◌+◌, ◌==◌, ◌&&◌, Bool, true, false, not, List, [], ◌∷◌, Some, None, if◌then◌else◌, max, nat_le}
+use Rattle.std.proofs.Common.{refl, sym, subst, ap, ◌∙◌, arith, inl, inr, Option}
 use Rattle.std.specs.List.{find}
 use Rattle.std.proofs.lemmas.Bool.{and_parts, and_from}
 use Rattle.nq_base.specs.declared.Entry.{Entry}

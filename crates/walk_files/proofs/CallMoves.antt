@@ -10,7 +10,8 @@ use Rattle.nq_base.specs.declared.Said.{Said}
 use Rattle.nq_base.specs.declared.Told.{Told}
 use Rattle.nq_base.specs.declared.Who.{Who}
 use Rattle.walk_files.proofs.CallsEntries.{IsOpenAsTold}
-use Rattle.walk_files.proofs.CallFacts.{CallsAt, IsBounded, NoneDone, IsPut, Pending, through_number, TicketFits, Requesting, calls-raised, called-below, answered-below, resized-below, asks-told, Bounds, bounds-more}
+use Rattle.walk_files.proofs.CallFacts.{CallsAt, IsBounded, NoneDone, IsPut, Pending, through_number, TicketFits, Requesting, calls-raised}
+use Rattle.walk_files.proofs.CallFacts.{called-below, answered-below, resized-below, asks-told, Bounds, bounds-more}
 use Rattle.walk_files.proofs.Quiet.{IsNoChange, IsQuiet, told-more, before-more, OpenFits, open-fits-more, ReadFits, read-fits-more}
 use Rattle.walk_steps.proofs.ClientMoves.{some-same, none-some}
 use Rattle.nq_model.specs.Client.{UnderWay, for_call, Ticket}

@@ -1,5 +1,6 @@
 -- What is known of all calls in a world, and that a client's step keeps it.
-use Rattle.std.proofs.Common.{◌≡◌, ◌≢◌, ◌<◌, ◌≤◌, ◌⊎◌, ℕ, true, List, [], ◌∷◌, ◌++◌, Some, None, is_some, map, length, refl, sym, subst, ap, ◌∙◌, arith, inl, inr}
+use Rattle.std.proofs.Common.{◌≡◌, ◌≢◌, ◌<◌, ◌≤◌, ◌⊎◌, ℕ, true, List, [], ◌∷◌, ◌++◌, Some, None, is_some, map, length, refl, sym, subst, ap, ◌∙◌}
+use Rattle.std.proofs.Common.{arith, inl, inr}
 use Rattle.std.specs.Prelude.{⊤, slice_get}
 use Rattle.std.proofs.lemmas.List.{length-append}
 use Rattle.nq_base.specs.declared.Entry.{Entry}
@@ -81,7 +82,8 @@ calls-of-more line Refused c (e ∷ entries) journal quiet h =
       asks = asks-quiet line Refused c.who c.number c.seq c.ticket [] e (entries ++ journal) q.0 k.asks;
     }
 
-pub foreign : (who : Who) (calls number : ℕ) (e : Entry) → ((w : Who) → entry_who e ≡ Some w → w.host ≢ who.host) → IsQuiet who e × IsBounded who calls number e
+pub foreign : (who : Who) (calls number : ℕ) (e : Entry) → ((w : Who) → entry_who e ≡ Some w → w.host ≢ who.host) → IsQuiet who e
+    × IsBounded who calls number e
 foreign who calls number e other = (
   foreign-quiet who e (λ w by same. other w by (ap (λ z. z.host) same)),
   record {

@@ -12,8 +12,11 @@ use Rattle.nq_base.specs.declared.Request.{Request}
 use Rattle.nq_base.specs.declared.Row.{Row}
 use Rattle.nq_base.specs.declared.Tag.{Tag}
 use Rattle.nq_base.specs.declared.Who.{Who}
-use Rattle.walk_files.proofs.ServerChains.{Continues, RowFrom, row_fresh, row_on, RowOn, goes_on, vacated, superseded, loosened, removed, reopened, LineTo, line_stays, line_begins, line_decides, Claims, FileMove, file_stays, file_written, file_changed, file_gone, NewGrant, NewReply, ChainEffect}
-use Rattle.walk_files.proofs.ChainFacts.{line_for, done_at, rev_at, HeldChains, GoesOnAs, InOrder, GrantFits, GivenChains, IsFenced, gone, ahead, earlier, IsBoundOrFenced, bound, fenced, WriteChains, VerdictFits, LineChains, ChainFits}
+use Rattle.walk_files.proofs.ServerChains.{Continues, RowFrom, row_fresh, row_on, RowOn, goes_on, vacated, superseded, loosened, removed, reopened}
+use Rattle.walk_files.proofs.ServerChains.{LineTo, line_stays, line_begins, line_decides, Claims, FileMove, file_stays, file_written, file_changed}
+use Rattle.walk_files.proofs.ServerChains.{file_gone, NewGrant, NewReply, ChainEffect}
+use Rattle.walk_files.proofs.ChainFacts.{line_for, done_at, rev_at, HeldChains, GoesOnAs, InOrder, GrantFits, GivenChains, IsFenced, gone, ahead}
+use Rattle.walk_files.proofs.ChainFacts.{earlier, IsBoundOrFenced, bound, fenced, WriteChains, VerdictFits, LineChains, ChainFits}
 use Rattle.nq_model.specs.Chained.{OwnRow, IsChained, has_done, has_done_write, due, KnowsFile}
 use Rattle.walk_steps.proofs.ClientFacts.{Alone}
 use Rattle.walk_steps.proofs.ClientMoves.{some-same, none-some}
@@ -465,7 +468,8 @@ module _ (ps : List Packet) (s : Server) (events : List Event) (t : ServerStep) 
       step (removed none) = fenced (gone none)
       step (reopened later) = fenced (earlier (booted (standing s).boot (standing s).drawn (b.knows.tagged.held file l e) b.boot later))
         where
-          booted : (boot drawn : ℕ) → IsDrawn boot drawn l.tag → boot ≡ s.kept.opened → s.kept.opened < t.server.kept.opened → l.tag.boot < t.server.kept.opened
+          booted : (boot drawn : ℕ) → IsDrawn boot drawn l.tag → boot ≡ s.kept.opened → s.kept.opened < t.server.kept.opened → l.tag.boot
+              < t.server.kept.opened
           booted boot drawn (inl below) same later = omega arith
           booted boot drawn (inr is) same later = let a = is.0 in omega arith
 

@@ -1,15 +1,18 @@
 -- Look-ups in a client's lists, backwards; and whether a request under way was done.
-use Rattle.std.proofs.Common.{◌≡◌, ◌≢◌, ◌<◌, ◌⊎◌, ℕ, Bool, true, false, ◌||◌, ◌&&◌, not, ◌==◌, List, [], ◌∷◌, ◌++◌, Option, Some, None, if◌then◌else◌, is_some, refl, sym, subst, ap, ◌∙◌, arith, inl, inr}
+use Rattle.std.proofs.Common.{◌≡◌, ◌≢◌, ◌<◌, ◌⊎◌, ℕ, Bool, true, false, ◌||◌, ◌&&◌, not, ◌==◌, List, [], ◌∷◌, ◌++◌, Option, Some, None, if◌then◌else◌}
+use Rattle.std.proofs.Common.{is_some, refl, sym, subst, ap, ◌∙◌, arith, inl, inr}
 use Rattle.std.specs.List.{filter, list_any}
 use Rattle.nq_base.specs.declared.HostRow.{HostRow}
 use Rattle.nq_base.specs.declared.Push.{Push}
 use Rattle.nq_base.specs.declared.Request.{Request}
 use Rattle.walk_files.proofs.ChainFacts.{rev_at}
 use Rattle.nq_model.specs.Chained.{is_done, has_done}
-use Rattle.nq_model.proofs.ClientLists.{marked-before, marked-tag, marked-mode, marked-expiry, lease-before-drop, other-lease-dropped, used-lease-found, marked-blocks, any-overwritten, put-revision-found, other-revision-put}
+use Rattle.nq_model.proofs.ClientLists.{marked-before, marked-tag, marked-mode, marked-expiry, lease-before-drop, other-lease-dropped}
+use Rattle.nq_model.proofs.ClientLists.{used-lease-found, marked-blocks, any-overwritten, put-revision-found, other-revision-put}
 use Rattle.walk_steps.proofs.ClientMoves.{some-same, none-some}
 use Rattle.walk_steps.proofs.ClientWrites.{has-writes, writes-in-list, writes-under-way}
-use Rattle.nq_model.specs.Client.{Lease, Revision, lease_on, drop_lease, used_lease, marked_used, is_push_of, is_push_at, first_dirty, push_passes, drop_dirty, other_dirty, revision_of, revision_or_zero, put_revision, is_clean_in}
+use Rattle.nq_model.specs.Client.{Lease, Revision, lease_on, drop_lease, used_lease, marked_used, is_push_of, is_push_at, first_dirty, push_passes}
+use Rattle.nq_model.specs.Client.{drop_dirty, other_dirty, revision_of, revision_or_zero, put_revision, is_clean_in}
 use Rattle.nq_model.specs.Hear.{other_push}
 use Rattle.nq_model.specs.Message.{sequence_of}
 use Rattle.nq_model.specs.Settle.{with_write}
@@ -210,7 +213,8 @@ all-four true true false d not_both = refl
 all-four true true true d not_both = absurd (not_both refl refl)
 
 -- a request of a sequence above the kept one was not done
-pub fresh-undone : (line : HostRow) (inc file n : ℕ) (r : Request) → sequence_of r ≡ Some n → (line.inc ≡ inc → line.seq < n) → has_done line inc file r ≡ false
+pub fresh-undone : (line : HostRow) (inc file n : ℕ) (r : Request) → sequence_of r ≡ Some n → (line.inc ≡ inc → line.seq < n) → has_done line inc file
+    r ≡ false
 fresh-undone line inc file n (Request.Write w seq f block first last push body) s later =
     all-four (f == file) (line.inc == inc) (line.seq == seq) (is_done line.verdict)
     (λ a b. let below = later (same-number line.inc inc a) in let same : line.seq ≡ seq = same-number line.seq seq b in

@@ -1,5 +1,6 @@
 -- What is known of chained leases is kept by each small change of a client.
-use Rattle.std.proofs.Common.{◌≡◌, ◌≢◌, ◌<◌, ◌≤◌, ◌⊎◌, ℕ, ◌+◌, Bool, true, false, List, Option, Some, None, is_some, if◌then◌else◌, refl, sym, subst, ap, ◌∙◌, arith, inl, inr}
+use Rattle.std.proofs.Common.{◌≡◌, ◌≢◌, ◌<◌, ◌≤◌, ◌⊎◌, ℕ, ◌+◌, Bool, true, false, List, Option, Some, None, is_some, if◌then◌else◌, refl, sym, subst}
+use Rattle.std.proofs.Common.{ap, ◌∙◌, arith, inl, inr}
 use Rattle.nq_base.specs.declared.Grant.{Grant}
 use Rattle.nq_base.specs.declared.Push.{Push}
 use Rattle.nq_base.specs.declared.PushBase.{PushBase}
@@ -8,12 +9,14 @@ use Rattle.nq_base.specs.declared.Request.{Request}
 use Rattle.nq_base.specs.declared.Row.{Row}
 use Rattle.nq_base.specs.declared.Want.{Want}
 use Rattle.nq_base.specs.declared.Who.{Who}
-use Rattle.walk_files.proofs.ChainFacts.{VerdictFits, line_for, done_at, rev_at, HeldChains, GrantFits, GivenChains, IsBoundOrFenced, IsPushed, file_written, WriteChains, LineChains}
+use Rattle.walk_files.proofs.ChainFacts.{VerdictFits, line_for, done_at, rev_at, HeldChains, GrantFits, GivenChains, IsBoundOrFenced, IsPushed}
+use Rattle.walk_files.proofs.ChainFacts.{file_written, WriteChains, LineChains}
 use Rattle.walk_files.proofs.ChainLists.{WasLease, was-used, was-dropped, StillLease, still-used, still-dropped}
 use Rattle.nq_model.specs.Chained.{IsChained, has_done, due, KnowsFile}
 use Rattle.walk_steps.proofs.ClientMoves.{some-same, none-some}
 use Rattle.walk_steps.proofs.ClientWrites.{writes-under-way}
-use Rattle.nq_model.specs.Client.{Job, for_call, Lease, Revision, Ticket, UnderWay, lease_on, drop_lease, used_lease, is_push_of, push_passes, revision_of, is_clean_in}
+use Rattle.nq_model.specs.Client.{Job, for_call, Lease, Revision, Ticket, UnderWay, lease_on, drop_lease, used_lease, is_push_of, push_passes}
+use Rattle.nq_model.specs.Client.{revision_of, is_clean_in}
 use Rattle.nq_model.specs.Decide.{verdict_reply}
 use Rattle.nq_model.specs.Hear.{wants_of, inc_of, cancelled}
 use Rattle.nq_model.specs.Kept.{Kept}

@@ -25,7 +25,8 @@ use Rattle.walk_steps.proofs.ClientFacts.{Alone, changes_file}
 use Rattle.walk_steps.proofs.ClientMoves.{none-some}
 use Rattle.nq_model.specs.Client.{Client, ClientStep, begun, Ticket, lease_on, is_clean}
 use Rattle.nq_model.specs.Decide.{verdict_reply}
-use Rattle.nq_model.specs.Hear.{answers_call, caches_block, purges, knows_revision, write_done, ends_push, spends, attached, replied, reply_counts, cancels, notes_notice, evicted}
+use Rattle.nq_model.specs.Hear.{answers_call, caches_block, purges, knows_revision, write_done, ends_push, spends, attached, replied, reply_counts}
+use Rattle.nq_model.specs.Hear.{cancels, notes_notice, evicted}
 use Rattle.nq_model.specs.LeaseInterval.{grant_in, requested_file}
 use Rattle.nq_model.specs.Message.{Packet, sequence_of}
 use Rattle.nq_model.specs.Server.{Server}
@@ -94,7 +95,8 @@ pub record Answered (s : Server) (ps : List Packet) (c : Client) (ticket : Ticke
       × (r ≡ verdict_reply c.who.inc (line_for s.kept c.who).verdict (line_for s.kept c.who).value ticket.request)
   pub ready : (file : ℕ) (g : Grant) → requested_file ticket.request ≡ Some file → grant_in r ≡ Some g → Ready s (view_of (begun c)) file g ticket.first
 
-module _ (s : Server) (ps : List Packet) (c : Client) (number : ℕ) (ticket : Ticket) (r : Reply) (h : MidOf s ps (begun c)) (k : Answered s ps c ticket r) where
+module _ (s : Server) (ps : List Packet) (c : Client) (number : ℕ) (ticket : Ticket) (r : Reply) (h : MidOf s ps (begun c))
+    (k : Answered s ps c ticket r) where
   abbrev line : HostRow
   line = line_for s.kept c.who
 

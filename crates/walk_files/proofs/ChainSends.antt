@@ -1,5 +1,6 @@
 -- What is known of chained leases is kept where a client settles its call and sends its next request.
-use Rattle.std.proofs.Common.{◌≡◌, ◌<◌, ℕ, ◌+◌, Bool, true, false, not, ◌||◌, ◌&&◌, ◌==◌, List, [], ◌∷◌, Option, Some, None, nat_le, nat_lt, map, if◌then◌else◌, refl, sym, subst, ap, ◌∙◌, arith}
+use Rattle.std.proofs.Common.{◌≡◌, ◌<◌, ℕ, ◌+◌, Bool, true, false, not, ◌||◌, ◌&&◌, ◌==◌, List, [], ◌∷◌, Option, Some, None, nat_le, nat_lt, map}
+use Rattle.std.proofs.Common.{if◌then◌else◌, refl, sym, subst, ap, ◌∙◌, arith}
 use Rattle.std.proofs.lemmas.Bool.Decides.{nat_tests}
 use Rattle.std.specs.List.{filter, list_any}
 use Rattle.std.proofs.lemmas.Bool.{and_parts, not-true}
@@ -21,11 +22,13 @@ use Rattle.walk_steps.proofs.SettleCases.{IsSettling, IsWrite, CanWrite, Settled
 use Rattle.walk_steps.proofs.ClientFacts.{DelayingOf, push_in}
 use Rattle.walk_steps.proofs.ClientMoves.{some-same, none-some}
 use Rattle.walk_steps.proofs.ClientWrites.{writes-in-list, no-push}
-use Rattle.nq_model.specs.Client.{Client, ClientStep, Job, for_call, renewing, pushing, Lease, Notice, Ticket, UnderWay, lease_on, notice_on, is_clean, is_push_of, first_dirty, drop_dirty, is_live, is_clean_in, file_of_lease}
+use Rattle.nq_model.specs.Client.{Client, ClientStep, Job, for_call, renewing, pushing, Lease, Notice, Ticket, UnderWay, lease_on, notice_on}
+use Rattle.nq_model.specs.Client.{is_clean, is_push_of, first_dirty, drop_dirty, is_live, is_clean_in, file_of_lease}
 use Rattle.nq_model.specs.LeaseInterval.{requested_file}
 use Rattle.nq_model.specs.Message.{Packet, sequence_of}
 use Rattle.nq_model.specs.Profile.{renewal}
-use Rattle.nq_model.specs.Send.{boot_of, sends_request, after_seq, after_number, base_of, takes_push, noticed_file, ending_file, is_to_push, least, sends_write, gives_up, want_of, shares_live, send_next}
+use Rattle.nq_model.specs.Send.{boot_of, sends_request, after_seq, after_number, base_of, takes_push, noticed_file, ending_file, is_to_push, least}
+use Rattle.nq_model.specs.Send.{sends_write, gives_up, want_of, shares_live, send_next}
 use Rattle.nq_model.specs.Server.{Server}
 use Rattle.nq_model.specs.Settle.{answers, reads_cached, after_read, after_write, delays, marks_written, settle, ticket_is_for_call}
 use Rattle.nq_model.specs.Table.{caches, is_writing}
@@ -368,7 +371,8 @@ module _ (s : Server) (ps : List Packet) where
     getting_attributes = λ u file is call d. mid-asks t for_call _ is.free refl (λ w file want j e. absurd (cc)) h;
     reading = λ u file block is call d. mid-asks t for_call _ is.free refl (λ w file want j e. absurd (cc)) h;
     fetching = λ u file block is call d. mid-asks t for_call _ is.free refl (λ w file want j e. absurd (cc)) h;
-    writing = λ u file block body is call through d. mid-through t file block body is.free (through-clean u file block body is call (u.through) refl through) h;
+    writing = λ u file block body is call through d. mid-through t file block body is.free (through-clean u file block body is call (u.through) refl
+        through) h;
     leasing =
         λ u file block body is call off shares d. mid-asks t for_call _ is.free refl (λ w g want j e. leased u file block body is call off d w g want e) h;
     putting = λ u file block body is call off d. mid-through t file block body is.free (put-clean u file block body is call off d (u.through) refl) h;

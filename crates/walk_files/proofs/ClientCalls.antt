@@ -14,12 +14,16 @@ use Rattle.walk_files.proofs.CallFacts.{NoneDone}
 use Rattle.walk_files.proofs.CallMoves.{NotForCall}
 use Rattle.walk_files.proofs.ClientMoves as move
 use Rattle.walk_files.proofs.ClientMoves.{Doing}
-use Rattle.walk_steps.proofs.PartCases.{answers-call-cases, vacates-noticed-cases, reports-cases, if-broken-cases, takes-optional-cases, lease-done-cases, then-caches-cases, caches-write-cases, caches-push-cases, vacates-if-clean-cases}
+use Rattle.walk_steps.proofs.PartCases.{answers-call-cases, vacates-noticed-cases, reports-cases, if-broken-cases, takes-optional-cases}
+use Rattle.walk_steps.proofs.PartCases.{lease-done-cases, then-caches-cases, caches-write-cases, caches-push-cases, vacates-if-clean-cases}
 use Rattle.walk_steps.proofs.RepliedCases.{replied-cases}
 use Rattle.walk_steps.proofs.ClientFacts.{fits_job}
 use Rattle.walk_steps.proofs.ClientMoves.{some-same, none-some}
-use Rattle.nq_model.specs.Client.{Client, ClientStep, UnderWay, Job, attaching, for_call, renewing, pushing, Notice, Ticket, in_state, begun, notice_on, losses_of, other_losses, loss_list}
-use Rattle.nq_model.specs.Hear.{loses, vacates_lease, vacates_noticed, reports, without_lease, push_refused, breaks_chain, if_broken, holds, takes_grant, takes_optional, answers_call, caches_block, then_caches, read_done, lease_done, caches_write, write_done, purges, knows_revision, ends_push, caches_push, push_done, spends, replied, reply_counts}
+use Rattle.nq_model.specs.Client.{Client, ClientStep, UnderWay, Job, attaching, for_call, renewing, pushing, Notice, Ticket, in_state, begun}
+use Rattle.nq_model.specs.Client.{notice_on, losses_of, other_losses, loss_list}
+use Rattle.nq_model.specs.Hear.{loses, vacates_lease, vacates_noticed, reports, without_lease, push_refused, breaks_chain, if_broken, holds}
+use Rattle.nq_model.specs.Hear.{takes_grant, takes_optional, answers_call, caches_block, then_caches, read_done, lease_done, caches_write, write_done}
+use Rattle.nq_model.specs.Hear.{purges, knows_revision, ends_push, caches_push, push_done, spends, replied, reply_counts}
 use Rattle.nq_model.specs.Message.{sequence_of}
 use Rattle.nq_model.specs.Settle.{answers, names_losses}
 
@@ -161,7 +165,8 @@ module _ (line : HostRow) (Refused : ℕ → Type 0) (limit : ℕ) (mine : Who) 
         attaching =
             λ who inc job asks e. move.attached-keeps line Refused limit mine old ⊤ (spends (begun c)) (spent (other attaching job (λ d. absurd (cc)))).does;
         named = λ answer job n. (spent-answers ⊥ (spends (begun c)) answer None (λ k e. none-some k e) answering).does;
-        reading = λ who q file block want inc rev body grant o e. (spent-read (spends (begun c)) file block body grant ticket.first number sent answering).does;
+        reading = λ who q file block want inc rev body grant o e. (spent-read (spends (begun c)) file block body grant ticket.first number sent
+            answering).does;
         leasing = λ who file want inc grant o e. spent-lease (spends (begun c)) file grant ticket.first (spent (undrawn (ap sequence_of o.asks)));
         writing = λ who seq file block first last body inc rev o e. (spent-write (spends (begun c)) file block body rev answering).does;
         resizing =
@@ -171,7 +176,8 @@ module _ (line : HostRow) (Refused : ℕ → Type 0) (limit : ℕ) (mine : Who) 
         removing =
             λ who seq q file inc o e.
             (spent-answers ⊥ (spends (begun c)) (Answer.Ok Value.Nothing) None (λ k e. none-some k e) answering).does;
-        renewing = λ who file want inc grant job asks e. (spent-optional ⊤ (spends (begun c)) file grant ticket.first (spent (undrawn (ap sequence_of asks)))).does;
+        renewing = λ who file want inc grant job asks e. (spent-optional ⊤ (spends (begun c)) file grant ticket.first
+            (spent (undrawn (ap sequence_of asks)))).does;
         pushed =
             λ who seq file block first last base body inc rev job asks e.
             (spent-push (spends (begun c)) file block body rev (spent (other pushing job (λ d. absurd (cc))))).does;

@@ -1,5 +1,6 @@
 -- Each step of a client keeps what it knows of contents.
-use Rattle.std.proofs.Common.{◌≡◌, ◌≤◌, ◌⊎◌, ℕ, ◌+◌, Bool, true, false, List, [], ◌∷◌, ◌++◌, Option, Some, None, is_some, if◌then◌else◌, map, refl, sym, subst, ap, ◌∙◌, arith, inl, inr}
+use Rattle.std.proofs.Common.{◌≡◌, ◌≤◌, ◌⊎◌, ℕ, ◌+◌, Bool, true, false, List, [], ◌∷◌, ◌++◌, Option, Some, None, is_some, if◌then◌else◌, map, refl}
+use Rattle.std.proofs.Common.{sym, subst, ap, ◌∙◌, arith, inl, inr}
 use Rattle.std.specs.Prelude.{reverse}
 use Rattle.std.proofs.lemmas.List.{reverse-append}
 use Rattle.nq_base.specs.Block.{value_of}
@@ -13,20 +14,27 @@ use Rattle.nq_base.specs.declared.Said.{Said}
 use Rattle.nq_base.specs.declared.Tag.{Tag}
 use Rattle.nq_base.specs.declared.Value.{Value}
 use Rattle.nq_base.specs.declared.Who.{Who}
-use Rattle.walk_steps.proofs.PartCases.{answers-call-cases, vacates-noticed-cases, reports-cases, if-broken-cases, caches-write-cases, caches-push-cases, vacates-if-clean-cases}
+use Rattle.walk_steps.proofs.PartCases.{answers-call-cases, vacates-noticed-cases, reports-cases, if-broken-cases, caches-write-cases}
+use Rattle.walk_steps.proofs.PartCases.{caches-push-cases, vacates-if-clean-cases}
 use Rattle.walk_steps.proofs.SendCases.{send-cases, pushed}
 use Rattle.walk_steps.proofs.SettleCases.{settle-moves}
 use Rattle.walk_steps.proofs.StepCases.{call-cases, unless-cached-cases, tick-cases, evicted-cases}
 use Rattle.walk_steps.proofs.ClientFacts.{changes_file, push_in}
 use Rattle.walk_steps.proofs.ClientMoves.{some-same, none-some, keeps-or-cancels}
 use Rattle.walk_files.proofs.ClientLookups.{IsBlock, clean-purged, found-purged, found-put, found-touched, revision-put, dirty-dropped}
-use Rattle.walk_files.proofs.ClientParts.{Part, part_of, history_in, IsKnown, IsOverKnown, IsFair, Mid, notes-entry, clean-fewer, dirty-fewer, ticket-fewer, sends-more, CanSend, sends-ticket, delays-write, forgets, confirms, sets, caches}
+use Rattle.walk_files.proofs.ClientParts.{Part, part_of, history_in, IsKnown, IsOverKnown, IsFair, Mid, notes-entry, clean-fewer, dirty-fewer}
+use Rattle.walk_files.proofs.ClientParts.{ticket-fewer, sends-more, CanSend, sends-ticket, delays-write, forgets, confirms, sets, caches}
 use Rattle.walk_files.proofs.Facts.{Follows, follows, HadValue, value-follows, HadLength, SetsBlock, sets-follows, GrantTells}
 use Rattle.nq_model.specs.Contents.{changes, delayed_by}
 use Rattle.nq_model.specs.Told.{GrantIsOf}
-use Rattle.nq_model.specs.Client.{Clean, Client, ClientStep, Job, for_call, renewing, pushing, Notice, Revision, Ticket, UnderWay, begun, clean_at, purge, put_clean, dirty_at, drop_dirty, other_dirty, first_dirty, is_push_of, notice_on, put_revision, revision_of, revision_or_zero, is_revision, is_revision_before}
+use Rattle.nq_model.specs.Client.{Clean, Client, ClientStep, Job, for_call, renewing, pushing, Notice, Revision, Ticket, UnderWay, begun, clean_at}
+use Rattle.nq_model.specs.Client.{purge, put_clean, dirty_at, drop_dirty, other_dirty, first_dirty, is_push_of, notice_on, put_revision, revision_of}
+use Rattle.nq_model.specs.Client.{revision_or_zero, is_revision, is_revision_before}
 use Rattle.nq_model.specs.ClientStep.{begins_call, is_called, says_busy, client_call, at_time, sends_again, client_tick}
-use Rattle.nq_model.specs.Hear.{vacates_lease, vacates_noticed, loss_entry, all_dirty, loses, reports, without_lease, push_refused, if_broken, holds, takes_grant, takes_optional, answers_call, grant_caches, caches_block, then_caches, read_done, marks_through, lease_done, purges, knows_revision, caches_write, ends_push, caches_push, push_done, spends, attached, pauses, cancels, notes_notice, evicted, goes_on}
+use Rattle.nq_model.specs.Hear.{vacates_lease, vacates_noticed, loss_entry, all_dirty, loses, reports, without_lease, push_refused, if_broken, holds}
+use Rattle.nq_model.specs.Hear.{takes_grant, takes_optional, answers_call, grant_caches, caches_block, then_caches, read_done, marks_through}
+use Rattle.nq_model.specs.Hear.{lease_done, purges, knows_revision, caches_write, ends_push, caches_push, push_done, spends, attached, pauses}
+use Rattle.nq_model.specs.Hear.{cancels, notes_notice, evicted, goes_on}
 use Rattle.nq_model.specs.Message.{Packet, call}
 use Rattle.nq_model.specs.Send.{sends_request, after_seq, after_number, takes_push, sends_write, gives_up, send_next}
 use Rattle.nq_model.specs.Settle.{answers, names_losses, said, reads_clean, touched, after_read, reads_cached, after_write, delays, marks_written, settle}
@@ -255,7 +263,8 @@ module _ (journal : List Entry) (first : ℕ → ℕ) (next : ℕ) (ps : List Pa
   unfolding at_time
   timed-mid c now h = h
 
-  again-mid : (t : ClientStep) (ticket : Ticket) → t.client.ticket ≡ Some ticket → IsFair (t.entries ++ journal) ticket.request → P t → P (sends_again t ticket)
+  again-mid : (t : ClientStep) (ticket : Ticket) → t.client.ticket ≡ Some ticket → IsFair (t.entries ++ journal) ticket.request → P t
+      → P (sends_again t ticket)
   unfolding sends_again
   again-mid t ticket is pushed h =
       sends-more journal first next ps (record (part_of t) { ticket = Some (record ticket { last = t.client.now }) }) (call ticket.xid ticket.request)

@@ -13,7 +13,8 @@ use Rattle.nq_base.specs.declared.Said.{Said}
 use Rattle.nq_base.specs.declared.Said.TheVariants.{Busy}
 use Rattle.nq_base.specs.declared.Tag.{Tag}
 use Rattle.nq_base.specs.declared.Who.{Who}
-use Rattle.walk_files.proofs.CallFacts.{JournalFits, CallsAt, Pending, TicketFits, Requesting, journal-more, journal-busy, rises, has-open, answered-below, cached-below, call-entry}
+use Rattle.walk_files.proofs.CallFacts.{JournalFits, CallsAt, Pending, TicketFits, Requesting, journal-more, journal-busy, rises, has-open}
+use Rattle.walk_files.proofs.CallFacts.{answered-below, cached-below, call-entry}
 use Rattle.walk_files.proofs.CallMoves.{NotForCall, calls-called, calls-busy, pending-called, pending-more, pending-none, asks-idle, asks-busy}
 use Rattle.walk_files.proofs.CallsEntries.{entry_who, entry_call, entry_number}
 use Rattle.walk_files.proofs.ClientCalls.{replied-keeps}
@@ -45,7 +46,15 @@ pub record CallsOf (line : HostRow) (Refused : ℕ → Type 0) (c : Client) (jou
 module _ (line : HostRow) (Refused : ℕ → Type 0) (limit : ℕ) (old : List Entry) (journal : JournalFits old) (c : Client) (alone : Alone c)
     (known : CallsOf line Refused c old) where
   begun-does : Doing line Refused limit c.who old ⊤ (begun c)
-  begun-does = record { same = refl; journal = journal; calls_fit = known.calls_fit; pending = λ goes. known.pending; asks = known.asks; own = λ e i. absurd i }
+  begun-does = record {
+    same = refl;
+    journal = journal;
+    calls_fit = known.calls_fit;
+    pending = λ goes. known.pending;
+    asks = known.asks;
+    own = λ e i.
+        absurd i;
+  }
 
   timed-does : (now : ℕ) → Doing line Refused limit c.who old ⊤ (begun (at_time c now))
   unfolding at_time

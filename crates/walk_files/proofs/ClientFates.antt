@@ -12,7 +12,8 @@ use Rattle.walk_steps.proofs.SettleCases.{settle-moves}
 use Rattle.walk_steps.proofs.SendCases.{send-cases, pushed}
 use Rattle.walk_steps.proofs.ClientFacts.{push_in}
 use Rattle.walk_steps.proofs.ClientMoves.{none-some}
-use Rattle.walk_files.proofs.FactMoves.{facts-other, facts-numbers, facts-ticket, facts-sends, facts-delays, journal-delays, journal-quiet, quiet-other, no-push}
+use Rattle.walk_files.proofs.FactMoves.{facts-other, facts-numbers, facts-ticket, facts-sends, facts-delays, journal-delays, journal-quiet}
+use Rattle.walk_files.proofs.FactMoves.{quiet-other, no-push}
 use Rattle.walk_files.proofs.FactPushes.{facts-pushes}
 use Rattle.walk_files.proofs.PushLists.{first-in}
 use Rattle.walk_files.proofs.ServerTells.{IsQuiet}

@@ -1,5 +1,6 @@
 -- Look-ups in a client's clean blocks, revisions and delayed writes after each change of them.
-use Rattle.std.proofs.Common.{◌≡◌, ◌≢◌, ◌⊎◌, ℕ, ◌-◌, ◌==◌, Bool, true, false, not, List, [], ◌∷◌, Option, Some, None, is_some, if◌then◌else◌, refl, sym, subst, ap, ◌∙◌, inl, inr}
+use Rattle.std.proofs.Common.{◌≡◌, ◌≢◌, ◌⊎◌, ℕ, ◌-◌, ◌==◌, Bool, true, false, not, List, [], ◌∷◌, Option, Some, None, is_some, if◌then◌else◌, refl}
+use Rattle.std.proofs.Common.{sym, subst, ap, ◌∙◌, inl, inr}
 use Rattle.std.specs.List.{find}
 use Rattle.std.specs.Option.{option_map, option_or}
 use Rattle.std.proofs.lemmas.List.Folds.{find-append}
@@ -7,7 +8,8 @@ use Rattle.std.proofs.lemmas.Bool.{and_parts, and_from, false_from_ne_true, not_
 use Rattle.nq_base.specs.declared.Push.{Push}
 use Rattle.nq_model.proofs.ClientLists.{put-revision-found, other-revision-put}
 use Rattle.walk_steps.proofs.ClientMoves.{some-same, none-some}
-use Rattle.nq_model.specs.Client.{Clean, Revision, clean_at, is_clean_at, drop_clean, purge, put_clean, revision_of, put_revision, is_push_at, dirty_at, drop_dirty}
+use Rattle.nq_model.specs.Client.{Clean, Revision, clean_at, is_clean_at, drop_clean, purge, put_clean, revision_of, put_revision, is_push_at}
+use Rattle.nq_model.specs.Client.{dirty_at, drop_dirty}
 use Rattle.nq_model.specs.Profile.{most_clean, at_most}
 use Rattle.nq_model.specs.Settle.{touched, overwritten, overwritten_at, with_write}
 use Rattle.walk_steps.proofs.Members.{in-map}
@@ -163,7 +165,8 @@ pub in-written : (file block number : ℕ) (body : List ℕ) (dirty : List Push)
     → In (with_write file block number body dirty o) p → IsWritten file block number body dirty p
 in-written file block number body dirty None p h = case (in-append dirty _ p h)
   where
-    case : In dirty p ⊎ In (record { file = file; block = block; first = number; last = number; body = body } ∷ []) p → IsWritten file block number body dirty p
+    case : In dirty p ⊎ In (record { file = file; block = block; first = number; last = number; body = body } ∷ []) p → IsWritten file block number
+        body dirty p
     case (inl old) = was_there old
     case (inr (inl e)) = is_new (ap (λ z. z.file) (sym e)) (ap (λ z. z.block) (sym e)) (ap (λ z. z.last) (sym e)) (ap (λ z. z.body) (sym e))
     case (inr (inr bad)) = absurd bad

@@ -1,5 +1,6 @@
 -- In the middle of a client's step: what is known of its calls, and that each part of the step keeps it.
-use Rattle.std.proofs.Common.{◌≡◌, ◌<◌, ◌≤◌, ℕ, ◌+◌, Bool, true, false, List, [], ◌∷◌, ◌++◌, Option, Some, None, map, reverse, refl, sym, subst, ap, ◌∙◌, arith, inl, inr}
+use Rattle.std.proofs.Common.{◌≡◌, ◌<◌, ◌≤◌, ℕ, ◌+◌, Bool, true, false, List, [], ◌∷◌, ◌++◌, Option, Some, None, map, reverse, refl, sym, subst, ap}
+use Rattle.std.proofs.Common.{◌∙◌, arith, inl, inr}
 use Rattle.std.specs.Prelude.{⊤}
 use Rattle.std.proofs.lemmas.Grind.{reverse_onto}
 use Rattle.nq_base.specs.Block.{value_of}
@@ -14,15 +15,18 @@ use Rattle.nq_base.specs.declared.Said.TheVariants.{OkBy}
 use Rattle.nq_base.specs.declared.Tag.{Tag}
 use Rattle.nq_base.specs.declared.Value.{Value}
 use Rattle.nq_base.specs.declared.Who.{Who}
-use Rattle.walk_files.proofs.CallFacts.{JournalFits, CallsAt, IsBounded, NoneDone, Pending, through_number, Requesting, journal-more, journal-answer, calls-more, calls-raised, calls-marked}
-use Rattle.walk_files.proofs.CallMoves.{NotForCall, calls-answered, pending-more, pending-none, pending-ticket, pending-marked, asks-quiet, asks-idle, asks-none, asks-adds, asks-again, asks-sends, asks-decides}
+use Rattle.walk_files.proofs.CallFacts.{JournalFits, CallsAt, IsBounded, NoneDone, Pending, through_number, Requesting, journal-more, journal-answer}
+use Rattle.walk_files.proofs.CallFacts.{calls-more, calls-raised, calls-marked}
+use Rattle.walk_files.proofs.CallMoves.{NotForCall, calls-answered, pending-more, pending-none, pending-ticket, pending-marked, asks-quiet, asks-idle}
+use Rattle.walk_files.proofs.CallMoves.{asks-none, asks-adds, asks-again, asks-sends, asks-decides}
 use Rattle.walk_files.proofs.CallsEntries.{entry_who, entry_call, entry_number}
 use Rattle.walk_files.proofs.Placed.{append-one}
 use Rattle.walk_files.proofs.Quiet.{IsQuiet, OpenFits, ReadFits}
 use Rattle.walk_steps.proofs.ClientMoves.{some-same, none-some}
 use Rattle.nq_model.specs.Client.{ClientStep, UnderWay, Job, for_call, Ticket, in_state}
 use Rattle.nq_model.specs.ClientStep.{sends_again}
-use Rattle.nq_model.specs.Hear.{loss_entry, loses, all_dirty, vacates_lease, without_lease, holds, caches_block, purges, knows_revision, ends_push, with_through, marks_through, spends, attached, pauses, cancelled, cancels, notes_notice, wants_of}
+use Rattle.nq_model.specs.Hear.{loss_entry, loses, all_dirty, vacates_lease, without_lease, holds, caches_block, purges, knows_revision, ends_push}
+use Rattle.nq_model.specs.Hear.{with_through, marks_through, spends, attached, pauses, cancelled, cancels, notes_notice, wants_of}
 use Rattle.nq_model.specs.Message.{Message, asker, sequence_of}
 use Rattle.nq_model.specs.Ordered.{IsWriteInOrder}
 use Rattle.nq_model.specs.Send.{sends_request, after_seq, after_number, takes_push, gives_up}

@@ -1,5 +1,6 @@
 -- What a client knows of contents, in the middle of a step, kept by each small change of it.
-use Rattle.std.proofs.Common.{◌≡◌, ◌≢◌, ◌<◌, ◌≤◌, ◌⊎◌, ℕ, ◌+◌, ◌==◌, Bool, true, false, ◌&&◌, List, [], ◌∷◌, ◌++◌, Option, Some, None, is_some, if◌then◌else◌, refl, sym, subst, ap, ◌∙◌, arith, inl, inr}
+use Rattle.std.proofs.Common.{◌≡◌, ◌≢◌, ◌<◌, ◌≤◌, ◌⊎◌, ℕ, ◌+◌, ◌==◌, Bool, true, false, ◌&&◌, List, [], ◌∷◌, ◌++◌, Option, Some, None, is_some}
+use Rattle.std.proofs.Common.{if◌then◌else◌, refl, sym, subst, ap, ◌∙◌, arith, inl, inr}
 use Rattle.std.specs.Option.{option_or}
 use Rattle.std.proofs.lemmas.Bool.Decides.{nat_tests}
 use Rattle.std.proofs.lemmas.Bool.{both_ways}
@@ -12,7 +13,8 @@ use Rattle.nq_base.specs.declared.Who.{Who}
 use Rattle.walk_steps.proofs.ClientFacts.{changes_file, push_in}
 use Rattle.nq_model.proofs.ClientLists.{other-revision-put}
 use Rattle.walk_steps.proofs.ClientMoves.{some-same, none-some}
-use Rattle.walk_files.proofs.ClientLookups.{IsBlock, this-or-other, found-dropped, clean-dropped, in-written, IsWritten, was_there, is_new, written-elsewhere, revision-after, revision-put}
+use Rattle.walk_files.proofs.ClientLookups.{IsBlock, this-or-other, found-dropped, clean-dropped, in-written, IsWritten, was_there, is_new}
+use Rattle.walk_files.proofs.ClientLookups.{written-elsewhere, revision-after, revision-put}
 use Rattle.walk_files.proofs.Facts.{History, Follows, follows, HadValue, value-follows, SetsBlock, Tells, tells-follows}
 use Rattle.walk_files.proofs.Histories.{NoChanges, delayed-more}
 use Rattle.nq_model.specs.Contents.{changes, changes_of, delayed_by, delayed_value}
@@ -426,7 +428,8 @@ module _ (journal : List Entry) (first : ℕ → ℕ) (next : ℕ) (ps : List Pa
   pub forgets : (p : Part) (file rev : ℕ) (clean : List Clean) → p.ticket ≡ None → IsKnown (history_in journal first next p.entries) file rev
       → ((f b : ℕ) (k : Clean) → clean_at f b clean ≡ Some k → (f ≢ file) × (clean_at f b p.clean ≡ Some k)) → MidOf p
       → MidOf (record p { clean = clean; revisions = put_revision file rev p.revisions })
-  forgets p file rev clean free knows old h = revised p file rev clean free knows (λ f b k is. let o = old f b k is in other-stays p file rev f b k o.0 o.1 h) h
+  forgets p file rev clean free knows old h = revised p file rev clean free knows (λ f b k is. let o = old f b k is in other-stays p file rev f b k
+      o.0 o.1 h) h
 
   -- the revision was known
   pub confirms : (p : Part) (file rev : ℕ) (r : Revision) → p.ticket ≡ None → revision_of file p.revisions ≡ Some r → r.rev ≡ rev → MidOf p

@@ -11,7 +11,8 @@ use Rattle.nq_base.specs.declared.Who.{Who}
 use Rattle.walk_steps.proofs.ClientFacts.{push_in}
 use Rattle.walk_steps.proofs.ClientMoves.{some-same}
 use Rattle.walk_files.proofs.JournalMoves.{covers-more}
-use Rattle.walk_files.proofs.ServerTells.{DecidedAt, decided-at, IsQuiet, AllQuiet, Effects, without, goes_through, pushes, Decides, Attaches, Moves, same_lines, attaches_one, decides_one}
+use Rattle.walk_files.proofs.ServerTells.{DecidedAt, decided-at, IsQuiet, AllQuiet, Effects, without, goes_through, pushes, Decides, Attaches, Moves}
+use Rattle.walk_files.proofs.ServerTells.{same_lines, attaches_one, decides_one}
 use Rattle.walk_files.proofs.WritesFit.{IsClear, IsOpenPush, WritesFit}
 use Rattle.walk_files.proofs.EarlierStores.{Earlier, push-behind}
 use Rattle.nq_model.specs.Client.{Client}
@@ -106,10 +107,12 @@ module _ (s : Server) (t : ServerStep) (c : Client) (ps : List Packet) (j : List
           let a = up in
           let e = inc in
           let kept = o.kept in
-          let attaching = b.above o.xid (Request.Write w o.seq p.file p.block p.first p.last (Some o.base) p.body) w (old o.xid _ o.asked) refl (omega arith) in
+          let attaching = b.above o.xid (Request.Write w o.seq p.file p.block p.first p.last (Some o.base) p.body) w (old o.xid _ o.asked) refl
+          (omega arith) in
           cc
 
-  quiet-apart : AllQuiet t.entries → (e : Entry) → In t.entries e → (v : Who) (file block n : ℕ) → v.host ≡ c.who.host → Stores e (W v file block n 0 false) → ⊥
+  quiet-apart : AllQuiet t.entries → (e : Entry) → In t.entries e → (v : Who) (file block n : ℕ) → v.host ≡ c.who.host
+      → Stores e (W v file block n 0 false) → ⊥
   quiet-apart quiet e i v file block n home = quiet-stores e (W v file block n 0 false) (quiet e i)
 
   attached : (k : Attaches ps s t) → AllQuiet t.entries → (bool : Bool) → (c.who.host == k.w.host) ≡ bool → Result t.entries

@@ -10,7 +10,8 @@ use Rattle.nq_base.specs.declared.Who.{Who}
 use Rattle.walk_steps.proofs.ClientFacts.{push_in}
 use Rattle.walk_steps.proofs.ClientMoves.{none-some, some-same}
 use Rattle.walk_files.proofs.JournalMoves.{store-covers, covers-more}
-use Rattle.walk_files.proofs.WritesFit.{CoversNumber, IsClear, IsRising, IsBehind, PushStands, waits, stored, LiesWithin, in_list, under_way, IsOpenPush, WritesFit}
+use Rattle.walk_files.proofs.WritesFit.{CoversNumber, IsClear, IsRising, IsBehind, PushStands, waits, stored, LiesWithin, in_list, under_way}
+use Rattle.walk_files.proofs.WritesFit.{IsOpenPush, WritesFit}
 use Rattle.walk_files.proofs.Entries.{IsIdle, stored-skip, stored-covered, rising-split}
 use Rattle.walk_files.proofs.Held.{stored-drawn}
 use Rattle.walk_files.proofs.Stores.{StoresNumber, Rests}

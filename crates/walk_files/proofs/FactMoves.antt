@@ -13,7 +13,8 @@ use Rattle.walk_steps.proofs.ClientMoves.{some-same, none-some}
 use Rattle.walk_files.proofs.JournalMoves.{covers-before}
 use Rattle.walk_files.proofs.PushLists.{InWritten, is_other, is_longer, is_new, in-written, written-in, written-there, apart-written}
 use Rattle.walk_files.proofs.ServerTells.{IsQuiet, AllQuiet}
-use Rattle.walk_files.proofs.WritesFit.{CoversNumber, IsApart, IsOfWrites, IsRising, JournalFits, IsBehind, IsDirty, PushStands, waits, stored, IsPushed, LiesWithin, in_list, under_way, ListFits, IsOpenPush, PushesFit, Facts}
+use Rattle.walk_files.proofs.WritesFit.{CoversNumber, IsApart, IsOfWrites, IsRising, JournalFits, IsBehind, IsDirty, PushStands, waits, stored}
+use Rattle.walk_files.proofs.WritesFit.{IsPushed, LiesWithin, in_list, under_way, ListFits, IsOpenPush, PushesFit, Facts}
 use Rattle.nq_model.specs.Client.{Ticket, pushing, dirty_at}
 use Rattle.nq_model.specs.Journal.{Covers}
 use Rattle.nq_model.specs.Message.{Packet, call, sequence_of}
@@ -263,7 +264,8 @@ module _ {line : HostRow} {who : Who} {number seq : ℕ} {ticket : Option Ticket
       let m : n ≡ number = cc in
       in_list k.0 k.1 (k.2 ∙ sym g) (k.3 ∙ sym c) (first k.0 m k.5) (let e = k.4 in omega arith)
     where
-      first : (q : Push) → n ≡ number → (q.first ≡ number) ⊎ ((p : Push) × In dirty p × (p.file ≡ file) × (p.block ≡ block) × (q.first ≡ p.first)) → q.first ≤ n
+      first : (q : Push) → n ≡ number → (q.first ≡ number) ⊎ ((p : Push) × In dirty p × (p.file ≡ file) × (p.block ≡ block) × (q.first ≡ p.first))
+          → q.first ≤ n
       first q m (inl e) = omega arith
       first q m (inr k) =
           let d = h.list.listed k.0 k.1 in
@@ -358,7 +360,12 @@ facts-numbers m n more later h = record {
     covered = λ f b k c. let below = h.list.covered f b k c in omega arith;
     unsaved = h.list.unsaved;
   };
-  pushed = λ p t k is asks sq. let d = h.pushed p t k is asks sq in record { behind = d.behind; below = let below = d.below in omega arith; stands = d.stands };
+  pushed = λ p t k is asks sq. let d = h.pushed p t k is asks sq in record {
+    behind = d.behind;
+    below = let below = d.below in omega arith;
+    stands =
+        d.stands;
+  };
   sent = record {
     behind = h.sent.behind;
     clear = h.sent.clear;

@@ -1,7 +1,8 @@
 -- What the journal has of a client's delayed writes is kept where they are pushed, where a push was stored, and where they are lost.
 use Rattle.std.specs.Prelude.{reverse}
 use Rattle.std.proofs.lemmas.List.{reverse-append}
-use Rattle.std.proofs.Common.{map, append_assoc, ◌≡◌, ◌<◌, ◌≤◌, ◌⊎◌, ℕ, ◌+◌, Bool, true, false, List, [], ◌∷◌, ◌++◌, Option, Some, None, if◌then◌else◌, refl, sym, subst, ap, ◌∙◌, arith, inl, inr}
+use Rattle.std.proofs.Common.{map, append_assoc, ◌≡◌, ◌<◌, ◌≤◌, ◌⊎◌, ℕ, ◌+◌, Bool, true, false, List, [], ◌∷◌, ◌++◌, Option, Some, None}
+use Rattle.std.proofs.Common.{if◌then◌else◌, refl, sym, subst, ap, ◌∙◌, arith, inl, inr}
 use Rattle.nq_base.specs.Block.{value_of}
 use Rattle.nq_base.specs.declared.Entry.{Entry}
 use Rattle.nq_base.specs.declared.Entry.TheVariants.{W, S}
@@ -15,7 +16,8 @@ use Rattle.walk_steps.proofs.ClientMoves.{some-same, none-some}
 use Rattle.walk_files.proofs.FactMoves.{behind-more, journal-more}
 use Rattle.walk_files.proofs.JournalMoves.{store-covers}
 use Rattle.walk_files.proofs.PushLists.{in-dropped, dropped-in, in-other, other-in, left-push, is-at, apart-filter}
-use Rattle.walk_files.proofs.WritesFit.{CoversNumber, IsClear, JournalFits, IsBehind, IsDirty, PushStands, waits, stored, IsPushed, LiesWithin, in_list, under_way, IsOpenPush, Facts}
+use Rattle.walk_files.proofs.WritesFit.{CoversNumber, IsClear, JournalFits, IsBehind, IsDirty, PushStands, waits, stored, IsPushed, LiesWithin}
+use Rattle.walk_files.proofs.WritesFit.{in_list, under_way, IsOpenPush, Facts}
 use Rattle.nq_model.specs.Client.{Ticket, pushing, is_push_of, is_push_at, drop_dirty, other_dirty}
 use Rattle.nq_model.specs.Hear.{other_push, loss_entry}
 use Rattle.nq_model.specs.Message.{Packet, call, sequence_of}

@@ -1,5 +1,6 @@
 -- What the journal has of a client's delayed writes is kept by each step of the server.
-use Rattle.std.proofs.Common.{◌≡◌, ◌<◌, ◌≤◌, ◌⊎◌, ℕ, Bool, true, false, ◌==◌, List, [], ◌∷◌, ◌++◌, Option, Some, None, refl, sym, subst, ap, ◌∙◌, arith, inl, inr}
+use Rattle.std.proofs.Common.{◌≡◌, ◌<◌, ◌≤◌, ◌⊎◌, ℕ, Bool, true, false, ◌==◌, List, [], ◌∷◌, ◌++◌, Option, Some, None, refl, sym, subst, ap, ◌∙◌}
+use Rattle.std.proofs.Common.{arith, inl, inr}
 use Rattle.nq_base.specs.Block.{value_of}
 use Rattle.nq_base.specs.declared.Entry.{Entry}
 use Rattle.nq_base.specs.declared.Entry.TheVariants.{W, S}
@@ -13,7 +14,8 @@ use Rattle.walk_steps.proofs.ClientFacts.{push_in}
 use Rattle.walk_steps.proofs.ClientMoves.{some-same, none-some}
 use Rattle.walk_files.proofs.FactMoves.{IsOfOther, quiet-other, behind-more, facts-others, facts-packets}
 use Rattle.walk_files.proofs.JournalMoves.{covers-before}
-use Rattle.walk_files.proofs.ServerTells.{DecidedAt, decided-at, AllQuiet, Effects, without, goes_through, pushes, Decides, Attaches, Moves, same_lines, attaches_one, decides_one}
+use Rattle.walk_files.proofs.ServerTells.{DecidedAt, decided-at, AllQuiet, Effects, without, goes_through, pushes, Decides, Attaches, Moves}
+use Rattle.walk_files.proofs.ServerTells.{same_lines, attaches_one, decides_one}
 use Rattle.walk_files.proofs.WritesFit.{CoversNumber, IsDirty, IsDecidedAs, PushStands, waits, stored, IsPushed, LiesWithin, ListFits, IsOpenPush, Facts}
 use Rattle.nq_model.specs.Client.{Ticket}
 use Rattle.nq_model.specs.Journal.{Covers}

@@ -8,7 +8,8 @@ use Rattle.nq_base.specs.declared.Row.{Row}
 use Rattle.nq_base.specs.declared.Verdict.{Verdict}
 use Rattle.nq_base.specs.declared.Who.{Who}
 use Rattle.walk_files.proofs.ChainAfter.{Beforehand}
-use Rattle.walk_files.proofs.LineMoves.{decided-stays, decided-written, decided-changed, done-to, done-not-to, refused-to, written-long, written-rises, written-id, replaced-there, replaced-other, by-file}
+use Rattle.walk_files.proofs.LineMoves.{decided-stays, decided-written, decided-changed, done-to, done-not-to, refused-to, written-long}
+use Rattle.walk_files.proofs.LineMoves.{written-rises, written-id, replaced-there, replaced-other, by-file}
 use Rattle.walk_files.proofs.RowsReceived.{added-same}
 use Rattle.walk_files.proofs.ServerChains.{Claims, NoneCaches, FileMove, file_stays, file_gone}
 use Rattle.walk_files.proofs.ChainFacts.{line_for, done_at, IsFenced, gone, ahead, earlier, StandsWriting, PushesFit}
@@ -20,7 +21,8 @@ use Rattle.walk_steps.proofs.ServerEffects.{standing-serving}
 use Rattle.nq_model.specs.Ask.{marked}
 use Rattle.nq_model.specs.Client.{Client, Ticket}
 use Rattle.nq_model.specs.Decide.{Decision, commits, row_after, decides, creates, writes_through, stores, wrote, stores_recovering, resizes, removes, puts_off}
-use Rattle.nq_model.specs.Kept.{File, Kept, find_file, replace_file, drop_file, new_file, written_file, resized_file, host_row, with_row, with_files, with_new_file}
+use Rattle.nq_model.specs.Kept.{File, Kept, find_file, replace_file, drop_file, new_file, written_file, resized_file, host_row, with_row, with_files}
+use Rattle.nq_model.specs.Kept.{with_new_file}
 use Rattle.nq_model.specs.LeaseInterval.{requested_file}
 use Rattle.nq_model.specs.Message.{Packet, Datagram, request, asker, sequence_of}
 use Rattle.nq_model.specs.Server.{serving, Server, standing, quiet, drops, says, keeping, keeping_with, with_table, after_notices}

@@ -1,6 +1,7 @@
 -- What the journal has of a client's delayed writes is kept where the client hears a datagram.
 use Rattle.std.specs.Prelude.{reverse}
-use Rattle.std.proofs.Common.{◌≡◌, ◌<◌, ◌⊎◌, ℕ, Bool, true, false, List, [], ◌∷◌, ◌++◌, Option, Some, None, if◌then◌else◌, map, refl, sym, subst, ◌∙◌, inl, inr, append_assoc}
+use Rattle.std.proofs.Common.{◌≡◌, ◌<◌, ◌⊎◌, ℕ, Bool, true, false, List, [], ◌∷◌, ◌++◌, Option, Some, None, if◌then◌else◌, map, refl, sym, subst, ◌∙◌}
+use Rattle.std.proofs.Common.{inl, inr, append_assoc}
 use Rattle.std.specs.List.{filter}
 use Rattle.nq_base.specs.declared.Answer.{Answer}
 use Rattle.nq_base.specs.declared.Entry.{Entry}
@@ -11,7 +12,8 @@ use Rattle.nq_base.specs.declared.Request.{Request}
 use Rattle.nq_base.specs.declared.Tag.{Tag}
 use Rattle.nq_base.specs.declared.Value.{Value}
 use Rattle.nq_base.specs.declared.Who.{Who}
-use Rattle.walk_steps.proofs.PartCases.{answers-call-cases, vacates-noticed-cases, reports-cases, if-broken-cases, takes-optional-cases, lease-done-cases, then-caches-cases, caches-write-cases, caches-push-cases, vacates-if-clean-cases}
+use Rattle.walk_steps.proofs.PartCases.{answers-call-cases, vacates-noticed-cases, reports-cases, if-broken-cases, takes-optional-cases}
+use Rattle.walk_steps.proofs.PartCases.{lease-done-cases, then-caches-cases, caches-write-cases, caches-push-cases, vacates-if-clean-cases}
 use Rattle.walk_steps.proofs.ClientMoves.{none-some}
 use Rattle.walk_files.proofs.ClientFates.{IsOwn, MidAt, Mid, mid-answers, mid-names}
 use Rattle.walk_files.proofs.FactMoves.{facts-sends}
@@ -19,7 +21,10 @@ use Rattle.walk_files.proofs.FactPushes.{dirty-clear, facts-loses, lost, lost-is
 use Rattle.walk_files.proofs.PushLists.{apart-filter}
 use Rattle.walk_files.proofs.WritesFit.{IsDirty, AreApart, IsOpenPush, JournalFits, Facts}
 use Rattle.nq_model.specs.Client.{ClientStep, Notice, Ticket, is_push_of, notice_on, other_dirty}
-use Rattle.nq_model.specs.Hear.{vacates_lease, vacates_noticed, push_of, loss_entry, other_push, loses, reports, without_lease, push_refused, breaks_chain, if_broken, holds, takes_optional, answers_call, caches_block, purges, knows_revision, then_caches, read_done, marks_through, lease_done, caches_write, write_done, ends_push, caches_push, push_done, attached, pauses, notes_notice}
+use Rattle.nq_model.specs.Hear.{vacates_lease, vacates_noticed, push_of, loss_entry, other_push, loses, reports, without_lease, push_refused}
+use Rattle.nq_model.specs.Hear.{breaks_chain, if_broken, holds, takes_optional, answers_call, caches_block, purges, knows_revision, then_caches}
+use Rattle.nq_model.specs.Hear.{read_done, marks_through, lease_done, caches_write, write_done, ends_push, caches_push, push_done, attached, pauses}
+use Rattle.nq_model.specs.Hear.{notes_notice}
 use Rattle.nq_model.specs.Message.{Message, Packet, call}
 use Rattle.walk_steps.proofs.Mail.{packets_with, packets-last}
 use Rattle.walk_steps.proofs.Members.{in-filter, filter-in, in-push-of}

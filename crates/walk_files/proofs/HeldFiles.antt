@@ -9,7 +9,8 @@ use Rattle.walk_steps.proofs.ClientMoves.{some-same, none-some}
 use Rattle.nq_model.specs.Contents.{changes, delayed_value, after_change}
 use Rattle.walk_files.proofs.WritesFit.{IsRising}
 use Rattle.walk_files.proofs.Held.{held-through, held-store}
-use Rattle.walk_files.proofs.HeldContents.{HeldBlocks, IsInside, content, content-same, content-next, unchanged-skips, delayed-is, skip-all, set-block, lengthened, cut-blocks}
+use Rattle.walk_files.proofs.HeldContents.{HeldBlocks, IsInside, content, content-same, content-next, unchanged-skips, delayed-is, skip-all}
+use Rattle.walk_files.proofs.HeldContents.{set-block, lengthened, cut-blocks}
 use Rattle.walk_files.proofs.Stores.{StoreFits, Rests}
 use Rattle.nq_model.specs.Journal.{Throughout, IsWriteOn, Stores}
 use Rattle.nq_model.specs.Synchronized.{last_length}

@@ -16,7 +16,8 @@ use Rattle.walk_files.proofs.HoldingSteps.{Between, named, settled, sent-next}
 use Rattle.walk_files.proofs.Holdings.{view_of, IsHeldBound, IsPastLoss, fewer, notes}
 use Rattle.walk_files.proofs.Waiting.{IsWaiting}
 use Rattle.nq_model.specs.Client.{Client, ClientStep, Lease, Ticket, begun, lets_write}
-use Rattle.nq_model.specs.ClientStep.{begins_call, is_called, says_busy, client_call, at_time, sends_again, client_tick, starts, fresh_client, next_incarnation, restart}
+use Rattle.nq_model.specs.ClientStep.{begins_call, is_called, says_busy, client_call, at_time, sends_again, client_tick, starts, fresh_client}
+use Rattle.nq_model.specs.ClientStep.{next_incarnation, restart}
 use Rattle.nq_model.specs.Hear.{goes_on, evicted, cancels, replied, reply_counts, is_put_off, inc_of, hear}
 use Rattle.nq_model.specs.Kept.{host_row}
 use Rattle.nq_model.specs.LeaseInterval.{grant_in, requested_file}

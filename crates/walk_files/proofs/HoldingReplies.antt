@@ -9,7 +9,8 @@ use Rattle.nq_base.specs.declared.Reply.{Reply}
 use Rattle.nq_base.specs.declared.Tag.{Tag}
 use Rattle.nq_base.specs.declared.Value.{Value}
 use Rattle.nq_base.specs.declared.Who.{Who}
-use Rattle.walk_steps.proofs.PartCases.{answers-call-cases, vacates-noticed-cases, reports-cases, if-broken-cases, takes-optional-cases, lease-done-cases, then-caches-cases, caches-write-cases, caches-push-cases, vacates-if-clean-cases}
+use Rattle.walk_steps.proofs.PartCases.{answers-call-cases, vacates-noticed-cases, reports-cases, if-broken-cases, takes-optional-cases}
+use Rattle.walk_steps.proofs.PartCases.{lease-done-cases, then-caches-cases, caches-write-cases, caches-push-cases, vacates-if-clean-cases}
 use Rattle.walk_steps.proofs.RepliedCases.{RepliedCases, replied-cases}
 use Rattle.walk_steps.proofs.StepCases.{evicted-cases}
 use Rattle.walk_steps.proofs.ClientFacts.{push_in, fits_job}
@@ -21,7 +22,10 @@ use Rattle.walk_files.proofs.HoldingWrites.{loses as loses-writes}
 use Rattle.walk_files.proofs.Holdings.{view_of, IsHeldBound, drops, holds as holds-lease, fewer}
 use Rattle.walk_files.proofs.Waiting.{IsWaiting, none-waiting, waiting-dirty, left-waiting}
 use Rattle.nq_model.specs.Client.{Client, ClientStep, Lease, Notice, Ticket, begun, is_clean, lease_on, notice_on, lets_write}
-use Rattle.nq_model.specs.Hear.{vacates_lease, vacates_noticed, loses, reports, without_lease, push_refused, granted_lease, breaks, breaks_chain, holds, takes_grant, takes_optional, answers_call, caches_block, then_caches, purges, knows_revision, read_done, lease_done, marks_through, caches_write, write_done, ends_push, caches_push, push_done, spends, attached, pauses, cancels, cancelled, notes_notice, evicted, replied, reply_counts, answer_of, is_put_off}
+use Rattle.nq_model.specs.Hear.{vacates_lease, vacates_noticed, loses, reports, without_lease, push_refused, granted_lease, breaks, breaks_chain}
+use Rattle.nq_model.specs.Hear.{holds, takes_grant, takes_optional, answers_call, caches_block, then_caches, purges, knows_revision, read_done}
+use Rattle.nq_model.specs.Hear.{lease_done, marks_through, caches_write, write_done, ends_push, caches_push, push_done, spends, attached, pauses}
+use Rattle.nq_model.specs.Hear.{cancels, cancelled, notes_notice, evicted, replied, reply_counts, answer_of, is_put_off}
 use Rattle.nq_model.specs.LeaseInterval.{grant_in, requested_file}
 use Rattle.nq_model.specs.Server.{Server}
 use Rattle.nq_model.specs.Settle.{answers, names_losses}

@@ -1,5 +1,6 @@
 -- A write is delayed, and delayed writes are lost: both keep what holds of a client's delayed writes.
-use Rattle.std.proofs.Common.{◌≡◌, ◌≢◌, ◌<◌, ◌≤◌, ◌⊎◌, ℕ, ◌+◌, ◌==◌, Bool, true, false, List, [], ◌∷◌, ◌++◌, Some, if◌then◌else◌, refl, sym, subst, ap, ◌∙◌, arith, inl, inr, append_assoc}
+use Rattle.std.proofs.Common.{◌≡◌, ◌≢◌, ◌<◌, ◌≤◌, ◌⊎◌, ℕ, ◌+◌, ◌==◌, Bool, true, false, List, [], ◌∷◌, ◌++◌, Some, if◌then◌else◌, refl, sym, subst}
+use Rattle.std.proofs.Common.{ap, ◌∙◌, arith, inl, inr, append_assoc}
 use Rattle.std.specs.List.{filter}
 use Rattle.std.specs.Prelude.{reverse, map}
 use Rattle.std.proofs.lemmas.Bool.{and_parts}

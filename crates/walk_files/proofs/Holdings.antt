@@ -1,5 +1,6 @@
 -- What holds of a client's delayed writes between the parts of its step, and the small changes that keep it.
-use Rattle.std.proofs.Common.{◌≡◌, ◌≢◌, ◌<◌, ◌≤◌, ◌⊎◌, ℕ, ◌==◌, ◌&&◌, Bool, true, false, nat_lt, List, [], ◌∷◌, ◌++◌, Option, Some, None, if◌then◌else◌, refl, sym, subst, ap, ◌∙◌, arith, inl, inr}
+use Rattle.std.proofs.Common.{◌≡◌, ◌≢◌, ◌<◌, ◌≤◌, ◌⊎◌, ℕ, ◌==◌, ◌&&◌, Bool, true, false, nat_lt, List, [], ◌∷◌, ◌++◌, Option, Some, None}
+use Rattle.std.proofs.Common.{if◌then◌else◌, refl, sym, subst, ap, ◌∙◌, arith, inl, inr}
 use Rattle.std.specs.Option.{option_map}
 use Rattle.nq_base.specs.declared.Entry.{Entry}
 use Rattle.nq_base.specs.declared.Grant.{Grant}
@@ -7,7 +8,8 @@ use Rattle.nq_base.specs.declared.Push.{Push}
 use Rattle.nq_base.specs.declared.Verdict.{Verdict}
 use Rattle.nq_base.specs.declared.Who.{Who}
 use Rattle.walk_steps.proofs.ClientFacts.{push_in}
-use Rattle.nq_model.proofs.ClientLists.{marked-before, marked-tag, marked-mode, marked-expiry, used-lease-found, lease-before-drop, other-lease-dropped, lease-after-put, put-lease-found, other-lease-put, marked-blocks}
+use Rattle.nq_model.proofs.ClientLists.{marked-before, marked-tag, marked-mode, marked-expiry, used-lease-found, lease-before-drop}
+use Rattle.nq_model.proofs.ClientLists.{other-lease-dropped, lease-after-put, put-lease-found, other-lease-put, marked-blocks}
 use Rattle.walk_steps.proofs.ClientMoves.{none-some}
 use Rattle.walk_files.proofs.BoundRows.{IsBound}
 use Rattle.walk_files.proofs.Waiting.{IsWaiting}
@@ -194,7 +196,13 @@ module _ (s : Server) (who : Who) (now : ℕ) (journal : List Entry) where
         → IsHeldBound s who (put_lease lease v.leases) p.file
     bound-after p waits on bound =
         let k = (fits p waits on).1 (subst (IsHeldBound s who v.leases) on bound) in
-        record { lease = lease; held = put-lease-found lease p.file v.leases on; writes = k.0; bound = subst (λ n. IsBound s s.phase who n g.tag) (sym on) k.1 }
+        record {
+          lease = lease;
+          held = put-lease-found lease p.file v.leases on;
+          writes = k.0;
+          bound = subst (λ n. IsBound s s.phase who n g.tag)
+              (sym on) k.1;
+        }
 
     other-after : (p : Push) → p.file ≢ file → IsHeldBound s who v.leases p.file → IsHeldBound s who (put_lease lease v.leases) p.file
     other-after p apart bound =

@@ -18,7 +18,8 @@ use Rattle.walk_steps.proofs.LogFits.{crash-now}
 use Rattle.walk_steps.proofs.LogGrants.{granted-tag}
 use Rattle.walk_steps.proofs.LogMoves.{timed, LogMoves, log-moves, tick-log-moves}
 use Rattle.walk_steps.proofs.LogRows.{RowsGranted, granted-receive, granted-tick, granted-crash, RowsHear, hear-receive, hear-tick, hear-crash}
-use Rattle.walk_steps.proofs.LogTimes.{LogBy, by-receive, by-tick, by-crash, HeardAll, heard-receive, heard-tick, heard-crash, ToldBoot, told-receive, told-tick, told-crash}
+use Rattle.walk_steps.proofs.LogTimes.{LogBy, by-receive, by-tick, by-crash, HeardAll, heard-receive, heard-tick, heard-crash, ToldBoot, told-receive}
+use Rattle.walk_steps.proofs.LogTimes.{told-tick, told-crash}
 use Rattle.walk_steps.proofs.RowTimes.{term-bounds}
 use Rattle.walk_steps.proofs.ServerFacts.{IncsFitOf}
 use Rattle.walk_steps.proofs.ServerNumbers.{TermsFitOf, PhaseWaitsOf, waits-receive, waits-tick, waits-crash}
@@ -46,8 +47,10 @@ unfolding sharing_row caching_row shared_again renewed_row
 granted-short table q want row term long (shares_again own found stays shares is lasts) caching =
     let mode : caches row.mode ≡ caches own.mode = ap (λ r. caches r.mode) is in
     absurd (cc)
-granted-short table q want row term long (begins_sharing none room shared is lasts) caching = let b = term-bounds q.longest want.term long in omega (arith, b.1)
-granted-short table q want row term long (begins_caching none room shared is lasts) caching = let b = term-bounds q.longest want.term long in omega (arith, b.1)
+granted-short table q want row term long (begins_sharing none room shared is lasts) caching = let b = term-bounds q.longest want.term long in
+    omega (arith, b.1)
+granted-short table q want row term long (begins_caching none room shared is lasts) caching = let b = term-bounds q.longest want.term long in
+    omega (arith, b.1)
 granted-short table q want row term long (renews_row own found stays caches is lasts) caching =
     let b = term-bounds q.longest want.term long in omega (arith, b.1)
 

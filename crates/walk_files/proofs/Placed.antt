@@ -1,5 +1,6 @@
 -- What holds of each entry at its place, whatever comes after: from it the order of calls and what they make follows.
-use Rattle.std.proofs.Common.{◌≡◌, ◌⊎◌, ℕ, List, [], ◌∷◌, ◌++◌, Option, Some, None, refl, sym, subst, ap, ◌∙◌, inl, inr, Bool, true, false, if◌then◌else◌, ◌==◌, ◌&&◌}
+use Rattle.std.proofs.Common.{◌≡◌, ◌⊎◌, ℕ, List, [], ◌∷◌, ◌++◌, Option, Some, None, refl, sym, subst, ap, ◌∙◌, inl, inr, Bool, true, false}
+use Rattle.std.proofs.Common.{if◌then◌else◌, ◌==◌, ◌&&◌}
 use Rattle.std.specs.Prelude.{⊤}
 use Rattle.std.specs.Option.{option_or}
 use Rattle.std.proofs.lemmas.Bool.{and_parts}
@@ -91,7 +92,8 @@ later-by who q packet (e ∷ later) rest t (inr h) = later-by who q packet later
 
 -- two answers of a call are one
 answered-once : (who : Who) (q : ℕ) (entry : Entry) (before : List Entry) → Placed entry before → IsAnswer who q entry → ¬ Exists (IsAnswer who q) before
-answered-once who q (A by n (OkBy value k)) before p a = subst (λ m. ¬ Exists (IsAnswer who m) before) a.1 (subst (λ w. ¬ Exists (IsAnswer w n) before) a.0 p.0)
+answered-once who q (A by n (OkBy value k)) before p a = subst (λ m. ¬ Exists (IsAnswer who m) before) a.1
+    (subst (λ w. ¬ Exists (IsAnswer w n) before) a.0 p.0)
 answered-once who q (A by n said) before p a = subst (λ m. ¬ Exists (IsAnswer who m) before) a.1 (subst (λ w. ¬ Exists (IsAnswer w n) before) a.0 p)
 answered-once who q other before p a = absurd a
 

@@ -14,14 +14,18 @@ use Rattle.nq_base.specs.declared.Request.{Request}
 use Rattle.nq_base.specs.declared.Tag.{Tag}
 use Rattle.nq_base.specs.declared.Who.{Who}
 use Rattle.walk_steps.proofs.RepliedCases.{replied-cases}
-use Rattle.walk_steps.proofs.PartCases.{answers-call-cases, vacates-noticed-cases, reports-cases, if-broken-cases, takes-optional-cases, lease-done-cases, then-caches-cases, caches-write-cases, caches-push-cases, vacates-if-clean-cases}
+use Rattle.walk_steps.proofs.PartCases.{answers-call-cases, vacates-noticed-cases, reports-cases, if-broken-cases, takes-optional-cases}
+use Rattle.walk_steps.proofs.PartCases.{lease-done-cases, then-caches-cases, caches-write-cases, caches-push-cases, vacates-if-clean-cases}
 use Rattle.walk_steps.proofs.StepCases.{evicted-cases}
 use Rattle.walk_steps.proofs.ClientFacts.{Alone, fits_job, push_in}
 use Rattle.walk_steps.proofs.ClientMoves.{some-same}
 use Rattle.nq_model.proofs.Lists.{each-append}
 use Rattle.nq_model.specs.Client.{Client, ClientStep, Job, Ticket, begun, notice_on}
 use Rattle.nq_model.specs.ClientStep.{begins_call, is_called, says_busy}
-use Rattle.nq_model.specs.Hear.{vacates_lease, notes_notice, evicted, cancels, spends, attached, pauses, marks_through, replied, reply_counts, loses, all_dirty, other_push, loss_entry, reports, without_lease, push_refused, breaks_chain, if_broken, holds, takes_grant, takes_optional, answers_call, caches_block, purges, knows_revision, read_done, lease_done, write_done, ends_push, caches_push, push_done}
+use Rattle.nq_model.specs.Hear.{vacates_lease, notes_notice, evicted, cancels, spends, attached, pauses, marks_through, replied, reply_counts, loses}
+use Rattle.nq_model.specs.Hear.{all_dirty, other_push, loss_entry, reports, without_lease, push_refused, breaks_chain, if_broken, holds, takes_grant}
+use Rattle.nq_model.specs.Hear.{takes_optional, answers_call, caches_block, purges, knows_revision, read_done, lease_done, write_done, ends_push}
+use Rattle.nq_model.specs.Hear.{caches_push, push_done}
 use Rattle.nq_model.specs.Journal.{Each}
 use Rattle.nq_model.specs.Settle.{answers, names_losses}
 use Rattle.walk_steps.proofs.Rows.{number-same}

@@ -9,8 +9,10 @@ use Rattle.nq_base.specs.declared.Row.{Row}
 use Rattle.nq_base.specs.declared.Tag.{Tag}
 use Rattle.nq_base.specs.declared.Who.{Who}
 use Rattle.walk_files.proofs.ChainAfter.{drawn-below}
-use Rattle.walk_files.proofs.ServerChains.{RowOn, goes_on, vacated, superseded, loosened, removed, reopened, RowsMove, LineTo, line_stays, line_begins, line_decides, FileGrows, rev_stays, rev_rises, rev_gone}
-use Rattle.walk_files.proofs.ChainFacts.{line_for, done_at, rev_at, IsFenced, gone, ahead, earlier, IsBoundOrFenced, bound, fenced, IsPushed, ChainFits, StandsWriting, PushFits, PushesFit}
+use Rattle.walk_files.proofs.ServerChains.{RowOn, goes_on, vacated, superseded, loosened, removed, reopened, RowsMove, LineTo, line_stays}
+use Rattle.walk_files.proofs.ServerChains.{line_begins, line_decides, FileGrows, rev_stays, rev_rises, rev_gone}
+use Rattle.walk_files.proofs.ChainFacts.{line_for, done_at, rev_at, IsFenced, gone, ahead, earlier, IsBoundOrFenced, bound, fenced, IsPushed}
+use Rattle.walk_files.proofs.ChainFacts.{ChainFits, StandsWriting, PushFits, PushesFit}
 use Rattle.walk_files.proofs.ChainLists.{fresh-undone}
 use Rattle.nq_model.specs.Chained.{due}
 use Rattle.walk_steps.proofs.ClientMoves.{some-same, none-some}

@@ -16,7 +16,8 @@ use Rattle.walk_files.proofs.Placed.{Placed, IsServedInOrder, reads-on, call-lat
 use Rattle.walk_files.proofs.CallWorlds.{CallsKnown}
 use Rattle.walk_files.proofs.WritesFit.{IsRising}
 use Rattle.walk_files.proofs.ReadClient.{Adds, accesses-writes, put-reads-nothing, told-reads-nothing, plain-reads}
-use Rattle.walk_files.proofs.ReadFacts.{IsServed, IsBacked, reads_nothing, counted_read, IsGood, ReadsOf, ReadsFit, placed-append, served-once, waits-more, standing-before}
+use Rattle.walk_files.proofs.ReadFacts.{IsServed, IsBacked, reads_nothing, counted_read, IsGood, ReadsOf, ReadsFit, placed-append, served-once}
+use Rattle.walk_files.proofs.ReadFacts.{waits-more, standing-before}
 use Rattle.walk_files.proofs.Places.{IsPlaced, placed-in, throughout-at, before-exists}
 use Rattle.walk_files.proofs.ReaderValues.{NoneWaits}
 use Rattle.walk_files.proofs.ReadSends.{Done, NewRead, OldRead}
@@ -160,7 +161,8 @@ module _ (w : World) (host : ℕ) (c : Client) (t : ClientStep) (k : ℕ) (m : M
           good = record {
             standing =
                 standing-before Now (R c.who n f b (value_of body) None) (rest ++ w.journal) c.who f b (value_of body) tt
-                (standing-before Now (A c.who n (OkValue (value_of body))) (R c.who n f b (value_of body) None ∷ rest ++ w.journal) c.who f b (value_of body) tt
+                (standing-before Now (A c.who n (OkValue (value_of body))) (R c.who n f b (value_of body) None ∷ rest ++ w.journal) c.who f b
+                (value_of body) tt
                 (subst (λ zs. IsStandingValue Now (zs ++ w.journal) c.who f b (value_of body)) es (cached_stands f b lease body hold lets has idle)));
             answer = subst (λ zs. Exists (IsAnswerWith c.who n (value_of body)) (zs ++ w.journal)) (sym es) (inl (refl, refl, refl));
           }
@@ -231,7 +233,8 @@ module _ (w : World) (host : ℕ) (c : Client) (t : ClientStep) (k : ℕ) (m : M
       let one : sv.ticket.request ≡ Request.Read s.by s.q s.file s.block
       s.want = (a.mail.asked sv.ticket.xid (Request.Read s.by s.q s.file s.block s.want) s.by asked refl).same inc sv.ticket sv.has refl in
       let number : s.q ≡ q = asked-same s.by sv.by s.q q s.file sv.file s.block sv.block s.want sv.want (sym one ∙ sv.asks) in
-      counted_read (in-exists (IsCountedWith Now who q v) Now (R s.by s.q s.file s.block (value_of sv.body) (Some k)) (in-right t.entries w.journal _ s.there) (
+      counted_read (in-exists (IsCountedWith Now who q v) Now (R s.by s.q s.file s.block (value_of sv.body) (Some k)) (in-right t.entries w.journal _
+      s.there) (
         sym sv.value ∙ gives,
         (
           (mine, number),

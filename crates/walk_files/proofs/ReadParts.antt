@@ -12,11 +12,15 @@ use Rattle.nq_base.specs.declared.Said.TheVariants.{OkValue, OkBy}
 use Rattle.nq_base.specs.declared.Tag.{Tag}
 use Rattle.nq_base.specs.declared.Value.{Value}
 use Rattle.nq_base.specs.declared.Who.{Who}
-use Rattle.walk_steps.proofs.PartCases.{answers-call-cases, vacates-noticed-cases, reports-cases, if-broken-cases, takes-optional-cases, lease-done-cases, then-caches-cases, caches-write-cases, caches-push-cases, vacates-if-clean-cases}
+use Rattle.walk_steps.proofs.PartCases.{answers-call-cases, vacates-noticed-cases, reports-cases, if-broken-cases, takes-optional-cases}
+use Rattle.walk_steps.proofs.PartCases.{lease-done-cases, then-caches-cases, caches-write-cases, caches-push-cases, vacates-if-clean-cases}
 use Rattle.walk_steps.proofs.SettleCases.{IsRead}
 use Rattle.walk_steps.proofs.ClientMoves.{none-some, some-same}
 use Rattle.nq_model.specs.Client.{Client, ClientStep, for_call, Ticket, UnderWay, begun, notice_on}
-use Rattle.nq_model.specs.Hear.{vacates_lease, spends, attached, pauses, marks_through, loses, all_dirty, loss_entry, reports, without_lease, push_refused, breaks_chain, if_broken, holds, takes_grant, takes_optional, answers_call, answer_of, caches_block, purges, knows_revision, then_caches, read_done, lease_done, write_done, ends_push, caches_push, push_done, with_through}
+use Rattle.nq_model.specs.Hear.{vacates_lease, spends, attached, pauses, marks_through, loses, all_dirty, loss_entry, reports, without_lease}
+use Rattle.nq_model.specs.Hear.{push_refused, breaks_chain, if_broken, holds, takes_grant, takes_optional, answers_call, answer_of, caches_block}
+use Rattle.nq_model.specs.Hear.{purges, knows_revision, then_caches, read_done, lease_done, write_done, ends_push, caches_push, push_done}
+use Rattle.nq_model.specs.Hear.{with_through}
 use Rattle.nq_model.specs.Message.{Message, call}
 use Rattle.nq_model.specs.Settle.{answers, names_losses, said}
 use Rattle.walk_steps.proofs.Members.{in-reverse}
@@ -121,7 +125,8 @@ module _ (c : Client) (Valued : Entry → Type 0) where
       }
     where
       case : (e : Entry) → In (reverse (map (loss_entry t.client.who) (all_dirty t.client file))) e ⊎ In t.entries e → IsDull e ⊎ Valued e
-      case e (inl new) = inl (dull-losses t.client.who (all_dirty t.client file) e (in-reverse (map (loss_entry t.client.who) (all_dirty t.client file)) e new))
+      case e (inl new) = inl (dull-losses t.client.who (all_dirty t.client file) e
+          (in-reverse (map (loss_entry t.client.who) (all_dirty t.client file)) e new))
       case e (inr old) = h.fine e old
 
   made-without : (t : ClientStep) (file : ℕ) → P t → P (without_lease t file)

@@ -19,7 +19,9 @@ use Rattle.walk_steps.proofs.SettleCases.{settle-settles}
 use Rattle.walk_steps.proofs.StepCases.{call-cases, unless-cached-cases, tick-cases, evicted-cases, heard-cases}
 use Rattle.walk_steps.proofs.ClientFacts.{Alone, fits_job}
 use Rattle.walk_steps.proofs.ClientMoves.{none-some, some-same}
-use Rattle.walk_files.proofs.ReadParts.{IsDull, is_read, ReadsNothing, MadeFor, TicketOfCall, IsLike, MadeOf, made-refused, made-optional, made-call, made-refusing, made-knows, made-pauses, made-attached, made-spends, made-read, made-leased, made-written, made-pushed}
+use Rattle.walk_files.proofs.ReadParts.{IsDull, is_read, ReadsNothing, MadeFor, TicketOfCall, IsLike, MadeOf, made-refused, made-optional, made-call}
+use Rattle.walk_files.proofs.ReadParts.{made-refusing, made-knows, made-pauses, made-attached, made-spends, made-read, made-leased, made-written}
+use Rattle.walk_files.proofs.ReadParts.{made-pushed}
 use Rattle.nq_model.specs.Client.{Client, ClientStep, for_call, Ticket, UnderWay, begun}
 use Rattle.nq_model.specs.ClientStep.{begins_call, is_called, says_busy, client_call, client_tick, at_time, sends_again}
 use Rattle.nq_base.specs.Calls.{told}

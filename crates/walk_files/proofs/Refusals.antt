@@ -10,7 +10,8 @@ use Rattle.walk_steps.proofs.Sequences.{asks-no-seq, reads-no-seq}
 use Rattle.nq_model.specs.Decide.{verdict_reply}
 use Rattle.nq_model.specs.Message.{sequence_of}
 use Rattle.nq_model.specs.Server.{Server}
-use Rattle.walk_steps.proofs.ServerOutcomes.{line_of, IsPlain, attached_again, not_yet, no_entry, entry, no_attributes, attributes, no_file, no_block, decided_again, is_old}
+use Rattle.walk_steps.proofs.ServerOutcomes.{line_of, IsPlain, attached_again, not_yet, no_entry, entry, no_attributes, attributes, no_file, no_block}
+use Rattle.walk_steps.proofs.ServerOutcomes.{decided_again, is_old}
 
 -- ---- sequences and verdicts
 

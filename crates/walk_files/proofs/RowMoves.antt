@@ -1,5 +1,6 @@
 -- What a step of the server does to the rows of a host.
-use Rattle.std.proofs.Common.{◌≡◌, ◌≢◌, ◌<◌, ◌⊎◌, ℕ, Bool, true, false, not, ◌&&◌, ◌==◌, List, [], Some, None, option_map, refl, sym, subst, ap, ◌∙◌, inl, inr, Option}
+use Rattle.std.proofs.Common.{◌≡◌, ◌≢◌, ◌<◌, ◌⊎◌, ℕ, Bool, true, false, not, ◌&&◌, ◌==◌, List, [], Some, None, option_map, refl, sym, subst, ap, ◌∙◌}
+use Rattle.std.proofs.Common.{inl, inr, Option}
 use Rattle.std.specs.List.{find}
 use Rattle.std.proofs.lemmas.Bool.{and_parts}
 use Rattle.nq_base.specs.declared.Access.{Access}
@@ -21,11 +22,14 @@ use Rattle.nq_model.specs.LeaseInterval.{is_at_least}
 use Rattle.nq_model.specs.Message.{Packet}
 use Rattle.nq_model.specs.Server.{Phase, serving, recovering, Server, standing}
 use Rattle.nq_model.specs.ServerStep.{vacated_rows, is_over, is_due, end_reading}
-use Rattle.nq_model.specs.Table.{Table, caches, is_writing, same_tag, is_row_of, find_row, drop_row, drop_host, drop_rows_of, put_row, next_tag, with_rows, after_draw}
+use Rattle.nq_model.specs.Table.{Table, caches, is_writing, same_tag, is_row_of, find_row, drop_row, drop_host, drop_rows_of, put_row, next_tag}
+use Rattle.nq_model.specs.Table.{with_rows, after_draw}
 use Rattle.walk_steps.proofs.Packets.{Asked}
 use Rattle.walk_steps.proofs.AskCases.{own_in, with_marked, with_waiter, IsGranted, shares_again, begins_sharing, begins_caching, renews_row}
 use Rattle.walk_steps.proofs.Modes.{at-least-more}
-use Rattle.walk_steps.proofs.RowChanges.{HasUniqueKeys, of-key, found-put, find-put, kept_if, find-kept, found-kept, found-vacated, find-not-vacated, find-marked, found-marked, mark, mark-is, unique-filtered, find-other-host-dropped, find-other-file-dropped, find-other-dropped}
+use Rattle.walk_steps.proofs.RowChanges.{HasUniqueKeys, of-key, found-put, find-put, kept_if, find-kept, found-kept, found-vacated, find-not-vacated}
+use Rattle.walk_steps.proofs.RowChanges.{find-marked, found-marked, mark, mark-is, unique-filtered, find-other-host-dropped, find-other-file-dropped}
+use Rattle.walk_steps.proofs.RowChanges.{find-other-dropped}
 use Rattle.walk_steps.proofs.Rows.{same-number, number-same}
 
 -- a row that is not changed goes on

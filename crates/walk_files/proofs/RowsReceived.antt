@@ -1,18 +1,21 @@
 -- What a datagram does to rows, lines and revisions, whoever sees it.
-use Rattle.std.proofs.Common.{◌≡◌, ◌≢◌, ◌<◌, ◌⊎◌, ℕ, ◌+◌, Bool, true, false, ◌==◌, List, [], ◌∷◌, ◌++◌, Option, Some, None, refl, sym, subst, ap, ◌∙◌, arith, inl, inr}
+use Rattle.std.proofs.Common.{◌≡◌, ◌≢◌, ◌<◌, ◌⊎◌, ℕ, ◌+◌, Bool, true, false, ◌==◌, List, [], ◌∷◌, ◌++◌, Option, Some, None, refl, sym, subst, ap, ◌∙◌}
+use Rattle.std.proofs.Common.{arith, inl, inr}
 use Rattle.nq_base.specs.declared.Access.{Access}
 use Rattle.nq_base.specs.declared.PushBase.{PushBase}
 use Rattle.nq_base.specs.declared.Request.{Request}
 use Rattle.nq_base.specs.declared.Verdict.{Verdict}
 use Rattle.nq_base.specs.declared.Who.{Who}
 use Rattle.walk_files.proofs.LineMoves.{line-same, line-decided, written-rises, written-id, replaced-there, replaced-other, by-file}
-use Rattle.walk_files.proofs.RowMoves.{rows-same, rows-marked, rows-granted, rows-waiting, rows-heard, rows-removed, rows-recovering, rows-vacated, rows-attached}
+use Rattle.walk_files.proofs.RowMoves.{rows-same, rows-marked, rows-granted, rows-waiting, rows-heard, rows-removed, rows-recovering, rows-vacated}
+use Rattle.walk_files.proofs.RowMoves.{rows-attached}
 use Rattle.walk_files.proofs.ServerChains.{RowsMove, LineTo, line_stays, line_begins, FilesGrow, rev_stays, rev_rises, rev_gone}
 use Rattle.walk_files.proofs.ChainFacts.{VerdictFits}
 use Rattle.walk_steps.proofs.ClientMoves.{none-some}
 use Rattle.nq_model.specs.Ask.{marked}
 use Rattle.nq_model.specs.Decide.{Decision, commits, row_after, decides, creates, writes_through, stores, wrote, stores_recovering, resizes, removes, puts_off}
-use Rattle.nq_model.specs.Kept.{File, Kept, find_file, replace_file, drop_file, new_file, written_file, resized_file, host_row, with_row, with_files, with_new_file}
+use Rattle.nq_model.specs.Kept.{File, Kept, find_file, replace_file, drop_file, new_file, written_file, resized_file, host_row, with_row, with_files}
+use Rattle.nq_model.specs.Kept.{with_new_file}
 use Rattle.nq_model.specs.Message.{Packet, Datagram, request, asker, sequence_of}
 use Rattle.nq_model.specs.Server.{serving, Server, quiet, drops, says, keeping, keeping_with, with_table, after_notices}
 use Rattle.nq_model.specs.ServerStep.{attaches, vacates, tells_later, serves, leases, to_read, access_of, receive}
@@ -25,7 +28,8 @@ use Rattle.walk_steps.proofs.RowChanges.{HasUniqueKeys}
 use Rattle.walk_steps.proofs.Rows.{found-row, same-number, number-same}
 use Rattle.walk_steps.proofs.ServerCases.{server-hears}
 use Rattle.walk_steps.proofs.ServerMoves.{first_line}
-use Rattle.walk_steps.proofs.ServerOutcomes.{base_in, wanted_by, line_of, IsFrom, IsFresh, IsDeclined, bad_length, name_taken, no_room, not_kept, outside, no_row, not_under, not_over, not_while_recovering, bad_size, no_room_to_grow, ServerCases}
+use Rattle.walk_steps.proofs.ServerOutcomes.{base_in, wanted_by, line_of, IsFrom, IsFresh, IsDeclined, bad_length, name_taken, no_room, not_kept}
+use Rattle.walk_steps.proofs.ServerOutcomes.{outside, no_row, not_under, not_over, not_while_recovering, bad_size, no_room_to_grow, ServerCases}
 use Rattle.walk_steps.proofs.TableFits.{TableFits}
 
 module _ (ps : List Packet) (s : Server) (sender next : ℕ) (d : Datagram) (host : ℕ)

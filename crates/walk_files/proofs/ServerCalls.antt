@@ -1,5 +1,6 @@
 -- What a step of the server does, as the calls of each client see it; and that what is known of them is kept.
-use Rattle.std.proofs.Common.{◌≡◌, ◌≢◌, ◌<◌, ◌≤◌, ◌⊎◌, ℕ, ◌+◌, Bool, true, false, List, [], ◌∷◌, ◌++◌, Some, None, length, refl, sym, subst, ap, ◌∙◌, arith, inl, inr}
+use Rattle.std.proofs.Common.{◌≡◌, ◌≢◌, ◌<◌, ◌≤◌, ◌⊎◌, ℕ, ◌+◌, Bool, true, false, List, [], ◌∷◌, ◌++◌, Some, None, length, refl, sym, subst, ap, ◌∙◌}
+use Rattle.std.proofs.Common.{arith, inl, inr}
 use Rattle.std.specs.Prelude.{⊤, slice_get}
 use Rattle.std.proofs.lemmas.List.{length-append}
 use Rattle.nq_base.specs.declared.Entry.{Entry}
@@ -49,7 +50,8 @@ pub record Refuses (ps : List Packet) (line : HostRow) (host x inc : ℕ) : Type
   pub why : IsWhy line asks who
 
 abbrev pub AllRefuse : List Packet → (ℕ → HostRow) → List Packet → Type 0
-AllRefuse ps line sends = (host x inc : ℕ) (status : Refusal) → In sends (to_host host (reply x (Reply.Refused inc status))) → Refuses ps (line host) host x inc
+AllRefuse ps line sends = (host x inc : ℕ) (status : Refusal) → In sends (to_host host (reply x (Reply.Refused inc status))) → Refuses ps (line host)
+    host x inc
 
 -- such a refusal is of no request that was done
 refused-undone : (c : Client) (ps : List Packet) (line : HostRow) (number : ℕ) (journal : List Entry) (k : Ticket) → Mail c.who c.xid c.ticket ps

@@ -69,7 +69,8 @@ Claims ps who ticket leases file = ((l : Lease) × (lease_on file leases ≡ Som
 
 -- no caching row of an incarnation that claims a file stands before and after a step
 abbrev pub NoneCaches : (s t : Server) (who : Who) (file : ℕ) → Type 0 → Type 0
-NoneCaches s t who file Claimed = (row row' : Row) → OwnRow (standing s) who file row → caches row.mode ≡ true → OwnRow (standing t) who file row' → Claimed → ⊥
+NoneCaches s t who file Claimed = (row row' : Row) → OwnRow (standing s) who file row → caches row.mode ≡ true → OwnRow (standing t) who file row'
+    → Claimed → ⊥
 
 -- what becomes of a file, as one client sees it: it stays; its own write was done; another change was made, and it had no chained
 -- claim; or the file is gone

@@ -15,14 +15,17 @@ use Rattle.nq_base.specs.declared.Verdict.{Verdict}
 use Rattle.nq_base.specs.declared.Want.{Want}
 use Rattle.nq_base.specs.declared.Who.{Who}
 use Rattle.walk_steps.proofs.ClientMoves.{some-same, none-some}
-use Rattle.walk_files.proofs.Facts.{History, Follows, follows, tells-follows, HadLength, GrantTells, Tells, IsDone, LineTells, line-follows, IsFile, FilesFit, UnusedFit}
-use Rattle.walk_files.proofs.FileMoves.{ChangesOnly, files-idle, unused-idle, files-changed, unused-changed, files-removed, files-made, written-values, resized-values}
+use Rattle.walk_files.proofs.Facts.{History, Follows, follows, tells-follows, HadLength, GrantTells, Tells, IsDone, LineTells, line-follows, IsFile}
+use Rattle.walk_files.proofs.Facts.{FilesFit, UnusedFit}
+use Rattle.walk_files.proofs.FileMoves.{ChangesOnly, files-idle, unused-idle, files-changed, unused-changed, files-removed, files-made}
+use Rattle.walk_files.proofs.FileMoves.{written-values, resized-values}
 use Rattle.walk_files.proofs.Histories.{NoChanges, delayed-more}
 use Rattle.walk_files.proofs.ServerDoes.{file-value, file-length, sets-block, sets-length, is-change, IsTrue, history_of, Shows, refused-tells, verdict-tells}
 use Rattle.nq_model.specs.Contents.{delayed_value, after_change}
 use Rattle.nq_model.specs.Told.{GrantIsOf}
 use Rattle.nq_model.specs.Ask.{grant_of}
-use Rattle.nq_model.specs.Decide.{Decision, decides, creates, writes_through, stores, wrote, stores_recovering, resizes, removes, puts_off, verdict_reply, row_after, commits}
+use Rattle.nq_model.specs.Decide.{Decision, decides, creates, writes_through, stores, wrote, stores_recovering, resizes, removes, puts_off}
+use Rattle.nq_model.specs.Decide.{verdict_reply, row_after, commits}
 use Rattle.nq_model.specs.Hear.{inc_of}
 use Rattle.nq_model.specs.Kept.{File, blocks_of, find_file, host_row, with_row, with_files, with_new_file, written_file, resized_file, new_file, replace_file}
 use Rattle.nq_model.specs.Message.{Message, reply, Packet, Datagram, Reason, request, asker, sequence_of}
@@ -35,7 +38,8 @@ use Rattle.walk_steps.proofs.Incarnations.{one-who}
 use Rattle.walk_steps.proofs.KeptChanges.{find-new-added, line-as}
 use Rattle.walk_steps.proofs.Rows.{number-same}
 use Rattle.walk_steps.proofs.ServerCases.{server-hears}
-use Rattle.walk_steps.proofs.ServerOutcomes.{error_for, IsFrom, IsDeclined, IsPlain, unattached, attached_again, not_yet, no_entry, entry, no_attributes, attributes, no_file, no_block, decided_again, is_old, error-no-reply, declined-not}
+use Rattle.walk_steps.proofs.ServerOutcomes.{error_for, IsFrom, IsDeclined, IsPlain, unattached, attached_again, not_yet, no_entry, entry}
+use Rattle.walk_steps.proofs.ServerOutcomes.{no_attributes, attributes, no_file, no_block, decided_again, is_old, error-no-reply, declined-not}
 
 -- ---- what a message says
 

@@ -17,7 +17,8 @@ use Rattle.nq_model.specs.Journal.{Each}
 use Rattle.nq_model.specs.Kept.{File, find_file, host_row}
 use Rattle.nq_model.specs.Message.{Datagram, request, asker, sequence_of}
 use Rattle.nq_model.specs.Server.{serving, Server, ServerStep, standing, standing_in, quiet, drops, says, keeping_with}
-use Rattle.nq_model.specs.ServerStep.{attaches, vacates, tells_later, serves, leases, access_of, grants, receive, tick, at_time, opens, ends_writing, end_reading, is_over, is_due, crash}
+use Rattle.nq_model.specs.ServerStep.{attaches, vacates, tells_later, serves, leases, access_of, grants, receive, tick, at_time, opens, ends_writing}
+use Rattle.nq_model.specs.ServerStep.{end_reading, is_over, is_due, crash}
 use Rattle.nq_model.specs.Table.{Table, is_writing, caches, find_row, drop_row, with_rows}
 use Rattle.walk_steps.proofs.ServerFacts.{IncsFit, IncsFitOf}
 use Rattle.walk_steps.proofs.ServerTables.{StandingFits, StandingFitsOf}

@@ -105,18 +105,19 @@ module _ (ps : List Packet) (s : Server) (sender next : ℕ) (d : Datagram) (sen
       above = changing.fresh.above;
       free = not-fenced s.kept f base changing.found (can.boot ∙ sym (served-boot s changing.serves boots)) can.rev;
     }) refl;
-    storing_recovering = λ xid who seq block first final base body f until heard last e fresh p found below boot rev. stored f who block first final _ (record {
-      xid = xid;
-      seq = seq;
-      base = base;
-      body = body;
-      found = found;
-      below = below;
-      asked = from-sender who xid _ fresh.current.from.host e;
-      inc = fresh.current.inc;
-      above = fresh.above;
-      free = not-fenced s.kept f base found boot rev;
-    }) refl;
+    storing_recovering = λ xid who seq block first final base body f until heard last e fresh p found below boot rev. stored f who block first final _
+        (record {
+          xid = xid;
+          seq = seq;
+          base = base;
+          body = body;
+          found = found;
+          below = below;
+          asked = from-sender who xid _ fresh.current.from.host e;
+          inc = fresh.current.inc;
+          above = fresh.above;
+          free = not-fenced s.kept f base found boot rev;
+        }) refl;
     resizing = λ xid who seq q blocks f e changing can none. idle (tt, tt);
     removing = λ xid who seq q f e changing none. idle (tt, tt);
   })

@@ -10,7 +10,8 @@ use Rattle.nq_base.specs.declared.Row.{Row}
 use Rattle.nq_base.specs.declared.Verdict.{Verdict}
 use Rattle.nq_base.specs.declared.Want.{Want}
 use Rattle.nq_base.specs.declared.Who.{Who}
-use Rattle.nq_model.specs.Decide.{Decision, decides, creates, writes_through, stores, stores_recovering, wrote, resizes, removes, puts_off, verdict_reply, done_reply, commits}
+use Rattle.nq_model.specs.Decide.{Decision, decides, creates, writes_through, stores, stores_recovering, wrote, resizes, removes, puts_off}
+use Rattle.nq_model.specs.Decide.{verdict_reply, done_reply, commits}
 use Rattle.nq_model.specs.Journal.{Each}
 use Rattle.nq_model.specs.Kept.{File, find_file}
 use Rattle.nq_model.specs.Message.{Message, Packet, Datagram, call, reply, request}
@@ -20,7 +21,8 @@ use Rattle.nq_model.specs.ServerStep.{attaches, vacates, tells_later, serves, le
 use Rattle.nq_model.specs.Table.{Table}
 use Rattle.walk_steps.proofs.Packets.{In, in-append, Asked, told-same, reply-same}
 use Rattle.walk_steps.proofs.ServerCases.{server-hears, server-ticks}
-use Rattle.walk_steps.proofs.ServerOutcomes.{error_for, IsPlain, unattached, attached_again, not_yet, no_entry, entry, no_attributes, attributes, no_file, no_block, decided_again, is_old, error-no-reply}
+use Rattle.walk_steps.proofs.ServerOutcomes.{error_for, IsPlain, unattached, attached_again, not_yet, no_entry, entry, no_attributes, attributes}
+use Rattle.walk_steps.proofs.ServerOutcomes.{no_file, no_block, decided_again, is_old, error-no-reply}
 
 -- an entry that is no read and no answer
 abbrev pub IsUnread : Entry → Type 0

@@ -16,10 +16,12 @@ use Rattle.nq_base.specs.declared.Who.{Who}
 use Rattle.walk_steps.proofs.ClientFacts.{push_in}
 use Rattle.walk_steps.proofs.ClientMoves.{some-same, none-some}
 use Rattle.walk_steps.proofs.Sequences.{reads-no-seq, asks-no-seq}
-use Rattle.nq_model.specs.Decide.{Decision, decides, creates, writes_through, stores, wrote, stores_recovering, resizes, removes, puts_off, verdict_reply, commits, row_after}
+use Rattle.nq_model.specs.Decide.{Decision, decides, creates, writes_through, stores, wrote, stores_recovering, resizes, removes, puts_off}
+use Rattle.nq_model.specs.Decide.{verdict_reply, commits, row_after}
 use Rattle.nq_model.specs.Hear.{inc_of, is_put_off}
 use Rattle.nq_model.specs.Kept.{File, Kept, host_row, with_row, with_files, with_new_file}
-use Rattle.nq_model.specs.Message.{Message, Packet, reply, asker, Reason, Datagram, request, too_long, no_message, no_call, other_rpc, other_program, other_version, unknown_procedure, garbage_vacated, garbage, sequence_of}
+use Rattle.nq_model.specs.Message.{Message, Packet, reply, asker, Reason, Datagram, request, too_long, no_message, no_call, other_rpc, other_program}
+use Rattle.nq_model.specs.Message.{other_version, unknown_procedure, garbage_vacated, garbage, sequence_of}
 use Rattle.nq_model.specs.Profile.{most_hosts}
 use Rattle.nq_model.specs.Server.{Server, ServerStep, to_host, quiet, drops, says, notices, after_notices, keeping, keeping_with, with_table}
 use Rattle.nq_model.specs.ServerStep.{attaches, vacates, tells_later, serves, leases, grants, receive}
@@ -29,7 +31,8 @@ use Rattle.walk_steps.proofs.ServerSays.{verdict-inc, plain-inc, notices-no-repl
 use Rattle.walk_steps.proofs.ServerNumbers.{LinesFitOf}
 use Rattle.walk_steps.proofs.KeptChanges.{other-line, own-line, same-lines}
 use Rattle.walk_steps.proofs.ServerCases.{server-hears}
-use Rattle.walk_steps.proofs.ServerOutcomes.{error_for, base_in, line_of, IsFrom, IsFresh, IsPlain, unattached, attached_again, not_yet, no_entry, entry, no_attributes, attributes, no_file, no_block, decided_again, is_old, IsDeclined, declined-not}
+use Rattle.walk_steps.proofs.ServerOutcomes.{error_for, base_in, line_of, IsFrom, IsFresh, IsPlain, unattached, attached_again, not_yet, no_entry}
+use Rattle.walk_steps.proofs.ServerOutcomes.{entry, no_attributes, attributes, no_file, no_block, decided_again, is_old, IsDeclined, declined-not}
 
 -- ---- entries
 

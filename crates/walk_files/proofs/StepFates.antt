@@ -1,5 +1,6 @@
 -- What the journal has of a client's delayed writes is kept by each step of the client, from its beginning to its end.
-use Rattle.std.proofs.Common.{◌≡◌, ◌≤◌, ◌⊎◌, ℕ, ◌+◌, true, false, List, [], ◌∷◌, ◌++◌, Some, None, if◌then◌else◌, refl, sym, subst, ap, ◌∙◌, arith, inl, inr, append-nil}
+use Rattle.std.proofs.Common.{◌≡◌, ◌≤◌, ◌⊎◌, ℕ, ◌+◌, true, false, List, [], ◌∷◌, ◌++◌, Some, None, if◌then◌else◌, refl, sym, subst, ap, ◌∙◌, arith}
+use Rattle.std.proofs.Common.{inl, inr, append-nil}
 use Rattle.nq_base.specs.declared.Answer.{Answer}
 use Rattle.nq_base.specs.declared.Call.{Call}
 use Rattle.nq_base.specs.declared.Entry.{Entry}
@@ -21,14 +22,16 @@ use Rattle.walk_steps.proofs.ClientWalk.{push-wants-none}
 use Rattle.walk_files.proofs.ClientFates.{Mid, mid-quiet, mid-names, mid-settles, mid-next, last-facts}
 use Rattle.walk_files.proofs.FactMoves.{facts-packets, facts-ticket, no-push}
 use Rattle.walk_files.proofs.FactPushes.{facts-stored, IsLosable}
-use Rattle.walk_files.proofs.HeardFates.{NoneOpen, mid-loses, mid-vacates, mid-call, mid-knows, mid-takes, mid-read-done, mid-lease-done, mid-write-done, mid-pauses, mid-attached, mid-notes, mid-ended, mid-refused}
+use Rattle.walk_files.proofs.HeardFates.{NoneOpen, mid-loses, mid-vacates, mid-call, mid-knows, mid-takes, mid-read-done, mid-lease-done}
+use Rattle.walk_files.proofs.HeardFates.{mid-write-done, mid-pauses, mid-attached, mid-notes, mid-ended, mid-refused}
 use Rattle.walk_files.proofs.PushLists.{left-push}
 use Rattle.walk_files.proofs.ServerTells.{Tells, later, decided}
 use Rattle.walk_files.proofs.WritesFit.{JournalFits, PushStands, waits, stored, IsPushed, IsDecidedAs, IsOpenPush, Facts}
 use Rattle.nq_model.specs.Client.{Client, ClientStep, Job, attaching, for_call, pushing, renewing, Ticket, begun}
 use Rattle.nq_model.specs.ClientStep.{begins_call, is_called, says_busy, client_call, at_time, sends_again, client_tick}
 use Rattle.nq_model.specs.Decide.{verdict_reply}
-use Rattle.nq_model.specs.Hear.{wants_of, cancelled, cancels, evicted, goes_on, loses, knows_revision, ends_push, answer_of, spends, is_put_off, replied, reply_counts, hear, inc_of}
+use Rattle.nq_model.specs.Hear.{wants_of, cancelled, cancels, evicted, goes_on, loses, knows_revision, ends_push, answer_of, spends, is_put_off}
+use Rattle.nq_model.specs.Hear.{replied, reply_counts, hear, inc_of}
 use Rattle.nq_model.specs.Message.{Message, Packet, call, reply, sequence_of}
 use Rattle.nq_model.specs.Settle.{settle}
 use Rattle.nq_model.specs.World.{from_host}

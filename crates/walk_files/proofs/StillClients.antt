@@ -1,5 +1,6 @@
 -- A client's step keeps undisturbed what can still be stored, its own and that of all others.
-use Rattle.std.proofs.Common.{◌≡◌, ◌≢◌, ◌<◌, ◌⊎◌, ℕ, suc, ◌==◌, Bool, true, false, ◌&&◌, List, [], ◌∷◌, ◌++◌, Some, map, refl, sym, subst, ap, ◌∙◌, arith, inl, inr}
+use Rattle.std.proofs.Common.{◌≡◌, ◌≢◌, ◌<◌, ◌⊎◌, ℕ, suc, ◌==◌, Bool, true, false, ◌&&◌, List, [], ◌∷◌, ◌++◌, Some, map, refl, sym, subst, ap, ◌∙◌}
+use Rattle.std.proofs.Common.{arith, inl, inr}
 use Rattle.std.specs.Prelude.{slice_get}
 use Rattle.nq_base.specs.declared.Entry.{Entry}
 use Rattle.nq_base.specs.declared.Entry.TheVariants.{W}
@@ -189,7 +190,8 @@ module _ (hosts most : ℕ) (w : World) (e : Event) (events : List Event) (host 
       subst (λ h. Asked w.packets h x r) (ap (λ u. u.host) z.who)
       (case (in-append w.packets (map (from_host host) t.sends) (from_host t.client.who.host (call x r)) asked))
     where
-      mine : (sends : List Message) → ((m : Message) → In sends m → IsBy c.who m) → In (map (from_host host) sends) (from_host t.client.who.host (call x r)) → ⊥
+      mine : (sends : List Message) → ((m : Message) → In sends m → IsBy c.who m) → In (map (from_host host) sends) (from_host t.client.who.host
+          (call x r)) → ⊥
       mine [] all i = i
       mine (m ∷ sends) all (inr i) = mine sends (λ n j. all n (inr j)) i
       mine (m ∷ sends) all (inl e) =

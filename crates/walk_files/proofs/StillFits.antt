@@ -11,7 +11,8 @@ use Rattle.nq_base.specs.declared.Request.{Request}
 use Rattle.nq_base.specs.declared.Row.{Row}
 use Rattle.nq_base.specs.declared.Tag.{Tag}
 use Rattle.nq_base.specs.declared.Who.{Who}
-use Rattle.walk_files.proofs.ChainFacts.{ChainFits, PushesFit, StandsWriting, InOrder, GrantFits, IsFenced, gone, ahead, earlier, IsBoundOrFenced, bound, fenced, done_at, rev_at}
+use Rattle.walk_files.proofs.ChainFacts.{ChainFits, PushesFit, StandsWriting, InOrder, GrantFits, IsFenced, gone, ahead, earlier, IsBoundOrFenced}
+use Rattle.walk_files.proofs.ChainFacts.{bound, fenced, done_at, rev_at}
 use Rattle.nq_model.specs.Chained.{IsChained, KnowsFile, has_done, has_done_write, due}
 use Rattle.walk_steps.proofs.ClientFacts.{push_in}
 use Rattle.walk_steps.proofs.ClientMoves.{none-some, some-same}

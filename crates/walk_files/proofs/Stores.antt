@@ -153,7 +153,8 @@ standing-next (L w g k m n) j rising rests reader q f b v served before placed h
 standing-next (G w g mode tag term now) j rising rests reader q f b v served before placed h =
     standing-other (G w g mode tag term now) j before reader f b v tt h
 standing-next (F w g until heard now) j rising rests reader q f b v served before placed h = standing-other (F w g until heard now) j before reader f b v tt h
-standing-next (O boot until heard now) j rising rests reader q f b v served before placed h = standing-other (O boot until heard now) j before reader f b v tt h
+standing-next (O boot until heard now) j rising rests reader q f b v served before placed h = standing-other (O boot until heard now) j before reader
+    f b v tt h
 standing-next (B w) j rising rests reader q f b v served before placed h = standing-other (B w) j before reader f b v tt h
 standing-next (X boot now longest) j rising rests reader q f b v served before placed h = standing-other (X boot now longest) j before reader f b v tt h
 standing-next (Z w n g from to) j rising rests reader q f b v served before placed h = standing-other (Z w n g from to) j before reader f b v tt h

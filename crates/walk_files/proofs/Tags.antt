@@ -1,6 +1,7 @@
 -- What a client's step does to the tag of the lease of a file that has delayed writes: it stays, or a grant of the chain is
 -- taken, or the delayed writes are lost.
-use Rattle.std.proofs.Common.{◌≡◌, ◌≢◌, ◌⊎◌, ℕ, Bool, true, false, ◌&&◌, ◌||◌, not, ◌==◌, List, [], ◌∷◌, ◌++◌, Option, Some, None, map, refl, sym, subst, ap, ◌∙◌, inl, inr, reverse}
+use Rattle.std.proofs.Common.{◌≡◌, ◌≢◌, ◌⊎◌, ℕ, Bool, true, false, ◌&&◌, ◌||◌, not, ◌==◌, List, [], ◌∷◌, ◌++◌, Option, Some, None, map, refl, sym}
+use Rattle.std.proofs.Common.{subst, ap, ◌∙◌, inl, inr, reverse}
 use Rattle.std.specs.List.{filter, list_any}
 use Rattle.nq_base.specs.declared.Answer.{Answer}
 use Rattle.nq_base.specs.declared.Call.{Call}
@@ -15,14 +16,19 @@ use Rattle.nq_base.specs.declared.Value.{Value}
 use Rattle.walk_steps.proofs.RepliedCases.{replied-cases}
 use Rattle.walk_steps.proofs.SendCases.{send-moves}
 use Rattle.walk_steps.proofs.SettleCases.{settle-cases}
-use Rattle.walk_steps.proofs.PartCases.{answers-call-cases, vacates-noticed-cases, reports-cases, if-broken-cases, takes-optional-cases, lease-done-cases, then-caches-cases, caches-write-cases, caches-push-cases, vacates-if-clean-cases}
+use Rattle.walk_steps.proofs.PartCases.{answers-call-cases, vacates-noticed-cases, reports-cases, if-broken-cases, takes-optional-cases}
+use Rattle.walk_steps.proofs.PartCases.{lease-done-cases, then-caches-cases, caches-write-cases, caches-push-cases, vacates-if-clean-cases}
 use Rattle.walk_steps.proofs.StepCases.{call-cases, unless-cached-cases, tick-cases, evicted-cases, heard-cases}
 use Rattle.walk_steps.proofs.ClientFacts.{Alone, fits_job}
 use Rattle.nq_model.proofs.ClientLists.{marked-before, marked-tag, lease-before-drop, lease-after-put}
 use Rattle.walk_steps.proofs.ClientMoves.{some-same}
-use Rattle.nq_model.specs.Client.{Client, ClientStep, Job, Lease, Ticket, begun, lease_on, used_lease, drop_lease, notice_on, is_push_of, is_clean, push_passes}
+use Rattle.nq_model.specs.Client.{Client, ClientStep, Job, Lease, Ticket, begun, lease_on, used_lease, drop_lease, notice_on, is_push_of, is_clean}
+use Rattle.nq_model.specs.Client.{push_passes}
 use Rattle.nq_model.specs.ClientStep.{begins_call, is_called, says_busy, client_call, client_tick, at_time, sends_again}
-use Rattle.nq_model.specs.Hear.{vacates_lease, notes_notice, evicted, cancels, spends, inc_of, attached, pauses, marks_through, replied, reply_counts, hear, loses, all_dirty, push_of, loss_entry, reports, without_lease, push_refused, breaks_chain, breaks, holds, granted_lease, takes_grant, takes_optional, answers_call, caches_block, purges, knows_revision, ends_push, caches_push, vacates_noticed}
+use Rattle.nq_model.specs.Hear.{vacates_lease, notes_notice, evicted, cancels, spends, inc_of, attached, pauses, marks_through, replied, reply_counts}
+use Rattle.nq_model.specs.Hear.{hear, loses, all_dirty, push_of, loss_entry, reports, without_lease, push_refused, breaks_chain, breaks, holds}
+use Rattle.nq_model.specs.Hear.{granted_lease, takes_grant, takes_optional, answers_call, caches_block, purges, knows_revision, ends_push}
+use Rattle.nq_model.specs.Hear.{caches_push, vacates_noticed}
 use Rattle.nq_model.specs.LeaseInterval.{grant_in, requested_file}
 use Rattle.nq_model.specs.Message.{Message, reply}
 use Rattle.nq_model.specs.Send.{sends_request, after_seq, after_number, takes_push, gives_up, send_next}

@@ -1,5 +1,6 @@
 -- Lists of delayed writes, entry by entry.
-use Rattle.std.proofs.Common.{◌≡◌, ◌≢◌, ◌⊎◌, ℕ, ◌==◌, Bool, true, false, not, List, [], ◌∷◌, ◌++◌, Option, Some, None, if◌then◌else◌, map, refl, sym, subst, ap, ◌∙◌, inl, inr}
+use Rattle.std.proofs.Common.{◌≡◌, ◌≢◌, ◌⊎◌, ℕ, ◌==◌, Bool, true, false, not, List, [], ◌∷◌, ◌++◌, Option, Some, None, if◌then◌else◌, map, refl, sym}
+use Rattle.std.proofs.Common.{subst, ap, ◌∙◌, inl, inr}
 use Rattle.std.specs.List.{filter, list_any}
 use Rattle.std.proofs.lemmas.Bool.{and_parts, not-true, or_parts}
 use Rattle.nq_base.specs.declared.Push.{Push}
@@ -55,7 +56,11 @@ overwritten-is file block number body q p = step (is_push_at file block q) refl
         → ((p.file ≡ file) × (p.block ≡ block) × (p.last ≡ number)) ⊎ (q ≡ p)
     step true e is =
         let key = and_parts (q.file == file) (q.block == block) e in
-        inl (ap (λ z. z.file) (sym is) ∙ same-number q.file file key.0, ap (λ z. z.block) (sym is) ∙ same-number q.block block key.1, ap (λ z. z.last) (sym is))
+        inl (
+          ap (λ z. z.file) (sym is) ∙ same-number q.file file key.0,
+          ap (λ z. z.block) (sym is) ∙ same-number q.block block key.1,
+          ap (λ z. z.last) (sym is),
+        )
     step false e is = inr is
 
 overwritten-in : (file block number : ℕ) (body : List ℕ) (dirty : List Push) (p : Push) → In (map (overwritten_at file block number body) dirty) p

@@ -1,5 +1,6 @@
 -- What a journal keeps when an entry of a client comes behind it, it keeps in each step of a client.
-use Rattle.std.proofs.Common.{◌≡◌, ◌≢◌, ◌⊎◌, ◌≤◌, ℕ, ◌+◌, ◌==◌, Bool, true, false, List, [], ◌∷◌, Option, Some, None, if◌then◌else◌, refl, sym, subst, ap, ◌∙◌, inl, inr}
+use Rattle.std.proofs.Common.{◌≡◌, ◌≢◌, ◌⊎◌, ◌≤◌, ℕ, ◌+◌, ◌==◌, Bool, true, false, List, [], ◌∷◌, Option, Some, None, if◌then◌else◌, refl, sym, subst}
+use Rattle.std.proofs.Common.{ap, ◌∙◌, inl, inr}
 use Rattle.std.specs.Prelude.{⊤}
 use Rattle.nq_base.specs.Block.{value_of}
 use Rattle.nq_base.specs.declared.Answer.{Answer}
@@ -15,16 +16,23 @@ use Rattle.nq_base.specs.declared.Tag.{Tag}
 use Rattle.nq_base.specs.declared.Value.{Value}
 use Rattle.nq_base.specs.declared.Want.{Want}
 use Rattle.nq_base.specs.declared.Who.{Who}
-use Rattle.nq_model.specs.Client.{Client, ClientStep, Job, for_call, Lease, Notice, Ticket, UnderWay, begun, lease_on, drop_lease, put_lease, marked_used, used_lease, losses_of, loss_list, notice_on}
-use Rattle.nq_model.specs.ClientStep.{begins_call, is_called, says_busy, client_call, at_time, sends_again, client_tick, starts, fresh_client, next_incarnation, restart}
+use Rattle.nq_model.specs.Client.{Client, ClientStep, Job, for_call, Lease, Notice, Ticket, UnderWay, begun, lease_on, drop_lease, put_lease}
+use Rattle.nq_model.specs.Client.{marked_used, used_lease, losses_of, loss_list, notice_on}
+use Rattle.nq_model.specs.ClientStep.{begins_call, is_called, says_busy, client_call, at_time, sends_again, client_tick, starts, fresh_client}
+use Rattle.nq_model.specs.ClientStep.{next_incarnation, restart}
 use Rattle.nq_base.specs.Calls.{told}
-use Rattle.nq_model.specs.Hear.{vacates_lease, vacates_noticed, loses, reports, with_through, without_lease, push_refused, breaks_chain, if_broken, granted_lease, holds, takes_grant, takes_optional, answers_call, caches_block, then_caches, purges, knows_revision, read_done, lease_done, marks_through, caches_write, write_done, ends_push, caches_push, push_done, spends, attached, pauses, counts_for_call, cancels, notes_notice, evicted, replied, reply_counts, answer_of, goes_on, hear, inc_of, all_dirty}
+use Rattle.nq_model.specs.Hear.{vacates_lease, vacates_noticed, loses, reports, with_through, without_lease, push_refused, breaks_chain, if_broken}
+use Rattle.nq_model.specs.Hear.{granted_lease, holds, takes_grant, takes_optional, answers_call, caches_block, then_caches, purges, knows_revision}
+use Rattle.nq_model.specs.Hear.{read_done, lease_done, marks_through, caches_write, write_done, ends_push, caches_push, push_done, spends, attached}
+use Rattle.nq_model.specs.Hear.{pauses, counts_for_call, cancels, notes_notice, evicted, replied, reply_counts, answer_of, goes_on, hear, inc_of}
+use Rattle.nq_model.specs.Hear.{all_dirty}
 use Rattle.nq_model.specs.Message.{Message, reply}
 use Rattle.nq_model.specs.Send.{sends_request, after_seq, after_number, takes_push, sends_write, gives_up, send_next}
 use Rattle.nq_model.specs.Settle.{said, answers, reads_cached, after_read, after_write, delays, marks_written, names_losses, settle}
 use Rattle.nq_model.proofs.ClientLists.{lease-before-drop, lease-after-put, marked-before}
 use Rattle.walk_steps.proofs.ClientFacts.{fits_job}
-use Rattle.walk_steps.proofs.PartCases.{answers-call-cases, vacates-noticed-cases, reports-cases, if-broken-cases, takes-optional-cases, lease-done-cases, then-caches-cases, caches-write-cases, caches-push-cases, vacates-if-clean-cases}
+use Rattle.walk_steps.proofs.PartCases.{answers-call-cases, vacates-noticed-cases, reports-cases, if-broken-cases, takes-optional-cases}
+use Rattle.walk_steps.proofs.PartCases.{lease-done-cases, then-caches-cases, caches-write-cases, caches-push-cases, vacates-if-clean-cases}
 use Rattle.walk_steps.proofs.RepliedCases.{IsNamed, RepliedCases, replied-cases}
 use Rattle.walk_steps.proofs.SendCases.{send-moves, pushed}
 use Rattle.walk_steps.proofs.SettleCases.{IsRead, IsWrite, settle-cases}
@@ -160,7 +168,14 @@ module _ (Goes : Who → ℕ → Call → Type 0) (Had : (file blocks : ℕ) →
       → lease_on file t.client.leases ≡ Some lease → lease.blocks ≤ block → Keeps t → Keeps (answers t u.q Answer.Range None)
   unfolding answers
   past-end t u file block lease is of_block held beyond h =
-      let past : IsPastEnd Had u.call = record { file = file; block = block; of_block = of_block; blocks = lease.blocks; had = h.2 file lease held; beyond = beyond } in
+      let past : IsPastEnd Had u.call = record {
+        file = file;
+        block = block;
+        of_block = of_block;
+        blocks = lease.blocks;
+        had = h.2 file lease held;
+        beyond = beyond;
+      } in
       (o.outside t.client.who u.q u.call t.entries past (subst (Going Goes t.client.who) is h.1) h.0, tt, h.2)
 
   named : (t : ClientStep) (q file : ℕ) → Keeps t → Keeps (names_losses t q file)
@@ -336,9 +351,11 @@ module _ (Goes : Who → ℕ → Call → Type 0) (Had : (file blocks : ℕ) →
     by-call u answer is job told = (told-answer u answer is job told, tt, lent)
 
     by-reply : (answer : Answer) → ticket.job ≡ for_call → IsTelling ticket.request r answer → Keeps (answers_call (spends (begun c)) answer None)
-    by-reply answer job is = answers-call-cases (spends (begun c)) answer None Keeps (λ none. spent) (λ u here. by-call u answer (sym spent-call ∙ here) job is)
+    by-reply answer job is = answers-call-cases (spends (begun c)) answer None Keeps (λ none. spent) (λ u here. by-call u answer (sym spent-call
+        ∙ here) job is)
 
-    read : (file block : ℕ) (body : List ℕ) (g : Option Grant) → ((x : Grant) → g ≡ Some x → Had file x.blocks) → Keeps (read_done (spends (begun c)) file block body g ticket.first number)
+    read : (file block : ℕ) (body : List ℕ) (g : Option Grant) → ((x : Grant) → g ≡ Some x → Had file x.blocks)
+        → Keeps (read_done (spends (begun c)) file block body g ticket.first number)
     read file block body g had =
         let t : ClientStep = takes_optional (spends (begun c)) file g ticket.first in
         let h : Keeps t = optional (spends (begun c)) file g ticket.first had spent in

@@ -15,7 +15,8 @@ use Rattle.walk_steps.proofs.CoverFacts.{IsCoveredWhile, IsShort, IsTakeable, Co
 use Rattle.walk_steps.proofs.HostLine.{LineFits, IsSettled, line-sends, line-adds, line-again, line-ticket}
 use Rattle.walk_steps.proofs.Mail.{packets_with, packets-last}
 use Rattle.walk_steps.proofs.Packets.{Asked, Told, Mail}
-use Rattle.walk_steps.proofs.TagFacts.{IsDrawn, TagsFit, told-before, asked-before, tags-leases, used-from, dropped-from, tags-ticket, tags-adds, tags-vacates, tags-holds, tags-notes}
+use Rattle.walk_steps.proofs.TagFacts.{IsDrawn, TagsFit, told-before, asked-before, tags-leases, used-from, dropped-from, tags-ticket, tags-adds}
+use Rattle.walk_steps.proofs.TagFacts.{tags-vacates, tags-holds, tags-notes}
 use Rattle.walk_steps.proofs.Worlds.{Going, going-closed}
 use Rattle.nq_model.specs.Client.{Lease, Notice, Ticket, Job, drop_lease, put_lease, used_lease, notice_on, drop_notice}
 use Rattle.nq_model.specs.Hear.{wants_of, inc_of, cancelled, granted_lease, with_notice}
@@ -92,7 +93,8 @@ knows-vacates {Given = Given} {line = line} {who = who} {attached = attached} {t
     is_attached is_drawn unwanted ungiven m h = record {
       lined = renoticed (line-adds xid (Request.Vacated who f v) is_attached refl refl h.lined);
       tagged =
-          tags-vacates xid f v is_drawn (λ t y a g e told i n on gives. not-wanted t (unwanted t e) ((m.replied y a told i).wants t e n g gives f on)) h.tagged;
+          tags-vacates xid f v is_drawn (λ t y a g e told i n on gives. not-wanted t (unwanted t e) ((m.replied y a told i).wants t e n g gives f on))
+          h.tagged;
       covered =
           cover-leases (drop_lease f leases) (cover-dropped f leases)
           (cover-ticket ticket (ps ++ from_host who.host (call xid (Request.Vacated who f v)) ∷ [])
@@ -111,7 +113,8 @@ knows-vacates {Given = Given} {line = line} {who = who} {attached = attached} {t
             refl,
           )) h.covered);
       heard = h.heard;
-      pending = λ file g sent given. pending-adds xid (Request.Vacated who f v) (λ w tag e. absurd (other file g sent given w tag e)) (h.pending file g sent given);
+      pending = λ file g sent given. pending-adds xid (Request.Vacated who f v) (λ w tag e. absurd (other file g sent given w tag e))
+          (h.pending file g sent given);
     } where
       not-wanted : (t : Ticket) → wants_of f t.request ≡ false → wants_of f t.request ≡ true → ⊥
       not-wanted t a b = absurd (cc)

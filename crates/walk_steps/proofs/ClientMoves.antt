@@ -1,10 +1,13 @@
 -- What holds of one client alone is kept by each small change of it.
-use Rattle.std.proofs.Common.{◌≡◌, ◌≢◌, ◌<◌, ◌≤◌, ◌⊎◌, ℕ, ◌+◌, Bool, true, false, List, [], Option, Some, None, is_some, if◌then◌else◌, option_map, refl, sym, subst, ap, ◌∙◌, arith, inl, inr}
+use Rattle.std.proofs.Common.{◌≡◌, ◌≢◌, ◌<◌, ◌≤◌, ◌⊎◌, ℕ, ◌+◌, Bool, true, false, List, [], Option, Some, None, is_some, if◌then◌else◌, option_map}
+use Rattle.std.proofs.Common.{refl, sym, subst, ap, ◌∙◌, arith, inl, inr}
 use Rattle.nq_base.specs.declared.Request.{Request}
 use Rattle.nq_base.specs.declared.Who.{Who}
 use Rattle.walk_steps.proofs.ClientFacts.{changes_file, fits_job, IsTicket, IsLease, Asking}
-use Rattle.nq_model.proofs.ClientLists.{marked-before, marked-term, marked-expiry, lease-before-drop, lease-after-put, used-lease-found, notice-before-drop, notice-after-put}
-use Rattle.nq_model.specs.Client.{Job, attaching, for_call, Lease, Notice, Ticket, UnderWay, lease_on, drop_lease, put_lease, notice_on, drop_notice, put_notice, marked_used, used_lease}
+use Rattle.nq_model.proofs.ClientLists.{marked-before, marked-term, marked-expiry, lease-before-drop, lease-after-put, used-lease-found}
+use Rattle.nq_model.proofs.ClientLists.{notice-before-drop, notice-after-put}
+use Rattle.nq_model.specs.Client.{Job, attaching, for_call, Lease, Notice, Ticket, UnderWay, lease_on, drop_lease, put_lease, notice_on, drop_notice}
+use Rattle.nq_model.specs.Client.{put_notice, marked_used, used_lease}
 use Rattle.nq_model.specs.Hear.{wants_of, cancelled}
 use Rattle.nq_model.specs.Message.{asker, sequence_of}
 use Rattle.nq_model.specs.Settle.{ticket_is_for_call}
@@ -37,7 +40,15 @@ pub ends-call : {who : Who} {now xid seq : ℕ} {attached : Bool} {call : Option
     → Asking who now attached None ticket xid seq leases notices
 ends-call h other = record {
   ticketed = h.ticketed;
-  waiting = λ e. let w = h.waiting e in record { request = w.request; asks = w.asks; job = w.job; idle = refl; no_lease = w.no_lease; no_notice = w.no_notice };
+  waiting = λ e. let w = h.waiting e in record {
+    request = w.request;
+    asks = w.asks;
+    job = w.job;
+    idle = refl;
+    no_lease = w.no_lease;
+    no_notice =
+        w.no_notice;
+  };
   attaching = h.attaching;
   called =
       λ t e f. let bad : ticket_is_for_call (Some t) ≡ true = rw f refl in
@@ -64,7 +75,9 @@ begins u h = record {
 marked-lease : (now f : ℕ) (l : Lease) → IsLease now l → IsLease now (marked_used f l)
 marked-lease now f l h = record { term = rw (marked-term f l, marked-expiry f l) h.term; past = rw (marked-term f l, marked-expiry f l) h.past }
 
-pub uses : {who : Who} {now xid seq : ℕ} {attached : Bool} {call : Option UnderWay} {ticket : Option Ticket} {leases : List Lease} {notices : List Notice} (f : ℕ) → Asking who now attached call ticket xid seq leases notices → Asking who now attached call ticket xid seq (used_lease f leases) notices
+pub uses : {who : Who} {now xid seq : ℕ} {attached : Bool} {call : Option UnderWay} {ticket : Option Ticket} {leases : List Lease}
+    {notices : List Notice} (f : ℕ) → Asking who now attached call ticket xid seq leases notices → Asking who now attached call ticket xid seq
+    (used_lease f leases) notices
 uses {now = now} {leases = leases} f h = record {
   ticketed = h.ticketed;
   waiting =

@@ -1,5 +1,6 @@
 -- A client draws at most one sequence for each packet that it sends.
-use Rattle.std.proofs.Common.{◌≡◌, ◌≤◌, ◌<◌, ◌⊎◌, ℕ, ◌+◌, true, not, ◌&&◌, List, [], ◌∷◌, ◌++◌, Option, Some, None, length, refl, sym, subst, ap, ◌∙◌, arith, inl, inr, length-append}
+use Rattle.std.proofs.Common.{◌≡◌, ◌≤◌, ◌<◌, ◌⊎◌, ℕ, ◌+◌, true, not, ◌&&◌, List, [], ◌∷◌, ◌++◌, Option, Some, None, length, refl, sym, subst, ap, ◌∙◌}
+use Rattle.std.proofs.Common.{arith, inl, inr, length-append}
 use Rattle.std.proofs.lemmas.Bool.{and_parts}
 use Rattle.nq_base.specs.declared.Call.{Call}
 use Rattle.nq_base.specs.declared.Grant.{Grant}
@@ -251,7 +252,8 @@ timed-draws packets host c ps now a few = record {
 pub call-draws :
     (packets host : ℕ) (c : Client) (ps : List Packet) (op : Call) → IsAt host c ps → HasDrawn packets c → DrewUpTo packets c.who.inc (client_call c op)
 call-draws packets host c ps op a few =
-    drew packets c.who (client_call c op) (call-keeps (draws-closed (packets + 1) c.who NoneHeard NoneGiven) c op a.alone (begun-draws packets host c ps a few))
+    drew packets c.who (client_call c op) (call-keeps (draws-closed (packets + 1) c.who NoneHeard NoneGiven) c op a.alone (begun-draws packets host c
+    ps a few))
 
 pub tick-draws :
     (packets host : ℕ) (c : Client) (ps : List Packet) → IsAt host c ps → HasDrawn packets c → DrewUpTo packets c.who.inc (client_tick c (c.now + 1))
@@ -354,7 +356,8 @@ notice-draws packets host c ps who file tag a few =
     (begun-draws packets host c ps a few)))
     (λ e. tt)
 
-called-draws : (packets host : ℕ) (c : Client) (ps : List Packet) (r : Request) → IsAt host c ps → HasDrawn packets c → DrewIf packets c.who.inc (hear_call c r)
+called-draws : (packets host : ℕ) (c : Client) (ps : List Packet) (r : Request) → IsAt host c ps → HasDrawn packets c → DrewIf packets c.who.inc
+    (hear_call c r)
 called-draws packets host c ps (Request.Evicted who file tag) a few = notice-draws packets host c ps who file tag a few
 called-draws packets host c ps other a few = tt
 

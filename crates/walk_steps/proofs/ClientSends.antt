@@ -9,9 +9,14 @@ use Rattle.nq_base.specs.declared.Reply.{Reply}
 use Rattle.nq_base.specs.declared.Refusal.{Refusal}
 use Rattle.nq_base.specs.declared.Request.{Request}
 use Rattle.nq_base.specs.declared.Tag.{Tag}
-use Rattle.nq_model.specs.Client.{Client, ClientStep, lease_on, notice_on, dirty_at, is_clean, revision_of, is_revision_before, Job, attaching, for_call, renewing, pushing, Notice, Ticket, UnderWay, begun}
+use Rattle.nq_model.specs.Client.{Client, ClientStep, lease_on, notice_on, dirty_at, is_clean, revision_of, is_revision_before, Job, attaching}
+use Rattle.nq_model.specs.Client.{for_call, renewing, pushing, Notice, Ticket, UnderWay, begun}
 use Rattle.nq_model.specs.ClientStep.{client_call, client_tick, restart, begins_call, is_called, says_busy, sends_again, at_time, starts}
-use Rattle.nq_model.specs.Hear.{hear, waits_for, breaks, grant_caches, holds_caching, is_put_off, answer_of, answers_call, vacates_lease, vacates_noticed, loses, reports_to, without_lease, push_refused, breaks_chain, if_broken, holds, takes_grant, takes_optional, answers_call_of, caches_block, purges, knows_revision, then_caches, read_done, marks_through, lease_done, caches_write, write_done, ends_push, caches_push, vacates_if_clean, push_done, spends, attached, pauses, done_for_call, done_renewal, done_push, done, refused_push, refused, replied, cancels, notes_notice, evicted, goes_on}
+use Rattle.nq_model.specs.Hear.{hear, waits_for, breaks, grant_caches, holds_caching, is_put_off, answer_of, answers_call, vacates_lease}
+use Rattle.nq_model.specs.Hear.{vacates_noticed, loses, reports_to, without_lease, push_refused, breaks_chain, if_broken, holds, takes_grant}
+use Rattle.nq_model.specs.Hear.{takes_optional, answers_call_of, caches_block, purges, knows_revision, then_caches, read_done, marks_through}
+use Rattle.nq_model.specs.Hear.{lease_done, caches_write, write_done, ends_push, caches_push, vacates_if_clean, push_done, spends, attached, pauses}
+use Rattle.nq_model.specs.Hear.{done_for_call, done_renewal, done_push, done, refused_push, refused, replied, cancels, notes_notice, evicted, goes_on}
 use Rattle.nq_model.specs.Message.{Message}
 use Rattle.nq_model.specs.Send.{sends_request, after_seq, after_number, takes_push, gives_up, send_next}
 use Rattle.nq_model.specs.Settle.{answers, names_losses, after_write, reads_cached, marks_written, settle}
@@ -134,7 +139,8 @@ unfolding caches_block
 read-one t file block body g sent number =
     let u = takes_optional t file g sent in
     let v = then_caches u file block body g in
-    let kept : v.sends ≡ u.sends = choice (λ (x : ClientStep). x.sends ≡ u.sends) (grant_caches g) (caches_block u file block body) u (λ e. refl) (λ e. refl) in
+    let kept : v.sends ≡ u.sends = choice (λ (x : ClientStep). x.sends ≡ u.sends) (grant_caches g) (caches_block u file block body) u (λ e. refl)
+    (λ e. refl) in
     then-same 1 t u _ (optional-one t file g sent) (answered v _ _ v.client.call ∙ kept)
 
 lease-one : (t : ClientStep) (file : ℕ) (g : Option Grant) (sent : ℕ) → Adds 1 t (lease_done t file g sent)

@@ -1,5 +1,6 @@
 -- What a client and the server know of each other is kept by each step of the client.
-use Rattle.std.proofs.Common.{◌≡◌, ◌≤◌, ℕ, ◌+◌, ◌-◌, Bool, true, false, not, ◌&&◌, List, [], ◌∷◌, ◌++◌, Option, Some, None, refl, sym, subst, ap, ◌∙◌, arith, inl, inr, append-nil}
+use Rattle.std.proofs.Common.{◌≡◌, ◌≤◌, ℕ, ◌+◌, ◌-◌, Bool, true, false, not, ◌&&◌, List, [], ◌∷◌, ◌++◌, Option, Some, None, refl, sym, subst, ap, ◌∙◌}
+use Rattle.std.proofs.Common.{arith, inl, inr, append-nil}
 use Rattle.std.proofs.lemmas.Bool.{and_parts, both_ways}
 use Rattle.nq_base.specs.declared.Call.{Call}
 use Rattle.nq_base.specs.declared.Event.{Event}
@@ -25,7 +26,8 @@ use Rattle.walk_steps.proofs.TagFacts.{IsDrawn, tags-ticket}
 use Rattle.walk_steps.proofs.Worlds.{Going, IsAt, begun-going, timed-going}
 use Rattle.nq_model.specs.Client.{Client, ClientStep, begun, attaching, Lease, Notice, Ticket, lease_on}
 use Rattle.nq_model.specs.ClientStep.{client_call, client_tick, at_time}
-use Rattle.nq_model.specs.Hear.{inc_of, is_of_procedure, refusal_counts, is_reply_to, reply_counts, hear, hear_reply, hear_notice, hear_call, goes_on, replied, holds_later, evicted, cancels}
+use Rattle.nq_model.specs.Hear.{inc_of, is_of_procedure, refusal_counts, is_reply_to, reply_counts, hear, hear_reply, hear_notice, hear_call, goes_on}
+use Rattle.nq_model.specs.Hear.{replied, holds_later, evicted, cancels}
 use Rattle.nq_model.specs.LeaseInterval.{claim_of, IsCovered}
 use Rattle.nq_model.specs.Message.{Message, Packet, call, reply, error, asker, sequence_of}
 use Rattle.nq_model.specs.Server.{Server, standing}

@@ -14,14 +14,18 @@ use Rattle.walk_steps.proofs.ClientFacts.{Alone, Asking, AskingOf, IsPush, push_
 use Rattle.walk_steps.proofs.ClientMoves as move
 use Rattle.walk_steps.proofs.ClientMoves.{some-same, none-some, attached-with-ticket, keeps-or-cancels}
 use Rattle.walk_steps.proofs.ClientWrites as writes
-use Rattle.walk_steps.proofs.HearWalk.{IsFree, Brings, Spent, answers-call-keeps, pauses-keeps, optional-keeps, read-done-keeps, lease-done-keeps, write-done-keeps, quiet-knows, knows-free, push-done-keeps, push-refused-keeps, push-of-file, spent-keeps, spent-free, spent-now, spent-notices, spent-push, spent-gone}
+use Rattle.walk_steps.proofs.HearWalk.{IsFree, Brings, Spent, answers-call-keeps, pauses-keeps, optional-keeps, read-done-keeps, lease-done-keeps}
+use Rattle.walk_steps.proofs.HearWalk.{write-done-keeps, quiet-knows, knows-free, push-done-keeps, push-refused-keeps, push-of-file, spent-keeps}
+use Rattle.walk_steps.proofs.HearWalk.{spent-free, spent-now, spent-notices, spent-push, spent-gone}
 use Rattle.walk_steps.proofs.RepliedCases.{replied-cases}
 use Rattle.walk_steps.proofs.StepCases.{call-cases, unless-cached-cases, tick-cases, evicted-cases}
 use Rattle.walk_steps.proofs.SendWalk.{at-true, from-true, send-next-keeps}
 use Rattle.walk_steps.proofs.SettleWalk.{begun-call, settle-keeps}
-use Rattle.nq_model.specs.Client.{Client, ClientStep, attaching, for_call, renewing, pushing, begun, Notice, Ticket, notice_on, put_notice, is_clean, is_push_of, push_passes}
+use Rattle.nq_model.specs.Client.{Client, ClientStep, attaching, for_call, renewing, pushing, begun, Notice, Ticket, notice_on, put_notice, is_clean}
+use Rattle.nq_model.specs.Client.{is_push_of, push_passes}
 use Rattle.nq_model.specs.ClientStep.{begins_call, is_called, says_busy, client_call, at_time, sends_again, client_tick}
-use Rattle.nq_model.specs.Hear.{wants_of, knows_revision, vacates_lease, answer_of, spends, attached, replied, reply_counts, cancelled, cancels, noticed_tag, notes_notice, evicted, goes_on}
+use Rattle.nq_model.specs.Hear.{wants_of, knows_revision, vacates_lease, answer_of, spends, attached, replied, reply_counts, cancelled, cancels}
+use Rattle.nq_model.specs.Hear.{noticed_tag, notes_notice, evicted, goes_on}
 use Rattle.nq_model.specs.LeaseInterval.{grant_in, requested_file}
 use Rattle.nq_model.specs.Settle.{answers, names_losses, settle}
 
@@ -109,7 +113,8 @@ replied-keeps {Given = Given} {P = P} closed c number ticket r h =
       push_refused = λ who seq file block first last base body inc status job asks is not_later.
           let of_file : (p : Push) → push_in ticket.request ≡ Some p
           → p.file ≡ file = λ p e. push-of-file who seq file block first last base body p (subst (λ z. push_in z ≡ Some p) asks e) in
-          push-refused-keeps closed t file (ungiven file (ap requested_file asks)) (spent-gone c ticket file h.asked of_file h.alone) (of-push file job of_file);
+          push-refused-keeps closed t file (ungiven file (ap requested_file asks)) (spent-gone c ticket file h.asked of_file h.alone)
+          (of-push file job of_file);
     }) where
       t : ClientStep
       t = spends (begun c)

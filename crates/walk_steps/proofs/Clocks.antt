@@ -64,7 +64,8 @@ runs-below hosts longest host asked term events within there past runs short =
 
 -- what was within skew is so without its last event
 pub within-before : (hosts longest : ℕ) (e : Event) (earlier : List Event) → IsWithinSkew hosts longest (e ∷ earlier) → IsWithinSkew hosts longest earlier
-within-before hosts longest e earlier within = λ before part after split host below few. within (e ∷ before) part after (ap (λ es. e ∷ es) split) host below few
+within-before hosts longest e earlier within = λ before part after split host below few. within (e ∷ before) part after (ap (λ es. e ∷ es) split) host
+    below few
 
 -- the moment at which a clock came to a time that is past does not change any more
 pub same-moment : (host time : ℕ) (e : Event) (earlier : List Event) → time ≤ ticks_of host earlier

@@ -1,5 +1,6 @@
 -- At the start of a run the numbers are within their bounds.
-use Rattle.std.proofs.Common.{◌≡◌, ◌≢◌, ◌≤◌, ◌<◌, ℕ, ◌+◌, ◌-◌, ◌==◌, Bool, true, false, List, [], ◌∷◌, ◌++◌, Some, None, if◌then◌else◌, length, refl, sym, subst, ap, ◌∙◌, arith, length-append}
+use Rattle.std.proofs.Common.{◌≡◌, ◌≢◌, ◌≤◌, ◌<◌, ℕ, ◌+◌, ◌-◌, ◌==◌, Bool, true, false, List, [], ◌∷◌, ◌++◌, Some, None, if◌then◌else◌, length, refl}
+use Rattle.std.proofs.Common.{sym, subst, ap, ◌∙◌, arith, length-append}
 use Rattle.std.proofs.lemmas.Bool.{and_parts}
 use Rattle.std.proofs.lemmas.List.{length-replicate}
 use Rattle.std.proofs.lemmas.List.Elements.{All-nil, All-cons, All-append, All-replicate}
@@ -111,7 +112,8 @@ first-blocks id (f ∷ files) =
 first-revisions : (id : ℕ) (files : List (List ℕ × ℕ)) → All (λ f. f.rev ≤ 0) (first_files id files)
 first-revisions id [] = All-nil (λ f. f.rev ≤ 0)
 first-revisions id (f ∷ files) =
-    All-cons (λ g. g.rev ≤ 0) (new_file id f.0 f.1) (first_files (id + 1) files) (let none = new-rev id f.0 f.1 in omega arith) (first-revisions (id + 1) files)
+    All-cons (λ g. g.rev ≤ 0) (new_file id f.0 f.1) (first_files (id + 1) files) (let none = new-rev id f.0 f.1 in omega arith)
+    (first-revisions (id + 1) files)
 
 -- ---- the rows of the hosts
 

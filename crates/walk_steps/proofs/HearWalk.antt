@@ -1,5 +1,6 @@
 -- What each small change of a client keeps is kept where a client hears a datagram.
-use Rattle.std.proofs.Common.{◌≡◌, ◌≢◌, ◌≤◌, ◌⊎◌, ℕ, ◌+◌, Bool, true, false, ◌&&◌, not, ◌==◌, List, Option, Some, None, is_some, if◌then◌else◌, refl, sym, subst, ap, ◌∙◌, arith, inl, inr}
+use Rattle.std.proofs.Common.{◌≡◌, ◌≢◌, ◌≤◌, ◌⊎◌, ℕ, ◌+◌, Bool, true, false, ◌&&◌, not, ◌==◌, List, Option, Some, None, is_some, if◌then◌else◌, refl}
+use Rattle.std.proofs.Common.{sym, subst, ap, ◌∙◌, arith, inl, inr}
 use Rattle.std.specs.List.{list_any}
 use Rattle.nq_base.specs.declared.Answer.{Answer}
 use Rattle.nq_base.specs.declared.Grant.{Grant}
@@ -18,8 +19,12 @@ use Rattle.nq_model.proofs.ClientLists.{notice-before-drop, any-others}
 use Rattle.walk_steps.proofs.Rows.{choice, number-same, same-number}
 use Rattle.walk_steps.proofs.SendWalk.{at-true, from-true}
 use Rattle.walk_steps.proofs.SettleWalk.{IsIdle, answers-keeps, names-keeps, begun-call}
-use Rattle.nq_model.specs.Client.{Client, ClientStep, pushing, begun, Notice, Ticket, UnderWay, lease_on, put_lease, notice_on, is_clean, is_push_of, push_passes, revision_of, is_revision_before, dirty_at, is_clean_in}
-use Rattle.nq_model.specs.Hear.{vacates_lease, vacates_noticed, loses, waits_for, reports_to, reports, without_lease, push_refused, granted_lease, breaks, breaks_chain, if_broken, holds, takes_grant, takes_optional, answers_call_of, answers_call, caches_block, purges, knows_revision, grant_caches, then_caches, read_done, with_through, marks_through, lease_done, holds_caching, caches_write, write_done, ends_push, caches_push, vacates_if_clean, push_done, spends, attached, pauses, other_push}
+use Rattle.nq_model.specs.Client.{Client, ClientStep, pushing, begun, Notice, Ticket, UnderWay, lease_on, put_lease, notice_on, is_clean, is_push_of}
+use Rattle.nq_model.specs.Client.{push_passes, revision_of, is_revision_before, dirty_at, is_clean_in}
+use Rattle.nq_model.specs.Hear.{vacates_lease, vacates_noticed, loses, waits_for, reports_to, reports, without_lease, push_refused, granted_lease}
+use Rattle.nq_model.specs.Hear.{breaks, breaks_chain, if_broken, holds, takes_grant, takes_optional, answers_call_of, answers_call, caches_block}
+use Rattle.nq_model.specs.Hear.{purges, knows_revision, grant_caches, then_caches, read_done, with_through, marks_through, lease_done, holds_caching}
+use Rattle.nq_model.specs.Hear.{caches_write, write_done, ends_push, caches_push, vacates_if_clean, push_done, spends, attached, pauses, other_push}
 use Rattle.nq_model.specs.Settle.{answers, names_losses}
 
 -- no request is under way, and the client is attached

@@ -1,5 +1,6 @@
 -- What the server and each client of a world know of each other, kept by each event; and what it says of their leases.
-use Rattle.std.proofs.Common.{◌≡◌, ◌≢◌, ◌<◌, ℕ, zero, suc, ◌+◌, ◌-◌, Bool, true, false, ◌==◌, List, [], ◌∷◌, ◌++◌, Option, Some, None, refl, sym, subst, ap, ◌∙◌, arith}
+use Rattle.std.proofs.Common.{◌≡◌, ◌≢◌, ◌<◌, ℕ, zero, suc, ◌+◌, ◌-◌, Bool, true, false, ◌==◌, List, [], ◌∷◌, ◌++◌, Option, Some, None, refl, sym}
+use Rattle.std.proofs.Common.{subst, ap, ◌∙◌, arith}
 use Rattle.std.specs.Prelude.{slice_get, slice_set, replicate, unwrap_or}
 use Rattle.std.proofs.lemmas.Bool.{and_parts}
 use Rattle.nq_base.specs.declared.Call.{Call}
@@ -230,7 +231,8 @@ knows-starts line s host term one = record {
 pub start-known : (head : Head) → Known (start head) []
 unfolding start
 start-known head = record { clients = λ host c is. starts host c is } where
-  starts : (host : ℕ) (c : Client) → slice_get (start head).clients host ≡ Some c → KnowsOf (host_row (start head).server.kept host) (start head).server [] c []
+  starts : (host : ℕ) (c : Client) → slice_get (start head).clients host ≡ Some c → KnowsOf (host_row (start head).server.kept host)
+      (start head).server [] c []
   starts host c is =
       subst (λ z. KnowsOf (host_row (start head).server.kept host) (start head).server [] z [])
       (sym (first-client head.term 0 head.hosts host c is ∙ ap (λ n. attached_client (record { host = n; inc = 1 }) head.term 0) (omega arith)))

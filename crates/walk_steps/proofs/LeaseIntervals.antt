@@ -1,5 +1,6 @@
 -- In every run within skew the lease interval is kept.
-use Rattle.std.proofs.Common.{◌≡◌, ◌≢◌, ◌≤◌, ℕ, zero, suc, ◌+◌, Bool, true, false, ◌==◌, List, [], ◌∷◌, ◌++◌, Option, Some, None, if◌then◌else◌, length, refl, sym, subst, ap, ◌∙◌, arith, append-nil}
+use Rattle.std.proofs.Common.{◌≡◌, ◌≢◌, ◌≤◌, ℕ, zero, suc, ◌+◌, Bool, true, false, ◌==◌, List, [], ◌∷◌, ◌++◌, Option, Some, None, if◌then◌else◌}
+use Rattle.std.proofs.Common.{length, refl, sym, subst, ap, ◌∙◌, arith, append-nil}
 use Rattle.std.specs.Prelude.{slice_get, slice_set}
 use Rattle.nq_base.specs.declared.Event.{Event}
 use Rattle.nq_base.specs.declared.Party.{Party}
@@ -11,7 +12,8 @@ use Rattle.walk_steps.proofs.ClientMoves.{some-same, none-some}
 use Rattle.walk_steps.proofs.ClientSteps.{KnowsOf}
 use Rattle.walk_steps.proofs.Clocks.{within-before}
 use Rattle.walk_steps.proofs.Hearing.{Hearing}
-use Rattle.walk_steps.proofs.KnownWorlds.{Known, at-clock, timely, to-client-known, call-known, tick-known, restart-known, server-known, known-covers, start-known, first-there, ignored-known}
+use Rattle.walk_steps.proofs.KnownWorlds.{Known, at-clock, timely, to-client-known, call-known, tick-known, restart-known, server-known, known-covers}
+use Rattle.walk_steps.proofs.KnownWorlds.{start-known, first-there, ignored-known}
 use Rattle.walk_steps.proofs.LogFits.{fits-start}
 use Rattle.walk_steps.proofs.Packets.{In, in-get, Told}
 use Rattle.walk_steps.proofs.Rows.{same-number, number-same}
@@ -40,7 +42,8 @@ use Rattle.nq_model.specs.Server.{Phase, serving, recovering, Server, ServerStep
 use Rattle.nq_model.specs.ServerStep.{receive, tick, crash, boot, booted, fence, opens, ends_writing}
 use Rattle.nq_model.specs.Skew.{IsWithinSkew}
 use Rattle.nq_model.specs.Table.{find_row}
-use Rattle.nq_model.specs.World.{Head, World, after_server, after_client, at_client, after_hearing, sending_host, deliver_to_client, deliver_to, deliver, step, start, run}
+use Rattle.nq_model.specs.World.{Head, World, after_server, after_client, at_client, after_hearing, sending_host, deliver_to_client, deliver_to}
+use Rattle.nq_model.specs.World.{deliver, step, start, run}
 use Rattle.walk_steps.proofs.Runs.{Served, none-served, Runs}
 use Rattle.walk_steps.proofs.NoCrash.{bounds-before}
 

@@ -49,7 +49,8 @@ first-ids id (x ∷ files) i f found = first-step id x files i f (id == i) refl 
 first-lines : (head : Head) → head.hosts ≤ most_hosts → LinesFit (first_kept head).hosts
 first-lines head few = omega (arith, length-append {A = HostRow}, length-replicate {A = HostRow})
 
-pub fits-start : (most : ℕ) (head : Head) → head.hosts ≤ most_hosts → shortest_term ≤ head.longest → head.longest ≤ most → ServerFits most 0 (start head).server
+pub fits-start : (most : ℕ) (head : Head) → head.hosts ≤ most_hosts → shortest_term ≤ head.longest → head.longest ≤ most
+    → ServerFits most 0 (start head).server
 unfolding start
 fits-start most head few long most_long =
     fits-boot most (first_kept head) head.longest 0 refl long most_long long most_long

@@ -17,7 +17,8 @@ use Rattle.nq_model.specs.Kept.{File, Kept, find_file, replace_file, drop_file, 
 use Rattle.nq_model.specs.Message.{Datagram, request}
 use Rattle.nq_model.specs.Profile.{write_slack}
 use Rattle.nq_model.specs.Server.{Phase, serving, recovering, Server, ServerStep, quiet, drops, says, after_notices, keeping, keeping_with, with_table}
-use Rattle.nq_model.specs.ServerStep.{attaches, vacates, vacated_rows, tells_later, serves, leases, to_read, receive, is_due, end_reading, fence, ends_writing, opens, at_time, tick}
+use Rattle.nq_model.specs.ServerStep.{attaches, vacates, vacated_rows, tells_later, serves, leases, to_read, receive, is_due, end_reading, fence}
+use Rattle.nq_model.specs.ServerStep.{ends_writing, opens, at_time, tick}
 use Rattle.nq_model.specs.Table.{Table, find_row, drop_row, put_row, drop_host, drop_rows_of, with_rows, after_draw}
 use Rattle.walk_steps.proofs.AskCases.{clash_in, own_in, has_room, with_marked, with_waiter, IsGranted}
 use Rattle.walk_steps.proofs.ServerCases.{server-hears, server-ticks}

@@ -11,7 +11,9 @@ use Rattle.nq_base.specs.declared.Row.{Row}
 use Rattle.nq_base.specs.declared.Verdict.{Verdict}
 use Rattle.nq_base.specs.declared.Who.{Who}
 use Rattle.nq_model.specs.Ask.{ask}
-use Rattle.nq_model.specs.Decide.{Decision, decides, creates, writes_through, stores, stores_recovering, resizes, removes, puts_off, to_change, unless_told, unless_conflict, decide_create, decide_push, decide_write_in, decide_write, decide_push_recovering, decide_write_recovering, decide_resize, decide_remove, decide_in, decide, row_after}
+use Rattle.nq_model.specs.Decide.{Decision, decides, creates, writes_through, stores, stores_recovering, resizes, removes, puts_off, to_change}
+use Rattle.nq_model.specs.Decide.{unless_told, unless_conflict, decide_create, decide_push, decide_write_in, decide_write, decide_push_recovering}
+use Rattle.nq_model.specs.Decide.{decide_write_recovering, decide_resize, decide_remove, decide_in, decide, row_after}
 use Rattle.nq_model.specs.Kept.{File, blocks_in_all, find_file, can_be_kept}
 use Rattle.nq_model.specs.Message.{sequence_of}
 use Rattle.nq_model.specs.Profile.{inc_end, seq_end, rev_end, most_files, most_blocks, most_ids}
@@ -65,7 +67,8 @@ module _ (n : ℕ) (s : Server) (few : n ≤ most_events) (g : RevisionsUpTo n s
   created name blocks =
       either-low _ _ _ (declined Verdict.Invalid) (
       either-low _ _ _ (declined Verdict.Exist) (
-      choice IsLow (nat_le most_files (length s.kept.files) || nat_lt most_blocks (blocks_in_all s.kept.files + blocks) || nat_le most_ids s.kept.next) (decides s Verdict.NoSpace) (creates s name blocks)
+      choice IsLow (nat_le most_files (length s.kept.files) || nat_lt most_blocks (blocks_in_all s.kept.files + blocks) || nat_le most_ids
+      s.kept.next) (decides s Verdict.NoSpace) (creates s name blocks)
       (λ none. declined Verdict.NoSpace)
       (λ room. made name blocks (is-not-at-most most_ids s.kept.next (or_parts _ _ room).1))))
 
@@ -133,7 +136,8 @@ module _ (n : ℕ) (s : Server) (few : n ≤ most_events) (g : RevisionsUpTo n s
 
   decided-low : (phase : Phase) (who : Who) (r : Request) → IsLow (decide_in s phase who r)
   decided-low serving who (Request.Create w seq name blocks) = created name blocks
-  decided-low serving who (Request.Write w seq file block first last push body) = written who file block first last push body (find_file file s.kept.files) refl
+  decided-low serving who (Request.Write w seq file block first last push body) = written who file block first last push body
+      (find_file file s.kept.files) refl
   decided-low serving who (Request.Resize w seq q file blocks) = resized-if who q file blocks (find_file file s.kept.files) refl
   decided-low serving who (Request.Remove w seq q file) = removed-if who q file (find_file file s.kept.files) refl
   decided-low serving who other = declined Verdict.TryLater

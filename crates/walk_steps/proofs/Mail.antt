@@ -1,5 +1,6 @@
 -- The mail of one client is kept by each of its steps, and by each step of the server.
-use Rattle.std.proofs.Common.{◌≡◌, ◌≤◌, ◌⊎◌, ℕ, ◌+◌, true, List, [], ◌∷◌, ◌++◌, Option, Some, None, map, refl, sym, subst, ap, ◌∙◌, arith, inl, inr, append_assoc}
+use Rattle.std.proofs.Common.{◌≡◌, ◌≤◌, ◌⊎◌, ℕ, ◌+◌, true, List, [], ◌∷◌, ◌++◌, Option, Some, None, map, refl, sym, subst, ap, ◌∙◌, arith, inl, inr}
+use Rattle.std.proofs.Common.{append_assoc}
 use Rattle.nq_base.specs.declared.Grant.{Grant}
 use Rattle.nq_base.specs.declared.Reply.{Reply}
 use Rattle.nq_base.specs.declared.Request.{Request}
@@ -7,7 +8,8 @@ use Rattle.nq_base.specs.declared.Tag.{Tag}
 use Rattle.nq_base.specs.declared.Who.{Who}
 use Rattle.walk_steps.proofs.ClientCases.{Core, Closed, after_request, after_vacated, after_again}
 use Rattle.walk_steps.proofs.ClientMoves.{some-same, none-some, keeps-or-cancels}
-use Rattle.walk_steps.proofs.Packets.{In, in-left, in-append, Asked, message-same, told-same, not-both, reply-same, IsReplied, Mail, IsFewer, fewer, mail-sends, mail-adds, mail-again, Told}
+use Rattle.walk_steps.proofs.Packets.{In, in-left, in-append, Asked, message-same, told-same, not-both, reply-same, IsReplied, Mail, IsFewer, fewer}
+use Rattle.walk_steps.proofs.Packets.{mail-sends, mail-adds, mail-again, Told}
 use Rattle.walk_steps.proofs.ServerSays.{IsSaid, said_reply, said_error, said_notice, AllSaid}
 use Rattle.nq_model.specs.Client.{Job, Ticket}
 use Rattle.nq_model.specs.Hear.{wants_of, inc_of, cancelled}
@@ -147,7 +149,8 @@ server-mail {who = who} {xid = xid} {ticket = ticket} {ps = ps} sends said m = r
             subst (λ r. wants_of file r ≡ true) (sym same) (k.wants grant (ap grant_in (sym p.1) ∙ granted) file (ap requested_file (sym same) ∙ on));
       }
   fresh x a i (said_error host y e is) = let t = told-same who.host host (reply x a) (error y e) is in absurd (cc)
-  fresh x a i (said_notice y row is) = let t = told-same who.host row.who.host (reply x a) (call y (Request.Evicted row.who row.file row.tag)) is in absurd (cc)
+  fresh x a i (said_notice y row is) = let t = told-same who.host row.who.host (reply x a) (call y (Request.Evicted row.who row.file row.tag)) is in
+      absurd (cc)
 
   later : (x : ℕ) (a : Reply) → IsSaid ps (to_host who.host (reply x a)) → inc_of a ≤ who.inc
   later x a (said_reply host y b e k) =

@@ -15,7 +15,8 @@ use Rattle.walk_steps.proofs.Packets.{Asked, in-get}
 use Rattle.walk_steps.proofs.SentTimes.{sent-in-order}
 use Rattle.walk_steps.proofs.WorldSequences.{Draws, run-draws}
 use Rattle.walk_steps.proofs.Worlds.{Holds, run-holds}
-use Rattle.nq_model.specs.OneRequestPerSequence.{Asks, AsksOnce, OneRequestPerSequence, IsUnderWay, IsOpenRequest, OpensOne, OneOpenInEveryRun, AnswersRequest, WasSentBefore, RepliesComeAfter}
+use Rattle.nq_model.specs.OneRequestPerSequence.{Asks, AsksOnce, OneRequestPerSequence, IsUnderWay, IsOpenRequest, OpensOne, OneOpenInEveryRun}
+use Rattle.nq_model.specs.OneRequestPerSequence.{AnswersRequest, WasSentBefore, RepliesComeAfter}
 use Rattle.nq_model.specs.Client.{Client, Ticket}
 use Rattle.nq_model.specs.Hear.{inc_of}
 use Rattle.nq_model.specs.Kept.{host_row}

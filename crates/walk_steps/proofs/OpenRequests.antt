@@ -1,5 +1,6 @@
 -- In every run each host has one open request at most, whether its incarnation still runs or not.
-use Rattle.std.proofs.Common.{◌≡◌, ◌≢◌, ◌<◌, ◌≤◌, ◌⊎◌, ℕ, ◌+◌, Bool, true, false, ◌==◌, List, [], ◌∷◌, ◌++◌, Option, Some, None, refl, sym, subst, ap, ◌∙◌, arith, inl, inr, length}
+use Rattle.std.proofs.Common.{◌≡◌, ◌≢◌, ◌<◌, ◌≤◌, ◌⊎◌, ℕ, ◌+◌, Bool, true, false, ◌==◌, List, [], ◌∷◌, ◌++◌, Option, Some, None, refl, sym, subst, ap}
+use Rattle.std.proofs.Common.{◌∙◌, arith, inl, inr, length}
 use Rattle.std.specs.Prelude.{slice_get, slice_set}
 use Rattle.nq_base.specs.declared.Event.{Event}
 use Rattle.nq_base.specs.declared.HostRow.{HostRow}
@@ -31,7 +32,8 @@ use Rattle.nq_model.specs.Message.{Message, Packet, datagram_of, sequence_of}
 use Rattle.nq_model.specs.Server.{Server, ServerStep}
 use Rattle.nq_model.specs.ServerStep.{receive, tick, crash, boot}
 use Rattle.nq_model.specs.Skew.{IsWithinSkew}
-use Rattle.nq_model.specs.World.{Head, World, after_server, after_client, at_client, after_hearing, sending_host, deliver_to_client, deliver_to, deliver, step, start, run}
+use Rattle.nq_model.specs.World.{Head, World, after_server, after_client, at_client, after_hearing, sending_host, deliver_to_client, deliver_to}
+use Rattle.nq_model.specs.World.{deliver, step, start, run}
 use Rattle.walk_steps.proofs.OpenAt.{IsOpenAt, OneOpenAt, Opens}
 use Rattle.walk_steps.proofs.TickLines.{tick-line}
 

@@ -12,7 +12,8 @@ use Rattle.nq_model.specs.Hear.{hear, inc_of}
 use Rattle.nq_model.specs.Message.{Message, Packet, reply, asker, datagram_of, request}
 use Rattle.nq_model.specs.Server.{ServerStep, to_host, quiet}
 use Rattle.nq_model.specs.ServerStep.{receive, tick, crash, opens, ends_writing}
-use Rattle.nq_model.specs.World.{Head, World, from_host, after_server, after_client, at_client, after_hearing, sending_host, deliver_to_client, deliver_to, deliver, step, start, run}
+use Rattle.nq_model.specs.World.{Head, World, from_host, after_server, after_client, at_client, after_hearing, sending_host, deliver_to_client}
+use Rattle.nq_model.specs.World.{deliver_to, deliver, step, start, run}
 use Rattle.walk_steps.proofs.Mail.{none-to-host}
 use Rattle.walk_steps.proofs.Packets.{In, in-left, in-append, in-get, Asked, Told}
 use Rattle.walk_steps.proofs.Worlds.{Holds, to-server, run-holds}
@@ -105,7 +106,8 @@ module _ {Is : Reply → Request → Type 0} (kind : Kind Is) where
   of-packet w k p Party.Server h to i each = of-server w _ each (received w p h to i)
   of-packet w k p (Party.Client host) h to i each = of-delivery w k host p.message (slice_get w.clients host) each
 
-  of-deliver : (w : World) (k : ℕ) (o : Option Packet) → slice_get w.packets k ≡ o → Holds w → EachAnswers Is w.packets → EachAnswers Is (deliver w k o).packets
+  of-deliver : (w : World) (k : ℕ) (o : Option Packet) → slice_get w.packets k ≡ o → Holds w → EachAnswers Is w.packets
+      → EachAnswers Is (deliver w k o).packets
   of-deliver w k None is h each = each
   of-deliver w k (Some p) is h each = of-packet w k p p.to h refl (in-get w.packets k p is) each
 

@@ -11,7 +11,8 @@ use Rattle.nq_base.specs.declared.Verdict.{Verdict}
 use Rattle.nq_base.specs.declared.Want.{Want}
 use Rattle.nq_base.specs.declared.Who.{Who}
 use Rattle.nq_model.specs.Ask.{grant_of}
-use Rattle.nq_model.specs.Decide.{Decision, in_the_way, verdict_reply, decides, creates, writes_through, stores, stores_recovering, resizes, removes, puts_off, commits}
+use Rattle.nq_model.specs.Decide.{Decision, in_the_way, verdict_reply, decides, creates, writes_through, stores, stores_recovering, resizes, removes}
+use Rattle.nq_model.specs.Decide.{puts_off, commits}
 use Rattle.nq_model.specs.Hear.{inc_of}
 use Rattle.nq_model.specs.Kept.{blocks_of}
 use Rattle.nq_model.specs.Message.{Message, Packet, reply, asker, Datagram, request, sequence_of}
@@ -22,7 +23,8 @@ use Rattle.walk_steps.proofs.Packets.{In, in-append, told-same, reply-same}
 use Rattle.walk_steps.proofs.ServerSays.{notices-no-reply, verdict-inc, plain-inc}
 use Rattle.walk_steps.proofs.AskCases.{IsGranted}
 use Rattle.walk_steps.proofs.ServerCases.{server-hears}
-use Rattle.walk_steps.proofs.ServerOutcomes.{error-no-reply, IsPlain, unattached, attached_again, not_yet, no_entry, entry, no_attributes, attributes, no_file, no_block, decided_again, is_old}
+use Rattle.walk_steps.proofs.ServerOutcomes.{error-no-reply, IsPlain, unattached, attached_again, not_yet, no_entry, entry, no_attributes, attributes}
+use Rattle.walk_steps.proofs.ServerOutcomes.{no_file, no_block, decided_again, is_old}
 
 -- what a reply to a request is to be, with a proof for each reply that the server makes
 pub record Kind (Is : Reply → Request → Type 0) : Type 0 where
@@ -96,7 +98,8 @@ module _ {Is : Reply → Request → Type 0} (kind : Kind Is) where
     after-notices : (number : ℕ) (rows : List Row) (h x : ℕ) (b : Reply) → Tells Is d sender h x b → Tell (notices number rows ++ to_host h (reply x b) ∷ [])
     after-notices number rows h x b t host xid a i = by (in-append (notices number rows) (to_host h (reply x b) ∷ []) (to_host host (reply xid a)) i)
       where
-        by : In (notices number rows) (to_host host (reply xid a)) ⊎ In (to_host h (reply x b) ∷ []) (to_host host (reply xid a)) → Tells Is d sender host xid a
+        by : In (notices number rows) (to_host host (reply xid a)) ⊎ In (to_host h (reply x b) ∷ []) (to_host host (reply xid a))
+            → Tells Is d sender host xid a
         by (inl note) = absurd (notices-no-reply number rows host xid a note)
         by (inr own) = one-reply h x b t host xid a own
 
@@ -156,7 +159,8 @@ module _ {Is : Reply → Request → Type 0} (kind : Kind Is) where
           (answers xid who _ (Reply.Read who.inc f.rev body None) e refl asking.current.from.host refl (kind.has_read who q f.id block None f.rev body None));
       reading_full =
           λ xid who q block want f body e asking there c own room. one-reply who.host xid _
-          (answers xid who _ (Reply.Read who.inc f.rev body None) e refl asking.current.from.host refl (kind.has_read who q f.id block (Some want) f.rev body None));
+          (answers xid who _ (Reply.Read who.inc f.rev body None) e refl asking.current.from.host refl (kind.has_read who q f.id block (Some want)
+          f.rev body None));
       reading_granted =
           λ xid who q block want f body row term e asking there c g. one-reply who.host xid _
           (answers xid who _ (Reply.Read who.inc f.rev body (Some (grant_of (to_read s who f (Some want)) row term))) e refl asking.current.from.host refl

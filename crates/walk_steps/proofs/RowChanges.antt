@@ -1,5 +1,6 @@
 -- What is found in a lease table's rows after each change of them.
-use Rattle.std.proofs.Common.{◌≡◌, ◌≢◌, ◌⊎◌, ℕ, Bool, true, false, not, ◌&&◌, ◌==◌, List, [], ◌∷◌, Option, Some, None, if◌then◌else◌, map, refl, sym, subst, ap, ◌∙◌, inl, inr}
+use Rattle.std.proofs.Common.{◌≡◌, ◌≢◌, ◌⊎◌, ℕ, Bool, true, false, not, ◌&&◌, ◌==◌, List, [], ◌∷◌, Option, Some, None, if◌then◌else◌, map, refl, sym}
+use Rattle.std.proofs.Common.{subst, ap, ◌∙◌, inl, inr}
 use Rattle.std.specs.List.{find, filter}
 use Rattle.std.specs.Option.{option_map}
 use Rattle.std.proofs.lemmas.Bool.{and_parts, and_from}
@@ -176,7 +177,8 @@ unique-step q r rows false none unique = unique
 -- keys stay unique
 pub unique-filtered : (q : Row → Bool) (rows : List Row) → HasUniqueKeys rows → HasUniqueKeys (filter q rows)
 unique-filtered q [] unique = tt
-unique-filtered q (r ∷ rows) unique = unique-step q r rows (q r) (none-filtered (is_row_of r.file r.who.host) q rows unique.0) (unique-filtered q rows unique.1)
+unique-filtered q (r ∷ rows) unique = unique-step q r rows (q r) (none-filtered (is_row_of r.file r.who.host) q rows unique.0)
+    (unique-filtered q rows unique.1)
 
 key-either-way : (r row : Row) → is_row_of row.file row.who.host r ≡ false → is_row_of r.file r.who.host row ≡ false
 key-either-way r row e = by (is_row_of r.file r.who.host row) refl

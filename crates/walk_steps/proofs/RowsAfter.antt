@@ -21,7 +21,9 @@ use Rattle.nq_model.specs.ServerStep.{access_of, to_read, vacated_rows, attaches
 use Rattle.nq_model.specs.Table.{Table, same_tag, find_row, is_row_of, drop_row, drop_host, drop_rows_of, put_row, with_rows, after_draw}
 use Rattle.walk_steps.proofs.ClientMoves.{some-same}
 use Rattle.walk_steps.proofs.AskCases.{IsGranted, shares_again, begins_sharing, begins_caching, renews_row, clash_in, own_in, with_marked}
-use Rattle.walk_steps.proofs.RowChanges.{HasUniqueKeys, mark, mark-is, found-marked, find-marked, found-put, find-put, found-kept, found-vacated, find-row-dropped, find-other-dropped, find-other-host-dropped, find-other-file-dropped, find-host-dropped, find-file-dropped, of-key}
+use Rattle.walk_steps.proofs.RowChanges.{HasUniqueKeys, mark, mark-is, found-marked, find-marked, found-put, find-put, found-kept, found-vacated}
+use Rattle.walk_steps.proofs.RowChanges.{find-row-dropped, find-other-dropped, find-other-host-dropped, find-other-file-dropped, find-host-dropped}
+use Rattle.walk_steps.proofs.RowChanges.{find-file-dropped, of-key}
 use Rattle.walk_steps.proofs.Rows.{found-row, same-number}
 use Rattle.walk_steps.proofs.ServerCases.{server-hears}
 use Rattle.walk_steps.proofs.ServerOutcomes.{line_of, wanted_by, IsFrom, IsCurrent, IsFresh, IsAsking, clash_with}
@@ -116,7 +118,8 @@ module _ (s : Server) (sender : ℕ) (d : Datagram) where
         → RowsAre (put_row new rows)
     put-rows new rows own others file host row found = by (found-put file host new row rows found)
       where
-        by : ((is_row_of file host new ≡ true) × (row ≡ new)) ⊎ ((is_row_of file host new ≡ false) × (find_row file host rows ≡ Some row)) → RowIs file host row
+        by : ((is_row_of file host new ≡ true) × (row ≡ new)) ⊎ ((is_row_of file host new ≡ false) × (find_row file host rows ≡ Some row))
+            → RowIs file host row
         by (inl p) = subst (λ r. RowIs file host r) (sym p.1) (own file host p.0)
         by (inr p) = others file host row p.1
 

@@ -13,7 +13,8 @@ use Rattle.nq_model.specs.Message.{Packet, datagram_of}
 use Rattle.nq_model.specs.Profile.{shortest_term}
 use Rattle.nq_model.specs.ServerStep.{receive, tick, crash}
 use Rattle.nq_model.specs.Skew.{IsWithinSkew}
-use Rattle.nq_model.specs.World.{Head, World, after_server, after_client, at_client, after_hearing, sending_host, deliver_to_client, deliver_to, deliver, start, run, step}
+use Rattle.nq_model.specs.World.{Head, World, after_server, after_client, at_client, after_hearing, sending_host, deliver_to_client, deliver_to}
+use Rattle.nq_model.specs.World.{deliver, start, run, step}
 use Rattle.walk_steps.proofs.Clocks.{within-before}
 use Rattle.walk_steps.proofs.Worlds.{get-set-same, get-set-other}
 use Rattle.walk_steps.proofs.Rows.{same-number, number-same}

@@ -47,7 +47,8 @@ read-plain s who file (Some g) entry same = cc
 
 module _ (s : Server) where
   pub receive-says : (sender next : ℕ) (d : Datagram) → SaysPlainly (receive s sender next d)
-  unfolding quiet drops says attaches vacates tells_later serves leases decides creates writes_through stores stores_recovering resizes removes puts_off commits
+  unfolding quiet drops says attaches vacates tells_later serves leases decides creates writes_through stores stores_recovering resizes removes
+      puts_off commits
   receive-says sender next d = server-hears s sender next d SaysPlainly (record {
     stays = record { own = none-own; plain = refl };
     dropping = λ reason. record { own = none-own; plain = refl };

@@ -1,5 +1,6 @@
 -- What each small change of a client keeps is kept where the next request is sent.
-use Rattle.std.proofs.Common.{◌≡◌, ◌<◌, ◌⊎◌, ℕ, ◌+◌, Bool, true, false, ◌||◌, List, [], ◌∷◌, Option, Some, None, is_some, if◌then◌else◌, refl, sym, subst, ap, ◌∙◌, arith, inl, inr}
+use Rattle.std.proofs.Common.{◌≡◌, ◌<◌, ◌⊎◌, ℕ, ◌+◌, Bool, true, false, ◌||◌, List, [], ◌∷◌, Option, Some, None, is_some, if◌then◌else◌, refl, sym}
+use Rattle.std.proofs.Common.{subst, ap, ◌∙◌, arith, inl, inr}
 use Rattle.std.specs.List.{find, list_any}
 use Rattle.nq_base.specs.declared.Grant.{Grant}
 use Rattle.nq_base.specs.declared.Mode.{Mode}
@@ -13,10 +14,12 @@ use Rattle.nq_model.proofs.ClientLists.{dropped-lease}
 use Rattle.walk_steps.proofs.ClientMoves.{some-same, none-some, attached-with-call, IsNext, draws, sends, drops}
 use Rattle.walk_steps.proofs.SendCases.{NothingToPush, IsFree, noticed-one, no-noticed, send-cases}
 use Rattle.walk_steps.proofs.ClientWrites.{has-writes, pushes as pushes_write, asks as asks_delaying, no-push}
-use Rattle.nq_model.specs.Client.{Client, ClientStep, Job, attaching, for_call, renewing, pushing, Lease, Notice, Ticket, UnderWay, lease_on, notice_on, is_push_of, first_dirty, drop_dirty, drop_lease, push_passes}
+use Rattle.nq_model.specs.Client.{Client, ClientStep, Job, attaching, for_call, renewing, pushing, Lease, Notice, Ticket, UnderWay, lease_on}
+use Rattle.nq_model.specs.Client.{notice_on, is_push_of, first_dirty, drop_dirty, drop_lease, push_passes}
 use Rattle.nq_model.specs.Hear.{wants_of}
 use Rattle.nq_model.specs.Message.{asker, sequence_of}
-use Rattle.nq_model.specs.Send.{sends_request, after_seq, after_number, base_of, takes_push, pushes_these, noticed_file, read_want, want_of, sends_write, gives_up, send_next}
+use Rattle.nq_model.specs.Send.{sends_request, after_seq, after_number, base_of, takes_push, pushes_these, noticed_file, read_want, want_of}
+use Rattle.nq_model.specs.Send.{sends_write, gives_up, send_next}
 use Rattle.nq_model.proofs.Finding.{number-other}
 
 -- a fact of a flag that is known
@@ -92,7 +95,8 @@ sent-push {P = P} closed t file p free first b = record {
       (subst (λ o. Delaying c.attached o c.notices c.dirty c.push) free b.alone.delaying))
 
 -- delayed writes where a request is sent that is no push
-sent-delaying : (c : Client) (ticket : Ticket) → c.ticket ≡ None → c.attached ≡ true → DelayingOf c → Delaying c.attached (Some ticket) c.notices c.dirty c.push
+sent-delaying : (c : Client) (ticket : Ticket) → c.ticket ≡ None → c.attached ≡ true → DelayingOf c → Delaying c.attached (Some ticket) c.notices
+    c.dirty c.push
 sent-delaying c ticket free attached h =
     subst
     (λ o. Delaying c.attached (Some ticket) c.notices c.dirty o)

@@ -1,5 +1,6 @@
 -- A client draws each sequence for one request, and sends copies of it; kept by each of its steps.
-use Rattle.std.proofs.Common.{◌≡◌, ◌<◌, ◌⊎◌, ℕ, ◌+◌, true, not, ◌&&◌, List, [], ◌∷◌, ◌++◌, Option, Some, None, refl, sym, subst, ap, ◌∙◌, arith, inl, inr, append-nil}
+use Rattle.std.proofs.Common.{◌≡◌, ◌<◌, ◌⊎◌, ℕ, ◌+◌, true, not, ◌&&◌, List, [], ◌∷◌, ◌++◌, Option, Some, None, refl, sym, subst, ap, ◌∙◌, arith, inl}
+use Rattle.std.proofs.Common.{inr, append-nil}
 use Rattle.std.proofs.lemmas.Bool.{and_parts}
 use Rattle.nq_base.specs.declared.Call.{Call}
 use Rattle.nq_base.specs.declared.Grant.{Grant}
@@ -208,7 +209,8 @@ pub call-draws : (host : ℕ) (c : Client) (ps : List Packet) (op : Call) → Is
 call-draws host c ps op a h =
     drew host c.who ps (client_call c op) a.here (call-keeps (drawing-closed c.who ps NoneHeard NoneGiven) c op a.alone (begun-drawing host c ps a h))
 
-timed-drawing : (host : ℕ) (c : Client) (ps : List Packet) (now : ℕ) → IsAt host c ps → Seqs c.who c.seq ps → Drawing c.who ps (core_of (begun (at_time c now)))
+timed-drawing : (host : ℕ) (c : Client) (ps : List Packet) (now : ℕ) → IsAt host c ps → Seqs c.who c.seq ps
+    → Drawing c.who ps (core_of (begun (at_time c now)))
 unfolding at_time
 timed-drawing host c ps now a h =
     record { going = timed-going host c ps now a; seqs = subst (λ qs. Seqs c.who c.seq qs) (sym (append-nil ps)) h; own = nothing-own c.who ps }
@@ -219,7 +221,8 @@ tick-draws host c ps a h =
     (tick-keeps (drawing-closed c.who ps NoneHeard NoneGiven) c (c.now + 1) (omega arith) a.alone (timed-drawing host c ps (c.now + 1) a h))
 
 -- the next incarnation has drawn none
-fresh-seqs : (who : Who) (xid seq : ℕ) (ticket : Option Ticket) (ps : List Packet) → Mail who xid ticket ps → Seqs who seq ps → Seqs (next_incarnation who) 1 ps
+fresh-seqs : (who : Who) (xid seq : ℕ) (ticket : Option Ticket) (ps : List Packet) → Mail who xid ticket ps → Seqs who seq ps
+    → Seqs (next_incarnation who) 1 ps
 fresh-seqs who xid seq ticket ps m h = record {
   once = h.once;
   drawn = λ x r w n a by inc sq. let below = (m.asked x r w a by).inc in absurd (omega arith);

@@ -16,7 +16,8 @@ use Rattle.walk_steps.proofs.KeptTags.{own-keys, keeps-receive, keeps-tick, keep
 use Rattle.walk_steps.proofs.RowChanges.{HasUniqueKeys, of-key}
 use Rattle.walk_steps.proofs.ServerFacts.{IncsFit, IncsFitOf, incs-receive, incs-tick, incs-boot, incs-crash}
 use Rattle.walk_steps.proofs.ServerNumbers.{Waits, PhaseWaits, PhaseWaitsOf, waits-receive, waits-tick, waits-boot, waits-crash}
-use Rattle.walk_steps.proofs.ServerTables.{StandingFits, StandingFitsOf, NoneRecovering, NoneRecoveringOf, stands-receive, stands-tick, stands-boot, stands-crash, none-receive, none-tick, none-boot, none-crash}
+use Rattle.walk_steps.proofs.ServerTables.{StandingFits, StandingFitsOf, NoneRecovering, NoneRecoveringOf, stands-receive, stands-tick, stands-boot}
+use Rattle.walk_steps.proofs.ServerTables.{stands-crash, none-receive, none-tick, none-boot, none-crash}
 use Rattle.walk_steps.proofs.TableFits.{no-rows-fit}
 
 -- what is kept of the rows whatever comes

@@ -1,5 +1,6 @@
 -- What a decision, ATTACH and VACATED do to the server, as one client sees it.
-use Rattle.std.proofs.Common.{◌≡◌, ◌≢◌, ◌<◌, ◌≤◌, ℕ, ◌+◌, Bool, true, false, ◌==◌, ◌&&◌, List, [], ◌∷◌, Option, Some, None, if◌then◌else◌, length, max, refl, sym, subst, ap, ◌∙◌, arith, inl, inr}
+use Rattle.std.proofs.Common.{◌≡◌, ◌≢◌, ◌<◌, ◌≤◌, ℕ, ◌+◌, Bool, true, false, ◌==◌, ◌&&◌, List, [], ◌∷◌, Option, Some, None, if◌then◌else◌, length}
+use Rattle.std.proofs.Common.{max, refl, sym, subst, ap, ◌∙◌, arith, inl, inr}
 use Rattle.std.proofs.lemmas.Bool.Decides.{nat_tests}
 use Rattle.std.proofs.lemmas.Bool.{and_parts}
 use Rattle.nq_base.specs.declared.Access.{Access}
@@ -21,7 +22,8 @@ use Rattle.walk_steps.proofs.KeptChanges.{own-line, same-lines}
 use Rattle.walk_steps.proofs.Packets.{In, Asked}
 use Rattle.walk_steps.proofs.RowChanges.{no-clash, find-other-dropped, find-other-host-dropped, find-other-file-dropped}
 use Rattle.walk_steps.proofs.Rows.{same-number, number-same, found-row}
-use Rattle.walk_steps.proofs.ServerEffects.{verdict-no-attach, line-after, drawn-more, claimed-kept, one-new, both-new, rows-new, reply-new, goes-effect, all-go-on, way-rows}
+use Rattle.walk_steps.proofs.ServerEffects.{verdict-no-attach, line-after, drawn-more, claimed-kept, one-new, both-new, rows-new, reply-new}
+use Rattle.walk_steps.proofs.ServerEffects.{goes-effect, all-go-on, way-rows}
 use Rattle.walk_steps.proofs.ServerKnows.{IsNew, LineMoves, line_stays, line_decides, line_attaches, IsClaimed, Effect}
 use Rattle.walk_steps.proofs.ServerMoves.{first_line}
 use Rattle.walk_steps.proofs.ServerOutcomes.{line_of, IsFrom, IsCurrent, IsFresh, IsChanging, CanStore, clash_with}
@@ -29,12 +31,14 @@ use Rattle.walk_steps.proofs.ServerSays.{verdict-inc, verdict-grant}
 use Rattle.walk_steps.proofs.TagFacts.{IsDrawn}
 use Rattle.nq_model.specs.Ask.{marked}
 use Rattle.nq_model.specs.Client.{Lease, Notice, Ticket}
-use Rattle.nq_model.specs.Decide.{Decision, decides, creates, writes_through, stores, wrote, stores_recovering, resizes, removes, puts_off, in_the_way, verdict_reply, commits, row_after}
+use Rattle.nq_model.specs.Decide.{Decision, decides, creates, writes_through, stores, wrote, stores_recovering, resizes, removes, puts_off}
+use Rattle.nq_model.specs.Decide.{in_the_way, verdict_reply, commits, row_after}
 use Rattle.nq_model.specs.Kept.{File, host_row, with_row, with_files, with_new_file}
 use Rattle.nq_model.specs.LeaseInterval.{claim_of, is_at_least, HasFitting, IsCovered, requested_file}
 use Rattle.nq_model.specs.Message.{Packet, reply, asker, Datagram, request, sequence_of}
 use Rattle.nq_model.specs.Profile.{write_slack, most_hosts}
-use Rattle.nq_model.specs.Server.{Phase, serving, recovering, Server, ServerStep, standing_in, to_host, quiet, after_notices, keeping, keeping_with, with_table}
+use Rattle.nq_model.specs.Server.{Phase, serving, recovering, Server, ServerStep, standing_in, to_host, quiet, after_notices, keeping, keeping_with}
+use Rattle.nq_model.specs.Server.{with_table}
 use Rattle.nq_model.specs.ServerStep.{attaches, vacates, vacated_rows}
 use Rattle.nq_model.specs.Table.{Table, caches, same_tag, tag_below, find_row, drop_row, drop_host, drop_rows_of, with_rows}
 

@@ -1,5 +1,6 @@
 -- What each outcome of a datagram does to the server, as one client sees it.
-use Rattle.std.proofs.Common.{◌≡◌, ◌<◌, ◌≤◌, ◌⊎◌, ℕ, ◌+◌, ◌%◌, max, Bool, true, false, ◌==◌, List, [], ◌∷◌, ◌++◌, Option, Some, None, if◌then◌else◌, refl, sym, subst, ap, ◌∙◌, arith, inl, inr}
+use Rattle.std.proofs.Common.{◌≡◌, ◌<◌, ◌≤◌, ◌⊎◌, ℕ, ◌+◌, ◌%◌, max, Bool, true, false, ◌==◌, List, [], ◌∷◌, ◌++◌, Option, Some, None, if◌then◌else◌}
+use Rattle.std.proofs.Common.{refl, sym, subst, ap, ◌∙◌, arith, inl, inr}
 use Rattle.std.proofs.lemmas.Bool.Decides.{nat_tests}
 use Rattle.nq_base.specs.declared.Access.{Access}
 use Rattle.nq_base.specs.declared.Event.{Event}
@@ -24,7 +25,8 @@ use Rattle.walk_steps.proofs.RowChanges.{HasUniqueKeys, of-key, own-key, find-pu
 use Rattle.walk_steps.proofs.Rows.{same-number, number-same, found-row}
 use Rattle.walk_steps.proofs.ServerFacts.{IncsFit, AreCurrent}
 use Rattle.walk_steps.proofs.ServerKnows.{IsFreshGrant, IsNew, new_reply, new_error, new_notice, LineMoves, line_stays, IsClaimed, Effect}
-use Rattle.walk_steps.proofs.ServerOutcomes.{error_for, line_of, IsFrom, IsPlain, unattached, attached_again, not_yet, no_entry, entry, no_attributes, attributes, no_file, no_block, decided_again, is_old, IsAsking}
+use Rattle.walk_steps.proofs.ServerOutcomes.{error_for, line_of, IsFrom, IsPlain, unattached, attached_again, not_yet, no_entry, entry, no_attributes}
+use Rattle.walk_steps.proofs.ServerOutcomes.{attributes, no_file, no_block, decided_again, is_old, IsAsking}
 use Rattle.walk_steps.proofs.ServerSays.{plain-inc, plain-grant}
 use Rattle.walk_steps.proofs.ServerTables.{StandingFits}
 use Rattle.walk_steps.proofs.TableFits.{TableFits}
@@ -35,7 +37,8 @@ use Rattle.nq_model.specs.Decide.{in_the_way, verdict_reply}
 use Rattle.nq_model.specs.Hear.{inc_of}
 use Rattle.nq_model.specs.Kept.{File, Kept, with_row, host_row}
 use Rattle.nq_model.specs.LeaseInterval.{grant_in}
-use Rattle.nq_model.specs.Message.{Message, Packet, reply, RpcError, asker, Reason, Datagram, request, too_long, no_message, no_call, other_rpc, other_program, other_version, unknown_procedure, garbage_vacated, garbage, sequence_of}
+use Rattle.nq_model.specs.Message.{Message, Packet, reply, RpcError, asker, Reason, Datagram, request, too_long, no_message, no_call, other_rpc}
+use Rattle.nq_model.specs.Message.{other_program, other_version, unknown_procedure, garbage_vacated, garbage, sequence_of}
 use Rattle.nq_model.specs.Profile.{skew, shortest_term, granted_term, xid_end}
 use Rattle.nq_model.specs.Server.{serving, Server, ServerStep, standing, to_host, quiet, drops, says, replies, notices, after_notices, with_table}
 use Rattle.nq_model.specs.ServerStep.{tells_later, serves, leases, to_read, is_attach}
@@ -394,7 +397,8 @@ module _ (ps : List Packet) (s : Server) (most sender next : ℕ) (d : Datagram)
   unfolding sharing_row shared_again
   granted-short q want row term same (shares_again own found stays shares is lasts) c =
       let no : caches row.mode ≡ false = ap (λ r. caches r.mode) is ∙ shares in absurd (cc)
-  granted-short q want row term same (begins_sharing none room shared is lasts) c = let no : caches row.mode ≡ false = ap (λ r. caches r.mode) is in absurd (cc)
+  granted-short q want row term same (begins_sharing none room shared is lasts) c = let no : caches row.mode ≡ false = ap (λ r. caches r.mode) is in
+      absurd (cc)
   granted-short q want row term same (begins_caching none room shared is lasts) c =
       let t = term-short q.longest want.term (let l = hearing.terms.long in omega arith) in omega arith
   granted-short q want row term same (renews_row own found stays caching is lasts) c =

@@ -1,5 +1,6 @@
 -- Facts about a server that each of its steps keeps: whose rows stand, terms, file ids, and how long a recovery waits.
-use Rattle.std.proofs.Common.{◌≡◌, ◌<◌, ◌≤◌, ◌⊎◌, ℕ, ◌+◌, ◌==◌, Bool, true, false, not, List, Option, Some, None, if◌then◌else◌, max, refl, sym, subst, ap, ◌∙◌, arith, inl, inr}
+use Rattle.std.proofs.Common.{◌≡◌, ◌<◌, ◌≤◌, ◌⊎◌, ℕ, ◌+◌, ◌==◌, Bool, true, false, not, List, Option, Some, None, if◌then◌else◌, max, refl, sym}
+use Rattle.std.proofs.Common.{subst, ap, ◌∙◌, arith, inl, inr}
 use Rattle.nq_base.specs.declared.Access.{Access}
 use Rattle.nq_base.specs.declared.HostRow.{HostRow}
 use Rattle.nq_base.specs.declared.Question.{Question}
@@ -15,7 +16,8 @@ use Rattle.nq_model.specs.ServerStep.{to_read, receive, is_over, end_reading, fe
 use Rattle.nq_model.specs.Table.{Table, is_row_of, find_row, put_row, drop_host, with_rows, after_draw, empty_table}
 use Rattle.walk_steps.proofs.AskCases.{own_in, with_marked, IsGranted, shares_again, begins_sharing, begins_caching, renews_row}
 use Rattle.walk_steps.proofs.KeptChanges.{same-incs, later-incs, other-line}
-use Rattle.walk_steps.proofs.RowChanges.{HasUniqueKeys, unique-filtered, of-key, found-put, found-kept, found-vacated, find-host-dropped, found-marked, mark-is}
+use Rattle.walk_steps.proofs.RowChanges.{HasUniqueKeys, unique-filtered, of-key, found-put, found-kept, found-vacated, find-host-dropped}
+use Rattle.walk_steps.proofs.RowChanges.{found-marked, mark-is}
 use Rattle.walk_steps.proofs.Rows.{found-row}
 use Rattle.walk_steps.proofs.ServerMoves.{first_line, ServerMoves, server-moves, tick-moves}
 use Rattle.walk_steps.proofs.ServerOutcomes.{line_of}

@@ -10,9 +10,12 @@ use Rattle.walk_steps.proofs.Covers.{waiting-goes-on}
 use Rattle.walk_steps.proofs.Hearing.{Hearing}
 use Rattle.walk_steps.proofs.Packets.{In}
 use Rattle.walk_steps.proofs.ServerCases.{server-hears}
-use Rattle.walk_steps.proofs.ServerChanges.{declines-effect, puts-off-effect, creates-effect, writes-effect, stores-effect, stores-recovering-effect, resizes-effect, removes-effect, attaches-effect, vacates-effect}
+use Rattle.walk_steps.proofs.ServerChanges.{declines-effect, puts-off-effect, creates-effect, writes-effect, stores-effect, stores-recovering-effect}
+use Rattle.walk_steps.proofs.ServerChanges.{resizes-effect, removes-effect, attaches-effect, vacates-effect}
 use Rattle.walk_steps.proofs.Sequences.{reads-no-seq}
-use Rattle.walk_steps.proofs.ServerEffects.{quiet-effect, drops-effect, says-effect, error-new, plain-effect, all-go-on, later-effect, marked-boot, marked-drawn, marked-rows, waiter-boot, waiter-drawn, way-rows, reads-effect, asks-effect, reads-granted, leases-granted}
+use Rattle.walk_steps.proofs.ServerEffects.{quiet-effect, drops-effect, says-effect, error-new, plain-effect, all-go-on, later-effect, marked-boot}
+use Rattle.walk_steps.proofs.ServerEffects.{marked-drawn, marked-rows, waiter-boot, waiter-drawn, way-rows, reads-effect, asks-effect, reads-granted}
+use Rattle.walk_steps.proofs.ServerEffects.{leases-granted}
 use Rattle.walk_steps.proofs.ServerKnows.{Effect}
 use Rattle.walk_steps.proofs.ServerOutcomes.{wanted_by, ServerCases}
 use Rattle.nq_model.specs.Client.{Lease, Notice, Ticket}

@@ -164,7 +164,8 @@ module _ (ps : List Packet) (s : Server) (events : List Event) (e : Event) (t : 
       let k = parts w row.who file row.file tag row.tag c.1 in
       record {
         row = row;
-        stands = subst (λ n. find_row n who.host s.table.rows ≡ Some row) (sym k.1) (subst (λ n. find_row row.file n s.table.rows ≡ Some row) (sym d.0) stands);
+        stands = subst (λ n. find_row n who.host s.table.rows ≡ Some row) (sym k.1) (subst (λ n. find_row row.file n s.table.rows ≡ Some row)
+            (sym d.0) stands);
         is_who = sym k.0;
         inc = ap (λ z. z.inc) k.0 ∙ inc ∙ ap (λ n. (host_row s.kept n).inc) (sym d.0);
         drawn = subst (λ g. IsDrawn (standing t.server).boot (standing t.server).drawn g) (sym k.2) drawn;

@@ -1,5 +1,6 @@
 -- Numbers that each step of a server keeps in bounds: terms, file ids, the lines of hosts, and the end of a recovery.
-use Rattle.std.proofs.Common.{◌≡◌, ◌≢◌, ◌<◌, ◌≤◌, ◌⊎◌, ℕ, ◌+◌, ◌==◌, Bool, true, false, List, [], ◌∷◌, ◌++◌, Option, Some, None, if◌then◌else◌, max, length, refl, sym, subst, ap, ◌∙◌, arith, inl, inr}
+use Rattle.std.proofs.Common.{◌≡◌, ◌≢◌, ◌<◌, ◌≤◌, ◌⊎◌, ℕ, ◌+◌, ◌==◌, Bool, true, false, List, [], ◌∷◌, ◌++◌, Option, Some, None, if◌then◌else◌, max}
+use Rattle.std.proofs.Common.{length, refl, sym, subst, ap, ◌∙◌, arith, inl, inr}
 use Rattle.std.proofs.lemmas.Bool.{cases_eq}
 use Rattle.nq_base.specs.declared.HostRow.{HostRow}
 use Rattle.nq_model.specs.Kept.{File, Kept, find_file, replace_file, drop_file, new_file, fenced_file, with_files, with_new_file, with_row}
@@ -52,7 +53,8 @@ terms-tick most s now f =
       waits = λ until heard last p goes_on. f;
       opening = λ until heard last p over. record { long = f.long; few = f.few; kept_long = f.long; kept_few = f.few; same = λ e. refl };
       ends_reading = λ p. f;
-      ending_writing = λ row p due. subst (λ longest. TermsFit most s.phase longest s.longest) (sym (fence-longest s.kept (find_file row.file s.kept.files))) f;
+      ending_writing = λ row p due. subst (λ longest. TermsFit most s.phase longest s.longest)
+          (sym (fence-longest s.kept (find_file row.file s.kept.files))) f;
     }))
 
 -- the terms fit after a boot with a fitting term

@@ -14,7 +14,8 @@ use Rattle.nq_model.specs.Kept.{Kept}
 use Rattle.nq_model.specs.Message.{Datagram, Packet}
 use Rattle.nq_model.specs.Profile.{most_hosts, xid_end}
 use Rattle.nq_model.specs.Server.{Server, last_in, notices, quiet, drops, says}
-use Rattle.nq_model.specs.ServerStep.{access_of, to_read, end_reading, attaches, vacates, vacated_rows, tells_later, serves, leases, opens, ends_writing, receive, tick, boot, crash}
+use Rattle.nq_model.specs.ServerStep.{access_of, to_read, end_reading, attaches, vacates, vacated_rows, tells_later, serves, leases, opens}
+use Rattle.nq_model.specs.ServerStep.{ends_writing, receive, tick, boot, crash}
 use Rattle.nq_model.specs.Table.{Table, empty_table, after_draw, find_row, is_row_of, put_row, drop_row, same_tag, with_rows}
 use Rattle.nq_model.specs.ServerAlone.{Coming, datagram, ticks, crashes, step_for, server_after, first_boot}
 use Rattle.walk_steps.proofs.AskCases.{IsGranted, shares_again, begins_sharing, begins_caching, renews_row}

@@ -1,5 +1,6 @@
 -- The boots, the phase and the lease tables of a server fit each other after every step.
-use Rattle.std.proofs.Common.{◌≡◌, ◌<◌, ◌≤◌, ℕ, ◌+◌, ◌==◌, Bool, true, false, not, List, [], ◌∷◌, ◌++◌, Option, Some, None, if◌then◌else◌, max, refl, sym, subst, ap, ◌∙◌, arith}
+use Rattle.std.proofs.Common.{◌≡◌, ◌<◌, ◌≤◌, ℕ, ◌+◌, ◌==◌, Bool, true, false, not, List, [], ◌∷◌, ◌++◌, Option, Some, None, if◌then◌else◌, max, refl}
+use Rattle.std.proofs.Common.{sym, subst, ap, ◌∙◌, arith}
 use Rattle.std.specs.Prelude.{is_some}
 use Rattle.nq_base.specs.declared.Row.{Row}
 use Rattle.nq_base.specs.declared.Who.{Who}
@@ -223,7 +224,8 @@ module _ (s : Server) (d : Datagram) (t : StandingFitsOf s) where
   keeps-replaced file id e = is-kept-replaced id file s.kept.files ∙ e
 
   stands-replaced : (file : File) → StandingFits (replace_file file s.kept.files) s.phase s.table
-  stands-replaced file = fits-files s.kept.files (replace_file file s.kept.files) (standing s).boot (standing s).drawn (standing s).rows (keeps-replaced file) t
+  stands-replaced file = fits-files s.kept.files (replace_file file s.kept.files) (standing s).boot (standing s).drawn (standing s).rows
+      (keeps-replaced file) t
 
   keeps-added : (file : File) (id : ℕ) → is_some (find_file id s.kept.files) ≡ true → is_some (find_file id (s.kept.files ++ file ∷ [])) ≡ true
   keeps-added file id e = by (find_file id s.kept.files) refl e

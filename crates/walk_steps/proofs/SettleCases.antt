@@ -1,5 +1,6 @@
 -- What a call under way needs no packet for, walked once: each outcome with what led to it.
-use Rattle.std.proofs.Common.{◌≡◌, ◌<◌, ◌≤◌, ◌⊎◌, ℕ, Bool, true, false, ◌&&◌, ◌||◌, ◌==◌, not, List, [], ◌∷◌, ◌++◌, Option, Some, None, is_some, nat_le, if◌then◌else◌, refl, sym, subst, ap, ◌∙◌, inl, inr}
+use Rattle.std.proofs.Common.{◌≡◌, ◌<◌, ◌≤◌, ◌⊎◌, ℕ, Bool, true, false, ◌&&◌, ◌||◌, ◌==◌, not, List, [], ◌∷◌, ◌++◌, Option, Some, None, is_some}
+use Rattle.std.proofs.Common.{nat_le, if◌then◌else◌, refl, sym, subst, ap, ◌∙◌, inl, inr}
 use Rattle.std.specs.List.{list_any}
 use Rattle.std.proofs.lemmas.Bool.{and_parts, not-true}
 use Rattle.nq_base.specs.declared.Answer.{Answer}
@@ -9,7 +10,9 @@ use Rattle.nq_base.specs.declared.Value.{Value}
 use Rattle.nq_model.proofs.ClientLists.{any-written}
 use Rattle.walk_steps.proofs.ClientMoves.{some-same, none-some}
 use Rattle.nq_model.specs.Client.{Client, ClientStep, Lease, UnderWay, lease_on, lets_read, lets_write, notice_on, is_clean, is_push_of, is_push_at, dirty_at}
-use Rattle.nq_model.specs.Settle.{answers, reads_cached, settle_body, cached_body, settle_read, after_write, delays, marks_written, after_delay, settle_write_in, settle_write, settle_sync, settle_put, settle_call, ticket_is_for_call, settle_under_way, settle, is_full, with_write}
+use Rattle.nq_model.specs.Settle.{answers, reads_cached, settle_body, cached_body, settle_read, after_write, delays, marks_written, after_delay}
+use Rattle.nq_model.specs.Settle.{settle_write_in, settle_write, settle_sync, settle_put, settle_call, ticket_is_for_call, settle_under_way, settle}
+use Rattle.nq_model.specs.Settle.{is_full, with_write}
 use Rattle.walk_steps.proofs.Rows.{choice, number-same}
 use Rattle.walk_steps.proofs.Tests.{is-at-most, is-not-at-most, none-there}
 
@@ -309,7 +312,8 @@ read-waits t u file block is read waits = record {
       let one = subst (λ w. IsRead w.call f b) (sym (one-settling t u v is other)) reads in
       let same = same-read u.call file block f b read one in
       subst (λ n. ReadWaits t.client n b) same.0 (subst (λ n. ReadWaits t.client file n) same.1 waits);
-  writes = λ v s f b x other write. absurd (read-no-write u s file block f b x read (subst (λ w. IsWrite w s f b x) (sym (one-settling t u v is other)) write));
+  writes = λ v s f b x other write. absurd (read-no-write u s file block f b x read (subst (λ w. IsWrite w s f b x)
+      (sym (one-settling t u v is other)) write));
   syncs = λ v f other sync. absurd (read-no-sync u file block f read (subst (λ w. IsSync w f) (sym (one-settling t u v is other)) sync));
 }
 
@@ -425,7 +429,8 @@ settle-moves t Q m = settle-cases t Q (record {
   read_waits = λ u file block is read waits. m.kept;
   write_out = λ u sync file block body lease is write can out. m.answered t u.q Answer.Range m.kept;
   write_full = λ u sync file block body lease is write can within full. m.answered t u.q Answer.DirtyFull m.kept;
-  writing = λ u file block body lease is write can within room. m.answered (delays t file block body) u.q (Answer.Ok Value.Nothing) (m.delayed file block body);
+  writing = λ u file block body lease is write can within room. m.answered (delays t file block body) u.q (Answer.Ok Value.Nothing)
+      (m.delayed file block body);
   putting = λ u file block body lease is write unwritten can within room. m.marked (delays t file block body) u (m.delayed file block body);
   write_waits = λ u sync file block body is write waits. m.kept;
   syncing = λ u file is sync clean. m.answered t u.q (Answer.Ok Value.Nothing) m.kept;

@@ -1,5 +1,6 @@
 -- A client's step, walked once: a call, a tick, a datagram. Each outcome with what led to it.
-use Rattle.std.proofs.Common.{◌≡◌, ◌<◌, ◌≤◌, ◌⊎◌, ℕ, ◌+◌, Bool, true, false, ◌||◌, ◌&&◌, not, List, [], ◌∷◌, Option, Some, None, is_some, nat_le, if◌then◌else◌, refl, subst, ap, ◌∙◌, inl, inr}
+use Rattle.std.proofs.Common.{◌≡◌, ◌<◌, ◌≤◌, ◌⊎◌, ℕ, ◌+◌, Bool, true, false, ◌||◌, ◌&&◌, not, List, [], ◌∷◌, Option, Some, None, is_some, nat_le}
+use Rattle.std.proofs.Common.{if◌then◌else◌, refl, subst, ap, ◌∙◌, inl, inr}
 use Rattle.std.proofs.lemmas.Bool.{and_parts, not-true}
 use Rattle.nq_base.specs.declared.Call.{Call}
 use Rattle.nq_base.specs.declared.Loss.{Loss}
@@ -9,8 +10,10 @@ use Rattle.nq_base.specs.declared.Tag.{Tag}
 use Rattle.nq_base.specs.declared.Who.{Who}
 use Rattle.walk_steps.proofs.ClientMoves.{some-same}
 use Rattle.nq_model.specs.Client.{Client, ClientStep, Ticket, UnderWay, begun, lease_on, losses_of, is_clean}
-use Rattle.nq_model.specs.ClientStep.{begins_call, is_called, sends_unless_cached, tell_losses, call_past_losses, says_busy, losses_for, changed_file, client_call, at_time, sends_again, tick_asking, client_tick}
-use Rattle.nq_model.specs.Hear.{vacates_lease, notes_notice, evicted, cancels, holds_later, inc_of, reply_counts, is_reply_to, replied, goes_on, hear_reply, hear_call, hear}
+use Rattle.nq_model.specs.ClientStep.{begins_call, is_called, sends_unless_cached, tell_losses, call_past_losses, says_busy, losses_for, changed_file}
+use Rattle.nq_model.specs.ClientStep.{client_call, at_time, sends_again, tick_asking, client_tick}
+use Rattle.nq_model.specs.Hear.{vacates_lease, notes_notice, evicted, cancels, holds_later, inc_of, reply_counts, is_reply_to, replied, goes_on}
+use Rattle.nq_model.specs.Hear.{hear_reply, hear_call, hear}
 use Rattle.nq_model.specs.Message.{Message, call, reply, error}
 use Rattle.nq_model.specs.Profile.{patience}
 use Rattle.nq_model.specs.Send.{send_next}

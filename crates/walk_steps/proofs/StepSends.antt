@@ -8,9 +8,14 @@ use Rattle.nq_base.specs.declared.Request.{Request}
 use Rattle.nq_base.specs.declared.Tag.{Tag}
 use Rattle.nq_base.specs.declared.Value.{Value}
 use Rattle.nq_base.specs.declared.Who.{Who}
-use Rattle.nq_model.specs.Client.{Client, ClientStep, Job, for_call, renewing, pushing, Notice, Ticket, UnderWay, begun, lease_on, notice_on, dirty_at, is_clean, revision_of, is_revision_before}
+use Rattle.nq_model.specs.Client.{Client, ClientStep, Job, for_call, renewing, pushing, Notice, Ticket, UnderWay, begun, lease_on, notice_on}
+use Rattle.nq_model.specs.Client.{dirty_at, is_clean, revision_of, is_revision_before}
 use Rattle.nq_model.specs.ClientStep.{client_tick, at_time, sends_again}
-use Rattle.nq_model.specs.Hear.{hear, inc_of, reply_counts, spends, attached, pauses, marks_through, cancels, cancelled, vacates_lease, vacates_noticed, notes_notice, evicted, loses, without_lease, holds, breaks, breaks_chain, if_broken, takes_grant, takes_optional, answers_call, reports_to, waits_for, caches_block, then_caches, caches_write, caches_push, purges, knows_revision, ends_push, push_done, push_refused, read_done, lease_done, write_done, replied, grant_caches, holds_caching}
+use Rattle.nq_model.specs.Hear.{hear, inc_of, reply_counts, spends, attached, pauses, marks_through, cancels, cancelled, vacates_lease}
+use Rattle.nq_model.specs.Hear.{vacates_noticed, notes_notice, evicted, loses, without_lease, holds, breaks, breaks_chain, if_broken, takes_grant}
+use Rattle.nq_model.specs.Hear.{takes_optional, answers_call, reports_to, waits_for, caches_block, then_caches, caches_write, caches_push, purges}
+use Rattle.nq_model.specs.Hear.{knows_revision, ends_push, push_done, push_refused, read_done, lease_done, write_done, replied, grant_caches}
+use Rattle.nq_model.specs.Hear.{holds_caching}
 use Rattle.nq_model.specs.Message.{Message, call, reply, asker}
 use Rattle.nq_model.specs.Send.{sends_request, after_seq, after_number, takes_push, gives_up, send_next}
 use Rattle.nq_model.specs.Settle.{answers, names_losses, reads_cached, after_read, after_write, marks_written, settle}
@@ -361,7 +366,8 @@ tick-sends c = tick-cases c (c.now + 1) (TickSends c) (record {
     empty = settled-sends (begun (at_time c (c.now + 1)))
 
     xid_is : (settle (begun (at_time c (c.now + 1)))).client.xid ≡ c.xid
-    xid_is = let n = g.next in let none : length (settle (begun (at_time c (c.now + 1)))).sends ≡ 0 = ap (λ (ms : List Message). length ms) empty in omega arith
+    xid_is = let n = g.next in let none : length (settle (begun (at_time c (c.now + 1)))).sends ≡ 0 = ap (λ (ms : List Message). length ms) empty in
+        omega arith
 
     by : c.ticket ≡ None → NextSends true (settle (begun (at_time c (c.now + 1)))) (send_next true (settle (begun (at_time c (c.now + 1)))))
         → TickSends c (send_next true (settle (begun (at_time c (c.now + 1)))))

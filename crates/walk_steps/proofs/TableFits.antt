@@ -1,5 +1,6 @@
 -- What every lease table keeps to: of kept files, tags in order, one row for each file and host, and no two that conflict.
-use Rattle.std.proofs.Common.{◌≡◌, ◌≢◌, ◌≤◌, ◌⊎◌, ℕ, ◌+◌, ◌==◌, Bool, true, false, not, ◌&&◌, ◌||◌, nat_lt, List, [], Some, None, if◌then◌else◌, refl, sym, subst, ap, ◌∙◌, arith, inl, inr}
+use Rattle.std.proofs.Common.{◌≡◌, ◌≢◌, ◌≤◌, ◌⊎◌, ℕ, ◌+◌, ◌==◌, Bool, true, false, not, ◌&&◌, ◌||◌, nat_lt, List, [], Some, None, if◌then◌else◌, refl}
+use Rattle.std.proofs.Common.{sym, subst, ap, ◌∙◌, arith, inl, inr}
 use Rattle.std.specs.List.{find}
 use Rattle.std.specs.Prelude.{is_some}
 use Rattle.std.proofs.lemmas.Bool.Decides.{nat_tests}
@@ -37,7 +38,8 @@ pub record TableFits (files : List File) (boot drawn : ℕ) (rows : List Row) : 
 
 -- a row's chain began no later than its latest tag was drawn
 pub tag-in-order : (files : List File) (boot drawn : ℕ) (row : Row) → RowFits files boot drawn row → tag_below row.tag row.since ≡ false
-tag-in-order files boot drawn row fits = ordered row.tag.boot row.tag.number row.since.boot row.since.number (fits.tag_boot ∙ sym fits.since_boot) fits.in_order
+tag-in-order files boot drawn row fits = ordered row.tag.boot row.tag.number row.since.boot row.since.number (fits.tag_boot ∙ sym fits.since_boot)
+    fits.in_order
   where
     ordered : (a m b n : ℕ) → a ≡ b → n ≤ m → nat_lt a b || (a == b && nat_lt m n) ≡ false
     ordered a m b n e h = grind (arith, nat_tests)

@@ -1,5 +1,6 @@
 -- The tags that a client and its mail know: each was drawn, and what was given up is past.
-use Rattle.std.proofs.Common.{◌≡◌, ◌≢◌, ◌<◌, ◌≤◌, ◌⊎◌, ℕ, Bool, true, false, List, [], ◌∷◌, ◌++◌, Option, Some, None, if◌then◌else◌, refl, sym, subst, ap, ◌∙◌, inl, inr}
+use Rattle.std.proofs.Common.{◌≡◌, ◌≢◌, ◌<◌, ◌≤◌, ◌⊎◌, ℕ, Bool, true, false, List, [], ◌∷◌, ◌++◌, Option, Some, None, if◌then◌else◌, refl, sym, subst}
+use Rattle.std.proofs.Common.{ap, ◌∙◌, inl, inr}
 use Rattle.nq_base.specs.declared.Grant.{Grant}
 use Rattle.nq_base.specs.declared.Reply.{Reply}
 use Rattle.nq_base.specs.declared.Request.{Request}
@@ -65,7 +66,8 @@ tags-leases {boot = boot} {drawn = drawn} less from h = record {
   past_given = h.past_given;
 }
 
-pub used-from : (f : ℕ) (leases : List Lease) (file : ℕ) (l : Lease) → lease_on file (used_lease f leases) ≡ Some l → (m : Lease) × (lease_on file leases ≡ Some m) × (l.tag ≡ m.tag)
+pub used-from : (f : ℕ) (leases : List Lease) (file : ℕ) (l : Lease) → lease_on file (used_lease f leases) ≡ Some l → (m : Lease)
+    × (lease_on file leases ≡ Some m) × (l.tag ≡ m.tag)
 used-from f leases file l e = let m = marked-before file f leases l e in (m.before, m.found, ap (λ z. z.tag) m.same ∙ marked-tag f m.before)
 
 pub dropped-from : (f : ℕ) (leases : List Lease) (file : ℕ) (l : Lease) → lease_on file (drop_lease f leases) ≡ Some l

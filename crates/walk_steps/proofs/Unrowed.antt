@@ -24,7 +24,8 @@ use Rattle.nq_model.specs.Kept.{File}
 use Rattle.nq_model.specs.LeaseInterval.{requested_file}
 use Rattle.nq_model.specs.Message.{Packet, asker, Datagram, request}
 use Rattle.nq_model.specs.Server.{Phase, serving, recovering, Server, quiet, drops, says, after_notices, keeping, keeping_with, with_table}
-use Rattle.nq_model.specs.ServerStep.{attaches, vacates, tells_later, serves, leases, to_read, access_of, receive, is_over, end_reading, at_time, opens, ends_writing, tick, boot, crash}
+use Rattle.nq_model.specs.ServerStep.{attaches, vacates, tells_later, serves, leases, to_read, access_of, receive, is_over, end_reading, at_time}
+use Rattle.nq_model.specs.ServerStep.{opens, ends_writing, tick, boot, crash}
 use Rattle.nq_model.specs.Table.{Table, is_row_of, find_row, put_row, drop_row, with_rows, after_draw, empty_table}
 
 -- no row is of this incarnation

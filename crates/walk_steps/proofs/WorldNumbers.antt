@@ -1,5 +1,6 @@
 -- In every run of few events the numbers stay within their bounds.
-use Rattle.std.proofs.Common.{◌≡◌, ◌≢◌, ◌≤◌, ◌<◌, ◌⊎◌, ℕ, ◌+◌, ◌==◌, Bool, true, false, List, [], ◌∷◌, ◌++◌, Option, Some, None, length, map, refl, sym, subst, ap, ◌∙◌, arith, inl, inr, length-append}
+use Rattle.std.proofs.Common.{◌≡◌, ◌≢◌, ◌≤◌, ◌<◌, ◌⊎◌, ℕ, ◌+◌, ◌==◌, Bool, true, false, List, [], ◌∷◌, ◌++◌, Option, Some, None, length, map, refl}
+use Rattle.std.proofs.Common.{sym, subst, ap, ◌∙◌, arith, inl, inr, length-append}
 use Rattle.std.proofs.lemmas.List.{length-map}
 use Rattle.std.specs.Prelude.{slice_get, slice_set}
 use Rattle.nq_base.specs.declared.Event.{Event}
@@ -14,7 +15,8 @@ use Rattle.nq_model.specs.Hear.{hear}
 use Rattle.nq_model.specs.Message.{Message, Datagram, request, Packet, call, asker, datagram_of, sequence_of}
 use Rattle.nq_model.specs.Server.{ServerStep}
 use Rattle.nq_model.specs.Stepped.{most_events}
-use Rattle.nq_model.specs.World.{Head, World, from_host, after_server, after_client, at_client, after_hearing, sending_host, deliver_to_client, deliver_to, deliver, step, start, run}
+use Rattle.nq_model.specs.World.{Head, World, from_host, after_server, after_client, at_client, after_hearing, sending_host, deliver_to_client}
+use Rattle.nq_model.specs.World.{deliver_to, deliver, step, start, run}
 use Rattle.walk_steps.proofs.Mail.{sent-calls}
 use Rattle.walk_steps.proofs.Packets.{In, in-append, in-get, Asked}
 use Rattle.walk_steps.proofs.Sequences.{asked-before-server}

@@ -12,7 +12,8 @@ use Rattle.nq_model.specs.Hear.{hear}
 use Rattle.nq_model.specs.Message.{Message, Packet, datagram_of}
 use Rattle.nq_model.specs.Server.{Server, ServerStep}
 use Rattle.nq_model.specs.ServerStep.{receive, tick, crash}
-use Rattle.nq_model.specs.World.{Head, World, from_host, after_server, after_client, at_client, after_hearing, sending_host, deliver_to_client, deliver_to, deliver, step, first_kept, start, run}
+use Rattle.nq_model.specs.World.{Head, World, from_host, after_server, after_client, at_client, after_hearing, sending_host, deliver_to_client}
+use Rattle.nq_model.specs.World.{deliver_to, deliver, step, first_kept, start, run}
 use Rattle.nq_model.specs.EventsSendFew.{EventsSendFew}
 use Rattle.nq_model.specs.RowsStandApart.{HasOneRowEach}
 use Rattle.nq_model.specs.ServerAlone.{Coming, datagram, ticks, crashes, step_for, server_after, first_boot}

@@ -1,5 +1,6 @@
 -- In every run: what holds of each client alone, and of its mail.
-use Rattle.std.proofs.Common.{◌≡◌, ◌≢◌, ◌≤◌, ◌⊎◌, ℕ, zero, suc, ◌+◌, Bool, true, false, not, ◌&&◌, ◌==◌, List, [], ◌∷◌, ◌++◌, Option, Some, None, is_some, map, refl, sym, subst, ap, ◌∙◌, arith, inl, inr, append-nil, length}
+use Rattle.std.proofs.Common.{◌≡◌, ◌≢◌, ◌≤◌, ◌⊎◌, ℕ, zero, suc, ◌+◌, Bool, true, false, not, ◌&&◌, ◌==◌, List, [], ◌∷◌, ◌++◌, Option, Some, None}
+use Rattle.std.proofs.Common.{is_some, map, refl, sym, subst, ap, ◌∙◌, arith, inl, inr, append-nil, length}
 use Rattle.std.specs.Prelude.{slice_get, slice_set}
 use Rattle.std.proofs.lemmas.Bool.{and_parts}
 use Rattle.nq_base.specs.declared.Call.{Call}
@@ -29,7 +30,8 @@ use Rattle.nq_model.specs.Message.{Message, Packet, call, reply, error, asker, r
 use Rattle.nq_model.specs.Server.{Server, ServerStep, to_host, quiet}
 use Rattle.nq_model.specs.ServerStep.{receive, tick, crash, opens, ends_writing, at_time as at_server_time}
 use Rattle.nq_model.specs.Table.{same_who}
-use Rattle.nq_model.specs.World.{Head, World, from_host, after_server, after_client, at_client, after_hearing, sending_host, deliver_to_client, deliver_to, deliver, step, first_clients, start, run}
+use Rattle.nq_model.specs.World.{Head, World, from_host, after_server, after_client, at_client, after_hearing, sending_host, deliver_to_client}
+use Rattle.nq_model.specs.World.{deliver_to, deliver, step, first_clients, start, run}
 
 -- ---- lists by place
 

@@ -14,9 +14,11 @@ loop-at-init c =
     let q = c.args.n in
     let from = c.back_from-at.result in
     let up : length whole ≤ length whole = omega arith in
-    let all : call_of (reverse (take (length whole) whole)) who q ≡ call_of (reverse whole) who q = ap (λ l. call_of (reverse l) who q) (take-length whole) in (
+    let all : call_of (reverse (take (length whole) whole)) who q ≡ call_of (reverse whole) who q = ap (λ l. call_of (reverse l) who q)
+    (take-length whole) in (
       c.back_from-at.ensures.low,
-      sym all ∙ skip_told c.call_key-key.result who q whole from (length whole) c.call_key-key.ensures c.back_from-at.ensures.low up c.back_from-at.ensures.free
+      sym all ∙ skip_told c.call_key-key.result who q whole from (length whole) c.call_key-key.ensures c.back_from-at.ensures.low up
+          c.back_from-at.ensures.free
           ∙ sym (or_none (call_of (reverse (take from whole)) who q)),
     )
 

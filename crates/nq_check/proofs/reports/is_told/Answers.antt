@@ -15,4 +15,5 @@ returns-in-L c =
     let after = drop (place + 1) whole in
     λ t. subst (λ e. is_told whole place e ≡ true) (sym s.is)
     (subst (λ e. is_reported (reverse whole) (e ∷ before) s.who loss after ≡ true) s.is
-    (subst (λ l. is_reported (reverse whole) l s.who loss after ≡ true) (taken_here whole place c.args.entry.now c.requires.there.1) (c.is_reported.ensures t)))
+    (subst (λ l. is_reported (reverse whole) l s.who loss after ≡ true) (taken_here whole place c.args.entry.now c.requires.there.1)
+    (c.is_reported.ensures t)))

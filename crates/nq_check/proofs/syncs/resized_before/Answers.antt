@@ -15,5 +15,6 @@ returns-then-is_sizing_of-clause-known c =
     let within : c.args.place < length whole = c.requires.ready.within in
     let there = slice_get_read whole (length whole) at entry refl (omega arith) c.index-whole-at.is in
     ok_sized (reverse whole) (reverse (take at whole)) (reverse (take resize whole)) c.args.by.now c.args.on entry
-    (ap (is_sizing_of c.args.on) (sym c.call_of_ok.ensures) ∙ sym c.is_sizing_of.ensures ∙ c.if-is_sizing_of.true) (c.requires.ready.kept at entry (omega arith) there)
+    (ap (is_sizing_of c.args.on) (sym c.call_of_ok.ensures) ∙ sym c.is_sizing_of.ensures ∙ c.if-is_sizing_of.true) (c.requires.ready.kept at entry
+    (omega arith) there)
     (exists_later whole at resize (omega arith) (omega arith))

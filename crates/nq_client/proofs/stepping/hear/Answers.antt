@@ -51,11 +51,13 @@ pub finish-requires-clause-room : goal.finish-requires-clause-room
 finish-requires-clause-room c =
     let old = client_of c.args.step.now.state in
     let client = client_of c.room_for_heard.new.step.state in
-    let heeded : IsHeeded client.ticket c.args.heard.now = subst (λ (x : Client). IsHeeded x.ticket c.args.heard.now) (sym c.room_for_heard.ensures.kept.client) c.requires.heeded in
+    let heeded : IsHeeded client.ticket c.args.heard.now = subst (λ (x : Client). IsHeeded x.ticket c.args.heard.now)
+    (sym c.room_for_heard.ensures.kept.client) c.requires.heeded in
     let x = heard-within client c.args.packet c.args.heard.now heeded in
     let few : length (on_heard client c.args.packet c.args.heard.now).entries ≤ most_entries client = x.few in
     let same : most_entries client ≡ most_entries old = ap most_entries c.room_for_heard.ensures.kept.client in
-    let e : c.hears.new.self.entries.items ≡ (on_heard client c.args.packet c.args.heard.now).entries = ap (λ (r : ClientStep). r.entries) c.in_ok-hears.ensures.heard in
+    let e : c.hears.new.self.entries.items ≡ (on_heard client c.args.packet c.args.heard.now).entries = ap (λ (r : ClientStep). r.entries)
+    c.in_ok-hears.ensures.heard in
     let room : most_entries old ≤ c.room_for_heard.new.log.spare = c.in_ok-room_for_heard.ensures.supplied.room.entries_told in
     subst (λ es. length es ≤ c.room_for_heard.new.log.spare) (sym e) (omega arith)
 
@@ -69,7 +71,9 @@ returns c =
       begun = c.finish.ensures.begun;
       client = ap client_of c.finish.ensures.state ∙ ap (λ (r : ClientStep). r.client) made;
       grows =
-          grows_from t c.args.out.now c.room_for_heard.new.out c.finish.new.out c.args.log.now c.room_for_heard.new.log c.finish.new.log kept.first kept.datagrams kept.entries
-          (subst (λ (s : ClientStep). Grows s c.room_for_heard.new.out c.finish.new.out c.room_for_heard.new.log c.finish.new.log) made c.finish.ensures.grows);
+          grows_from t c.args.out.now c.room_for_heard.new.out c.finish.new.out c.args.log.now c.room_for_heard.new.log c.finish.new.log kept.first
+          kept.datagrams kept.entries
+          (subst (λ (s : ClientStep). Grows s c.room_for_heard.new.out c.finish.new.out c.room_for_heard.new.log c.finish.new.log) made
+          c.finish.ensures.grows);
       answer = ap (option_map plain_answer) c.finish.ensures.answer ∙ ap (λ (r : ClientStep). r.answer) made;
     }

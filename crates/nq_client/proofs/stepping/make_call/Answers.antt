@@ -13,6 +13,7 @@ pub finish-requires-clause-room : goal.finish-requires-clause-room
 finish-requires-clause-room c =
     let x = called (client_of c.args.step.now.state) c.args.call in
     let few : length (client_call (client_of c.args.step.now.state) c.args.call).entries ≤ 3 = x.few in
-    let e : c.call.new.self.entries.items ≡ (client_call (client_of c.args.step.now.state) c.args.call).entries = ap (λ (r : ClientStep). r.entries) c.call.ensures in
+    let e : c.call.new.self.entries.items ≡ (client_call (client_of c.args.step.now.state) c.args.call).entries = ap (λ (r : ClientStep). r.entries)
+    c.call.ensures in
     let room : 3 ≤ c.args.log.now.spare = c.requires.supplied.room.entries_told in
     subst (λ es. length es ≤ c.args.log.now.spare) (sym e) (omega arith)

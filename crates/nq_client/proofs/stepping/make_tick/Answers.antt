@@ -13,6 +13,7 @@ pub finish-requires-clause-room : goal.finish-requires-clause-room
 finish-requires-clause-room c =
     let x = ticked (client_of c.args.step.now.state) c.args.now in
     let few : length (client_tick (client_of c.args.step.now.state) c.args.now).entries ≤ 2 = x.few in
-    let e : c.tick.new.self.entries.items ≡ (client_tick (client_of c.args.step.now.state) c.args.now).entries = ap (λ (r : ClientStep). r.entries) c.tick.ensures in
+    let e : c.tick.new.self.entries.items ≡ (client_tick (client_of c.args.step.now.state) c.args.now).entries = ap (λ (r : ClientStep). r.entries)
+    c.tick.ensures in
     let room : 2 ≤ c.args.log.now.spare = c.requires.supplied.room.entries_told in
     subst (λ es. length es ≤ c.args.log.now.spare) (sym e) (omega arith)

@@ -8,4 +8,5 @@ use Rattle.nq_client_parts.proofs.leases.place_of.Goals as goal
 pub returns : goal.returns
 returns c =
     is_place file_of_lease lease_in c.args.file c.args.rows.now c.partition_point.result c.partition_point.ensures.bound
-    (IsPartitionPoint-from_clause (λ row. nat_lt (file_of_row row) c.args.file) _ _ c.partition_point.ensures.partitioned (parted file_of_lease lease_in c.args.file c.args.rows.now c.requires) (λ a r f h. search rules))
+    (IsPartitionPoint-from_clause (λ row. nat_lt (file_of_row row) c.args.file) _ _ c.partition_point.ensures.partitioned
+    (parted file_of_lease lease_in c.args.file c.args.rows.now c.requires) (λ a r f h. search rules))

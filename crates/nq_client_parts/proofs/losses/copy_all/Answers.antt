@@ -11,6 +11,8 @@ loop-place-preserved c =
     let x = c.unwrap-loss.result in
     let place = c.loop-place.place in
     let got : slice_get all place ≡ Some x = sym c.get.ensures ∙ c.unwrap-loss.ensures in
-    let pushed : c.push.new.losses.items ≡ (into ++ take place all) ++ x ∷ [] = c.in_ok-push.ensures ∙ ap (λ (xs : List Loss). xs ++ x ∷ []) c.loop-place.invariant in
-    let grown : (into ++ take place all) ++ x ∷ [] ≡ into ++ take (place + 1) all = rw append_assoc (ap (λ (xs : List Loss). into ++ xs) (sym (taken_more all place x got))) in
+    let pushed : c.push.new.losses.items ≡ (into ++ take place all) ++ x ∷ [] = c.in_ok-push.ensures ∙ ap (λ (xs : List Loss). xs ++ x ∷ [])
+    c.loop-place.invariant in
+    let grown : (into ++ take place all) ++ x ∷ [] ≡ into ++ take (place + 1) all = rw append_assoc (ap (λ (xs : List Loss). into ++ xs)
+    (sym (taken_more all place x got))) in
     pushed ∙ grown

@@ -21,21 +21,25 @@ unfolding tested
 is_of file None = refl
 is_of file (Some n) = chosen (file_of_notice n == file) n
 
-found : (file place : ℕ) (notices : List Notice) → option_map (λ x. x) (of_file file_of_notice file (slice_get notices place)) ≡ notice_on file (map (λ x. x) notices) → tested file (slice_get notices place) ≡ is_some (notice_on file notices)
+found : (file place : ℕ) (notices : List Notice) → option_map (λ x. x) (of_file file_of_notice file (slice_get notices place)) ≡ notice_on file
+    (map (λ x. x) notices) → tested file (slice_get notices place) ≡ is_some (notice_on file notices)
 found file place notices h = is_of file (slice_get notices place) ∙ ap is_some h ∙ ap (λ xs. is_some (notice_on file xs)) (same_list notices)
 
 pub returns-in-Some : goal.returns-in-Some
 unfolding tested
 returns-in-Some c =
-    let there : slice_get c.args.notices.now c.args.place ≡ Some c.in-Some.notice.now = slice_get_read c.args.notices.now (length c.args.notices.now) c.args.place c.in-Some.notice.now refl c.in-Some.ensures.lookup.3.0 c.in-Some.ensures.lookup.1 in
+    let there : slice_get c.args.notices.now c.args.place ≡ Some c.in-Some.notice.now = slice_get_read c.args.notices.now (length c.args.notices.now)
+    c.args.place c.in-Some.notice.now refl c.in-Some.ensures.lookup.3.0 c.in-Some.ensures.lookup.1 in
     c.eq.ensures
     ∙ ap (λ m. m == c.args.file) c.file.ensures
     ∙ ap (tested c.args.file) (sym there)
-    ∙ found c.args.file c.args.place c.args.notices.now (sym (found-place file_of_notice (λ n. n) c.args.file c.args.notices.now c.args.place c.requires.ascends c.requires.place))
+    ∙ found c.args.file c.args.place c.args.notices.now (sym (found-place file_of_notice (λ n. n) c.args.file c.args.notices.now c.args.place
+    c.requires.ascends c.requires.place))
 
 pub returns-in-None : goal.returns-in-None
 unfolding tested
 returns-in-None c =
     let absent : slice_get c.args.notices.now c.args.place ≡ None = slice_get_past c.args.notices.now c.args.place c.in-None.ensures.lookup.3 in
     ap (tested c.args.file) (sym absent)
-    ∙ found c.args.file c.args.place c.args.notices.now (sym (found-place file_of_notice (λ n. n) c.args.file c.args.notices.now c.args.place c.requires.ascends c.requires.place))
+    ∙ found c.args.file c.args.place c.args.notices.now (sym (found-place file_of_notice (λ n. n) c.args.file c.args.notices.now c.args.place
+    c.requires.ascends c.requires.place))

@@ -7,4 +7,5 @@ use Rattle.nq_client_parts.proofs.notices.place_of.Goals as goal
 pub returns : goal.returns
 returns c =
     is_place file_of_notice (λ n. n) c.args.file c.args.notices.now c.partition_point.result c.partition_point.ensures.bound
-    (IsPartitionPoint-from_clause (λ n. nat_lt (file_of_notice n) c.args.file) _ _ c.partition_point.ensures.partitioned (parted file_of_notice (λ n. n) c.args.file c.args.notices.now c.requires) (λ a r f h. search rules))
+    (IsPartitionPoint-from_clause (λ n. nat_lt (file_of_notice n) c.args.file) _ _ c.partition_point.ensures.partitioned
+    (parted file_of_notice (λ n. n) c.args.file c.args.notices.now c.requires) (λ a r f h. search rules))

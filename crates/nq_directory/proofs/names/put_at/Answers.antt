@@ -13,8 +13,10 @@ insert_at-requires-clause-place c =
 
 pub returns-clause-items : goal.returns-clause-items
 returns-clause-items c =
-    c.insert_at.ensures.items ∙ ap (λ p. insert c.args.names.now.items p c.args.entry.now) c.requires.place ∙ sym (put-at c.args.entry.now c.args.names.now.items)
+    c.insert_at.ensures.items ∙ ap (λ p. insert c.args.names.now.items p c.args.entry.now) c.requires.place
+    ∙ sym (put-at c.args.entry.now c.args.names.now.items)
 
 pub returns-clause-order : goal.returns-clause-order
 returns-clause-order c =
-    subst AreInOrder (put-at c.args.entry.now c.args.names.now.items ∙ ap (λ p. insert c.args.names.now.items p c.args.entry.now) (sym c.requires.place) ∙ sym c.insert_at.ensures.items) (put-in-order c.args.entry.now c.args.names.now.items c.requires.order)
+    subst AreInOrder (put-at c.args.entry.now c.args.names.now.items ∙ ap (λ p. insert c.args.names.now.items p c.args.entry.now)
+    (sym c.requires.place) ∙ sym c.insert_at.ensures.items) (put-in-order c.args.entry.now c.args.names.now.items c.requires.order)

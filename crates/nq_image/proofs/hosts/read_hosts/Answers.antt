@@ -12,7 +12,8 @@ returns-in_err-host c =
     let whole = tested (hosts_checks c.args.count c.args.place c.args.rows.now) (hosts_of c.args.count c.args.rows.now) in
     let is : c.from_residual.result ≡ Err (BadField c.in_err-host.field-0.0) = search rules in
     reads-wrong (λ hosts. hosts.items) c.from_residual.result c.in_err-host.field-0.0 whole is
-    (host-fails c.args.count c.loop.counter c.loop.at c.loop.hosts.items c.loop.rest.now c.in_err-host.field-0.0 whole (omega arith) wrong c.loop.invariant.same)
+    (host-fails c.args.count c.loop.counter c.loop.at c.loop.hosts.items c.loop.rest.now c.in_err-host.field-0.0 whole (omega arith) wrong
+    c.loop.invariant.same)
 
 pub loop-preserved : goal.loop-preserved
 loop-preserved c =
@@ -22,7 +23,8 @@ loop-preserved c =
     record {
       size = omega arith;
       at = omega arith;
-      same = rw (c.in_ok-push.ensures.items, c.split_at.ensures.back) (host-passes c.args.count c.loop.counter c.loop.at c.loop.hosts.items c.loop.rest.now c.in_ok-host.host whole (omega arith) right c.loop.invariant.same);
+      same = rw (c.in_ok-push.ensures.items, c.split_at.ensures.back) (host-passes c.args.count c.loop.counter c.loop.at c.loop.hosts.items
+          c.loop.rest.now c.in_ok-host.host whole (omega arith) right c.loop.invariant.same);
     }
 
 pub returns : goal.returns

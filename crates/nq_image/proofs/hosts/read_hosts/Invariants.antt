@@ -7,5 +7,6 @@ abbrev pub invariant-loop : goal.invariant-loop
 invariant-loop l = record {
   size : length l.rest ≡ 32 * (l.fn.count - l.counter);
   at : l.at ≡ l.fn.place + 32 * l.counter;
-  same : tested (hosts_checks (l.fn.count - l.counter) l.at l.rest) (l.hosts.items ++ hosts_of (l.fn.count - l.counter) l.rest) ≡ tested (hosts_checks l.fn.count l.fn.place l.fn.rows) (hosts_of l.fn.count l.fn.rows);
+  same : tested (hosts_checks (l.fn.count - l.counter) l.at l.rest) (l.hosts.items ++ hosts_of (l.fn.count - l.counter) l.rest)
+      ≡ tested (hosts_checks l.fn.count l.fn.place l.fn.rows) (hosts_of l.fn.count l.fn.rows);
 }

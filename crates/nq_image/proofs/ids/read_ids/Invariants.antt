@@ -8,5 +8,6 @@ invariant-loop-slot l = record {
   size : 4 * (length l.slots - l.slot-index) ≤ length l.rest;
   at : l.at ≡ l.fn.place + 4 * l.slot-index;
   all : length l.ids.items ≡ l.slot-index;
-  same : tested (ids_checks l.fn.next l.at l.ids.items (drop l.slot-index l.slots) l.rest) (l.ids.items ++ ids_of (drop l.slot-index l.slots) l.rest) ≡ tested (ids_checks l.fn.next l.fn.place [] l.fn.slots l.fn.block) (ids_of l.fn.slots l.fn.block);
+  same : tested (ids_checks l.fn.next l.at l.ids.items (drop l.slot-index l.slots) l.rest) (l.ids.items ++ ids_of (drop l.slot-index l.slots) l.rest)
+      ≡ tested (ids_checks l.fn.next l.fn.place [] l.fn.slots l.fn.block) (ids_of l.fn.slots l.fn.block);
 }

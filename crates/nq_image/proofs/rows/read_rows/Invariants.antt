@@ -10,5 +10,6 @@ invariant-loop l = record {
   few : sum_by blocks_of l.slots.items ≤ 16384;
   all : length l.slots.items ≡ l.counter;
   short : All (λ slot. blocks_of slot ≤ 1024) l.slots.items;
-  same : tested (rows_checks l.fn.version (l.fn.count - l.counter) l.at l.slots.items l.rest) (l.slots.items ++ slots_of (l.fn.count - l.counter) l.rest) ≡ tested (rows_checks l.fn.version l.fn.count l.fn.place [] l.fn.rows) (slots_of l.fn.count l.fn.rows);
+  same : tested (rows_checks l.fn.version (l.fn.count - l.counter) l.at l.slots.items l.rest) (l.slots.items ++ slots_of (l.fn.count - l.counter)
+      l.rest) ≡ tested (rows_checks l.fn.version l.fn.count l.fn.place [] l.fn.rows) (slots_of l.fn.count l.fn.rows);
 }

@@ -1,7 +1,8 @@
 use Rattle.std.proofs.Common.{◌+◌, [], arith, refl, ap, sym, ◌∙◌}
 use Rattle.std.proofs.lemmas.List.{append-nil}
 use Rattle.nq_journal.specs.Text.{journal_text}
-use Rattle.nq_journal.proofs.Pieces.{text_at, text_whole, entry_more, stopped, failed, extended, all_given, flushed, fit_more, all_fit, memory_not_all, failed_not_all}
+use Rattle.nq_journal.proofs.Pieces.{text_at, text_whole, entry_more, stopped, failed, extended, all_given, flushed, fit_more, all_fit}
+use Rattle.nq_journal.proofs.Pieces.{memory_not_all, failed_not_all}
 use Rattle.nq_journal.proofs.printing.print.Goals as goal
 use Rattle.nq_journal.proofs.printing.print.Goals.{then-len-ge-PIECE+in-All, else-len-ge-PIECE}
 

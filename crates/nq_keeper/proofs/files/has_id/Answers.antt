@@ -1,4 +1,4 @@
-use Rattle.std.proofs.Common.{◌≡◌, ◌==◌, ℕ, Bool, true, false, Some, None, if◌then◌else◌, refl, sym, ap, ◌∙◌}
+use Rattle.std.proofs.Common.{◌≡◌, ◌==◌, Bool, true, false, Some, None, if◌then◌else◌, refl, sym, ap, ◌∙◌}
 use Rattle.std.specs.Prelude.{is_some}
 use Rattle.nq_keeper.proofs.Edits.{got-at}
 use Rattle.nq_keeper.specs.InOrder.{of_id}
@@ -14,4 +14,5 @@ returns-in-Some c =
     c.eq.ensures
     ∙ ap (λ i. i == c.args.id) c.id.ensures
     ∙ tested c.in-Some.file.now (c.in-Some.file.now.id == c.args.id)
-    ∙ sym (ap (λ o. is_some (of_id c.args.id o)) (got-at c.args.files.now c.args.place c.in-Some.file.now c.in-Some.ensures.lookup.3.0 c.in-Some.ensures.lookup.1))
+    ∙ sym (ap (λ o. is_some (of_id c.args.id o)) (got-at c.args.files.now c.args.place c.in-Some.file.now c.in-Some.ensures.lookup.3.0
+    c.in-Some.ensures.lookup.1))

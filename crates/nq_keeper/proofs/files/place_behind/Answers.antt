@@ -5,4 +5,5 @@ use Rattle.nq_keeper.proofs.files.place_behind.Goals as goal
 
 pub returns : goal.returns
 returns c =
-    place-from-clause (is_upto c.args.id) (closed-upto c.args.id) _ _ c.requires c.partition_point.ensures.bound c.partition_point.ensures.partitioned (λ a r f h. search rules)
+    place-from-clause (is_upto c.args.id) (closed-upto c.args.id) _ _ c.requires c.partition_point.ensures.bound c.partition_point.ensures.partitioned
+    (λ a r f h. search rules)

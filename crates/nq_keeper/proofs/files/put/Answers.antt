@@ -23,14 +23,16 @@ within-here : (c : goal.In_ok-follow_at) → c.in-Some.place < length c.args.fil
 within-here c = subst (λ xs. c.in-Some.place < length xs) c.as_slice.ensures.value c.in-Some.ensures.within
 
 is-followed : (c : goal.In_ok-follow_at) → c.follow_at.new.files.items ≡ with_file c.args.row.now c.args.files.now.items
-is-followed c = follows-row c.args.files.now.items c.follow_at.new.files.items c.in-Some.place c.args.row.now c.requires.apart (found-here c) (within-here c) c.in_ok-follow_at.ensures.ok
+is-followed c = follows-row c.args.files.now.items c.follow_at.new.files.items c.in-Some.place c.args.row.now c.requires.apart (found-here c)
+    (within-here c) c.in_ok-follow_at.ensures.ok
 
 pub returns-clause-ok : goal.returns-clause-ok
 returns-clause-ok c = is-followed c
 
 pub returns-clause-count : goal.returns-clause-count
 returns-clause-count c =
-    counts-row c.args.files.now.items c.follow_at.new.files.items c.in-Some.place c.args.row.now c.row-had.result c.requires.apart (found-here c) (within-here c) (is-followed c)
+    counts-row c.args.files.now.items c.follow_at.new.files.items c.in-Some.place c.args.row.now c.row-had.result c.requires.apart (found-here c)
+    (within-here c) (is-followed c)
     (λ f at. c.row-had.ensures ∙ ap row_of (c.index.ensures ∙ get-index c.args.files.now.items c.in-Some.place f _ at))
 
 pub returns-in_default-clause-named : goal.returns-in_default-clause-named
@@ -41,4 +43,5 @@ returns-in_default-clause-named c =
 
 pub returns-clause-named : goal.returns-clause-named
 returns-clause-named c =
-    named-in-place c.args.names.now.entries c.args.files.now.items c.follow_at.new.files.items c.in-Some.place c.args.row.now c.requires.apart c.requires.named c.requires.among (found-here c) (within-here c) (is-followed c)
+    named-in-place c.args.names.now.entries c.args.files.now.items c.follow_at.new.files.items c.in-Some.place c.args.row.now c.requires.apart
+    c.requires.named c.requires.among (found-here c) (within-here c) (is-followed c)

@@ -20,9 +20,11 @@ returns-in-None-clause-files c =
 pub returns-in-Some-clause-named : goal.returns-in-Some-clause-named
 returns-in-Some-clause-named c =
     let here = c.as_slice.ensures.value in
-    let found : find_file c.args.id c.args.files.now.items ≡ slice_get c.args.files.now.items c.in-Some.place = subst (λ xs. find_file c.args.id xs ≡ slice_get xs c.in-Some.place) here c.in-Some.ensures.found in
+    let found : find_file c.args.id c.args.files.now.items ≡ slice_get c.args.files.now.items c.in-Some.place = subst (λ xs. find_file c.args.id xs
+    ≡ slice_get xs c.in-Some.place) here c.in-Some.ensures.found in
     let within : c.in-Some.place < length c.args.files.now.items = subst (λ xs. c.in-Some.place < length xs) here c.in-Some.ensures.within in
-    named-without c.args.names.now.entries c.take.new.names.entries c.args.files.now.items c.remove.new.self.items c.in-Some.place c.args.id c.row-row.result c.requires.apart c.requires.named found within
+    named-without c.args.names.now.entries c.take.new.names.entries c.args.files.now.items c.remove.new.self.items c.in-Some.place c.args.id
+    c.row-row.result c.requires.apart c.requires.named found within
     (λ f at. ap (λ r. r.name) c.row-row.ensures ∙ ap (λ g. g.name) (c.remove.ensures.value ∙ get-index c.args.files.now.items c.in-Some.place f _ at))
     c.take.ensures
     (c.remove.ensures.items ∙ drops-file c.args.files.now.items c.in-Some.place c.args.id c.requires.apart found within)

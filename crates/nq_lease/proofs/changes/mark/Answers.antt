@@ -18,12 +18,14 @@ loop-place-preserved c =
     let within : c.loop-place.place < length rows = omega (arith, c.span_of-first.ensures.within, c.as_slice.ensures.len, c.args.rows.now.ok.0) in
     elim c.if-is_in_the_way.branch [
       | then-is_in_the_way w ↦ rw w.rows-is (record {
-        items = w.write.ensures.items ∙ marks-one c.args.file c.args.host c.args.access rows c.loop-place.rows.items c.loop-place.place c.index.result.now within c.loop-place.invariant.items c.index.ensures (sym c.is_in_the_way.ensures ∙ w.if-is_in_the_way.true);
+        items = w.write.ensures.items ∙ marks-one c.args.file c.args.host c.args.access rows c.loop-place.rows.items c.loop-place.place
+            c.index.result.now within c.loop-place.invariant.items c.index.ensures (sym c.is_in_the_way.ensures ∙ w.if-is_in_the_way.true);
         long = ap length w.write.ensures.items ∙ length-set c.loop-place.rows.items c.loop-place.place _ ∙ c.loop-place.invariant.long;
         capacity = omega (arith, w.write.ensures.capacity, c.loop-place.invariant.capacity);
       })
       | else-is_in_the_way w ↦ rw w.rows-is (record {
-        items = marks-none c.args.file c.args.host c.args.access rows c.loop-place.rows.items c.loop-place.place c.index.result.now within c.loop-place.invariant.items c.index.ensures (sym c.is_in_the_way.ensures ∙ w.if-is_in_the_way.false);
+        items = marks-none c.args.file c.args.host c.args.access rows c.loop-place.rows.items c.loop-place.place c.index.result.now within
+            c.loop-place.invariant.items c.index.ensures (sym c.is_in_the_way.ensures ∙ w.if-is_in_the_way.false);
         long = c.loop-place.invariant.long;
         capacity = c.loop-place.invariant.capacity;
       })

@@ -39,7 +39,8 @@ returns-in-Some-clause-kept c =
     let rows = c.args.rows.now.items in
     let place : c.place_of-place.result ≡ prefix_len (is_before row.file row.who.host) rows = rw (← c.as_slice.ensures.value) c.place_of-place.ensures in
     let there : find_row row.file row.who.host rows ≡ Some c.in-Some.old = rw (← c.as_slice-2.ensures.value) (sym c.at_place.ensures ∙ c.in-Some.is) in
-    rw c.write.ensures.items (kept-replaced rows (vec_capacity c.args.rows.now) c.args.ends.now.items (vec_capacity c.args.ends.now) c.place_of-place.result c.in-Some.old row c.take.new.ends.items c.add.new.ends.items _ _ c.requires there place
+    rw c.write.ensures.items (kept-replaced rows (vec_capacity c.args.rows.now) c.args.ends.now.items (vec_capacity c.args.ends.now)
+    c.place_of-place.result c.in-Some.old row c.take.new.ends.items c.add.new.ends.items _ _ c.requires there place
     (λ time. rw c.end_of.ensures at c.take.ensures.counts time)
     (λ time. rw c.end_of-in-Some.ensures at c.add.ensures.counts time)
     c.add.ensures.ends
@@ -70,7 +71,8 @@ returns-else-len-ge-MOST_ROWS-clause-kept c =
     let place : c.place_of-place.result ≡ prefix_len (is_before row.file row.who.host) rows = rw (← c.as_slice.ensures.value) c.place_of-place.ensures in
     let none : find_row row.file row.who.host rows ≡ None = rw (← c.as_slice-2.ensures.value) (sym c.at_place.ensures ∙ c.in-None.is) in
     let room : length rows < 2048 = omega (arith, c.len.ensures, c.if-len-ge-MOST_ROWS.false) in
-    rw c.add-in-None-2.ensures.items (kept-added rows (vec_capacity c.args.rows.now) c.args.ends.now.items (vec_capacity c.args.ends.now) c.place_of-place.result row c.add-in-None.new.ends.items _ _ c.requires none room place
+    rw c.add-in-None-2.ensures.items (kept-added rows (vec_capacity c.args.rows.now) c.args.ends.now.items (vec_capacity c.args.ends.now)
+    c.place_of-place.result row c.add-in-None.new.ends.items _ _ c.requires none room place
     (λ time. rw c.end_of-in-None.ensures at c.add-in-None.ensures.counts time)
     c.add-in-None.ensures.ends
     c.add-in-None.ensures.all

@@ -39,7 +39,8 @@ returns-in-Some-clause-kept c =
     let rows = c.args.rows.now.items in
     let place : c.place_of-place.result ≡ prefix_len (is_before c.args.file c.args.host) rows = rw (← c.as_slice.ensures.value) c.place_of-place.ensures in
     let there : find_row c.args.file c.args.host rows ≡ Some c.in-Some.old = rw (← c.as_slice-2.ensures.value) (sym c.at_place.ensures ∙ c.in-Some.is) in
-    rw c.remove.ensures.items (kept-taken c.args.file c.args.host rows (vec_capacity c.args.rows.now) c.args.ends.now.items (vec_capacity c.args.ends.now) c.place_of-place.result c.in-Some.old c.take.new.ends.items _ _ c.requires there place
+    rw c.remove.ensures.items (kept-taken c.args.file c.args.host rows (vec_capacity c.args.rows.now) c.args.ends.now.items
+    (vec_capacity c.args.ends.now) c.place_of-place.result c.in-Some.old c.take.new.ends.items _ _ c.requires there place
     (λ time. rw c.end_of.ensures at c.take.ensures.counts time)
     c.take.ensures.ends
     c.take.ensures.all

@@ -10,4 +10,5 @@ returns-clause-rows c = filter_same _ (λ r. not (r.file == c.args.file)) _ (λ 
 pub returns-clause-kept : goal.returns-clause-kept
 returns-clause-kept c =
     let same = filter_same _ (λ r. not (r.file == c.args.file)) _ (λ x b q h. search rules) _ _ c.retain.ensures.filtered in
-    kept-filtered (λ r. not (r.file == c.args.file)) _ _ _ _ _ _ _ _ c.requires same (rw (← c.as_slice.ensures.value) c.fill.ensures.ends) (c.fill.ensures.all ∙ ap length c.as_slice.ensures.value) (omega (arith, c.retain.ensures.capacity)) c.fill.ensures.capacity
+    kept-filtered (λ r. not (r.file == c.args.file)) _ _ _ _ _ _ _ _ c.requires same (rw (← c.as_slice.ensures.value) c.fill.ensures.ends)
+    (c.fill.ensures.all ∙ ap length c.as_slice.ensures.value) (omega (arith, c.retain.ensures.capacity)) c.fill.ensures.capacity

@@ -10,4 +10,5 @@ unwrap-requires c =
 pub returns-else-place-len-clause-ends : goal.returns-else-place-len-clause-ends
 returns-else-place-len-clause-ends c =
     let items = rw c.unwrap.ensures at c.insert.ensures.items in
-    rw items (inserted _ _ c.place_of-place.result c.args.time c.as_slice.ensures.value c.requires.ends c.place_of-place.ensures.bound c.place_of-place.ensures.before c.place_of-place.ensures.behind)
+    rw items (inserted _ _ c.place_of-place.result c.args.time c.as_slice.ensures.value c.requires.ends c.place_of-place.ensures.bound
+    c.place_of-place.ensures.before c.place_of-place.ensures.behind)

@@ -6,4 +6,5 @@ pub returns : goal.returns
 returns c =
     let file = c.args.file in
     let rows = c.args.rows.now in
-    rw (c.span_of-first.ensures.first, c.span_of-first.ensures.end) (filter-parts (is_below file) (is_upto file) (is_of file) rows (parts-of file rows c.requires))
+    rw (c.span_of-first.ensures.first, c.span_of-first.ensures.end) (filter-parts (is_below file) (is_upto file) (is_of file) rows
+    (parts-of file rows c.requires))

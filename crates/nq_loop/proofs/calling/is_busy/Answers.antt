@@ -7,8 +7,10 @@ use Rattle.nq_loop.proofs.calling.is_busy.Goals as goal
 
 pub returns-in-Some : goal.returns-in-Some
 returns-in-Some g c = λ head events plays.
-    ap (λ o. is_some (option_copied o)) (sym c.in-Some.is) ∙ busy-at c.args.world.now.clients (run head events).clients c.args.host _ plays.shown.shows.clients c.requires c.under_way.ensures
+    ap (λ o. is_some (option_copied o)) (sym c.in-Some.is) ∙ busy-at c.args.world.now.clients (run head events).clients c.args.host _
+    plays.shown.shows.clients c.requires c.under_way.ensures
 
 pub returns-in-None : goal.returns-in-None
 returns-in-None g c = λ head events plays.
-    ap (λ o. is_some (option_copied o)) (sym c.in-None.is) ∙ busy-at c.args.world.now.clients (run head events).clients c.args.host _ plays.shown.shows.clients c.requires c.under_way.ensures
+    ap (λ o. is_some (option_copied o)) (sym c.in-None.is) ∙ busy-at c.args.world.now.clients (run head events).clients c.args.host _
+    plays.shown.shows.clients c.requires c.under_way.ensures

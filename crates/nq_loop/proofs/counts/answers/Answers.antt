@@ -5,6 +5,7 @@ use Rattle.nq_loop.proofs.counts.answers.Goals as goal
 
 pub loop-entry-preserved : goal.loop-entry-preserved
 loop-entry-preserved c = record {
-  counted = one-more is_answer _ c.loop-entry.entry-index c.loop-entry.answers c.answer_of-answers.result c.entry-item.result (omega arith) c.loop-entry.invariant.counted c.answer_of-answers.ensures.value c.entry-item.is;
+  counted = one-more is_answer _ c.loop-entry.entry-index c.loop-entry.answers c.answer_of-answers.result c.entry-item.result (omega arith)
+      c.loop-entry.invariant.counted c.answer_of-answers.ensures.value c.entry-item.is;
   few = omega arith;
 }

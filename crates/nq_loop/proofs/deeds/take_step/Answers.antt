@@ -19,8 +19,10 @@ receive-requires-clause-there g c =
 pub returns-in-Tick : goal.returns-in-Tick
 returns-in-Tick g c = record {
   loops = λ head hosts here.
-      rw c.in-Tick.is (given-step head (Event.ClientTick c.in-Tick.host) c.give.result (loop_of g.K.Keeper.content g.L.Link.sent g.L.Link.waiting g.L.Link.faults g.L.Link.receives c.args.world.now c.args.state.now c.args.ran.now c.args.links.now)
-      (loop_of g.K.Keeper.content g.L.Link.sent g.L.Link.waiting g.L.Link.faults g.L.Link.receives c.give.new.world c.give.new.state c.give.new.ran c.give.new.links) (c.give.ensures.gives head hosts here));
+      rw c.in-Tick.is (given-step head (Event.ClientTick c.in-Tick.host) c.give.result (loop_of g.K.Keeper.content g.L.Link.sent g.L.Link.waiting
+      g.L.Link.faults g.L.Link.receives c.args.world.now c.args.state.now c.args.ran.now c.args.links.now)
+      (loop_of g.K.Keeper.content g.L.Link.sent g.L.Link.waiting g.L.Link.faults g.L.Link.receives c.give.new.world c.give.new.state c.give.new.ran
+      c.give.new.links) (c.give.ensures.gives head hosts here));
   keeps = c.give.ensures.keeps;
   follows = c.give.ensures.follows;
 }
@@ -28,8 +30,10 @@ returns-in-Tick g c = record {
 pub returns-in-ServerTick : goal.returns-in-ServerTick
 returns-in-ServerTick g c = record {
   loops = λ head hosts here.
-      rw c.in-ServerTick.is (given-step head Event.ServerTick c.give-in-ServerTick.result (loop_of g.K.Keeper.content g.L.Link.sent g.L.Link.waiting g.L.Link.faults g.L.Link.receives c.args.world.now c.args.state.now c.args.ran.now c.args.links.now)
-      (loop_of g.K.Keeper.content g.L.Link.sent g.L.Link.waiting g.L.Link.faults g.L.Link.receives c.give-in-ServerTick.new.world c.give-in-ServerTick.new.state c.give-in-ServerTick.new.ran c.give-in-ServerTick.new.links) (c.give-in-ServerTick.ensures.gives head hosts here));
+      rw c.in-ServerTick.is (given-step head Event.ServerTick c.give-in-ServerTick.result (loop_of g.K.Keeper.content g.L.Link.sent g.L.Link.waiting
+      g.L.Link.faults g.L.Link.receives c.args.world.now c.args.state.now c.args.ran.now c.args.links.now)
+      (loop_of g.K.Keeper.content g.L.Link.sent g.L.Link.waiting g.L.Link.faults g.L.Link.receives c.give-in-ServerTick.new.world
+      c.give-in-ServerTick.new.state c.give-in-ServerTick.new.ran c.give-in-ServerTick.new.links) (c.give-in-ServerTick.ensures.gives head hosts here));
   keeps = c.give-in-ServerTick.ensures.keeps;
   follows = c.give-in-ServerTick.ensures.follows;
 }

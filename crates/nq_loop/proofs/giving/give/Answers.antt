@@ -16,35 +16,46 @@ pub step-requires : goal.step-requires
 step-requires g c = can-come (length c.args.state.now.begun) (length c.args.world.now.clients) _ c.args.event.now c.requires.hosts c.requires.looped
 
 pub note-requires : goal.note-requires
-note-requires g c = subst (λ begun. HasCount (length begun) c.args.event.now) (sym c.keep.ensures.begun) (has-count (length c.args.state.now.begun) c.args.event.now c.requires.looped)
+note-requires g c = subst (λ begun. HasCount (length begun) c.args.event.now) (sym c.keep.ensures.begun) (has-count (length c.args.state.now.begun)
+    c.args.event.now c.requires.looped)
 
 pub returns-in-Done : goal.returns-in-Done
 returns-in-Done g c =
     let told = told_of g.L.Link.sent g.L.Link.waiting g.L.Link.faults g.L.Link.receives in
-    let sends = subst (λ ds. SendsAll c.send_from.result (drop c.len-sent.result ds) (map told c.args.links.now) (map told c.send_from.new.links)) c.packets-in-Done.ensures c.send_from.ensures in
+    let sends = subst (λ ds. SendsAll c.send_from.result (drop c.len-sent.result ds) (map told c.args.links.now) (map told c.send_from.new.links))
+    c.packets-in-Done.ensures c.send_from.ensures in
     let many : c.len-sent.result ≡ length c.args.world.now.datagrams = c.len-sent.ensures ∙ ap length c.packets.ensures in
     record {
       gives = λ head hosts here.
           let earlier = reverse c.args.ran.now in
-          let middle : IsLooping head (loop_of g.K.Keeper.content g.L.Link.sent g.L.Link.waiting g.L.Link.faults g.L.Link.receives c.args.world.now c.keep.new.state c.args.ran.now c.args.links.now) = record {
+          let middle : IsLooping head (loop_of g.K.Keeper.content g.L.Link.sent g.L.Link.waiting g.L.Link.faults g.L.Link.receives c.args.world.now
+          c.keep.new.state c.args.ran.now c.args.links.now) = record {
             plays = here.plays;
             marks = c.keep.ensures.same earlier here.marks;
             counts = subst (λ begun. Counts begun earlier) (sym c.keep.ensures.begun) here.counts;
             taken = here.taken;
             looped = here.looped;
           } in
-          let old = loop_of g.K.Keeper.content g.L.Link.sent g.L.Link.waiting g.L.Link.faults g.L.Link.receives c.args.world.now c.keep.new.state c.args.ran.now c.args.links.now in
-          let new = loop_of g.K.Keeper.content g.L.Link.sent g.L.Link.waiting g.L.Link.faults g.L.Link.receives c.step.new.self c.note.new.self c.keep.new.ran c.send_from.new.links in
+          let old = loop_of g.K.Keeper.content g.L.Link.sent g.L.Link.waiting g.L.Link.faults g.L.Link.receives c.args.world.now c.keep.new.state
+          c.args.ran.now c.args.links.now in
+          let new = loop_of g.K.Keeper.content g.L.Link.sent g.L.Link.waiting g.L.Link.faults g.L.Link.receives c.step.new.self c.note.new.self
+          c.keep.new.ran c.send_from.new.links in
           let steps = c.in-Done.ensures.steps head earlier here.plays in
           let reached = c.in-Ok.ensures.reached in
           let room : length c.args.world.now.datagrams ≤ length c.keep.new.state.flags = omega (arith, many, reached) in
-          let marks = c.note.ensures.marks (has_flag head earlier c.args.event.now c.args.world.now _ c.keep.new.state.flags here.plays room steps.0) earlier middle.marks in
+          let marks = c.note.ensures.marks (has_flag head earlier c.args.event.now c.args.world.now _ c.keep.new.state.flags here.plays room steps.0)
+          earlier middle.marks in
           let counts = c.note.ensures.counts earlier middle.counts in
           let looped = subst (λ n. IsLooped n c.args.event.now) (sym hosts) c.requires.looped in
-          let given : GivesTo head c.args.event.now c.moved.result old new = subst (λ r. GivesTo head c.args.event.now r old new) (sym c.moved.ensures) (taken head c.args.event.now c.send_from.result c.len-sent.result old new middle steps.0 steps.1 marks counts looped c.in-Ok.ensures.kept many sends) in
+          let given : GivesTo head c.args.event.now c.moved.result old new = subst (λ r. GivesTo head c.args.event.now r old new)
+          (sym c.moved.ensures) (taken head c.args.event.now c.send_from.result c.len-sent.result old new middle steps.0 steps.1 marks counts
+          looped c.in-Ok.ensures.kept many sends) in
           record { gives = given.gives; stands = given.stands };
       keeps = record {
-        faults = subst (λ r. CountsKeep r (g.K.Keeper.faults c.args.world.now.server.keeper) (g.K.Keeper.faults c.step.new.self.server.keeper)) (sym c.moved.ensures) (counts-taken c.send_from.result (drop c.len-sent.result c.step.new.self.datagrams) (map told c.args.links.now) (map told c.send_from.new.links) (g.K.Keeper.faults c.args.world.now.server.keeper) (g.K.Keeper.faults c.step.new.self.server.keeper) sends c.in-Done.ensures.faults);
+        faults = subst (λ r. CountsKeep r (g.K.Keeper.faults c.args.world.now.server.keeper) (g.K.Keeper.faults c.step.new.self.server.keeper))
+            (sym c.moved.ensures) (counts-taken c.send_from.result (drop c.len-sent.result c.step.new.self.datagrams) (map told c.args.links.now)
+            (map told c.send_from.new.links) (g.K.Keeper.faults c.args.world.now.server.keeper) (g.K.Keeper.faults c.step.new.self.server.keeper)
+            sends c.in-Done.ensures.faults);
         clients_are = c.step.ensures.settings.hosts_are;
         hosts_are = c.note.ensures.hosts ∙ ap length c.keep.ensures.begun;
       };
@@ -55,20 +66,27 @@ pub returns-in_default : goal.returns-in_default
 returns-in_default g c = record {
   gives = λ head hosts here.
       let earlier = reverse c.args.ran.now in
-      let middle : IsLooping head (loop_of g.K.Keeper.content g.L.Link.sent g.L.Link.waiting g.L.Link.faults g.L.Link.receives c.args.world.now c.keep.new.state c.args.ran.now c.args.links.now) = record {
+      let middle : IsLooping head (loop_of g.K.Keeper.content g.L.Link.sent g.L.Link.waiting g.L.Link.faults g.L.Link.receives c.args.world.now
+      c.keep.new.state c.args.ran.now c.args.links.now) = record {
         plays = here.plays;
         marks = c.keep.ensures.same earlier here.marks;
         counts = subst (λ begun. Counts begun earlier) (sym c.keep.ensures.begun) here.counts;
         taken = here.taken;
         looped = here.looped;
       } in
-      let old = loop_of g.K.Keeper.content g.L.Link.sent g.L.Link.waiting g.L.Link.faults g.L.Link.receives c.args.world.now c.keep.new.state c.args.ran.now c.args.links.now in
-      let new = loop_of g.K.Keeper.content g.L.Link.sent g.L.Link.waiting g.L.Link.faults g.L.Link.receives c.step.new.self c.keep.new.state c.drop_last.new.self c.args.links.now in
-      let given : GivesTo head c.args.event.now (Err c.halt_of.result) old new = subst (λ why. GivesTo head c.args.event.now (Err why) old new) (sym c.halt_of.ensures)
-      (refused head c.args.event.now c.step.result old new middle (c.step.ensures.steps head earlier here.plays) c.in_default.not-Done refl (dropped c.args.ran.now c.keep.new.ran c.drop_last.new.self c.args.event.now c.in-Ok.ensures.kept c.drop_last.ensures) refl) in
+      let old = loop_of g.K.Keeper.content g.L.Link.sent g.L.Link.waiting g.L.Link.faults g.L.Link.receives c.args.world.now c.keep.new.state
+      c.args.ran.now c.args.links.now in
+      let new = loop_of g.K.Keeper.content g.L.Link.sent g.L.Link.waiting g.L.Link.faults g.L.Link.receives c.step.new.self c.keep.new.state
+      c.drop_last.new.self c.args.links.now in
+      let given : GivesTo head c.args.event.now (Err c.halt_of.result) old new = subst (λ why. GivesTo head c.args.event.now (Err why) old new)
+      (sym c.halt_of.ensures)
+      (refused head c.args.event.now c.step.result old new middle (c.step.ensures.steps head earlier here.plays) c.in_default.not-Done refl
+      (dropped c.args.ran.now c.keep.new.ran c.drop_last.new.self c.args.event.now c.in-Ok.ensures.kept c.drop_last.ensures) refl) in
       record { gives = given.gives; stands = given.stands };
   keeps = record {
-    faults = subst (λ why. CountsKeep (Err why) (g.K.Keeper.faults c.args.world.now.server.keeper) (g.K.Keeper.faults c.step.new.self.server.keeper)) (sym c.halt_of.ensures) (counts-refused c.step.result (g.K.Keeper.faults c.args.world.now.server.keeper) (g.K.Keeper.faults c.step.new.self.server.keeper) c.in_default.not-Done c.step.ensures.faults);
+    faults = subst (λ why. CountsKeep (Err why) (g.K.Keeper.faults c.args.world.now.server.keeper) (g.K.Keeper.faults c.step.new.self.server.keeper))
+        (sym c.halt_of.ensures) (counts-refused c.step.result (g.K.Keeper.faults c.args.world.now.server.keeper)
+        (g.K.Keeper.faults c.step.new.self.server.keeper) c.in_default.not-Done c.step.ensures.faults);
     clients_are = c.step.ensures.settings.hosts_are;
     hosts_are = ap length c.keep.ensures.begun;
   };
@@ -80,7 +98,11 @@ returns-in-Err g c = record {
   gives = λ head hosts here.
       let same : c.keep.new.ran ≡ c.args.ran.now = c.in-Err.ensures.refused in
       let told = told_of g.L.Link.sent g.L.Link.waiting g.L.Link.faults g.L.Link.receives in
-      let gone : record { events = reverse c.keep.new.ran; links = map told c.args.links.now } ≡ record { events = reverse c.args.ran.now; links = map told c.args.links.now } = ap (λ ran. record { events = reverse ran; links = map told c.args.links.now }) same in
+      let gone : record { events = reverse c.keep.new.ran; links = map told c.args.links.now } ≡ record {
+        events = reverse c.args.ran.now;
+        links =
+            map told c.args.links.now;
+      } = ap (λ ran. record { events = reverse ran; links = map told c.args.links.now }) same in
       let back = sym same in
       record {
         gives = inl gone;

@@ -9,7 +9,8 @@ pub returns-in-Quiet : goal.returns-in-Quiet
 returns-in-Quiet g c = rw c.in-Quiet.is (inl (tt, c.print_loop-in-Quiet.ensures))
 
 pub returns-in-Limit : goal.returns-in-Limit
-returns-in-Limit g c = rw c.in-Limit.is (limited-tells c.tell_limit.result c.in-Limit.limit c.args.head.now c.args.world.now _ c.args.ran.now _ _ _ _ c.tell_limit.ensures)
+returns-in-Limit g c = rw c.in-Limit.is (limited-tells c.tell_limit.result c.in-Limit.limit c.args.head.now c.args.world.now _ c.args.ran.now _ _ _ _
+    c.tell_limit.ensures)
 
 pub returns-in-Link : goal.returns-in-Link
 returns-in-Link g c = inr (inl (refl, c.in-Link.is, refl, refl))

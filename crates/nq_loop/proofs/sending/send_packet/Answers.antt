@@ -26,9 +26,11 @@ returns-in-All g c =
     let new = c.send.new.self in
     let bytes : c.deref.result.now ≡ d.bytes = c.deref.ensures.value ∙ c.in_ok-bytes_into.ensures.ok ∙ ap (λ xs. xs ++ d.bytes) c.clear.ensures.items in
     let same : told new ≡ with_sent d (told old) =
-    told-sent d (g.L.Link.sent old) (g.L.Link.sent new) (g.L.Link.waiting old) (g.L.Link.waiting new) (g.L.Link.faults old) (g.L.Link.faults new) (g.L.Link.receives old) (g.L.Link.receives new) c.to.result c.deref.result.now
+    told-sent d (g.L.Link.sent old) (g.L.Link.sent new) (g.L.Link.waiting old) (g.L.Link.waiting new) (g.L.Link.faults old) (g.L.Link.faults new)
+    (g.L.Link.receives old) (g.L.Link.receives new) c.to.result c.deref.result.now
     c.in-All.ensures.sends c.to.ensures bytes c.send.ensures.waiting c.send.ensures.receives c.in-All.ensures.cause in
-    set-changes told (with_sent d) links place old new (slice_get-get_or links place c.index-links-place.result c.if-place-links.false) same ∙ ap (λ p. changed_at p (with_sent d) (map told links)) at
+    set-changes told (with_sent d) links place old new (slice_get-get_or links place c.index-links-place.result c.if-place-links.false) same
+    ∙ ap (λ p. changed_at p (with_sent d) (map told links)) at
 
 pub returns-in-Failed : goal.returns-in-Failed
 returns-in-Failed g c =
@@ -46,7 +48,9 @@ returns-in-Failed g c =
       rose = c.in-Failed.ensures.cause;
       failed =
           map-set-slice told links place new
-          ∙ ap (λ l. slice_set (map told links) place l) (told-failed (g.L.Link.sent old) (g.L.Link.sent new) (g.L.Link.waiting old) (g.L.Link.waiting new) (g.L.Link.faults old) (g.L.Link.faults new) (g.L.Link.receives old) (g.L.Link.receives new) c.in-Failed.ensures.sends c.send.ensures.waiting c.send.ensures.receives);
+          ∙ ap (λ l. slice_set (map told links) place l) (told-failed (g.L.Link.sent old) (g.L.Link.sent new) (g.L.Link.waiting old)
+          (g.L.Link.waiting new) (g.L.Link.faults old) (g.L.Link.faults new) (g.L.Link.receives old) (g.L.Link.receives new)
+          c.in-Failed.ensures.sends c.send.ensures.waiting c.send.ensures.receives);
     } in
     record {
       front = [];

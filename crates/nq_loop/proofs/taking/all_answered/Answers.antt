@@ -8,7 +8,8 @@ loop-host-init g c = λ head events plays counts. refl
 
 pub loop-host-preserved : goal.loop-host-preserved
 loop-host-preserved g c = λ head events plays counts.
-    more-below (is_through head events) c.loop-host.host c.loop-host.all c.is_through-through.result c.both-all.result c.both-all.ensures (c.loop-host.invariant head events plays counts) (c.is_through-through.ensures head events plays counts)
+    more-below (is_through head events) c.loop-host.host c.loop-host.all c.is_through-through.result c.both-all.result c.both-all.ensures
+    (c.loop-host.invariant head events plays counts) (c.is_through-through.ensures head events plays counts)
 
 pub returns : goal.returns
 returns g c = λ head events hosts plays counts.

@@ -7,4 +7,5 @@ use Rattle.nq_world.specs.Playing.{Plays}
 use Rattle.nq_loop.proofs.taking.all_answered.Given as goal
 
 abbrev pub invariant-loop-host : goal.invariant-loop-host
-invariant-loop-host g l = (head : Head) (events : List Event) → Plays head events l.world (g.P.Keeper.content l.world.server.keeper) → Counts l.state.begun events → l.all ≡ all_below l.host (is_through head events)
+invariant-loop-host g l = (head : Head) (events : List Event) → Plays head events l.world (g.P.Keeper.content l.world.server.keeper)
+    → Counts l.state.begun events → l.all ≡ all_below l.host (is_through head events)

@@ -11,9 +11,11 @@ returns-in_default c = λ kept within next.
 pub returns-then-eq : goal.returns-then-eq
 returns-then-eq c = λ kept within next.
     let same : (c.in-Some.row.id == c.args.file) ≡ true = sym c.eq.ensures ∙ c.if-eq.true in
-    removes-own c.args.who c.args.file c.directory_of.result kept c.in-Some.row c.directory_of.ensures within (subst (IsNext kept (c.args.file - 1)) c.in-Some.is next) (same-number c.in-Some.row.id c.args.file same)
+    removes-own c.args.who c.args.file c.directory_of.result kept c.in-Some.row c.directory_of.ensures within (subst (IsNext kept (c.args.file - 1))
+    c.in-Some.is next) (same-number c.in-Some.row.id c.args.file same)
 
 pub returns-else-eq : goal.returns-else-eq
 returns-else-eq c = λ kept within next.
     let other : (c.in-Some.row.id == c.args.file) ≡ false = sym c.eq.ensures ∙ c.if-eq.false in
-    removes-other c.args.who c.args.file kept c.in-Some.row within (subst (IsNext kept (c.args.file - 1)) c.in-Some.is next) (is-other c.in-Some.row.id c.args.file other)
+    removes-other c.args.who c.args.file kept c.in-Some.row within (subst (IsNext kept (c.args.file - 1)) c.in-Some.is next)
+    (is-other c.in-Some.row.id c.args.file other)

@@ -20,8 +20,10 @@ loop-row-preserved c =
               so-far.grows.0 ++ one,
               added ∙ ap (λ d. d ++ one) so-far.grows.1 ∙ append_assoc c.args.out.now.datagrams so-far.grows.0 one,
             );
-            told = told-more c.args.prefix.now c.args.number c.args.host c.args.rows.now c.loop-row.row-index row c.loop-row-test.true c.row-item.is c.loop-row.next c.if-is_in_the_way.next _ c.loop-row.out.datagrams c.if-is_in_the_way.out.datagrams told w.next-is so-far.told added;
-            counted = counted-more c.args.prefix.now c.args.number c.args.host c.args.rows.now c.loop-row.row-index row c.loop-row-test.true c.row-item.is c.loop-row.next c.if-is_in_the_way.next _ told w.next-is so-far.counted;
+            told = told-more c.args.prefix.now c.args.number c.args.host c.args.rows.now c.loop-row.row-index row c.loop-row-test.true c.row-item.is
+                c.loop-row.next c.if-is_in_the_way.next _ c.loop-row.out.datagrams c.if-is_in_the_way.out.datagrams told w.next-is so-far.told added;
+            counted = counted-more c.args.prefix.now c.args.number c.args.host c.args.rows.now c.loop-row.row-index row c.loop-row-test.true
+                c.row-item.is c.loop-row.next c.if-is_in_the_way.next _ told w.next-is so-far.counted;
             small = search rules;
           }
       | else-is_in_the_way w ↦
@@ -29,8 +31,11 @@ loop-row-preserved c =
           record {
             first = search rules;
             grows = search rules;
-            told = told-passed c.args.prefix.now c.args.number c.args.host c.args.rows.now c.loop-row.row-index row c.loop-row-test.true c.row-item.is c.loop-row.next c.if-is_in_the_way.next _ c.loop-row.out.datagrams c.if-is_in_the_way.out.datagrams passed w.next-is so-far.told (ap (λ o. o.datagrams) w.out-is);
-            counted = counted-passed c.args.prefix.now c.args.number c.args.host c.args.rows.now c.loop-row.row-index row c.loop-row-test.true c.row-item.is c.loop-row.next c.if-is_in_the_way.next _ passed w.next-is so-far.counted;
+            told = told-passed c.args.prefix.now c.args.number c.args.host c.args.rows.now c.loop-row.row-index row c.loop-row-test.true c.row-item.is
+                c.loop-row.next c.if-is_in_the_way.next _ c.loop-row.out.datagrams c.if-is_in_the_way.out.datagrams passed w.next-is so-far.told
+                (ap (λ o. o.datagrams) w.out-is);
+            counted = counted-passed c.args.prefix.now c.args.number c.args.host c.args.rows.now c.loop-row.row-index row c.loop-row-test.true
+                c.row-item.is c.loop-row.next c.if-is_in_the_way.next _ passed w.next-is so-far.counted;
             small = search rules;
           }
     ]

@@ -9,7 +9,8 @@ abbrev pub invariant-loop-row : goal.invariant-loop-row
 invariant-loop-row l = record {
   first : l.out.first ≡ l.fn.out.first;
   grows : Grows l.fn.out.datagrams l.out.datagrams;
-  told : l.fn.out.datagrams ++ all_sent (notices l.prefix l.xid (readers l.number l.host l.rows)) ≡ l.out.datagrams ++ all_sent (notices l.prefix l.next (readers l.number l.host (drop l.row-index l.rows)));
+  told : l.fn.out.datagrams ++ all_sent (notices l.prefix l.xid (readers l.number l.host l.rows)) ≡ l.out.datagrams
+      ++ all_sent (notices l.prefix l.next (readers l.number l.host (drop l.row-index l.rows)));
   counted : notice_after l.xid (length (readers l.number l.host l.rows)) ≡ notice_after l.next (length (readers l.number l.host (drop l.row-index l.rows)));
   small : l.next < xid_end;
 }

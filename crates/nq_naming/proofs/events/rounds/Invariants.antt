@@ -13,6 +13,7 @@ abbrev pub invariant-loop-turn : goal.invariant-loop-turn
 invariant-loop-turn g l = record {
   on : (head : Head) (events : List NameEvent) → head.hosts ≡ l.hosts
       → IsAt head events l.fn.world (g.K.Keeper.content l.fn.world.inner.server.keeper) l.fn.delivered
-      → IsOn (λ es. IsAt head es l.world (g.K.Keeper.content l.world.inner.server.keeper) l.delivered) (repeated (l.times - l.turn) (play_round head)) (repeated l.times (play_round head) events);
+      → IsOn (λ es. IsAt head es l.world (g.K.Keeper.content l.world.inner.server.keeper) l.delivered) (repeated (l.times - l.turn) (play_round head))
+      (repeated l.times (play_round head) events);
   keeps : GoesOn g.K.Keeper.faults g.K.Keeper.follows Stepped.Done l.fn.world.inner l.world.inner;
 }

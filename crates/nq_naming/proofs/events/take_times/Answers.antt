@@ -10,14 +10,20 @@ pub returns-in_default : goal.returns-in_default
 returns-in_default g c = record {
   goes = λ head events at.
       let on = c.loop-turn.invariant.on head events at in
-      stops-here (play_event head c.args.event.now on.reached) (repeated (c.args.times - (c.loop-turn.turn + 1)) (play_event head c.args.event.now)) c.take.result _ _ _ (c.take.ensures.goes head on.reached on.here) c.in_default.not-Done (repeat-step c.args.times c.loop-turn.turn (play_event head c.args.event.now) on.reached _ c.loop-turn-test.true on.same);
-  keeps = keeps-on g.K.Keeper.faults g.K.Keeper.follows c.take.result c.args.world.now.inner c.loop-turn.world.inner c.take.new.world.inner g.met.K.Keeper.follows_on c.loop-turn.invariant.keeps c.take.ensures.keeps;
+      stops-here (play_event head c.args.event.now on.reached) (repeated (c.args.times - (c.loop-turn.turn + 1)) (play_event head c.args.event.now))
+      c.take.result _ _ _ (c.take.ensures.goes head on.reached on.here) c.in_default.not-Done (repeat-step c.args.times c.loop-turn.turn
+      (play_event head c.args.event.now) on.reached _ c.loop-turn-test.true on.same);
+  keeps = keeps-on g.K.Keeper.faults g.K.Keeper.follows c.take.result c.args.world.now.inner c.loop-turn.world.inner c.take.new.world.inner
+      g.met.K.Keeper.follows_on c.loop-turn.invariant.keeps c.take.ensures.keeps;
 }
 
 pub loop-turn-preserved : goal.loop-turn-preserved
 loop-turn-preserved g c = record {
   on = λ head events at.
       let on = c.loop-turn.invariant.on head events at in
-      goes-on (play_event head c.args.event.now on.reached) (repeated (c.args.times - (c.loop-turn.turn + 1)) (play_event head c.args.event.now)) _ _ (c.in-Done.ensures.goes head on.reached on.here) (repeat-step c.args.times c.loop-turn.turn (play_event head c.args.event.now) on.reached _ c.loop-turn-test.true on.same);
-  keeps = keeps-on g.K.Keeper.faults g.K.Keeper.follows Stepped.Done c.args.world.now.inner c.loop-turn.world.inner c.take.new.world.inner g.met.K.Keeper.follows_on c.loop-turn.invariant.keeps c.in-Done.ensures.keeps;
+      goes-on (play_event head c.args.event.now on.reached) (repeated (c.args.times - (c.loop-turn.turn + 1)) (play_event head c.args.event.now)) _ _
+      (c.in-Done.ensures.goes head on.reached on.here) (repeat-step c.args.times c.loop-turn.turn (play_event head c.args.event.now) on.reached _
+      c.loop-turn-test.true on.same);
+  keeps = keeps-on g.K.Keeper.faults g.K.Keeper.follows Stepped.Done c.args.world.now.inner c.loop-turn.world.inner c.take.new.world.inner
+      g.met.K.Keeper.follows_on c.loop-turn.invariant.keeps c.in-Done.ensures.keeps;
 }

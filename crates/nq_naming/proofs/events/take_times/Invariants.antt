@@ -12,6 +12,7 @@ use Rattle.nq_naming.proofs.events.take_times.Given as goal
 abbrev pub invariant-loop-turn : goal.invariant-loop-turn
 invariant-loop-turn g l = record {
   on : (head : Head) (events : List NameEvent) → IsAt head events l.fn.world (g.K.Keeper.content l.fn.world.inner.server.keeper) l.fn.delivered
-      → IsOn (λ es. IsAt head es l.world (g.K.Keeper.content l.world.inner.server.keeper) l.delivered) (repeated (l.times - l.turn) (play_event head l.event)) (repeated l.times (play_event head l.event) events);
+      → IsOn (λ es. IsAt head es l.world (g.K.Keeper.content l.world.inner.server.keeper) l.delivered) (repeated (l.times - l.turn)
+      (play_event head l.event)) (repeated l.times (play_event head l.event) events);
   keeps : GoesOn g.K.Keeper.faults g.K.Keeper.follows Stepped.Done l.fn.world.inner l.world.inner;
 }

@@ -11,5 +11,6 @@ returns g c =
     (λ put head m told flags is.
     let ran = c.ran.ensures head m.events told is.at.plays in
     let many : c.len-events.result ≡ length (outside_run head m.events).ran = c.len-events.ensures ∙ sym (length-reverse c.ran.result.now) ∙ ap length ran in
-    find-moment head m c.args.world.now told flags c.args.found.now.items c.push_find.new.text.items c.args.host c.args.name.now c.len-events.result c.find-known.result is (c.find-known.ensures.found head m.events told is.at.plays) many put)
+    find-moment head m c.args.world.now told flags c.args.found.now.items c.push_find.new.text.items c.args.host c.args.name.now c.len-events.result
+    c.find-known.result is (c.find-known.ensures.found head m.events told is.at.plays) many put)
     c.push_find.ensures

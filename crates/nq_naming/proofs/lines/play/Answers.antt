@@ -24,19 +24,30 @@ loop-place-init g c = record {
       record {
         reached = first_moment;
         here = record { at = record { plays = plays; marks = c.new-delivered.ensures }; said = c.requires.none; finds = tt };
-        same = ap (λ n. play_lines (beginning script.head) c.args.most n lines first_moment) same ∙ as-played script.head lines c.args.most script.first c.requires.most c.requires.ready.first;
+        same = ap (λ n. play_lines (beginning script.head) c.args.most n lines first_moment) same ∙ as-played script.head lines c.args.most
+            script.first c.requires.most c.requires.ready.first;
       };
-  keeps = record { counts = refl; keeper = g.met.K.Keeper.follows_itself c.args.world.now.inner.server.keeper; settings = record { hosts_are = refl; longest_is = refl; term_is = refl } };
+  keeps = record {
+    counts = refl;
+    keeper = g.met.K.Keeper.follows_itself c.args.world.now.inner.server.keeper;
+    settings = record {
+      hosts_are = refl;
+      longest_is = refl;
+      term_is = refl;
+    };
+  };
 }
 
 pub play_at-requires-clause-asides : goal.play_at-requires-clause-asides
 play_at-requires-clause-asides g c =
-    subst (λ n. HoldsOfAsides (IsOfHost n) c.args.script.now.asides.items) (sym (c.loop-place.invariant.keeps.settings.hosts_are ∙ c.requires.settings.hosts_are)) c.requires.ready.asides_are
+    subst (λ n. HoldsOfAsides (IsOfHost n) c.args.script.now.asides.items) (sym (c.loop-place.invariant.keeps.settings.hosts_are
+    ∙ c.requires.settings.hosts_are)) c.requires.ready.asides_are
 
 pub play_at-requires-clause-can : goal.play_at-requires-clause-can
 play_at-requires-clause-can g c =
     let ready = is-ready IsOfHost c.args.script.now.script c.args.script.now.asides.items c.requires.ready in
-    are_for_world c.args.script.now.script c.loop-place.world.inner ready (settings-on _ _ _ c.args.world.now.inner c.loop-place.world.inner c.requires.settings c.loop-place.invariant.keeps.settings)
+    are_for_world c.args.script.now.script c.loop-place.world.inner ready (settings-on _ _ _ c.args.world.now.inner c.loop-place.world.inner
+    c.requires.settings c.loop-place.invariant.keeps.settings)
 
 pub stopped-requires : goal.stopped-requires
 stopped-requires g c =
@@ -47,7 +58,8 @@ stopped-requires g c =
 
 pub returns-in_default : goal.returns-in_default
 returns-in_default g c =
-    let keeps = keeps-on g.K.Keeper.faults g.K.Keeper.follows c.play_at.result c.args.world.now.inner c.loop-place.world.inner c.play_at.new.world.inner g.met.K.Keeper.follows_on c.loop-place.invariant.keeps c.play_at.ensures.keeps in
+    let keeps = keeps-on g.K.Keeper.faults g.K.Keeper.follows c.play_at.result c.args.world.now.inner c.loop-place.world.inner
+    c.play_at.new.world.inner g.met.K.Keeper.follows_on c.loop-place.invariant.keeps c.play_at.ensures.keeps in
     record {
       comes = λ plays.
           let head = beginning c.args.script.now.script.head in
@@ -58,9 +70,12 @@ returns-in_default g c =
           let same = mixed-length c.args.script.now.asides.items c.args.script.now.script.lines in
           let below : c.loop-place.place < length all = omega arith in
           let there = is-there all c.loop-place.place below in
-          comes-here _ _ _ _ _ c.stopped.ensures (lines-step (play_line head c.args.most) c.args.script.now.script.first c.loop-place.place all there.line on.reached _ there.split on.same)
-          (stops-line (c.args.script.now.script.first + c.loop-place.place) _ (play_line head c.args.most there.line on.reached) _ c.play_at.result _ _ refl (c.play_at.ensures.goes there.line there.here head on.reached refl on.here) c.in_default.not-Done);
-      reason = reasoned c.stopped.result _ _ (c.requires.never _ (g.met.K.Keeper.follows_itself c.args.world.now.inner.server.keeper)) (c.requires.never _ keeps.keeper) (rw c.stopped.ensures keeps.counts)
+          comes-here _ _ _ _ _ c.stopped.ensures (lines-step (play_line head c.args.most) c.args.script.now.script.first c.loop-place.place all
+          there.line on.reached _ there.split on.same)
+          (stops-line (c.args.script.now.script.first + c.loop-place.place) _ (play_line head c.args.most there.line on.reached) _ c.play_at.result _
+          _ refl (c.play_at.ensures.goes there.line there.here head on.reached refl on.here) c.in_default.not-Done);
+      reason = reasoned c.stopped.result _ _ (c.requires.never _ (g.met.K.Keeper.follows_itself c.args.world.now.inner.server.keeper))
+          (c.requires.never _ keeps.keeper) (rw c.stopped.ensures keeps.counts)
           (λ done. absurd (c.in_default.not-Done (ap said (sym c.stopped.ensures) ∙ done)));
     }
 
@@ -75,9 +90,11 @@ loop-place-preserved g c = record {
       let same = mixed-length c.args.script.now.asides.items c.args.script.now.script.lines in
       let below : c.loop-place.place < length all = omega arith in
       let there = is-there all c.loop-place.place below in
-      line-on (c.args.script.now.script.first + c.loop-place.place) (play_line head c.args.most there.line on.reached) _ _ _ (c.in-Done.ensures.goes there.line there.here head on.reached refl on.here)
+      line-on (c.args.script.now.script.first + c.loop-place.place) (play_line head c.args.most there.line on.reached) _ _ _
+      (c.in-Done.ensures.goes there.line there.here head on.reached refl on.here)
       (lines-step (play_line head c.args.most) c.args.script.now.script.first c.loop-place.place all there.line on.reached _ there.split on.same);
-  keeps = keeps-on g.K.Keeper.faults g.K.Keeper.follows Stepped.Done c.args.world.now.inner c.loop-place.world.inner c.play_at.new.world.inner g.met.K.Keeper.follows_on c.loop-place.invariant.keeps c.in-Done.ensures.keeps;
+  keeps = keeps-on g.K.Keeper.faults g.K.Keeper.follows Stepped.Done c.args.world.now.inner c.loop-place.world.inner c.play_at.new.world.inner
+      g.met.K.Keeper.follows_on c.loop-place.invariant.keeps c.in-Done.ensures.keeps;
 }
 
 pub returns-clause-comes : goal.returns-clause-comes

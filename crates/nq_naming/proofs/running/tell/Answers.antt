@@ -22,7 +22,8 @@ returns-in_default g c = λ due comes. memory_before c.args.head.now due _ _
 
 pub returns-in-Ok : goal.returns-in-Ok
 returns-in-Ok g c = λ due comes.
-    let P : Moment → Type 0 = λ m. IsAtEnd (beginning c.args.head.now) m c.args.world.now (g.L.Keeper.content c.args.world.now.inner.server.keeper) c.args.found.now in
+    let P : Moment → Type 0 = λ m. IsAtEnd (beginning c.args.head.now) m c.args.world.now (g.L.Keeper.content c.args.world.now.inner.server.keeper)
+    c.args.found.now in
     let spelled = subst (SpellsSchedule c.args.head.now (map once c.ran.result.now)) (sym c.deref.ensures.value) c.in-Ok.ensures in
     run_ends c.print_parts.result c.args.head.now due P _ _ _ _ (rw c.in-All.is at comes)
     (λ m at. inl (record {
@@ -34,5 +35,6 @@ returns-in-Ok g c = λ due comes.
 
 pub returns-in-Stopped : goal.returns-in-Stopped
 returns-in-Stopped g c = λ due comes.
-    let P : Moment → Type 0 = λ m. IsAtEnd (beginning c.args.head.now) m c.args.world.now (g.L.Keeper.content c.args.world.now.inner.server.keeper) c.args.found.now in
+    let P : Moment → Type 0 = λ m. IsAtEnd (beginning c.args.head.now) m c.args.world.now (g.L.Keeper.content c.args.world.now.inner.server.keeper)
+    c.args.found.now in
     stop_ends c.tell_stop.result c.args.head.now c.in-Stopped.line c.in-Stopped.answer due P _ _ _ _ (rw c.in-Stopped.is at comes) c.tell_stop.ensures

@@ -1,4 +1,4 @@
-use Rattle.std.proofs.Common.{◌≡◌, ◌≤◌, ◌+◌, ◌-◌, ◌++◌, ◌∷◌, [], ℕ, List, drop, length, take, ap, ◌∙◌, arith, length-append, length-drop}
+use Rattle.std.proofs.Common.{◌∷◌, [], ℕ, List, drop, length, take, ap, ◌∙◌, arith, length-append, length-drop}
 use Rattle.std.specs.Prelude.{slice_index_or}
 use Rattle.nq_plan.proofs.Shifting.{no-row-left, row-passes}
 use Rattle.nq_plan.specs.Reading.{row_from, rows_of}
@@ -24,8 +24,11 @@ loop-slot-preserved c =
       number = let n = so.number in omega (arith, n);
       left = let l = so.left in omega (arith, l, ap length c.split_at.ensures.back, length-drop 1 left);
       size = let n = so.size in omega (arith, n, ap length pushed, length-append c.loop-slot.rows.items (c.in_ok-row.row ∷ []));
-      same = rw pushed (row-passes c.loop-slot.slot-index number c.args.slots.now slot left c.split_at.result.1.now rest c.split_blocks.result.1.now c.in_ok-row.row c.loop-slot.rows.items (rows_of 0 c.args.slots.now c.args.ids.now c.args.blocks.now) c.loop-slot-test.true c.slot-item.is row_is c.split_at.ensures.back behind_is so.same);
+      same = rw pushed (row-passes c.loop-slot.slot-index number c.args.slots.now slot left c.split_at.result.1.now rest c.split_blocks.result.1.now
+          c.in_ok-row.row c.loop-slot.rows.items (rows_of 0 c.args.slots.now c.args.ids.now c.args.blocks.now) c.loop-slot-test.true c.slot-item.is
+          row_is c.split_at.ensures.back behind_is so.same);
     }
 
 pub returns-clause-told : goal.returns-clause-told
-returns-clause-told c = no-row-left c.loop-slot.slot-index c.loop-slot.number c.args.slots.now c.loop-slot.left.now c.loop-slot.rest.now c.loop-slot.rows.items (rows_of 0 c.args.slots.now c.args.ids.now c.args.blocks.now) c.loop-slot-test.false c.loop-slot.invariant.same
+returns-clause-told c = no-row-left c.loop-slot.slot-index c.loop-slot.number c.args.slots.now c.loop-slot.left.now c.loop-slot.rest.now
+    c.loop-slot.rows.items (rows_of 0 c.args.slots.now c.args.ids.now c.args.blocks.now) c.loop-slot-test.false c.loop-slot.invariant.same

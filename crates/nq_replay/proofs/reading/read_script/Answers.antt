@@ -8,12 +8,14 @@ use Rattle.nq_replay.proofs.reading.read_script.Goals as goal
 pub returns-in-All-clause-read : goal.returns-in-All-clause-read
 returns-in-All-clause-read g c =
     read_as c.read_text.result c.deref.result.now c.args.limit _ _
-    (subst (λ t. IsAll t c.args.limit (g.S.Source.left c.args.input.now) (g.S.Source.left c.read_all.new.source)) (sym c.deref.ensures.value) c.in-All.ensures.reads) c.read_text.ensures.read
+    (subst (λ t. IsAll t c.args.limit (g.S.Source.left c.args.input.now) (g.S.Source.left c.read_all.new.source)) (sym c.deref.ensures.value)
+    c.in-All.ensures.reads) c.read_text.ensures.read
 
 pub returns-in-All-clause-refuses : goal.returns-in-All-clause-refuses
 returns-in-All-clause-refuses g c =
     refuses_read c.read_text.result c.deref.result.now c.args.limit _ _ _ _ _ _ _ _
-    (subst (λ t. IsAll t c.args.limit (g.S.Source.left c.args.input.now) (g.S.Source.left c.read_all.new.source)) (sym c.deref.ensures.value) c.in-All.ensures.reads) c.read_text.ensures.refuses
+    (subst (λ t. IsAll t c.args.limit (g.S.Source.left c.args.input.now) (g.S.Source.left c.read_all.new.source)) (sym c.deref.ensures.value)
+    c.in-All.ensures.reads) c.read_text.ensures.refuses
 
 pub returns-in-All-clause-script : goal.returns-in-All-clause-script
 returns-in-All-clause-script g c = λ text told within number bad.
@@ -29,7 +31,8 @@ returns-in-All-clause-spelled g c = λ text told within head lines spelled.
 pub returns-in-Over-clause-refuses : goal.returns-in-Over-clause-refuses
 returns-in-Over-clause-refuses g c =
     refuses_over c.tell_over.result c.in-Over.front.items c.args.limit _ _ _ _ _ _ _ _ c.in-Over.ensures.reads
-    (subst (λ t. TellsOver c.tell_over.result t (g.K.Sink.held c.args.out.now) (g.K.Sink.held c.tell_over.new.out) (g.K.Sink.faults c.args.out.now) (g.K.Sink.faults c.tell_over.new.out)) c.deref-in-Over.ensures.value c.tell_over.ensures)
+    (subst (λ t. TellsOver c.tell_over.result t (g.K.Sink.held c.args.out.now) (g.K.Sink.held c.tell_over.new.out) (g.K.Sink.faults c.args.out.now)
+    (g.K.Sink.faults c.tell_over.new.out)) c.deref-in-Over.ensures.value c.tell_over.ensures)
 
 pub returns-in-Over-clause-limit : goal.returns-in-Over-clause-limit
 returns-in-Over-clause-limit g c = λ text told longer. over_unless c.tell_over.result _ _ _ _ _ _ _ c.tell_over.ensures

@@ -32,7 +32,8 @@ returns-in-Stopped-clause-ends g c = λ head due same comes.
     why_ends c.tell_why.result head c.in-Stopped.line c.in-Stopped.answer due P _ _ _ _ (rw c.in-Stopped.is at comes) c.tell_why.ensures
 
 pub returns-in-Stopped-clause-keeps : goal.returns-in-Stopped-clause-keeps
-returns-in-Stopped-clause-keeps g c = λ done head due comes. absurd (why_never c.tell_why.result c.in-Stopped.line c.in-Stopped.answer _ _ _ _ done c.tell_why.ensures)
+returns-in-Stopped-clause-keeps g c = λ done head due comes. absurd (why_never c.tell_why.result c.in-Stopped.line c.in-Stopped.answer _ _ _ _ done
+    c.tell_why.ensures)
 
 pub returns-in-Stopped-clause-counts : goal.returns-in-Stopped-clause-counts
 returns-in-Stopped-clause-counts g c = λ before count counts.

@@ -13,4 +13,5 @@ returns c =
     c.in_ok-push.ensures
     ∙ ap (λ t. t ++ codes "end\n") (lines.2 ∙ ap (λ t. t ++ text_of lines.0) c.in_ok-text.ensures)
     ∙ append_assoc (text_of (head_lines c.args.head.now)) (text_of lines.0) (codes "end\n") in
-    subst (λ t. SpellsSchedule c.args.head.now (map once c.args.ran.now) t) (sym path) (printed-again c.args.head.now c.args.ran.now lines.0 c.requires.fits lines.1)
+    subst (λ t. SpellsSchedule c.args.head.now (map once c.args.ran.now) t) (sym path) (printed-again c.args.head.now c.args.ran.now lines.0
+    c.requires.fits lines.1)

@@ -9,7 +9,8 @@ use Rattle.nq_run.proofs.judging.judge.Goals as goal
 pub returns-in-All-clause-judges : goal.returns-in-All-clause-judges
 returns-in-All-clause-judges g c =
     judges_text c.judge_text.result c.deref.result.now c.args.limit _ _ _ _ _ _ _ _
-    (subst (λ t. IsAll t c.args.limit (g.S.Source.left c.args.input.now) (g.S.Source.left c.read_all.new.source)) (sym c.deref.ensures.value) c.in-All.ensures.reads) c.judge_text.ensures
+    (subst (λ t. IsAll t c.args.limit (g.S.Source.left c.args.input.now) (g.S.Source.left c.read_all.new.source)) (sym c.deref.ensures.value)
+    c.in-All.ensures.reads) c.judge_text.ensures
 
 pub returns-in-All-clause-script : goal.returns-in-All-clause-script
 returns-in-All-clause-script g c = λ text told within number faulty.
@@ -24,7 +25,8 @@ returns-in-All-clause-said g c = λ text told within journal.
 pub returns-in-Over-clause-judges : goal.returns-in-Over-clause-judges
 returns-in-Over-clause-judges g c =
     judges_over c.tell_over.result c.in-Over.front.items c.args.limit _ _ _ _ _ _ _ _ c.in-Over.ensures.reads
-    (subst (λ t. TellsOver c.tell_over.result t (g.K.Sink.held c.args.out.now) (g.K.Sink.held c.tell_over.new.out) (g.K.Sink.faults c.args.out.now) (g.K.Sink.faults c.tell_over.new.out)) c.deref-in-Over.ensures.value c.tell_over.ensures)
+    (subst (λ t. TellsOver c.tell_over.result t (g.K.Sink.held c.args.out.now) (g.K.Sink.held c.tell_over.new.out) (g.K.Sink.faults c.args.out.now)
+    (g.K.Sink.faults c.tell_over.new.out)) c.deref-in-Over.ensures.value c.tell_over.ensures)
 
 pub returns-in-Over-clause-limit : goal.returns-in-Over-clause-limit
 returns-in-Over-clause-limit g c = λ text told longer. over_unless c.tell_over.result _ _ _ _ _ _ _ c.tell_over.ensures

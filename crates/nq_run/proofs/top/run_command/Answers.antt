@@ -19,25 +19,37 @@ pub looped-requires-clause-tells : goal.looped-requires-clause-tells
 looped-requires-clause-tells g c = c.requires.tells (ap makes_a_run (sym c.command.ensures.says ∙ c.in-Some-Loop.is ∙ ap Some c.in-Some-Loop.field-0-is))
 
 pub returns-in-Some-Format-clause-does : goal.returns-in-Some-Format-clause-does
-returns-in-Some-Format-clause-does g c = rw (sym c.command.ensures.says ∙ c.in-Some-Format.is ∙ ap Some c.in-Some-Format.field-0-is) (c.format_disk.ensures.formats, refl)
+returns-in-Some-Format-clause-does g c = rw (sym c.command.ensures.says ∙ c.in-Some-Format.is ∙ ap Some c.in-Some-Format.field-0-is)
+    (c.format_disk.ensures.formats, refl)
 
 pub returns-in-Some-Format-clause-usage : goal.returns-in-Some-Format-clause-usage
-returns-in-Some-Format-clause-usage g c = λ none. absurd (formats_usage g.D.Disk.faults g.D.Disk.told g.D.Disk.may_leave c.format_disk.result.status c.args.disk c.format_disk.result.disk c.format_disk.ensures.formats none)
+returns-in-Some-Format-clause-usage g c = λ none. absurd (formats_usage g.D.Disk.faults g.D.Disk.told g.D.Disk.may_leave c.format_disk.result.status
+    c.args.disk c.format_disk.result.disk c.format_disk.ensures.formats none)
 
 pub returns-in-Some-Format-clause-never : goal.returns-in-Some-Format-clause-never
-returns-in-Some-Format-clause-never g c = λ never. absurd (rw (sym c.command.ensures.says ∙ c.in-Some-Format.is ∙ ap Some c.in-Some-Format.field-0-is) at never)
+returns-in-Some-Format-clause-never g c = λ never. absurd (rw (sym c.command.ensures.says ∙ c.in-Some-Format.is ∙ ap Some c.in-Some-Format.field-0-is)
+    at never)
 
 pub returns-in-Some-Format-clause-follows : goal.returns-in-Some-Format-clause-follows
 returns-in-Some-Format-clause-follows g c = c.format_disk.ensures.follows
 
 pub returns-in-Some-Format-clause-keeps : goal.returns-in-Some-Format-clause-keeps
-returns-in-Some-Format-clause-keeps g c = rw (sym c.command.ensures.says ∙ c.in-Some-Format.is ∙ ap Some c.in-Some-Format.field-0-is) (tt, refl, refl, refl, refl, refl)
+returns-in-Some-Format-clause-keeps g c = rw (sym c.command.ensures.says ∙ c.in-Some-Format.is ∙ ap Some c.in-Some-Format.field-0-is) (
+  tt,
+  refl,
+  refl,
+  refl,
+  refl,
+  refl,
+)
 
 pub returns-in-Some-Serve-clause-does : goal.returns-in-Some-Serve-clause-does
 returns-in-Some-Serve-clause-does g c = rw (sym c.command.ensures.says ∙ c.in-Some-Serve.is ∙ ap Some c.in-Some-Serve.field-0-is) c.serve_disk.ensures.serves
 
 pub returns-in-Some-Serve-clause-usage : goal.returns-in-Some-Serve-clause-usage
-returns-in-Some-Serve-clause-usage g c = λ none. absurd (serves_usage g.D.Disk.told g.D.Disk.faults g.D.Disk.may_leave g.D.Disk.follows g.D.Disk.leaves c.serve_disk.result.status c.in-Some-Serve.longest c.in-Some-Serve.turns c.args.disk c.serve_disk.result.disk _ _ _ _ _ _ _ _ c.serve_disk.ensures.serves none)
+returns-in-Some-Serve-clause-usage g c = λ none. absurd (serves_usage g.D.Disk.told g.D.Disk.faults g.D.Disk.may_leave g.D.Disk.follows
+    g.D.Disk.leaves c.serve_disk.result.status c.in-Some-Serve.longest c.in-Some-Serve.turns c.args.disk c.serve_disk.result.disk _ _ _ _ _ _ _ _
+    c.serve_disk.ensures.serves none)
 
 pub returns-in-Some-Serve-clause-never : goal.returns-in-Some-Serve-clause-never
 returns-in-Some-Serve-clause-never g c = λ never. absurd (rw (sym c.command.ensures.says ∙ c.in-Some-Serve.is ∙ ap Some c.in-Some-Serve.field-0-is) at never)
@@ -46,46 +58,72 @@ pub returns-in-Some-Serve-clause-follows : goal.returns-in-Some-Serve-clause-fol
 returns-in-Some-Serve-clause-follows g c = c.serve_disk.ensures.follows
 
 pub returns-in-Some-Serve-clause-keeps : goal.returns-in-Some-Serve-clause-keeps
-returns-in-Some-Serve-clause-keeps g c = rw (sym c.command.ensures.says ∙ c.in-Some-Serve.is ∙ ap Some c.in-Some-Serve.field-0-is) (tt, refl, tt, refl, tt, refl)
+returns-in-Some-Serve-clause-keeps g c = rw (sym c.command.ensures.says ∙ c.in-Some-Serve.is ∙ ap Some c.in-Some-Serve.field-0-is) (
+  tt,
+  refl,
+  tt,
+  refl,
+  tt,
+  refl,
+)
 
 pub returns-in-Some-Replay-clause-does : goal.returns-in-Some-Replay-clause-does
 unfolding most_bytes
 returns-in-Some-Replay-clause-does g c = rw (sym c.command.ensures.says ∙ c.in-Some-Replay.is ∙ ap Some c.in-Some-Replay.field-0-is) c.replayed.ensures.replays
 
 pub returns-in-Some-Replay-clause-usage : goal.returns-in-Some-Replay-clause-usage
-returns-in-Some-Replay-clause-usage g c = λ none. absurd (replays_usage _ c.replayed.result.status _ _ _ _ _ _ _ _ _ _ _ c.args.disk c.replayed.result.disk c.replayed.ensures.replays none)
+returns-in-Some-Replay-clause-usage g c = λ none. absurd (replays_usage _ c.replayed.result.status _ _ _ _ _ _ _ _ _ _ _ c.args.disk
+    c.replayed.result.disk c.replayed.ensures.replays none)
 
 pub returns-in-Some-Replay-clause-never : goal.returns-in-Some-Replay-clause-never
-returns-in-Some-Replay-clause-never g c = λ never. absurd (rw (sym c.command.ensures.says ∙ c.in-Some-Replay.is ∙ ap Some c.in-Some-Replay.field-0-is) at never)
+returns-in-Some-Replay-clause-never g c = λ never. absurd (rw (sym c.command.ensures.says ∙ c.in-Some-Replay.is ∙ ap Some c.in-Some-Replay.field-0-is)
+    at never)
 
 pub returns-in-Some-Replay-clause-follows : goal.returns-in-Some-Replay-clause-follows
 returns-in-Some-Replay-clause-follows g c = c.replayed.ensures.follows
 
 pub returns-in-Some-Replay-clause-keeps : goal.returns-in-Some-Replay-clause-keeps
-returns-in-Some-Replay-clause-keeps g c = rw (sym c.command.ensures.says ∙ c.in-Some-Replay.is ∙ ap Some c.in-Some-Replay.field-0-is) (tt, tt, refl, refl, refl, refl)
+returns-in-Some-Replay-clause-keeps g c = rw (sym c.command.ensures.says ∙ c.in-Some-Replay.is ∙ ap Some c.in-Some-Replay.field-0-is) (
+  tt,
+  tt,
+  refl,
+  refl,
+  refl,
+  refl,
+)
 
 pub returns-in-Some-Storm-clause-does : goal.returns-in-Some-Storm-clause-does
 returns-in-Some-Storm-clause-does g c = rw (sym c.command.ensures.says ∙ c.in-Some-Storm.is ∙ ap Some c.in-Some-Storm.field-0-is) c.stormed.ensures.storms
 
 pub returns-in-Some-Storm-clause-usage : goal.returns-in-Some-Storm-clause-usage
 returns-in-Some-Storm-clause-usage g c = λ none.
-    let u = storms_usage c.stormed.result.status c.in-Some-Storm.kind c.in-Some-Storm.start c.in-Some-Storm.events _ _ _ _ _ _ _ _ _ _ c.stormed.ensures.storms none in
+    let u = storms_usage c.stormed.result.status c.in-Some-Storm.kind c.in-Some-Storm.start c.in-Some-Storm.events _ _ _ _ _ _ _ _ _ _
+    c.stormed.ensures.storms none in
     (rw (sym c.command.ensures.says ∙ c.in-Some-Storm.is ∙ ap Some c.in-Some-Storm.field-0-is) u.0, refl, u.1)
 
 pub returns-in-Some-Storm-clause-never : goal.returns-in-Some-Storm-clause-never
-returns-in-Some-Storm-clause-never g c = λ never. c.stormed.ensures.never (rw (sym c.command.ensures.says ∙ c.in-Some-Storm.is ∙ ap Some c.in-Some-Storm.field-0-is) at never)
+returns-in-Some-Storm-clause-never g c = λ never. c.stormed.ensures.never (rw (sym c.command.ensures.says ∙ c.in-Some-Storm.is
+    ∙ ap Some c.in-Some-Storm.field-0-is) at never)
 
 pub returns-in-Some-Storm-clause-follows : goal.returns-in-Some-Storm-clause-follows
 returns-in-Some-Storm-clause-follows g c = c.stormed.ensures.follows
 
 pub returns-in-Some-Storm-clause-keeps : goal.returns-in-Some-Storm-clause-keeps
-returns-in-Some-Storm-clause-keeps g c = rw (sym c.command.ensures.says ∙ c.in-Some-Storm.is ∙ ap Some c.in-Some-Storm.field-0-is) (tt, refl, refl, refl, refl, tt)
+returns-in-Some-Storm-clause-keeps g c = rw (sym c.command.ensures.says ∙ c.in-Some-Storm.is ∙ ap Some c.in-Some-Storm.field-0-is) (
+  tt,
+  refl,
+  refl,
+  refl,
+  refl,
+  tt,
+)
 
 pub returns-in-Some-Loop-clause-does : goal.returns-in-Some-Loop-clause-does
 returns-in-Some-Loop-clause-does g c = rw (sym c.command.ensures.says ∙ c.in-Some-Loop.is ∙ ap Some c.in-Some-Loop.field-0-is) c.looped.ensures.loops
 
 pub returns-in-Some-Loop-clause-usage : goal.returns-in-Some-Loop-clause-usage
-returns-in-Some-Loop-clause-usage g c = λ none. absurd (loops_usage c.looped.result.status c.in-Some-Loop.hosts c.in-Some-Loop.turns _ _ _ _ _ _ _ _ _ _ _ c.looped.ensures.loops none)
+returns-in-Some-Loop-clause-usage g c = λ none. absurd (loops_usage c.looped.result.status c.in-Some-Loop.hosts c.in-Some-Loop.turns _ _ _ _ _ _ _ _ _
+    _ _ c.looped.ensures.loops none)
 
 pub returns-in-Some-Loop-clause-never : goal.returns-in-Some-Loop-clause-never
 returns-in-Some-Loop-clause-never g c = λ never. absurd (rw (sym c.command.ensures.says ∙ c.in-Some-Loop.is ∙ ap Some c.in-Some-Loop.field-0-is) at never)
@@ -110,7 +148,14 @@ pub returns-in-Some-Check-clause-follows : goal.returns-in-Some-Check-clause-fol
 returns-in-Some-Check-clause-follows g c = g.met.D.Disk.follows_itself c.args.disk
 
 pub returns-in-Some-Check-clause-keeps : goal.returns-in-Some-Check-clause-keeps
-returns-in-Some-Check-clause-keeps g c = rw (sym c.command.ensures.says ∙ c.in-Some-Check.is ∙ ap Some c.in-Some-Check.field-0-is) (refl, tt, refl, refl, refl, refl)
+returns-in-Some-Check-clause-keeps g c = rw (sym c.command.ensures.says ∙ c.in-Some-Check.is ∙ ap Some c.in-Some-Check.field-0-is) (
+  refl,
+  tt,
+  refl,
+  refl,
+  refl,
+  refl,
+)
 
 pub returns-in-Some-Staged-clause-does : goal.returns-in-Some-Staged-clause-does
 unfolding most_bytes
@@ -120,13 +165,21 @@ pub returns-in-Some-Staged-clause-usage : goal.returns-in-Some-Staged-clause-usa
 returns-in-Some-Staged-clause-usage g c = λ none. absurd (stages_usage _ c.staged.result _ _ _ _ _ _ _ _ c.staged.ensures none)
 
 pub returns-in-Some-Staged-clause-never : goal.returns-in-Some-Staged-clause-never
-returns-in-Some-Staged-clause-never g c = λ never. absurd (rw (sym c.command.ensures.says ∙ c.in-Some-Staged.is ∙ ap Some c.in-Some-Staged.field-0-is) at never)
+returns-in-Some-Staged-clause-never g c = λ never. absurd (rw (sym c.command.ensures.says ∙ c.in-Some-Staged.is ∙ ap Some c.in-Some-Staged.field-0-is)
+    at never)
 
 pub returns-in-Some-Staged-clause-follows : goal.returns-in-Some-Staged-clause-follows
 returns-in-Some-Staged-clause-follows g c = g.met.D.Disk.follows_itself c.args.disk
 
 pub returns-in-Some-Staged-clause-keeps : goal.returns-in-Some-Staged-clause-keeps
-returns-in-Some-Staged-clause-keeps g c = rw (sym c.command.ensures.says ∙ c.in-Some-Staged.is ∙ ap Some c.in-Some-Staged.field-0-is) (refl, tt, refl, refl, refl, refl)
+returns-in-Some-Staged-clause-keeps g c = rw (sym c.command.ensures.says ∙ c.in-Some-Staged.is ∙ ap Some c.in-Some-Staged.field-0-is) (
+  refl,
+  tt,
+  refl,
+  refl,
+  refl,
+  refl,
+)
 
 pub returns-in-Some-Names-clause-does : goal.returns-in-Some-Names-clause-does
 unfolding most_bytes
@@ -142,23 +195,39 @@ pub returns-in-Some-Names-clause-follows : goal.returns-in-Some-Names-clause-fol
 returns-in-Some-Names-clause-follows g c = g.met.D.Disk.follows_itself c.args.disk
 
 pub returns-in-Some-Names-clause-keeps : goal.returns-in-Some-Names-clause-keeps
-returns-in-Some-Names-clause-keeps g c = rw (sym c.command.ensures.says ∙ c.in-Some-Names.is ∙ ap Some c.in-Some-Names.field-0-is) (refl, tt, refl, refl, refl, refl)
+returns-in-Some-Names-clause-keeps g c = rw (sym c.command.ensures.says ∙ c.in-Some-Names.is ∙ ap Some c.in-Some-Names.field-0-is) (
+  refl,
+  tt,
+  refl,
+  refl,
+  refl,
+  refl,
+)
 
 pub returns-in-Some-Client-clause-does : goal.returns-in-Some-Client-clause-does
 unfolding most_bytes
 returns-in-Some-Client-clause-does g c = rw (sym c.command.ensures.says ∙ c.in-Some-Client.is ∙ ap Some c.in-Some-Client.field-0-is) c.attended.ensures
 
 pub returns-in-Some-Client-clause-usage : goal.returns-in-Some-Client-clause-usage
-returns-in-Some-Client-clause-usage g c = λ none. absurd (attends_usage c.in-Some-Client.turns _ _ c.attended.result _ _ _ _ _ _ _ _ _ _ _ _ c.attended.ensures none)
+returns-in-Some-Client-clause-usage g c = λ none. absurd (attends_usage c.in-Some-Client.turns _ _ c.attended.result _ _ _ _ _ _ _ _ _ _ _ _
+    c.attended.ensures none)
 
 pub returns-in-Some-Client-clause-never : goal.returns-in-Some-Client-clause-never
-returns-in-Some-Client-clause-never g c = λ never. absurd (rw (sym c.command.ensures.says ∙ c.in-Some-Client.is ∙ ap Some c.in-Some-Client.field-0-is) at never)
+returns-in-Some-Client-clause-never g c = λ never. absurd (rw (sym c.command.ensures.says ∙ c.in-Some-Client.is ∙ ap Some c.in-Some-Client.field-0-is)
+    at never)
 
 pub returns-in-Some-Client-clause-follows : goal.returns-in-Some-Client-clause-follows
 returns-in-Some-Client-clause-follows g c = g.met.D.Disk.follows_itself c.args.disk
 
 pub returns-in-Some-Client-clause-keeps : goal.returns-in-Some-Client-clause-keeps
-returns-in-Some-Client-clause-keeps g c = rw (sym c.command.ensures.says ∙ c.in-Some-Client.is ∙ ap Some c.in-Some-Client.field-0-is) (refl, tt, tt, refl, tt, refl)
+returns-in-Some-Client-clause-keeps g c = rw (sym c.command.ensures.says ∙ c.in-Some-Client.is ∙ ap Some c.in-Some-Client.field-0-is) (
+  refl,
+  tt,
+  tt,
+  refl,
+  tt,
+  refl,
+)
 
 pub returns-in-None-clause-does : goal.returns-in-None-clause-does
 returns-in-None-clause-does g c = rw (sym c.command.ensures.says ∙ c.in-None.is) tt

@@ -9,7 +9,8 @@ returns-in_default c = (refl, λ value line after low high split lacks spelled. 
 
 pub returns-in-Some-ranged : goal.returns-in-Some-ranged
 returns-in-Some-ranged c =
-    let found = ranged-found c.args.prefix.now c.args.least c.args.most c.in-Some.line.now c.in-Some-ranged.value (omega arith) (sym c.in-Some-ranged.ensures) in (
+    let found = ranged-found c.args.prefix.now c.args.least c.args.most c.in-Some.line.now c.in-Some-ranged.value (omega arith)
+    (sym c.in-Some-ranged.ensures) in (
       found.1,
       found.2,
       subst (λ l. c.args.text.now ≡ text_of (l ∷ []) ++ c.in-Some.rest.now) found.0

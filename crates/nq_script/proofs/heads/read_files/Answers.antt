@@ -18,7 +18,8 @@ returns-then-eq c = (
 
 pub returns-in_default-next_file : goal.returns-in_default-next_file
 returns-in_default-next_file c =
-    files-no-file c.args.first c.args.text.now c.lines.files c.lines.rest.now c.in-Some.line.now c.in-Some.after.now (c.args.first + c.len.result) c.lines.invariant.split
+    files-no-file c.args.first c.args.text.now c.lines.files c.lines.rest.now c.in-Some.line.now c.in-Some.after.now (c.args.first + c.len.result)
+    c.lines.invariant.split
     c.lines.invariant.fit (ap (λ n. c.args.first + n) c.len.ensures) (sym c.in-Some.ensures)
     (λ begin. both_ways c.eq.result c.if-eq.false (c.eq.ensures ∙ (bytes_eq-Decides c.in-Some.line.now (codes "begin")).1 begin))
     (c.in_default-next_file.ensures.none refl)

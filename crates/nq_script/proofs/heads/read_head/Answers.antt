@@ -1,4 +1,4 @@
-use Rattle.std.proofs.Common.{◌≡◌, ◌+◌, ◌-◌, ◌∙◌, ap, sym, subst, length}
+use Rattle.std.proofs.Common.{◌+◌, ◌-◌, ◌∙◌, ap, sym, subst, length}
 use Rattle.std.proofs.lemmas.Result.{err_from_is_err_and}
 use Rattle.nq_script.specs.Heads.{first_file}
 use Rattle.nq_script.specs.Progress.{WrongFile}
@@ -19,7 +19,8 @@ pub returns : goal.returns
 returns c =
     let settings = c.in_ok-settings.ensures in
     let files = c.in_ok-files.ensures in
-    subst (λ h. StandsInFront h (c.first_file-first.result + c.len.result) (length c.args.lines.now - length c.in_ok-files.rest.now) c.args.lines.now) (sym c.with_files.ensures)
+    subst (λ h. StandsInFront h (c.first_file-first.result + c.len.result) (length c.args.lines.now - length c.in_ok-files.rest.now) c.args.lines.now)
+    (sym c.with_files.ensures)
     (head-in-front c.args.lines.now c.in_ok-settings.rest.now c.in_ok-files.rest.now (record {
       version = c.in_ok-settings.settings.version;
       hosts = c.in_ok-settings.settings.hosts;

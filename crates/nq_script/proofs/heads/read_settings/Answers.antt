@@ -1,10 +1,8 @@
-use Rattle.std.proofs.Common.{◌≡◌, ◌≤◌, ◌∙◌, ◌∷◌, ◌++◌, [], sym, subst, codes}
-use Rattle.std.specs.Fmt.{decimal}
+use Rattle.std.proofs.Common.{◌≤◌, ◌∷◌, [], sym, subst, codes}
 use Rattle.std.proofs.lemmas.Result.{err_from_is_err_and}
 use Rattle.nq_script.specs.Heads.{version_line, hosts_line, term_line, longest_lines}
 use Rattle.nq_script.specs.Progress.{NoNumber}
 use Rattle.nq_script.specs.Schedule.{FirstBadHeadLine}
-use Rattle.nq_script.specs.Text.{text_of}
 use Rattle.nq_script.proofs.FileLines.{text-behind}
 use Rattle.nq_script.proofs.HeadLines.{known-version, are-settings, wrong-version, wrong-hosts, wrong-term, wrong-longest}
 use Rattle.nq_script.proofs.Passing.{passed}

@@ -16,7 +16,8 @@ returns-in-Serving-Some-clause-stays c =
         early = c.requires.early;
         long = c.requires.long;
         short = c.requires.short;
-        run = subst (λ t. RowsRun c.args.state.now.time t.rows) (sym c.mark_evicting.ensures) (marked-run c.args.state.now.time c.in-Serving-Some.file c.args.who.host Access.Write c.args.state.now.table.rows c.requires.run);
+        run = subst (λ t. RowsRun c.args.state.now.time t.rows) (sym c.mark_evicting.ensures) (marked-run c.args.state.now.time c.in-Serving-Some.file
+            c.args.who.host Access.Write c.args.state.now.table.rows c.requires.run);
         of_boot = of-serving _ _ _ (ap phase_of c.in-Serving-Some.is-0);
       };
       drawn = omega arith;

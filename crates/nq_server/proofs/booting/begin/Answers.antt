@@ -15,7 +15,8 @@ returns-then-heads-ge-LAST_BOOT-clause-begins g c = (
 pub returns-in_err-started-clause-leaves : goal.returns-in_err-started-clause-leaves
 returns-in_err-started-clause-leaves g c =
     λ kept told found left.
-    two-of found kept (booted kept c.args.longest) _ _ (g.met.K.Keeper.parts _ c.heads.new.self _ found c.heads.ensures.follows c.start.ensures.follows left) (c.heads.ensures.leaves kept told found) (c.start.ensures.leaves kept (c.in-Ok.ensures.reads.0 ∙ told) found)
+    two-of found kept (booted kept c.args.longest) _ _ (g.met.K.Keeper.parts _ c.heads.new.self _ found c.heads.ensures.follows
+    c.start.ensures.follows left) (c.heads.ensures.leaves kept told found) (c.start.ensures.leaves kept (c.in-Ok.ensures.reads.0 ∙ told) found)
 
 pub returns-clause-fit : goal.returns-clause-fit
 returns-clause-fit g c = record {
@@ -29,7 +30,8 @@ returns-clause-fit g c = record {
 pub returns-clause-leaves : goal.returns-clause-leaves
 returns-clause-leaves g c =
     λ kept told found left.
-    two-of found kept (booted kept c.args.longest) _ _ (g.met.K.Keeper.parts _ c.heads.new.self _ found c.heads.ensures.follows c.start.ensures.follows left) (c.heads.ensures.leaves kept told found) (c.start.ensures.leaves kept (c.in-Ok.ensures.reads.0 ∙ told) found)
+    two-of found kept (booted kept c.args.longest) _ _ (g.met.K.Keeper.parts _ c.heads.new.self _ found c.heads.ensures.follows
+    c.start.ensures.follows left) (c.heads.ensures.leaves kept told found) (c.start.ensures.leaves kept (c.in-Ok.ensures.reads.0 ∙ told) found)
 
 pub returns-in_err-started-clause-follows : goal.returns-in_err-started-clause-follows
 returns-in_err-started-clause-follows g c = g.met.K.Keeper.follows_on _ c.heads.new.self _ c.heads.ensures.follows c.start.ensures.follows

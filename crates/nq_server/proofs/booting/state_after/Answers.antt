@@ -7,7 +7,8 @@ use Rattle.nq_server.proofs.booting.state_after.Goals as goal
 pub returns-clause-boots : goal.returns-clause-boots
 returns-clause-boots c =
     λ kept is empty.
-    ap (λ p. at_boot (phase_of p) c.args.begun.table c.args.longest c.args.now) c.phase_after.ensures ∙ beside-booted kept c.args.longest c.args.now None c.args.begun.started c.args.begun.table is empty
+    ap (λ p. at_boot (phase_of p) c.args.begun.table c.args.longest c.args.now) c.phase_after.ensures ∙ beside-booted kept c.args.longest c.args.now
+    None c.args.begun.started c.args.begun.table is empty
 
 pub returns-clause-sound : goal.returns-clause-sound
 returns-clause-sound c =
@@ -18,7 +19,8 @@ returns-clause-sound c =
         long = c.requires.long;
         short = c.requires.short;
         run = none-run c.args.now c.args.begun.table.rows none;
-        of_boot = subst (λ p. IsOfBoot c.args.longest p c.args.begun.table.rows) (sym c.phase_after.ensures) (of-boot c.args.longest c.args.begun.started None c.args.begun.table.rows c.requires.term none);
+        of_boot = subst (λ p. IsOfBoot c.args.longest p c.args.begun.table.rows) (sym c.phase_after.ensures)
+            (of-boot c.args.longest c.args.begun.started None c.args.begun.table.rows c.requires.term none);
       };
       drawn = omega (arith, none-drawn c.args.begun.table c.requires.empty);
       few = omega arith;

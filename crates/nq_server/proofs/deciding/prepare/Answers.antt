@@ -36,10 +36,12 @@ returns-in-Ok-clause-warns c =
       told = subst
           (λ file. Sends (aside file).sends c.args.out.now c.make_room.new.out)
           c.file_to_change-file.ensures
-          (sends-through (aside c.file_to_change-file.result).sends c.args.out.now c.warn.new.out c.make_room.new.out c.args.log.now c.make_room.new.log (c.in_ok-warn.ensures.told kept) c.in-Ok.ensures.room.nothing);
+          (sends-through (aside c.file_to_change-file.result).sends c.args.out.now c.warn.new.out c.make_room.new.out c.args.log.now
+          c.make_room.new.log (c.in_ok-warn.ensures.told kept) c.in-Ok.ensures.room.nothing);
       counted = c.in_ok-warn.ensures.counted kept ∙ ap (λ file. (aside file).notice) c.file_to_change-file.ensures;
     }
 
 pub returns-in-Err-clause-refused : goal.returns-in-Err-clause-refused
 returns-in-Err-clause-refused c =
-    taken-back _ c.args.out.now c.warn.new.out c.make_room.new.out c.cut.new.self c.len-len.result c.args.log.now c.args.log.now c.make_room.new.log c.len-len.ensures (c.in_ok-warn.ensures.told some-kept) c.in-Err.ensures.refused c.cut.ensures.first c.cut.ensures.kept
+    taken-back _ c.args.out.now c.warn.new.out c.make_room.new.out c.cut.new.self c.len-len.result c.args.log.now c.args.log.now c.make_room.new.log
+    c.len-len.ensures (c.in_ok-warn.ensures.told some-kept) c.in-Err.ensures.refused c.cut.ensures.first c.cut.ensures.kept

@@ -25,9 +25,12 @@ returns-in-Ok c =
     (λ step. Does step (Ok Done) (beside_of c.args.state.now) (beside_of c.give.new.state) c.args.out.now c.give.new.out c.args.log.now c.give.new.log)
     (lease-given (server_of (beside_of c.args.state.now) kept) c.args.xid q (sym c.in-None.ensures)) (
       refl,
-      after-room (leases (server_of (beside_of c.args.state.now) kept) q.who c.args.xid q.file (ask table q).table (granted_in (ask table q).asked)) (beside_of c.give.new.state) c.args.out.now c.make_room.new.out c.give.new.out c.args.log.now c.make_room.new.log c.give.new.log c.in-Ok.ensures.room.nothing
+      after-room (leases (server_of (beside_of c.args.state.now) kept) q.who c.args.xid q.file (ask table q).table (granted_in (ask table q).asked))
+          (beside_of c.give.new.state) c.args.out.now c.make_room.new.out c.give.new.out c.args.log.now c.make_room.new.log c.give.new.log
+          c.in-Ok.ensures.room.nothing
           (subst
-          (λ xid. MakesBeside (leases (server_of (beside_of c.args.state.now) kept) q.who xid q.file (ask table q).table (granted_in (ask table q).asked)) (beside_of c.give.new.state) c.make_room.new.out c.give.new.out c.make_room.new.log c.give.new.log)
+          (λ xid. MakesBeside (leases (server_of (beside_of c.args.state.now) kept) q.who xid q.file (ask table q).table
+          (granted_in (ask table q).asked)) (beside_of c.give.new.state) c.make_room.new.out c.give.new.out c.make_room.new.log c.give.new.log)
           c.in-Ok.ensures.begun.0
           (c.give.ensures kept)),
     )

@@ -11,5 +11,6 @@ returns-in-Ok-clause-sends c =
     λ message written fits.
     let own = subst (λ made. IfOk made (λ bytes. bytes.items ≡ bytes_of message)) c.in-Ok.is written in
     on_ok_weaker c.push.result
-    (one-sent (to_host c.args.host message) c.args.out.now c.push.new.self (subst (λ made. OnOk made (FitsMessage message)) c.in-Ok.is fits) c.push.ensures.first)
+    (one-sent (to_host c.args.host message) c.args.out.now c.push.new.self (subst (λ made. OnOk made (FitsMessage message)) c.in-Ok.is fits)
+    c.push.ensures.first)
     (rw own at c.push.ensures.pushed)

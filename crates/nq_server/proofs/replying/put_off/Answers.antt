@@ -8,4 +8,6 @@ use Rattle.nq_server.proofs.replying.put_off.Goals as goal
 
 pub returns-in-Ok-clause-sends : goal.returns-in-Ok-clause-sends
 returns-in-Ok-clause-sends c =
-    sent-behind (notices c.args.notice.now (told_rows c.args.file c.args.to c.args.table.now.rows)) (to_host c.args.caller.who.host (reply c.args.caller.xid (Reply.Refused c.args.caller.who.inc Refusal.TryLater))) c.args.out.now c.notices.new.out c.reply_later.new.out c.notices.ensures.first c.in_ok-notices.ensures.told c.in_ok-notices.ensures.fit c.in-Ok.ensures.sends
+    sent-behind (notices c.args.notice.now (told_rows c.args.file c.args.to c.args.table.now.rows)) (to_host c.args.caller.who.host
+    (reply c.args.caller.xid (Reply.Refused c.args.caller.who.inc Refusal.TryLater))) c.args.out.now c.notices.new.out c.reply_later.new.out
+    c.notices.ensures.first c.in_ok-notices.ensures.told c.in_ok-notices.ensures.fit c.in-Ok.ensures.sends

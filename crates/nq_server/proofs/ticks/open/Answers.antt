@@ -10,8 +10,10 @@ returns-in-Opened-clause-leaves g c =
     let taken = c.take.ensures.value in
     let held = c.unwrap-held.ensures in
     let same : c.unwrap-held.result ≡ r = cc in
-    two-of found kept (ended_at r c.args.now kept) _ _ (g.met.K.Keeper.parts _ c.heads.new.self _ found c.heads.ensures.follows c.finish.ensures.follows left) (c.heads.ensures.leaves kept told found)
-    (λ stopped. or-as found kept _ _ (ap (λ x. ended_at x c.args.now kept) same) (c.finish.ensures.leaves kept (c.in_ok-heads.ensures.reads.0 ∙ told) found stopped))
+    two-of found kept (ended_at r c.args.now kept) _ _ (g.met.K.Keeper.parts _ c.heads.new.self _ found c.heads.ensures.follows
+    c.finish.ensures.follows left) (c.heads.ensures.leaves kept told found)
+    (λ stopped. or-as found kept _ _ (ap (λ x. ended_at x c.args.now kept) same) (c.finish.ensures.leaves kept (c.in_ok-heads.ensures.reads.0 ∙ told)
+    found stopped))
 
 pub returns-in-Wait-clause-leaves : goal.returns-in-Wait-clause-leaves
 returns-in-Wait-clause-leaves g c =
@@ -19,8 +21,10 @@ returns-in-Wait-clause-leaves g c =
     let taken = c.take.ensures.value in
     let held = c.unwrap-held.ensures in
     let same : c.unwrap-held.result ≡ r = cc in
-    two-of found kept (ended_at r c.args.now kept) _ _ (g.met.K.Keeper.parts _ c.heads.new.self _ found c.heads.ensures.follows c.finish.ensures.follows left) (c.heads.ensures.leaves kept told found)
-    (λ stopped. or-as found kept _ _ (ap (λ x. ended_at x c.args.now kept) same) (c.finish.ensures.leaves kept (c.in_ok-heads.ensures.reads.0 ∙ told) found stopped))
+    two-of found kept (ended_at r c.args.now kept) _ _ (g.met.K.Keeper.parts _ c.heads.new.self _ found c.heads.ensures.follows
+    c.finish.ensures.follows left) (c.heads.ensures.leaves kept told found)
+    (λ stopped. or-as found kept _ _ (ap (λ x. ended_at x c.args.now kept) same) (c.finish.ensures.leaves kept (c.in_ok-heads.ensures.reads.0 ∙ told)
+    found stopped))
 
 pub returns-in-Fault-clause-leaves : goal.returns-in-Fault-clause-leaves
 returns-in-Fault-clause-leaves g c =
@@ -28,8 +32,10 @@ returns-in-Fault-clause-leaves g c =
     let taken = c.take.ensures.value in
     let held = c.unwrap-held.ensures in
     let same : c.unwrap-held.result ≡ r = cc in
-    two-of found kept (ended_at r c.args.now kept) _ _ (g.met.K.Keeper.parts _ c.heads.new.self _ found c.heads.ensures.follows c.finish.ensures.follows left) (c.heads.ensures.leaves kept told found)
-    (λ stopped. or-as found kept _ _ (ap (λ x. ended_at x c.args.now kept) same) (c.finish.ensures.leaves kept (c.in_ok-heads.ensures.reads.0 ∙ told) found stopped))
+    two-of found kept (ended_at r c.args.now kept) _ _ (g.met.K.Keeper.parts _ c.heads.new.self _ found c.heads.ensures.follows
+    c.finish.ensures.follows left) (c.heads.ensures.leaves kept told found)
+    (λ stopped. or-as found kept _ _ (ap (λ x. ended_at x c.args.now kept) same) (c.finish.ensures.leaves kept (c.in_ok-heads.ensures.reads.0 ∙ told)
+    found stopped))
 
 pub returns-in-Memory-clause-leaves : goal.returns-in-Memory-clause-leaves
 returns-in-Memory-clause-leaves g c =
@@ -37,8 +43,10 @@ returns-in-Memory-clause-leaves g c =
     let taken = c.take.ensures.value in
     let held = c.unwrap-held.ensures in
     let same : c.unwrap-held.result ≡ r = cc in
-    two-of found kept (ended_at r c.args.now kept) _ _ (g.met.K.Keeper.parts _ c.heads.new.self _ found c.heads.ensures.follows c.finish.ensures.follows left) (c.heads.ensures.leaves kept told found)
-    (λ stopped. or-as found kept _ _ (ap (λ x. ended_at x c.args.now kept) same) (c.finish.ensures.leaves kept (c.in_ok-heads.ensures.reads.0 ∙ told) found stopped))
+    two-of found kept (ended_at r c.args.now kept) _ _ (g.met.K.Keeper.parts _ c.heads.new.self _ found c.heads.ensures.follows
+    c.finish.ensures.follows left) (c.heads.ensures.leaves kept told found)
+    (λ stopped. or-as found kept _ _ (ap (λ x. ended_at x c.args.now kept) same) (c.finish.ensures.leaves kept (c.in_ok-heads.ensures.reads.0 ∙ told)
+    found stopped))
 
 pub returns-in-Opened-clause-follows : goal.returns-in-Opened-clause-follows
 returns-in-Opened-clause-follows g c = g.met.K.Keeper.follows_on _ c.heads.new.self _ c.heads.ensures.follows c.finish.ensures.follows

@@ -16,7 +16,8 @@ returns-in-Ok-clause-serves g c =
     c.serve_store.new.clock)
     (link_of c.args.link.now) (link_of c.serve_store.new.link) (g.K.Sink.held c.args.out.now) (g.K.Sink.held c.serve_store.new.out)
     (g.K.Sink.faults c.args.out.now) (g.K.Sink.faults c.serve_store.new.out) c.open.result c.in-Ok.is (g.met.D.Disk.told_may_stay disk)
-    (g.met.D.Disk.parts disk) g.met.D.Disk.rises c.open.ensures.stands c.open.ensures.content c.open.ensures.fresh c.open.ensures.cause c.open.ensures.follows c.open.ensures.leaves
+    (g.met.D.Disk.parts disk) g.met.D.Disk.rises c.open.ensures.stands c.open.ensures.content c.open.ensures.fresh c.open.ensures.cause
+    c.open.ensures.follows c.open.ensures.leaves
     c.serve_store.ensures.serves)
 
 pub returns-in-Err-NotAnImage-clause-serves : goal.returns-in-Err-NotAnImage-clause-serves

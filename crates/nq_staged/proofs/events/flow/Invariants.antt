@@ -11,6 +11,7 @@ use Rattle.nq_staged.proofs.events.flow.Given as goal
 abbrev pub invariant-loop-turn : goal.invariant-loop-turn
 invariant-loop-turn g l = record {
   on : (head : Head) (events : List StagedEvent) → IsAt head events l.fn.world (g.K.Keeper.content l.fn.world.inner.server.keeper) l.fn.delivered
-      → IsOn (λ es. IsAt head es l.world (g.K.Keeper.content l.world.inner.server.keeper) l.delivered) (play_flow head (l.most - l.turn)) (play_flow head l.most events);
+      → IsOn (λ es. IsAt head es l.world (g.K.Keeper.content l.world.inner.server.keeper) l.delivered) (play_flow head (l.most - l.turn))
+      (play_flow head l.most events);
   keeps : GoesOn g.K.Keeper.faults g.K.Keeper.follows Stepped.Done l.fn.world.inner l.world.inner;
 }

@@ -19,7 +19,15 @@ loop-place-init g c = record {
         here = record { plays = plays; marks = c.new-delivered.ensures };
         same = ap (λ n. play_lines head c.args.most n (mixed c.args.script.now.asides.items c.args.script.now.script.lines) []) same;
       };
-  keeps = record { counts = refl; keeper = g.met.K.Keeper.follows_itself c.args.world.now.inner.server.keeper; settings = record { hosts_are = refl; longest_is = refl; term_is = refl } };
+  keeps = record {
+    counts = refl;
+    keeper = g.met.K.Keeper.follows_itself c.args.world.now.inner.server.keeper;
+    settings = record {
+      hosts_are = refl;
+      longest_is = refl;
+      term_is = refl;
+    };
+  };
 }
 
 pub play_at-requires-clause-asides : goal.play_at-requires-clause-asides
@@ -42,10 +50,13 @@ returns-in_default g c = record {
       let same = mixed-length c.args.script.now.asides.items c.args.script.now.script.lines in
       let below : c.loop-place.place < length all = omega arith in
       let there = is-there all c.loop-place.place below in
-      comes-here _ _ _ _ _ c.stopped.ensures (lines-step (play_line head c.args.most) c.args.script.now.script.first c.loop-place.place all there.line on.reached _ there.split on.same)
-      (stops-line (c.args.script.now.script.first + c.loop-place.place) _ (play_line head c.args.most there.line on.reached) _ c.play_at.result _ _ refl (c.play_at.ensures.goes there.line there.here head on.reached hosts on.here) c.in_default.not-Done);
+      comes-here _ _ _ _ _ c.stopped.ensures (lines-step (play_line head c.args.most) c.args.script.now.script.first c.loop-place.place all there.line
+      on.reached _ there.split on.same)
+      (stops-line (c.args.script.now.script.first + c.loop-place.place) _ (play_line head c.args.most there.line on.reached) _ c.play_at.result _ _
+      refl (c.play_at.ensures.goes there.line there.here head on.reached hosts on.here) c.in_default.not-Done);
   stops = λ done. absurd (c.in_default.not-Done (ap said (sym c.stopped.ensures) ∙ done));
-  keeps = rw c.stopped.ensures (keeps-on g.K.Keeper.faults g.K.Keeper.follows c.play_at.result c.args.world.now.inner c.loop-place.world.inner c.play_at.new.world.inner g.met.K.Keeper.follows_on c.loop-place.invariant.keeps c.play_at.ensures.keeps);
+  keeps = rw c.stopped.ensures (keeps-on g.K.Keeper.faults g.K.Keeper.follows c.play_at.result c.args.world.now.inner c.loop-place.world.inner
+      c.play_at.new.world.inner g.met.K.Keeper.follows_on c.loop-place.invariant.keeps c.play_at.ensures.keeps);
 }
 
 pub loop-place-preserved : goal.loop-place-preserved
@@ -58,9 +69,11 @@ loop-place-preserved g c = record {
       let same = mixed-length c.args.script.now.asides.items c.args.script.now.script.lines in
       let below : c.loop-place.place < length all = omega arith in
       let there = is-there all c.loop-place.place below in
-      line-on (c.args.script.now.script.first + c.loop-place.place) (play_line head c.args.most there.line on.reached) _ _ _ (c.in-Done.ensures.goes there.line there.here head on.reached hosts on.here)
+      line-on (c.args.script.now.script.first + c.loop-place.place) (play_line head c.args.most there.line on.reached) _ _ _
+      (c.in-Done.ensures.goes there.line there.here head on.reached hosts on.here)
       (lines-step (play_line head c.args.most) c.args.script.now.script.first c.loop-place.place all there.line on.reached _ there.split on.same);
-  keeps = keeps-on g.K.Keeper.faults g.K.Keeper.follows Stepped.Done c.args.world.now.inner c.loop-place.world.inner c.play_at.new.world.inner g.met.K.Keeper.follows_on c.loop-place.invariant.keeps c.in-Done.ensures.keeps;
+  keeps = keeps-on g.K.Keeper.faults g.K.Keeper.follows Stepped.Done c.args.world.now.inner c.loop-place.world.inner c.play_at.new.world.inner
+      g.met.K.Keeper.follows_on c.loop-place.invariant.keeps c.in-Done.ensures.keeps;
 }
 
 pub returns-clause-comes : goal.returns-clause-comes

@@ -25,5 +25,6 @@ returns g c = record {
       let head = c.args.script.now.script.head in
       let came = c.play.ensures.comes (beginning head) refl plays in
       rw (← c.requires.ready.first) came;
-  reason = reasoned c.play.result _ _ (c.requires.never _ (g.met.L.Keeper.follows_itself c.args.world.now.inner.server.keeper)) (c.requires.never _ c.play.ensures.keeps.keeper) c.play.ensures.keeps.counts c.play.ensures.stops;
+  reason = reasoned c.play.result _ _ (c.requires.never _ (g.met.L.Keeper.follows_itself c.args.world.now.inner.server.keeper))
+      (c.requires.never _ c.play.ensures.keeps.keeper) c.play.ensures.keeps.counts c.play.ensures.stops;
 }

@@ -22,7 +22,9 @@ returns g c = λ events plays.
     let said : c.as_bytes.result.now ≡ count_line (counts_of c.counts.result) = c.as_bytes.ensures.value ∙ c.in-Ok-count_text.ensures in
     inl (record {
       bytes = _;
-      are = is-printed c.args.head.now events c.args.world.now _ c.ran.result.now c.journal.result.now.entries (counts_of c.counts.result) c.deref.result.now c.as_bytes.result.now plays
-          (c.ran.ensures (beginning c.args.head.now) events _ plays) (c.journal.ensures (beginning c.args.head.now) events _ plays) (c.counts.ensures (beginning c.args.head.now) events _ plays) spelled said;
+      are = is-printed c.args.head.now events c.args.world.now _ c.ran.result.now c.journal.result.now.entries (counts_of c.counts.result)
+          c.deref.result.now c.as_bytes.result.now plays
+          (c.ran.ensures (beginning c.args.head.now) events _ plays) (c.journal.ensures (beginning c.args.head.now) events _ plays)
+          (c.counts.ensures (beginning c.args.head.now) events _ plays) spelled said;
       printed = c.print_parts.ensures;
     })

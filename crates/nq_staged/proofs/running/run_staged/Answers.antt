@@ -9,12 +9,14 @@ use Rattle.nq_staged.proofs.running.run_staged.Goals as goal
 pub returns-in-All-clause-ends : goal.returns-in-All-clause-ends
 returns-in-All-clause-ends g c =
     ends_text c.run_text.result c.deref.result.now c.args.limit _ _ _ _ _ _ _ _
-    (subst (λ t. IsAll t c.args.limit (g.S.Source.left c.args.input.now) (g.S.Source.left c.read_all.new.source)) (sym c.deref.ensures.value) c.in-All.ensures.reads) c.run_text.ensures.ends
+    (subst (λ t. IsAll t c.args.limit (g.S.Source.left c.args.input.now) (g.S.Source.left c.read_all.new.source)) (sym c.deref.ensures.value)
+    c.in-All.ensures.reads) c.run_text.ensures.ends
 
 pub returns-in-Over-clause-ends : goal.returns-in-Over-clause-ends
 returns-in-Over-clause-ends g c =
     ends_over c.tell_over.result c.in-Over.front.items c.args.limit _ _ _ _ _ _ _ _ c.in-Over.ensures.reads
-    (subst (λ t. TellsOver c.tell_over.result t (g.K.Sink.held c.args.out.now) (g.K.Sink.held c.tell_over.new.out) (g.K.Sink.faults c.args.out.now) (g.K.Sink.faults c.tell_over.new.out)) c.deref-in-Over.ensures.value c.tell_over.ensures)
+    (subst (λ t. TellsOver c.tell_over.result t (g.K.Sink.held c.args.out.now) (g.K.Sink.held c.tell_over.new.out) (g.K.Sink.faults c.args.out.now)
+    (g.K.Sink.faults c.tell_over.new.out)) c.deref-in-Over.ensures.value c.tell_over.ensures)
 
 pub returns-in-Over-clause-limit : goal.returns-in-Over-clause-limit
 returns-in-Over-clause-limit g c = λ text told longer. over_unless c.tell_over.result _ _ _ _ _ _ _ c.tell_over.ensures

@@ -13,16 +13,22 @@ returns-in_err-front-clause-told g c = λ bytes is shut so.
     let place = c.in_err-front.field-0.0 in
     let from : c.from_residual.result ≡ Err (BadField place) = search rules in
     subst (λ (r : Result HeldTables Fault). OpensTables r bytes (g.D.Disk.told disk) (g.D.Disk.may_leave disk)) (sym from)
-    (front-loads bytes c.args.head.now place so (first-numbers bytes c.args.head.now c.piece.result.now (Err place) so c.piece.ensures.bytes c.in_err-front.ensures.told))
+    (front-loads bytes c.args.head.now place so (first-numbers bytes c.args.head.now c.piece.result.now (Err place) so c.piece.ensures.bytes
+    c.in_err-front.ensures.told))
 
 pub returns-clause-told : goal.returns-clause-told
 returns-clause-told g c = λ bytes is shut so.
     let first = c.args.disk.now in
     let last = c.load_behind.new.disk in
     let front = c.in_ok-front.front in
-    loads-opens c.load_behind.result bytes (g.D.Disk.told first) (g.D.Disk.told last) (g.D.Disk.may_leave first) (g.D.Disk.may_leave last) is c.load_behind.ensures.asked.same
+    loads-opens c.load_behind.result bytes (g.D.Disk.told first) (g.D.Disk.told last) (g.D.Disk.may_leave first) (g.D.Disk.may_leave last) is
+    c.load_behind.ensures.asked.same
     (λ image left. c.load_behind.ensures.asked.leaves image (g.met.D.Disk.leaves_ends first last image c.load_behind.ensures.asked.follows (inr left))) shut
-    (c.load_behind.ensures.told bytes is (record { head_is = so; front_is = first-numbers bytes c.args.head.now c.piece.result.now (Ok front) so c.piece.ensures.bytes c.in_ok-front.ensures.told }))
+    (c.load_behind.ensures.told bytes is (record {
+      head_is = so;
+      front_is = first-numbers bytes c.args.head.now c.piece.result.now (Ok front) so
+          c.piece.ensures.bytes c.in_ok-front.ensures.told;
+    }))
 
 pub returns-in_err-front-clause-asked : goal.returns-in_err-front-clause-asked
 returns-in_err-front-clause-asked g c =

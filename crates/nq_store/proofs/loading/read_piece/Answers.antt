@@ -22,8 +22,10 @@ returns-in_err-bytes-clause-asked g c =
 
 pub returns-in_err-count-clause-asked : goal.returns-in_err-count-clause-asked
 returns-in_err-count-clause-asked g c =
-    asked-by g.D.Disk.told g.D.Disk.follows g.D.Disk.may_leave g.D.Disk.leaves c.args.disk.now c.read.new.self c.read.ensures.same c.read.ensures.follows c.read.ensures.leaves
+    asked-by g.D.Disk.told g.D.Disk.follows g.D.Disk.may_leave g.D.Disk.leaves c.args.disk.now c.read.new.self c.read.ensures.same
+    c.read.ensures.follows c.read.ensures.leaves
 
 pub returns-clause-asked : goal.returns-clause-asked
 returns-clause-asked g c =
-    asked-by g.D.Disk.told g.D.Disk.follows g.D.Disk.may_leave g.D.Disk.leaves c.args.disk.now c.read.new.self c.read.ensures.same c.read.ensures.follows c.read.ensures.leaves
+    asked-by g.D.Disk.told g.D.Disk.follows g.D.Disk.may_leave g.D.Disk.leaves c.args.disk.now c.read.new.self c.read.ensures.same
+    c.read.ensures.follows c.read.ensures.leaves

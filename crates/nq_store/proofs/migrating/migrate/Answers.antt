@@ -15,7 +15,8 @@ returns-in_err-image-clause-migrates g c = λ bytes told o.
     let is : c.from_residual.result ≡ Err c.in_err-image.field-0.0 = search rules in
     let disk = c.examine.new.disk in
     subst (λ (r : Result (Unit {0}) Fault). Migrates r bytes (g.D.Disk.told disk) (g.D.Disk.may_leave disk)) (sym is)
-    (wrong-so c.in_err-image.field-0.0 (image_one bytes) bytes (g.D.Disk.told disk) (g.D.Disk.may_leave disk) (c.in_err-image.ensures.told bytes told o.front) (λ place wrong. wrong-one bytes place o.closed o.named o.one wrong) (c.examine.ensures.asked.same ∙ told))
+    (wrong-so c.in_err-image.field-0.0 (image_one bytes) bytes (g.D.Disk.told disk) (g.D.Disk.may_leave disk) (c.in_err-image.ensures.told bytes told
+    o.front) (λ place wrong. wrong-one bytes place o.closed o.named o.one wrong) (c.examine.ensures.asked.same ∙ told))
 
 pub returns-in_err-image-clause-leaves : goal.returns-in_err-image-clause-leaves
 returns-in_err-image-clause-leaves g c = λ bytes told o image left. ap kept_on (o.alone image (c.examine.ensures.asked.leaves image left))
@@ -28,9 +29,11 @@ returns-clause-migrates g c = λ bytes told o.
     let is : IsOldImage found (g.D.Disk.may_leave disk) bytes = record {
       image = right-one bytes found o.named o.one (c.in_ok-image.ensures.told bytes told o.front);
       closed = o.closed;
-      alone = λ i may. o.alone i (c.examine.ensures.asked.leaves i (g.met.D.Disk.leaves_ends c.args.redo.now.disk disk i c.examine.ensures.asked.follows (inr may)));
+      alone = λ i may. o.alone i (c.examine.ensures.asked.leaves i (g.met.D.Disk.leaves_ends c.args.redo.now.disk disk i
+          c.examine.ensures.asked.follows (inr may)));
     } in
-    migrates-so c.rewrite.result bytes (g.D.Disk.told c.rewrite.new.redo.disk) (g.D.Disk.may_leave c.rewrite.new.redo.disk) (g.D.Disk.faults disk) (g.D.Disk.faults c.rewrite.new.redo.disk)
+    migrates-so c.rewrite.result bytes (g.D.Disk.told c.rewrite.new.redo.disk) (g.D.Disk.may_leave c.rewrite.new.redo.disk) (g.D.Disk.faults disk)
+    (g.D.Disk.faults c.rewrite.new.redo.disk)
     (on-ok c.rewrite.result _ (λ ok. then-ok c.rewrite.result _ ok c.rewrite.ensures.migrated bytes (c.examine.ensures.asked.same ∙ told) found in_so is))
     c.rewrite.ensures.cause
 
@@ -42,7 +45,8 @@ returns-clause-leaves g c = λ bytes told o image left.
     let is : IsOldImage found (g.D.Disk.may_leave disk) bytes = record {
       image = right-one bytes found o.named o.one (c.in_ok-image.ensures.told bytes told o.front);
       closed = o.closed;
-      alone = λ i may. o.alone i (c.examine.ensures.asked.leaves i (g.met.D.Disk.leaves_ends c.args.redo.now.disk disk i c.examine.ensures.asked.follows (inr may)));
+      alone = λ i may. o.alone i (c.examine.ensures.asked.leaves i (g.met.D.Disk.leaves_ends c.args.redo.now.disk disk i
+          c.examine.ensures.asked.follows (inr may)));
     } in
     through (λ i. kept_on i ≡ kept_on bytes) _ _ image
     (g.met.D.Disk.parts c.args.redo.now.disk disk c.rewrite.new.redo.disk image c.examine.ensures.asked.follows c.rewrite.ensures.follows left)

@@ -13,18 +13,21 @@ use Rattle.nq_store.proofs.migrating.prepare.Goals as goal
 
 pub returns-in_err-write_tables-clause-below : goal.returns-in_err-write_tables-clause-below
 returns-in_err-write_tables-clause-below g c = λ old told only.
-    let Below : ℕ → Type 0 = λ n. block_place n ≤ length old → Each (g.D.Disk.leaves c.args.disk.now c.write_tables.new.disk) (SameBelow (block_place n) old) in
+    let Below : ℕ → Type 0 = λ n. block_place n ≤ length old → Each (g.D.Disk.leaves c.args.disk.now c.write_tables.new.disk)
+    (SameBelow (block_place n) old) in
     subst Below c.blocks_in-tables.ensures (c.write_tables.ensures.below old told only)
 
 pub returns-in_err-ids-clause-below : goal.returns-in_err-ids-clause-below
 returns-in_err-ids-clause-below g c = λ old told only.
-    let Below : ℕ → Type 0 = λ n. block_place n ≤ length old → Each (g.D.Disk.leaves c.args.disk.now c.write_tables.new.disk) (SameBelow (block_place n) old) in
+    let Below : ℕ → Type 0 = λ n. block_place n ≤ length old → Each (g.D.Disk.leaves c.args.disk.now c.write_tables.new.disk)
+    (SameBelow (block_place n) old) in
     subst Below c.blocks_in-tables.ensures (c.write_tables.ensures.below old told only)
 
 pub returns-in_err-write_at-clause-below : goal.returns-in_err-write_at-clause-below
 returns-in_err-write_at-clause-below g c = λ old told only long image left.
     let end = block_place (blocks_in c.args.slots.now) in
-    let Below : ℕ → Type 0 = λ n. block_place n ≤ length old → Each (g.D.Disk.leaves c.args.disk.now c.write_tables.new.disk) (SameBelow (block_place n) old) in
+    let Below : ℕ → Type 0 = λ n. block_place n ≤ length old → Each (g.D.Disk.leaves c.args.disk.now c.write_tables.new.disk)
+    (SameBelow (block_place n) old) in
     let first = subst Below c.blocks_in-tables.ensures (c.write_tables.ensures.below old told only) long in
     through (SameBelow end old) _ _ image
     (g.met.D.Disk.parts c.args.disk.now c.write_tables.new.disk c.write_at.new.self image c.write_tables.ensures.follows c.write_at.ensures.follows left)
@@ -37,7 +40,8 @@ returns-in_err-write_at-clause-below g c = λ old told only long image left.
 pub returns-clause-below : goal.returns-clause-below
 returns-clause-below g c = λ old told only long image left.
     let end = block_place (blocks_in c.args.slots.now) in
-    let Below : ℕ → Type 0 = λ n. block_place n ≤ length old → Each (g.D.Disk.leaves c.args.disk.now c.write_tables.new.disk) (SameBelow (block_place n) old) in
+    let Below : ℕ → Type 0 = λ n. block_place n ≤ length old → Each (g.D.Disk.leaves c.args.disk.now c.write_tables.new.disk)
+    (SameBelow (block_place n) old) in
     let first = subst Below c.blocks_in-tables.ensures (c.write_tables.ensures.below old told only) long in
     through (SameBelow end old) _ _ image
     (g.met.D.Disk.parts c.args.disk.now c.write_tables.new.disk c.write_at.new.self image c.write_tables.ensures.follows c.write_at.ensures.follows left)

@@ -19,7 +19,8 @@ loop-slot-init g c = record {
   left = omega arith;
   told = λ old told. (old, told, ap (λ (p : ℕ). tabled p 0 c.args.slots.now old) c.block_place-place.ensures);
   below = λ old told only long image left.
-      subst (λ (i : List ℕ). SameBelow (block_place c.args.tables) old i) (sym (only image (g.met.D.Disk.leaves_now c.args.disk.now image left))) (same-itself (block_place c.args.tables) old);
+      subst (λ (i : List ℕ). SameBelow (block_place c.args.tables) old i) (sym (only image (g.met.D.Disk.leaves_now c.args.disk.now image left)))
+      (same-itself (block_place c.args.tables) old);
 }
 
 pub table_from-requires-clause-few : goal.table_from-requires-clause-few
@@ -64,7 +65,8 @@ loop-slot-preserved g c =
     let same : c.slot-item.result ≡ get_or slots i None = c.slot-item.is ∙ get_or_default slots i c.slot-item.result None lt in
     let count : c.blocks_of-count.result ≡ blocks_of (get_or slots i None) = c.blocks_of-count.ensures ∙ ap blocks_of same in
     let part = c.deref.result.now in
-    let table : part ≡ table_of_blocks (numbers_from first (blocks_of (get_or slots i None))) = c.deref.ensures.value ∙ c.in_ok-table.ensures ∙ ap (λ (n : ℕ). table_of_blocks (numbers_from first n)) count in
+    let table : part ≡ table_of_blocks (numbers_from first (blocks_of (get_or slots i None))) = c.deref.ensures.value ∙ c.in_ok-table.ensures
+    ∙ ap (λ (n : ℕ). table_of_blocks (numbers_from first n)) count in
     let left = so.left in
     let at = so.place in
     record {
@@ -113,4 +115,5 @@ returns-clause-below g c = c.loop-slot.invariant.below
 pub returns-clause-written : goal.returns-clause-written
 returns-clause-written g c = λ old told.
     let t = c.loop-slot.invariant.told old told in
-    t.1 ∙ ap Some (no-table-left c.loop-slot.slot-index c.loop-slot.place c.loop-slot.first c.args.slots.now t.0 (tabled (block_place c.args.tables) 0 c.args.slots.now old) c.loop-slot-test.false t.2)
+    t.1 ∙ ap Some (no-table-left c.loop-slot.slot-index c.loop-slot.place c.loop-slot.first c.args.slots.now t.0 (tabled (block_place c.args.tables) 0
+    c.args.slots.now old) c.loop-slot-test.false t.2)

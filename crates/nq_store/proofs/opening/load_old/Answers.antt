@@ -49,4 +49,5 @@ returns-clause-stays g c = λ bytes is old.
 
 pub returns-clause-follows : goal.returns-clause-follows
 returns-clause-follows g c =
-    g.met.D.Disk.follows_on c.args.redo.now.disk c.migrate.new.redo.disk c.load_migrated.new.disk c.migrate.ensures.follows c.load_migrated.ensures.asked.follows
+    g.met.D.Disk.follows_on c.args.redo.now.disk c.migrate.new.redo.disk c.load_migrated.new.disk c.migrate.ensures.follows
+    c.load_migrated.ensures.asked.follows

@@ -24,22 +24,26 @@ returns-in-Err-BadField-clause-wrong g c = λ bytes is begins other at.
 pub returns-in-Ok-clause-leaves : goal.returns-in-Ok-clause-leaves
 returns-in-Ok-clause-leaves g c = λ bytes is begins only.
     let long = begins-long bytes begins in
-    left-same (g.D.Disk.may_leave c.args.disk) (g.D.Disk.leaves c.args.disk c.in-Ok.redo.disk) bytes begins only (c.in-Ok.ensures.leaves bytes is (omega (arith, long)))
+    left-same (g.D.Disk.may_leave c.args.disk) (g.D.Disk.leaves c.args.disk c.in-Ok.redo.disk) bytes begins only (c.in-Ok.ensures.leaves bytes is
+    (omega (arith, long)))
 
 pub returns-in-Err-BadField-clause-leaves : goal.returns-in-Err-BadField-clause-leaves
 returns-in-Err-BadField-clause-leaves g c = λ bytes is begins only.
     let long = begins-long bytes begins in
-    left-named (g.D.Disk.leaves c.args.disk) c.open.result c.in-Err-BadField.field-0 _ (g.D.Disk.may_leave c.args.disk) bytes c.in-Err-BadField.is c.in-Err-BadField.field-0-is begins only (c.open.ensures.leaves bytes is (omega (arith, long)))
+    left-named (g.D.Disk.leaves c.args.disk) c.open.result c.in-Err-BadField.field-0 _ (g.D.Disk.may_leave c.args.disk) bytes c.in-Err-BadField.is
+    c.in-Err-BadField.field-0-is begins only (c.open.ensures.leaves bytes is (omega (arith, long)))
 
 pub returns-in-Err-Failed-clause-leaves : goal.returns-in-Err-Failed-clause-leaves
 returns-in-Err-Failed-clause-leaves g c = λ bytes is begins only.
     let long = begins-long bytes begins in
-    left-named (g.D.Disk.leaves c.args.disk) c.open.result c.in-Err-Failed.field-0 _ (g.D.Disk.may_leave c.args.disk) bytes c.in-Err-Failed.is c.in-Err-Failed.field-0-is begins only (c.open.ensures.leaves bytes is (omega (arith, long)))
+    left-named (g.D.Disk.leaves c.args.disk) c.open.result c.in-Err-Failed.field-0 _ (g.D.Disk.may_leave c.args.disk) bytes c.in-Err-Failed.is
+    c.in-Err-Failed.field-0-is begins only (c.open.ensures.leaves bytes is (omega (arith, long)))
 
 pub returns-in-Err-Memory-clause-leaves : goal.returns-in-Err-Memory-clause-leaves
 returns-in-Err-Memory-clause-leaves g c = λ bytes is begins only.
     let long = begins-long bytes begins in
-    left-named (g.D.Disk.leaves c.args.disk) c.open.result c.in-Err-Memory.field-0 _ (g.D.Disk.may_leave c.args.disk) bytes c.in-Err-Memory.is c.in-Err-Memory.field-0-is begins only (c.open.ensures.leaves bytes is (omega (arith, long)))
+    left-named (g.D.Disk.leaves c.args.disk) c.open.result c.in-Err-Memory.field-0 _ (g.D.Disk.may_leave c.args.disk) bytes c.in-Err-Memory.is
+    c.in-Err-Memory.field-0-is begins only (c.open.ensures.leaves bytes is (omega (arith, long)))
 
 pub returns-in-Err-BadField-clause-stays : goal.returns-in-Err-BadField-clause-stays
 returns-in-Err-BadField-clause-stays g c = λ bytes is begins.

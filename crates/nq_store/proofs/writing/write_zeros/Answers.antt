@@ -13,7 +13,8 @@ loop-block-init g c = record {
   faults = refl;
   told = λ old told. (old, told, refl);
   still = λ old told s ready image left.
-      subst (λ (i : List ℕ). StandsStill s old i) (sym (ready.alone image (g.met.D.Disk.leaves_now c.args.disk.now image left))) (still-itself s old ready.closed);
+      subst (λ (i : List ℕ). StandsStill s old i) (sym (ready.alone image (g.met.D.Disk.leaves_now c.args.disk.now image left)))
+      (still-itself s old ready.closed);
 }
 
 pub loop-block-preserved : goal.loop-block-preserved
@@ -40,7 +41,8 @@ loop-block-preserved g c =
           (λ l.
           let from = c.write_at.ensures.leaves image l in
           let mid = so.still old told s ready from.0 (g.met.D.Disk.leaves_ends c.args.disk.now c.loop-block.disk from.0 so.follows (inr from.1)) in
-          still-torn s old from.0 image block (length part) (size-of part c.requires) ready.stands (free-at s i block c.args.blocks.now ready.free c.loop-block-test.true refl) mid
+          still-torn s old from.0 image block (length part) (size-of part c.requires) ready.stands (free-at s i block c.args.blocks.now ready.free
+          c.loop-block-test.true refl) mid
           (subst (λ (p : ℕ). Torn p (length part) from.0 image) place from.2));
     }
 
@@ -57,7 +59,8 @@ returns-in_err-write_at-clause-still g c =
     (λ l.
     let from = c.write_at.ensures.leaves image l in
     let mid = so.still old told s ready from.0 (g.met.D.Disk.leaves_ends c.args.disk.now c.loop-block.disk from.0 so.follows (inr from.1)) in
-    still-torn s old from.0 image block (length part) (size-of part c.requires) ready.stands (free-at s i block c.args.blocks.now ready.free c.loop-block-test.true refl) mid
+    still-torn s old from.0 image block (length part) (size-of part c.requires) ready.stands (free-at s i block c.args.blocks.now ready.free
+    c.loop-block-test.true refl) mid
     (subst (λ (p : ℕ). Torn p (length part) from.0 image) c.block_place.ensures from.2))
 
 pub returns-clause-written : goal.returns-clause-written

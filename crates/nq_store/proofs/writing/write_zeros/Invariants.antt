@@ -9,6 +9,8 @@ abbrev pub invariant-loop-block : goal.invariant-loop-block
 invariant-loop-block g l = record {
   follows : g.D.Disk.follows l.fn.disk l.disk;
   faults : g.D.Disk.faults l.disk ≡ g.D.Disk.faults l.fn.disk;
-  told : (old : List ℕ) → g.D.Disk.told l.fn.disk ≡ Some old → (now : List ℕ) × (g.D.Disk.told l.disk ≡ Some now) × (zeroed (drop l.block-index l.blocks) now ≡ zeroed l.fn.blocks old);
-  still : (old : List ℕ) → g.D.Disk.told l.fn.disk ≡ Some old → (s : Standing) → IsReady s l.fn.blocks (g.D.Disk.may_leave l.fn.disk) old → Each (g.D.Disk.leaves l.fn.disk l.disk) (StandsStill s old);
+  told : (old : List ℕ) → g.D.Disk.told l.fn.disk ≡ Some old → (now : List ℕ) × (g.D.Disk.told l.disk ≡ Some now)
+      × (zeroed (drop l.block-index l.blocks) now ≡ zeroed l.fn.blocks old);
+  still : (old : List ℕ) → g.D.Disk.told l.fn.disk ≡ Some old → (s : Standing) → IsReady s l.fn.blocks (g.D.Disk.may_leave l.fn.disk) old
+      → Each (g.D.Disk.leaves l.fn.disk l.disk) (StandsStill s old);
 }

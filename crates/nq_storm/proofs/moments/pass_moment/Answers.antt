@@ -13,7 +13,8 @@ pub returns-clause-passes : goal.returns-clause-passes
 returns-clause-passes g c = λ done head start first word here.
     let before = c.args.ran.now in
     let count = length-reverse before ∙ c.requires.many in
-    let at : IsAt head (reverse before) c.args.world.now (g.K.Keeper.content c.args.world.now.server.keeper) c.reach.new.self = record { plays = here.at.plays; marks = c.reach.ensures.same (reverse before) here.at.marks } in
+    let at : IsAt head (reverse before) c.args.world.now (g.K.Keeper.content c.args.world.now.server.keeper) c.reach.new.self =
+    record { plays = here.at.plays; marks = c.reach.ensures.same (reverse before) here.at.marks } in
     let sent : c.len-sent.result ≡ length c.args.world.now.datagrams = c.len-sent.ensures ∙ ap length c.packets.ensures in
     let flagged : c.len-sent.result ≤ length c.reach.new.self = c.in-Ok.ensures.reached in
     let room : length c.args.world.now.datagrams ≤ length c.reach.new.self = omega arith in
@@ -21,11 +22,15 @@ returns-clause-passes g c = λ done head start first word here.
     (c.offer_of-offer.ensures.offers head (reverse before) at) c.choose_event-event.ensures.chosen in
     let gives = c.give.ensures.gives head (reverse before) (rw c.offer_of-offer.ensures.same at) (rw c.offer_of-offer.ensures.same room) in
     passed head start first before c.give.new.ran c.choose_event-event.result _ _ c.args.world.now c.give.new.world _ _ _ _ here chosen
-    (subst (λ ended. Gives ended head (reverse before) c.choose_event-event.result c.give.new.world (g.K.Keeper.content c.give.new.world.server.keeper) c.give.new.delivered) done gives) (c.give.ensures.kept done)
+    (subst (λ ended. Gives ended head (reverse before) c.choose_event-event.result c.give.new.world
+    (g.K.Keeper.content c.give.new.world.server.keeper) c.give.new.delivered) done gives) (c.give.ensures.kept done)
 
 pub returns-clause-halts : goal.returns-clause-halts
 returns-clause-halts g c = λ other head events count at.
-    let here : IsAt head events c.args.world.now (g.K.Keeper.content c.args.world.now.server.keeper) c.reach.new.self = record { plays = at.plays; marks = c.reach.ensures.same events at.marks } in
+    let here : IsAt head events c.args.world.now (g.K.Keeper.content c.args.world.now.server.keeper) c.reach.new.self = record {
+      plays = at.plays;
+      marks = c.reach.ensures.same events at.marks;
+    } in
     let sent : c.len-sent.result ≡ length c.args.world.now.datagrams = c.len-sent.ensures ∙ ap length c.packets.ensures in
     let flagged : c.len-sent.result ≤ length c.reach.new.self = c.in-Ok.ensures.reached in
     let room : length c.args.world.now.datagrams ≤ length c.reach.new.self = omega arith in
@@ -41,7 +46,8 @@ returns-clause-more g c = λ done.
 
 pub returns-clause-stormy : goal.returns-clause-stormy
 returns-clause-stormy g c = λ all.
-    all_behind c.give.result c.args.ran.now c.give.new.ran c.choose_event-event.result c.give.ensures.kept c.give.ensures.same c.choose_event-event.ensures.stormy all
+    all_behind c.give.result c.args.ran.now c.give.new.ran c.choose_event-event.result c.give.ensures.kept c.give.ensures.same
+    c.choose_event-event.ensures.stormy all
 
 pub returns-in-Some-clause-halts : goal.returns-in-Some-clause-halts
 returns-in-Some-clause-halts g c = λ other head events count at.
@@ -49,7 +55,17 @@ returns-in-Some-clause-halts g c = λ other head events count at.
     (reached_at c.in-Some.limit c.args.earlier c.len-sent.result (length events) _ (sym count) sent c.in-Some.ensures.some, at.plays)
 
 pub returns-in-Some-clause-keeps : goal.returns-in-Some-clause-keeps
-returns-in-Some-clause-keeps g c = record { counts = refl; keeper = g.met.K.Keeper.follows_itself c.args.world.now.server.keeper; settings = c.requires.settings }
+returns-in-Some-clause-keeps g c = record {
+  counts = refl;
+  keeper = g.met.K.Keeper.follows_itself c.args.world.now.server.keeper;
+  settings =
+      c.requires.settings;
+}
 
 pub returns-in_default-reach-clause-keeps : goal.returns-in_default-reach-clause-keeps
-returns-in_default-reach-clause-keeps g c = record { counts = refl; keeper = g.met.K.Keeper.follows_itself c.args.world.now.server.keeper; settings = c.requires.settings }
+returns-in_default-reach-clause-keeps g c = record {
+  counts = refl;
+  keeper = g.met.K.Keeper.follows_itself c.args.world.now.server.keeper;
+  settings =
+      c.requires.settings;
+}

@@ -32,5 +32,6 @@ returns g c = λ plays.
     (c.len-2.ensures ∙ ap length c.packets.ensures ∙ as-many (beginning storm_head) events c.args.world.now _ plays)
     shown
     (c.losses-lost.ensures ∙ ap (count_by is_loss) (c.entries.ensures ∙ c.journal.ensures)) in
-    prints_counted c.print_parts.result c.args.ran.now c.deref.result.now c.in-Ok.text.items c.journal-2.result.now.entries c.args.world.now.entries c.as_bytes.result.now
+    prints_counted c.print_parts.result c.args.ran.now c.deref.result.now c.in-Ok.text.items c.journal-2.result.now.entries c.args.world.now.entries
+    c.as_bytes.result.now
     _ _ _ _ c.deref.ensures.value c.journal-2.ensures spelled shown line c.print_parts.ensures

@@ -41,9 +41,11 @@ returns-in_default g c =
     record {
       storms = λ head plays.
           let here = c.loop-earlier.invariant.storm head plays in
-          is_cut c.pass_moment.result head c.args.start c.args.events c.loop-earlier.earlier _ _ ran c.pass_moment.new.ran _ _ _ _ _ other same c.loop-earlier.invariant.many c.loop-earlier-test.true here
+          is_cut c.pass_moment.result head c.args.start c.args.events c.loop-earlier.earlier _ _ ran c.pass_moment.new.ran _ _ _ _ _ other same
+          c.loop-earlier.invariant.many c.loop-earlier-test.true here
           (c.pass_moment.ensures.halts other head (reverse ran) count here.at);
-      asks = rw (ap length same ∙ c.loop-earlier.invariant.many) (cut_short c.pass_moment.result c.loop-earlier.earlier _ _ _ other c.loop-earlier.invariant.asks c.pass_moment.ensures.asks);
+      asks = rw (ap length same ∙ c.loop-earlier.invariant.many) (cut_short c.pass_moment.result c.loop-earlier.earlier _ _ _ other
+          c.loop-earlier.invariant.asks c.pass_moment.ensures.asks);
       early = λ ended. rw (ap length same ∙ c.loop-earlier.invariant.many) c.loop-earlier-test.true;
       whole = λ done. absurd (other done);
       stormy = c.pass_moment.ensures.stormy c.loop-earlier.invariant.stormy;
@@ -53,7 +55,8 @@ returns-in_default g c =
 
 pub returns : goal.returns
 returns g c = record {
-  storms = λ head plays. is_whole head c.args.start c.args.events _ _ c.loop-earlier.ran _ _ _ (c.loop-earlier.invariant.many ∙ omega (arith, c.loop-earlier.auto.earlier-end, c.loop-earlier-test.false)) (c.loop-earlier.invariant.storm head plays);
+  storms = λ head plays. is_whole head c.args.start c.args.events _ _ c.loop-earlier.ran _ _ _ (c.loop-earlier.invariant.many
+      ∙ omega (arith, c.loop-earlier.auto.earlier-end, c.loop-earlier-test.false)) (c.loop-earlier.invariant.storm head plays);
   asks = rw c.loop-earlier.invariant.many c.loop-earlier.invariant.asks;
   early = λ ended. absurd (ended refl);
   whole = λ done. c.loop-earlier.invariant.many ∙ omega (arith, c.loop-earlier.auto.earlier-end, c.loop-earlier-test.false);

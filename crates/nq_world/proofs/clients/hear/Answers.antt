@@ -15,10 +15,14 @@ returns-clause-acts c =
     let bytes = c.args.datagram.now in
     let below : host < length clients = omega (arith, c.host.view_is, c.args.clients.now.ok.0, c.len.ensures, c.if-place-len.false) in
     let made =
-    received-acts host (λ k. hears_in k number bytes) (hears_in here.client number bytes) clients here c.receive.new.self c.receive.result c.args.out.now c.receive.new.out c.args.log.now c.receive.new.log
-    (client-at host place clients here c.host.view_is below c.index_mut-client.ensures.value) c.requires.empty refl c.receive.ensures.spent.0 c.receive.ensures.received in
-    subst (λ r. ActsAt host (λ k. hears_in k number bytes) r clients (slice_set clients place c.receive.new.self) c.receive.new.out.datagrams c.args.log.now.entries c.receive.new.log.entries) (sym c.heeded.ensures)
-    (subst (λ p. ActsAt host (λ k. hears_in k number bytes) (heeded c.receive.result) clients (slice_set clients p c.receive.new.self) c.receive.new.out.datagrams c.args.log.now.entries c.receive.new.log.entries) (sym c.host.view_is) made)
+    received-acts host (λ k. hears_in k number bytes) (hears_in here.client number bytes) clients here c.receive.new.self c.receive.result
+    c.args.out.now c.receive.new.out c.args.log.now c.receive.new.log
+    (client-at host place clients here c.host.view_is below c.index_mut-client.ensures.value) c.requires.empty refl c.receive.ensures.spent.0
+    c.receive.ensures.received in
+    subst (λ r. ActsAt host (λ k. hears_in k number bytes) r clients (slice_set clients place c.receive.new.self) c.receive.new.out.datagrams
+    c.args.log.now.entries c.receive.new.log.entries) (sym c.heeded.ensures)
+    (subst (λ p. ActsAt host (λ k. hears_in k number bytes) (heeded c.receive.result) clients (slice_set clients p c.receive.new.self)
+    c.receive.new.out.datagrams c.args.log.now.entries c.receive.new.log.entries) (sym c.host.view_is) made)
 
 pub returns-then-place-len-clause-acts : goal.returns-then-place-len-clause-acts
 returns-then-place-len-clause-acts c =

@@ -40,6 +40,8 @@ returns-in-Ok-clause-acts c =
     restart-acts host clients here c.replace.new.dest who c.term.result c.in-Some.time c.args.out.now c.start.new.out c.args.log.now c.push.new.self
     (client-at host place clients here c.host.view_is c.requires.there c.index_mut-client.ensures.value) c.requires.empty
     (c.in-Some-next_incarnation.ensures.some ∙ ap next_incarnation c.who.ensures) c.term.ensures (c.in-Some.ensures.same ∙ c.time.ensures)
-    (ap (λ x. x.client) c.replace.ensures.after ∙ c.in-Ok.ensures.client) (ap (λ x. x.taken) c.replace.ensures.after ∙ c.in-Ok.ensures.taken) c.in-Ok.ensures.first c.in-Ok.ensures.sent c.in-Ok.ensures.fit
+    (ap (λ x. x.client) c.replace.ensures.after ∙ c.in-Ok.ensures.client) (ap (λ x. x.taken) c.replace.ensures.after ∙ c.in-Ok.ensures.taken)
+    c.in-Ok.ensures.first c.in-Ok.ensures.sent c.in-Ok.ensures.fit
     (told ∙ ap (λ es. es ++ Entry.B who ∷ []) c.in_ok-reserve.ensures.entries) in
-    subst (λ p. Moves host (step_at (λ k. Some (restart k)) (slice_get clients host)) clients (slice_set clients p c.replace.new.dest) c.start.new.out.datagrams c.args.log.now.entries c.push.new.self.entries) (sym c.host.view_is) made
+    subst (λ p. Moves host (step_at (λ k. Some (restart k)) (slice_get clients host)) clients (slice_set clients p c.replace.new.dest)
+    c.start.new.out.datagrams c.args.log.now.entries c.push.new.self.entries) (sym c.host.view_is) made

@@ -25,10 +25,14 @@ returns-in-Ok-clause-acts c =
     let time = c.in-Some.time in
     let later : time ≡ here.client.now + 1 = c.in-Some.ensures.next ∙ ap (λ n. n + 1) c.time.ensures in
     let made =
-    heeded-acts host (λ k. Some (client_tick k (k.now + 1))) (client_tick here.client time) clients here c.tick.new.self c.tick.result c.args.out.now c.tick.new.out c.args.log.now c.tick.new.log
-    (client-at host place clients here c.host.view_is c.requires.there c.index_mut-client.ensures.value) c.requires.empty (ap (λ n. Some (client_tick here.client n)) (sym later)) c.tick.ensures.spent.0 c.tick.ensures.heeded in
-    subst (λ r. ActsAt host (λ k. Some (client_tick k (k.now + 1))) r clients (slice_set clients place c.tick.new.self) c.tick.new.out.datagrams c.args.log.now.entries c.tick.new.log.entries) (sym c.in-Ok.ensures)
-    (subst (λ p. ActsAt host (λ k. Some (client_tick k (k.now + 1))) (heeded c.tick.result) clients (slice_set clients p c.tick.new.self) c.tick.new.out.datagrams c.args.log.now.entries c.tick.new.log.entries) (sym c.host.view_is) made)
+    heeded-acts host (λ k. Some (client_tick k (k.now + 1))) (client_tick here.client time) clients here c.tick.new.self c.tick.result c.args.out.now
+    c.tick.new.out c.args.log.now c.tick.new.log
+    (client-at host place clients here c.host.view_is c.requires.there c.index_mut-client.ensures.value) c.requires.empty
+    (ap (λ n. Some (client_tick here.client n)) (sym later)) c.tick.ensures.spent.0 c.tick.ensures.heeded in
+    subst (λ r. ActsAt host (λ k. Some (client_tick k (k.now + 1))) r clients (slice_set clients place c.tick.new.self) c.tick.new.out.datagrams
+    c.args.log.now.entries c.tick.new.log.entries) (sym c.in-Ok.ensures)
+    (subst (λ p. ActsAt host (λ k. Some (client_tick k (k.now + 1))) (heeded c.tick.result) clients (slice_set clients p c.tick.new.self)
+    c.tick.new.out.datagrams c.args.log.now.entries c.tick.new.log.entries) (sym c.host.view_is) made)
 
 pub returns-clause-acts : goal.returns-clause-acts
 returns-clause-acts c =
@@ -39,7 +43,11 @@ returns-clause-acts c =
     let time = c.in-Some.time in
     let later : time ≡ here.client.now + 1 = c.in-Some.ensures.next ∙ ap (λ n. n + 1) c.time.ensures in
     let made =
-    heeded-acts host (λ k. Some (client_tick k (k.now + 1))) (client_tick here.client time) clients here c.tick.new.self c.tick.result c.args.out.now c.tick.new.out c.args.log.now c.tick.new.log
-    (client-at host place clients here c.host.view_is c.requires.there c.index_mut-client.ensures.value) c.requires.empty (ap (λ n. Some (client_tick here.client n)) (sym later)) c.tick.ensures.spent.0 c.tick.ensures.heeded in
-    subst (λ r. ActsAt host (λ k. Some (client_tick k (k.now + 1))) r clients (slice_set clients place c.tick.new.self) c.tick.new.out.datagrams c.args.log.now.entries c.tick.new.log.entries) (sym c.in-Err.ensures)
-    (subst (λ p. ActsAt host (λ k. Some (client_tick k (k.now + 1))) (heeded c.tick.result) clients (slice_set clients p c.tick.new.self) c.tick.new.out.datagrams c.args.log.now.entries c.tick.new.log.entries) (sym c.host.view_is) made)
+    heeded-acts host (λ k. Some (client_tick k (k.now + 1))) (client_tick here.client time) clients here c.tick.new.self c.tick.result c.args.out.now
+    c.tick.new.out c.args.log.now c.tick.new.log
+    (client-at host place clients here c.host.view_is c.requires.there c.index_mut-client.ensures.value) c.requires.empty
+    (ap (λ n. Some (client_tick here.client n)) (sym later)) c.tick.ensures.spent.0 c.tick.ensures.heeded in
+    subst (λ r. ActsAt host (λ k. Some (client_tick k (k.now + 1))) r clients (slice_set clients place c.tick.new.self) c.tick.new.out.datagrams
+    c.args.log.now.entries c.tick.new.log.entries) (sym c.in-Err.ensures)
+    (subst (λ p. ActsAt host (λ k. Some (client_tick k (k.now + 1))) (heeded c.tick.result) clients (slice_set clients p c.tick.new.self)
+    c.tick.new.out.datagrams c.args.log.now.entries c.tick.new.log.entries) (sym c.host.view_is) made)

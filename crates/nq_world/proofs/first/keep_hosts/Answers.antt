@@ -16,7 +16,8 @@ loop-host-preserved g c =
     let tells = g.K.Keeper.content c.commit.new.self in
     let below : host < 64 = let inside = c.loop-host-test.true in let few = c.requires in omega arith in
     let next : suc host ≡ host + 1 = omega arith in
-    let kept : tells ≡ told_after (host_change host) told = c.in_ok-commit.ensures.commits.0 ∙ ap (λ change. told_after change told) c.host_change-change.ensures in (
+    let kept : tells ≡ told_after (host_change host) told = c.in_ok-commit.ensures.commits.0 ∙ ap (λ change. told_after change told)
+    c.host_change-change.ensures in (
       λ longest files begins.
           let before : told ≡ told_as (kept_first longest files host) first = c.loop-host.invariant.0 longest files begins in
           told-on first told tells (kept_first longest files host) (kept_first longest files (host + 1)) before

@@ -4,4 +4,13 @@ use Rattle.nq_world.proofs.Unspent.{runs-are-unspent}
 use Rattle.nq_world.proofs.laws.worlds_run.Goals as goal
 
 pub returns : goal.returns
-returns c = record { begins = runs-begin; servers = servers-begin; tests = tests-are-exact; goes_on = runs-go-on; lawful = runs-are-lawful; unspent = runs-are-unspent; text = bytes-carry-text }
+returns c = record {
+  begins = runs-begin;
+  servers = servers-begin;
+  tests = tests-are-exact;
+  goes_on = runs-go-on;
+  lawful = runs-are-lawful;
+  unspent =
+      runs-are-unspent;
+  text = bytes-carry-text;
+}

@@ -8,4 +8,5 @@ returns-in-Ok-boot-clause-begins g c = λ files fine.
     let content = g.K.Keeper.content in
     let faults = g.K.Keeper.faults in
     over-begins head content faults c.over.result c.in-Ok-boot.server c.in-Ok.skew (content c.args.keeper) (faults c.args.keeper)
-    (head-within head c.requires.hosts c.requires.long c.requires.short fine) c.in-Ok-boot.ensures.boots c.in-Ok.ensures.hosts c.in-Ok.ensures.window c.in-Ok.ensures.begins c.over.ensures.new c.over.ensures.refused
+    (head-within head c.requires.hosts c.requires.long c.requires.short fine) c.in-Ok-boot.ensures.boots c.in-Ok.ensures.hosts c.in-Ok.ensures.window
+    c.in-Ok.ensures.begins c.over.ensures.new c.over.ensures.refused

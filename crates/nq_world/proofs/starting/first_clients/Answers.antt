@@ -12,5 +12,10 @@ loop-host-preserved c =
     let one = c.in-Ok-attached.client in
     let items : after ≡ before ++ one ∷ [] = rw c.unwrap.ensures at c.push.ensures.items in
     let so_far : length before ≡ host = c.loop-host.invariant.1 in
-    let size : length after ≡ host + 1 = omega (arith, ap length items, length-append before (one ∷ [])) in
-    (rw add-one (pushed c.args.term host before after one c.loop-host.invariant.0 items c.in-Ok-attached.ensures.client), size, omega (arith, c.push.ensures.capacity, c.loop-host.invariant.2), subst (TookIn 0) (sym items) (took-last 0 before one (omega (arith, c.in-Ok-attached.ensures.taken)) c.loop-host.invariant.3))
+    let size : length after ≡ host + 1 = omega (arith, ap length items, length-append before (one ∷ [])) in (
+      rw add-one (pushed c.args.term host before after one c.loop-host.invariant.0 items c.in-Ok-attached.ensures.client),
+      size,
+      omega (arith, c.push.ensures.capacity, c.loop-host.invariant.2),
+      subst (TookIn 0) (sym items)
+          (took-last 0 before one (omega (arith, c.in-Ok-attached.ensures.taken)) c.loop-host.invariant.3),
+    )

@@ -7,4 +7,5 @@ use Rattle.nq_world.proofs.starting.first_clients.Given as goal
 
 abbrev pub invariant-loop-host : goal.invariant-loop-host
 invariant-loop-host l =
-    (clients_in l.clients.items ≡ first_clients l.term 0 l.host) × (length l.clients.items ≡ l.host) × (l.hosts ≤ vec_capacity l.clients) × TookIn 0 l.clients.items
+    (clients_in l.clients.items ≡ first_clients l.term 0 l.host) × (length l.clients.items ≡ l.host) × (l.hosts ≤ vec_capacity l.clients)
+    × TookIn 0 l.clients.items

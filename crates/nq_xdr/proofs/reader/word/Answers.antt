@@ -4,4 +4,5 @@ use Rattle.nq_xdr.proofs.reader.word.Goals as goal
 
 pub returns-clause-found : goal.returns-clause-found
 returns-clause-found c =
-    word_read c.args.bytes.now c.in_ok-front.front.now c.in_ok-front.rest.now c.read_u32.result (λ i. omega (arith, c.type_inv.bytes i)) c.in_ok-front.ensures.step c.read_u32.ensures
+    word_read c.args.bytes.now c.in_ok-front.front.now c.in_ok-front.rest.now c.read_u32.result (λ i. omega (arith, c.type_inv.bytes i))
+    c.in_ok-front.ensures.step c.read_u32.ensures

@@ -9,5 +9,7 @@ pub invariant_of-result : goal.invariant_of-result
 unfolding attached_client fresh_client
 invariant_of-result c = (
   c.begun.ensures.begun,
-  within c.begun.result.state (attached_client (record { host = c.args.host; inc = c.args.inc }) c.args.term c.args.time) 0 (ap client_of c.begun.ensures.state ∙ ap (λ (x : Client). record x { attached = true }) c.in-Ok.ensures) (omega arith) c.requires (omega arith) (omega arith) (omega arith) (omega arith) refl,
+  within c.begun.result.state (attached_client (record { host = c.args.host; inc = c.args.inc }) c.args.term c.args.time) 0
+      (ap client_of c.begun.ensures.state ∙ ap (λ (x : Client). record x { attached = true }) c.in-Ok.ensures) (omega arith) c.requires (omega arith)
+      (omega arith) (omega arith) (omega arith) refl,
 )

@@ -7,5 +7,6 @@ pub invariant_of-result : goal.invariant_of-result
 unfolding starts fresh_client
 invariant_of-result c = (
   c.in-Ok.ensures.begun,
-  within c.in-Ok.step.state (starts (record { host = c.args.host; inc = c.args.inc }) c.args.term c.args.time).client 0 c.in-Ok.ensures.client (omega arith) c.requires (omega arith) (omega arith) (omega arith) (omega arith) refl,
+  within c.in-Ok.step.state (starts (record { host = c.args.host; inc = c.args.inc }) c.args.term c.args.time).client 0 c.in-Ok.ensures.client
+      (omega arith) c.requires (omega arith) (omega arith) (omega arith) (omega arith) refl,
 )

@@ -13,7 +13,8 @@ returns-in-Ok-clause-done c = λ x e.
     let both : Some c.in-Some.asked ≡ Some x = c.in-Some.ensures.value ∙ e in
     let same : c.in-Some.asked ≡ x = cc in
     c.in-Ok.ensures.step
-    ∙ ap (λ (o : Option Ticket). answered (step_of (record s { state = record s.state { asked = o } })) c.args.packet c.in-Some.asked c.args.reply.now) c.take.ensures.after
+    ∙ ap (λ (o : Option Ticket). answered (step_of (record s { state = record s.state { asked = o } })) c.args.packet c.in-Some.asked
+    c.args.reply.now) c.take.ensures.after
     ∙ ap (λ (t : ClientStep). answered t c.args.packet c.in-Some.asked c.args.reply.now) (taken_out s c.requires.prepared.silent)
     ∙ sym (replied-answered (step_of s) c.args.packet c.in-Some.asked c.args.reply.now)
     ∙ ap (λ (k : Ticket). replied (step_of s) c.args.packet k c.args.reply.now) same

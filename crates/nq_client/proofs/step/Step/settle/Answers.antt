@@ -14,7 +14,8 @@ returns-then-is_for_call c = settled-own (step_of c.args.self.now) (sym c.is_for
 pub returns-in-Read : goal.returns-in-Read
 returns-in-Read c =
     c.settle_read.ensures
-    ∙ settled-read (step_of c.args.self.now) c.args.self.now.state.call c.in-Some.u c.in-Read.file c.in-Read.block refl c.in-Some.is c.in-Read.is (sym c.is_for_call.ensures ∙ c.if-is_for_call.false)
+    ∙ settled-read (step_of c.args.self.now) c.args.self.now.state.call c.in-Some.u c.in-Read.file c.in-Read.block refl c.in-Some.is c.in-Read.is
+    (sym c.is_for_call.ensures ∙ c.if-is_for_call.false)
 
 pub returns-in-Write : goal.returns-in-Write
 returns-in-Write c =
@@ -22,9 +23,11 @@ returns-in-Write c =
     let u = under_way c.in-Some.u in
     let e : t.client.call ≡ Some u = ap (option_map under_way) c.in-Some.is in
     c.settle_write.ensures
-    ∙ ap (λ (b : List ℕ). settles_write t u.q u.through false c.in-Write.file c.in-Write.block b (lease_on c.in-Write.file t.client.leases)) (called-body t u (Call.Write c.in-Write.file c.in-Write.block c.in-Write.body) e c.in-Write.is)
+    ∙ ap (λ (b : List ℕ). settles_write t u.q u.through false c.in-Write.file c.in-Write.block b (lease_on c.in-Write.file t.client.leases))
+    (called-body t u (Call.Write c.in-Write.file c.in-Write.block c.in-Write.body) e c.in-Write.is)
     ∙ write-in-place t u false c.in-Write.file c.in-Write.block c.in-Write.body (lease_on c.in-Write.file t.client.leases) e
-    ∙ settled-as t c.args.self.now.state.call c.in-Some.u (Call.Write c.in-Write.file c.in-Write.block c.in-Write.body) refl c.in-Some.is c.in-Write.is (sym c.is_for_call.ensures ∙ c.if-is_for_call.false)
+    ∙ settled-as t c.args.self.now.state.call c.in-Some.u (Call.Write c.in-Write.file c.in-Write.block c.in-Write.body) refl c.in-Some.is
+    c.in-Write.is (sym c.is_for_call.ensures ∙ c.if-is_for_call.false)
 
 pub returns-in-WriteSync : goal.returns-in-WriteSync
 returns-in-WriteSync c =
@@ -32,6 +35,8 @@ returns-in-WriteSync c =
     let u = under_way c.in-Some.u in
     let e : t.client.call ≡ Some u = ap (option_map under_way) c.in-Some.is in
     c.settle_put.ensures
-    ∙ ap (λ (b : List ℕ). settles_put t u.q u.written u.through c.in-WriteSync.file c.in-WriteSync.block b) (called-body t u (Call.WriteSync c.in-WriteSync.file c.in-WriteSync.block c.in-WriteSync.body) e c.in-WriteSync.is)
+    ∙ ap (λ (b : List ℕ). settles_put t u.q u.written u.through c.in-WriteSync.file c.in-WriteSync.block b)
+    (called-body t u (Call.WriteSync c.in-WriteSync.file c.in-WriteSync.block c.in-WriteSync.body) e c.in-WriteSync.is)
     ∙ put-in-place t u c.in-WriteSync.file c.in-WriteSync.block c.in-WriteSync.body e
-    ∙ settled-as t c.args.self.now.state.call c.in-Some.u (Call.WriteSync c.in-WriteSync.file c.in-WriteSync.block c.in-WriteSync.body) refl c.in-Some.is c.in-WriteSync.is (sym c.is_for_call.ensures ∙ c.if-is_for_call.false)
+    ∙ settled-as t c.args.self.now.state.call c.in-Some.u (Call.WriteSync c.in-WriteSync.file c.in-WriteSync.block c.in-WriteSync.body) refl
+    c.in-Some.is c.in-WriteSync.is (sym c.is_for_call.ensures ∙ c.if-is_for_call.false)

@@ -12,8 +12,13 @@ pub returns-then-is_to_push : goal.returns-then-is_to_push
 returns-then-is_to_push c =
     let row = c.row-item.result in
     let rest = drop (suc c.loop-row.row-index) c.args.rows.now in
-    let split : drop c.loop-row.row-index c.args.rows.now ≡ row ∷ rest = drop-cons c.args.rows.now c.loop-row.row-index row c.loop-row-test.true ∙ ap (λ (x : Row). x ∷ rest) (sym c.row-item.is) in
+    let split : drop c.loop-row.row-index c.args.rows.now ≡ row ∷ rest = drop-cons c.args.rows.now c.loop-row.row-index row c.loop-row-test.true
+    ∙ ap (λ (x : Row). x ∷ rest) (sym c.row-item.is) in
     let ascends : Ascends file_of_row (row ∷ rest) = subst (Ascends file_of_row) split c.loop-row.invariant.ascends in
-    let passes : is_to_push_in c.args.now c.args.dirty.now.dirty c.args.dirty.now.push (lease_in row) ≡ true = sym c.is_to_push.ensures ∙ c.if-is_to_push.true in
-    let is : Some row.lease.file ≡ ending_in c.args.now (map lease_in c.args.rows.now) c.args.dirty.now.dirty c.args.dirty.now.push = sym (ap (λ (xs : List Row). ending_in c.args.now (map lease_in xs) c.args.dirty.now.dirty c.args.dirty.now.push) split ∙ least-first file_of_lease lease_in (is_to_push_in c.args.now c.args.dirty.now.dirty c.args.dirty.now.push) row rest ascends passes) ∙ c.loop-row.invariant.same in
+    let passes : is_to_push_in c.args.now c.args.dirty.now.dirty c.args.dirty.now.push (lease_in row) ≡ true = sym c.is_to_push.ensures
+    ∙ c.if-is_to_push.true in
+    let is : Some row.lease.file ≡ ending_in c.args.now (map lease_in c.args.rows.now) c.args.dirty.now.dirty c.args.dirty.now.push =
+    sym (ap (λ (xs : List Row). ending_in c.args.now (map lease_in xs) c.args.dirty.now.dirty c.args.dirty.now.push) split
+    ∙ least-first file_of_lease lease_in (is_to_push_in c.args.now c.args.dirty.now.dirty c.args.dirty.now.push) row rest ascends passes)
+    ∙ c.loop-row.invariant.same in
     is

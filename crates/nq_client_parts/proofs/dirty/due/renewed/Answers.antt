@@ -12,8 +12,13 @@ pub returns-then-is_to_renew : goal.returns-then-is_to_renew
 returns-then-is_to_renew c =
     let row = c.row-item.result in
     let rest = drop (suc c.loop-row.row-index) c.args.rows.now in
-    let split : drop c.loop-row.row-index c.args.rows.now ≡ row ∷ rest = drop-cons c.args.rows.now c.loop-row.row-index row c.loop-row-test.true ∙ ap (λ (x : Row). x ∷ rest) (sym c.row-item.is) in
+    let split : drop c.loop-row.row-index c.args.rows.now ≡ row ∷ rest = drop-cons c.args.rows.now c.loop-row.row-index row c.loop-row-test.true
+    ∙ ap (λ (x : Row). x ∷ rest) (sym c.row-item.is) in
     let ascends : Ascends file_of_row (row ∷ rest) = subst (Ascends file_of_row) split c.loop-row.invariant.ascends in
-    let passes : is_to_renew_in c.args.now c.args.notices.now.items c.args.dirty.now.dirty c.args.dirty.now.push (lease_in row) ≡ true = sym c.is_to_renew.ensures ∙ c.if-is_to_renew.true in
-    let is : Some row.lease.file ≡ renewed_in c.args.now (map lease_in c.args.rows.now) c.args.notices.now.items c.args.dirty.now.dirty c.args.dirty.now.push = sym (ap (λ (xs : List Row). renewed_in c.args.now (map lease_in xs) c.args.notices.now.items c.args.dirty.now.dirty c.args.dirty.now.push) split ∙ least-first file_of_lease lease_in (is_to_renew_in c.args.now c.args.notices.now.items c.args.dirty.now.dirty c.args.dirty.now.push) row rest ascends passes) ∙ c.loop-row.invariant.same in
+    let passes : is_to_renew_in c.args.now c.args.notices.now.items c.args.dirty.now.dirty c.args.dirty.now.push (lease_in row) ≡ true =
+    sym c.is_to_renew.ensures ∙ c.if-is_to_renew.true in
+    let is : Some row.lease.file ≡ renewed_in c.args.now (map lease_in c.args.rows.now) c.args.notices.now.items c.args.dirty.now.dirty
+    c.args.dirty.now.push = sym (ap (λ (xs : List Row). renewed_in c.args.now (map lease_in xs) c.args.notices.now.items c.args.dirty.now.dirty
+    c.args.dirty.now.push) split ∙ least-first file_of_lease lease_in (is_to_renew_in c.args.now c.args.notices.now.items c.args.dirty.now.dirty
+    c.args.dirty.now.push) row rest ascends passes) ∙ c.loop-row.invariant.same in
     is

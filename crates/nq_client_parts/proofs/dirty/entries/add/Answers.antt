@@ -16,4 +16,5 @@ returns-clause-added c =
 pub returns-clause-count : goal.returns-clause-count
 returns-clause-count c =
     let none : lookup (same c.args.key) c.args.entries.now.entries ≡ None = none-at c.args.key c.args.entries.now.entries c.requires.absent in
-    ap length ((rw c.unwrap-none.ensures at c.insert.ensures.entries) ∙ insert_entry-new same c.args.entries.now c.args.key _ none) ∙ length_push c.args.entries.now.entries _
+    ap length ((rw c.unwrap-none.ensures at c.insert.ensures.entries) ∙ insert_entry-new same c.args.entries.now c.args.key _ none)
+    ∙ length_push c.args.entries.now.entries _

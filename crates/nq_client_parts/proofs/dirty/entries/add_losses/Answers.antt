@@ -12,13 +12,15 @@ loop-key-init c =
 
 pub unwrap-requires : goal.unwrap-requires
 unwrap-requires c =
-    let split = rest_more deref_pair c.loop-key.key-iterator c.next.new.self c.next.result (c.in-Some.key, c.in-Some.writes) c.in-Some.is c.next.ensures.steps in
+    let split = rest_more deref_pair c.loop-key.key-iterator c.next.new.self c.next.result (c.in-Some.key, c.in-Some.writes) c.in-Some.is
+    c.next.ensures.steps in
     let more = lost_count-more c.args.file _ _ _ split (sym c.if-eq.ensures) in
     c.push.ensures.succeeds (omega (arith, more, c.loop-key.invariant.1))
 
 pub loop-key-preserved-then-eq : goal.loop-key-preserved-then-eq
 loop-key-preserved-then-eq c =
-    let split = rest_more deref_pair c.loop-key.key-iterator c.next.new.self c.next.result (c.in-Some.key, c.in-Some.writes) c.in-Some.is c.next.ensures.steps in
+    let split = rest_more deref_pair c.loop-key.key-iterator c.next.new.self c.next.result (c.in-Some.key, c.in-Some.writes) c.in-Some.is
+    c.next.ensures.steps in
     let pushed = rw c.unwrap.ensures at c.push.ensures.ok in
     let more = lost_count-more c.args.file _ _ _ split (sym c.if-eq.ensures) in (
       ap (λ items. items ++ lost c.args.file c.next.new.self) pushed
@@ -29,7 +31,8 @@ loop-key-preserved-then-eq c =
 
 pub loop-key-preserved : goal.loop-key-preserved
 loop-key-preserved c =
-    let split = rest_more deref_pair c.loop-key.key-iterator c.next.new.self c.next.result (c.in-Some.key, c.in-Some.writes) c.in-Some.is c.next.ensures.steps in
+    let split = rest_more deref_pair c.loop-key.key-iterator c.next.new.self c.next.result (c.in-Some.key, c.in-Some.writes) c.in-Some.is
+    c.next.ensures.steps in
     let same = lost-less c.args.file _ _ _ split (sym c.if-eq.ensures) in (
       ap (λ ps. c.loop-key.into.items ++ map loss_of ps) same ∙ c.loop-key.invariant.0,
       subst (λ ps. length ps ≤ c.loop-key.into.spare) (sym same) c.loop-key.invariant.1,

@@ -19,4 +19,5 @@ returns-clause-hosts c =
 
 pub returns-clause-follows : goal.returns-clause-follows
 returns-clause-follows c = λ events h.
-    after-client c.self.inside.window c.args.host c.self.inside.hosts.items c.tick_one.new.hosts.items c.args.self.now events c.self.view_is c.tick_one.ensures c.requires h
+    after-client c.self.inside.window c.args.host c.self.inside.hosts.items c.tick_one.new.hosts.items c.args.self.now events c.self.view_is
+    c.tick_one.ensures c.requires h

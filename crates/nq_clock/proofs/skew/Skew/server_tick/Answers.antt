@@ -22,4 +22,5 @@ returns-in-None-clause-within c = λ events h.
 pub returns-in-None-clause-follows : goal.returns-in-None-clause-follows
 returns-in-None-clause-follows c = λ events h.
     let found = c.first_broken.ensures ∙ ap (first_broken 0) c.deref.ensures.value ∙ ap (λ (s : SkewCounts). first_broken 0 s.hosts) c.self.view_is in
-    after-server c.self.inside.window c.self.inside.hosts.items c.tick_each.new.hosts.items c.args.self.now events c.self.view_is c.tick_each.ensures (judged-none c.args.self.now events c.first_broken.result found c.in-None.is h) h
+    after-server c.self.inside.window c.self.inside.hosts.items c.tick_each.new.hosts.items c.args.self.now events c.self.view_is c.tick_each.ensures
+    (judged-none c.args.self.now events c.first_broken.result found c.in-None.is h) h

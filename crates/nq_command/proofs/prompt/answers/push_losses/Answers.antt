@@ -14,4 +14,5 @@ loop-place-preserved c =
     let new = c.push_loss.new.out.items in
     let more : new ≡ now ++ loss_words t.element = subst (λ o. IfSome o (λ loss. new ≡ now ++ loss_words loss)) t.is c.in_ok-push_loss.ensures in
     rw add-one (
-    one_more loss_words all place t.element c.args.out.now.items (codes "lost: delayed writes came too late, of block") now new t.is c.loop-place.invariant more)
+    one_more loss_words all place t.element c.args.out.now.items (codes "lost: delayed writes came too late, of block") now new t.is
+    c.loop-place.invariant more)

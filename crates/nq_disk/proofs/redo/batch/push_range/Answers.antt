@@ -10,7 +10,8 @@ returns c =
     let added-2 = rw c.unwrap-2.ensures at c.extend_from_slice-2.ensures.items in
     let count = c.to_be_bytes-2.ensures in
     let two : c.extend_from_slice-2.new.self.items ≡ c.extend_from_slice.new.self.items ++ to_be_bytes w32 (length c.args.bytes.now) = cc in
-    let three : c.extend_from_slice-3.new.self.items ≡ c.extend_from_slice-2.new.self.items ++ c.args.bytes.now = rw c.unwrap-3.ensures at c.extend_from_slice-3.ensures.items in
+    let three : c.extend_from_slice-3.new.self.items ≡ c.extend_from_slice-2.new.self.items ++ c.args.bytes.now = rw c.unwrap-3.ensures at
+    c.extend_from_slice-3.ensures.items in
     three
     ∙ ap (λ (b : List ℕ). b ++ c.args.bytes.now) (two ∙ ap (λ (b : List ℕ). b ++ to_be_bytes w32 (length c.args.bytes.now)) one)
     ∙ append_assoc (c.args.body.now.items ++ to_be_bytes w64 c.args.place) (to_be_bytes w32 (length c.args.bytes.now)) c.args.bytes.now

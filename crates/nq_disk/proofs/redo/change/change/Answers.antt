@@ -1,4 +1,4 @@
-use Rattle.std.proofs.Common.{◌≡◌, ◌⊎◌, ℕ, List, inr}
+use Rattle.std.proofs.Common.{◌⊎◌, ℕ, List, inr}
 use Rattle.nq_disk.specs.Whole.{OpensAs, OpensAsOne, staged}
 use Rattle.nq_disk.proofs.RedoGoing.{on-ok, then-ok, through}
 use Rattle.nq_disk.proofs.redo.change.change.Goals as goal

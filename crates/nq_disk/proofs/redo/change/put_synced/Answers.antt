@@ -12,4 +12,5 @@ returns-clause-leaves g c = λ old told only image left.
     through (Settling (ranges_in c.args.count c.args.bytes.now) old) _ _ image
     (g.met.D.Disk.parts c.args.disk.now c.put_ranges.new.disk c.sync.new.self image c.put_ranges.ensures.follows c.sync.ensures.follows left)
     (c.put_ranges.ensures.leaves old told only image)
-    (λ l. c.put_ranges.ensures.leaves old told only image (g.met.D.Disk.leaves_ends c.args.disk.now c.put_ranges.new.disk image c.put_ranges.ensures.follows (inr (c.sync.ensures.leaves image l))))
+    (λ l. c.put_ranges.ensures.leaves old told only image (g.met.D.Disk.leaves_ends c.args.disk.now c.put_ranges.new.disk image
+    c.put_ranges.ensures.follows (inr (c.sync.ensures.leaves image l))))

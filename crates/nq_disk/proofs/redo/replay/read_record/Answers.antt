@@ -38,9 +38,11 @@ returns-clause-long g c = λ old told. c.in_ok-len.ensures.told old (c.sync.ensu
 
 pub returns-clause-record : goal.returns-clause-record
 returns-clause-record g c = λ old told long.
-    read-whole c.args.area old c.read.new.into c.in_ok-read.field-0 (c.read.auto.into ∙ c.requires) long (c.in_ok-read.ensures.told old (c.size.ensures.same ∙ c.sync.ensures.same ∙ told))
+    read-whole c.args.area old c.read.new.into c.in_ok-read.field-0 (c.read.auto.into ∙ c.requires) long (c.in_ok-read.ensures.told old
+    (c.size.ensures.same ∙ c.sync.ensures.same ∙ told))
 
 pub returns-clause-settles : goal.returns-clause-settles
 returns-clause-settles g c = λ old told image may.
     c.in_ok-sync.ensures.settles old told image
-    (c.size.ensures.leaves image (g.met.D.Disk.leaves_ends c.sync.new.self c.size.new.self image c.size.ensures.follows (inr (c.read.ensures.leaves image (g.met.D.Disk.leaves_ends c.size.new.self c.read.new.self image c.read.ensures.follows (inr may))))))
+    (c.size.ensures.leaves image (g.met.D.Disk.leaves_ends c.sync.new.self c.size.new.self image c.size.ensures.follows
+    (inr (c.read.ensures.leaves image (g.met.D.Disk.leaves_ends c.size.new.self c.read.new.self image c.read.ensures.follows (inr may))))))

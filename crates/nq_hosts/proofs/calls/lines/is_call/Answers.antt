@@ -6,4 +6,5 @@ pub returns-clause-yes : goal.returns-clause-yes
 returns-clause-yes c = λ yes. spelled c.args.line.now c.parse_call.result (sym c.is_ok.ensures.value ∙ yes) c.parse_call.ensures.found
 
 pub returns-clause-no : goal.returns-clause-no
-returns-clause-no c = λ no. unspelled c.args.line.now c.parse_call.result (sym c.is_ok.ensures.value ∙ no) c.parse_call.ensures.memory c.parse_call.ensures.only
+returns-clause-no c = λ no. unspelled c.args.line.now c.parse_call.result (sym c.is_ok.ensures.value ∙ no) c.parse_call.ensures.memory
+    c.parse_call.ensures.only

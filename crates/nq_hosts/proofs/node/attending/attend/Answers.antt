@@ -13,7 +13,13 @@ returns-in-Ok g c =
     (record { client = c.args.client.now; out = c.args.out.now; log = c.args.log.now; next = c.args.next.now })
     (record { client = c.tick_to.new.client; out = c.tick_to.new.out; log = c.tick_to.new.log; next = c.args.next.now })
     (record { client = c.go_on.new.client; out = c.go_on.new.out; log = c.go_on.new.log; next = c.go_on.new.next })
-    (record { rises = c.now-reading.ensures.rises; floor = c.now-reading.ensures.floor; below = c.now-reading.ensures.below; told = c.now-reading.ensures.told }) c.in-Ok.ensures c.go_on.ensures
+    (record {
+      rises = c.now-reading.ensures.rises;
+      floor = c.now-reading.ensures.floor;
+      below = c.now-reading.ensures.below;
+      told =
+          c.now-reading.ensures.told;
+    }) c.in-Ok.ensures c.go_on.ensures
 
 pub returns-in-Err : goal.returns-in-Err
 returns-in-Err g c =
@@ -23,4 +29,10 @@ returns-in-Err g c =
     (link_of c.args.link.now)
     (record { client = c.args.client.now; out = c.args.out.now; log = c.args.log.now; next = c.args.next.now })
     (record { client = c.tick_to.new.client; out = c.tick_to.new.out; log = c.tick_to.new.log; next = c.args.next.now })
-    (record { rises = c.now-reading.ensures.rises; floor = c.now-reading.ensures.floor; below = c.now-reading.ensures.below; told = c.now-reading.ensures.told }) c.in-Err.ensures
+    (record {
+      rises = c.now-reading.ensures.rises;
+      floor = c.now-reading.ensures.floor;
+      below = c.now-reading.ensures.below;
+      told =
+          c.now-reading.ensures.told;
+    }) c.in-Err.ensures

@@ -29,7 +29,13 @@ returns-then-is_reached g c =
       made = Ok tt;
       makes = c.in-Ok.ensures;
       rest = at_once c.args.turns (reached Aim.Answered c.make_call.new.client.client)
-          (record { client = c.make_call.new.client; log = c.make_call.new.log; next = c.args.session.now.next; clock = clock_of c.args.clock.now; link = link_of c.make_call.new.link })
+          (record {
+            client = c.make_call.new.client;
+            log = c.make_call.new.log;
+            next = c.args.session.now.next;
+            clock = clock_of c.args.clock.now;
+            link = link_of c.make_call.new.link;
+          })
           (sym c.is_reached.ensures ∙ c.if-is_reached.true);
     }
 
@@ -44,7 +50,13 @@ returns-else-is_reached g c =
       made = Ok tt;
       makes = c.in-Ok.ensures;
       rest = later c.args.turns (reached Aim.Answered c.make_call.new.client.client) c.take_turns.result
-          (record { client = c.make_call.new.client; log = c.make_call.new.log; next = c.args.session.now.next; clock = clock_of c.args.clock.now; link = link_of c.make_call.new.link })
+          (record {
+            client = c.make_call.new.client;
+            log = c.make_call.new.log;
+            next = c.args.session.now.next;
+            clock = clock_of c.args.clock.now;
+            link = link_of c.make_call.new.link;
+          })
           (between c.take_turns.new.session (clock_of c.take_turns.new.clock) (link_of c.take_turns.new.link))
           (sym c.is_reached.ensures ∙ c.if-is_reached.false) c.take_turns.ensures;
     }

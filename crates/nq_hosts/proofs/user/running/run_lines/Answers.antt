@@ -21,7 +21,8 @@ returns-in-Err g c =
     let at : Between = between c.args.session.now (clock_of c.args.clock.now) (link_of c.args.link.now) in
     let now : Between = between c.loop-line.session (clock_of c.loop-line.clock) (link_of c.loop-line.link) in
     let new : Between = between c.run_line.new.session (clock_of c.run_line.new.clock) (link_of c.run_line.new.link) in
-    stops c.args.turns c.args.text.now c.loop-line.rest.now c.in-Some.line.now c.in-Some.after.now c.loop-line.number c.in-Err.why at now new c.loop-line.invariant
+    stops c.args.turns c.args.text.now c.loop-line.rest.now c.in-Some.line.now c.in-Some.after.now c.loop-line.number c.in-Err.why at now new
+    c.loop-line.invariant
     (sym c.in-Some.ensures) c.in-Err.ensures
 
 pub loop-line-smaller : goal.loop-line-smaller

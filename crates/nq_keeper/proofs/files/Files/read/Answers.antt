@@ -11,10 +11,12 @@ unreachable-unreachable c =
 
 pub read-requires : goal.read-requires
 read-requires c =
-    let there = found-there c.self.inside.stored.items c.as_slice.result.now c.in-Some.place c.args.id c.index.result.now c.as_slice.ensures.value c.in-Some.ensures.found c.in-Some.ensures.within c.index.ensures in
+    let there = found-there c.self.inside.stored.items c.as_slice.result.now c.in-Some.place c.args.id c.index.result.now c.as_slice.ensures.value
+    c.in-Some.ensures.found c.in-Some.ensures.within c.index.ensures in
     subst (HasBlock c.args.block) (ap (find_file c.args.id) (sym c.self.view_is) ∙ there) c.requires
 
 pub returns : goal.returns
 returns c =
-    let there = found-there c.self.inside.stored.items c.as_slice.result.now c.in-Some.place c.args.id c.index.result.now c.as_slice.ensures.value c.in-Some.ensures.found c.in-Some.ensures.within c.index.ensures in
+    let there = found-there c.self.inside.stored.items c.as_slice.result.now c.in-Some.place c.args.id c.index.result.now c.as_slice.ensures.value
+    c.in-Some.ensures.found c.in-Some.ensures.within c.index.ensures in
     if-ok c.read.result _ _ (λ body is. sym (ap (body_at c.args.block) (ap (find_file c.args.id) (sym c.self.view_is) ∙ there) ∙ is)) c.read.ensures

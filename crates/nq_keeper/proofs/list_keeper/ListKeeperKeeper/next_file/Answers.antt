@@ -5,4 +5,6 @@ use Rattle.nq_keeper.proofs.list_keeper.ListKeeperKeeper.next_file.Goals as goal
 pub returns-clause-told : goal.returns-clause-told
 unfolding kept_as
 returns-clause-told c =
-    tells c.args.self.now (kept_as c.self.inside.files c.self.inside.hosts.items c.self.inside.heads) c.self.inside.calls (λ kept. row_of_found (file_after c.args.after kept.files)) c.row_after-found.result c.answered.result c.self.view_is c.self.invariant c.row_after-found.ensures c.answered.ensures.answer
+    tells c.args.self.now (kept_as c.self.inside.files c.self.inside.hosts.items c.self.inside.heads) c.self.inside.calls
+    (λ kept. row_of_found (file_after c.args.after kept.files)) c.row_after-found.result c.answered.result c.self.view_is c.self.invariant
+    c.row_after-found.ensures c.answered.ensures.answer

@@ -24,7 +24,8 @@ pub returns-in_err-commit : goal.returns-in_err-commit
 returns-in_err-commit g c = record {
   gives = first_of (search rules, grind (arith, common_steps));
   follows = c.commit.ensures.follows;
-  leaves = leaves-kept c.args.who c.args.seq c.args.effect c.change_of-change.result (g.K.Keeper.content c.args.keeper.now) (g.K.Keeper.leaves c.args.keeper.now c.commit.new.self) c.change_of-change.ensures
+  leaves = leaves-kept c.args.who c.args.seq c.args.effect c.change_of-change.result (g.K.Keeper.content c.args.keeper.now)
+      (g.K.Keeper.leaves c.args.keeper.now c.commit.new.self) c.change_of-change.ensures
       (ap can_be_kept (sym c.row_after-row.ensures) ∙ sym c.can_be_kept.ensures ∙ c.if-not-can_be_kept.false)
       c.commit.ensures.leaves;
 }
@@ -33,7 +34,8 @@ pub returns : goal.returns
 returns g c = record {
   gives = first_of (search rules, grind (arith, common_steps));
   follows = c.commit.ensures.follows;
-  leaves = leaves-kept c.args.who c.args.seq c.args.effect c.change_of-change.result (g.K.Keeper.content c.args.keeper.now) (g.K.Keeper.leaves c.args.keeper.now c.commit.new.self) c.change_of-change.ensures
+  leaves = leaves-kept c.args.who c.args.seq c.args.effect c.change_of-change.result (g.K.Keeper.content c.args.keeper.now)
+      (g.K.Keeper.leaves c.args.keeper.now c.commit.new.self) c.change_of-change.ensures
       (ap can_be_kept (sym c.row_after-row.ensures) ∙ sym c.can_be_kept.ensures ∙ c.if-not-can_be_kept.false)
       c.commit.ensures.leaves;
 }

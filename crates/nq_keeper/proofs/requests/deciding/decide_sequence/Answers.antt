@@ -21,7 +21,8 @@ returns-in-Some g c =
             let line = ap (λ l. sequence_decided who seq l effect) (c.in_ok-line.ensures.told kept e) in
             let none = nothing-of who seq effect (change_with who seq effect) c.in_ok-line.line c.in-Some.said (sym c.in-Some.ensures) in (
               sym (said-of who seq effect (change_with who seq effect) c.in_ok-line.line c.in-Some.said (sym c.in-Some.ensures)) ∙ line,
-              c.in_ok-line.ensures.reads.0 ∙ e ∙ sym (ap (λ o. Some (applied_if kept o)) none) ∙ ap (λ d. Some (applied_if kept (if_fresh d (change_with who seq effect)))) line,
+              c.in_ok-line.ensures.reads.0 ∙ e ∙ sym (ap (λ o. Some (applied_if kept o)) none)
+                  ∙ ap (λ d. Some (applied_if kept (if_fresh d (change_with who seq effect)))) line,
             ),
         c.in_ok-line.ensures.reads.1,
       );
@@ -34,7 +35,8 @@ returns-in-None g c = record {
   gives = first_of (search rules, grind (arith, common_steps));
   follows = g.met.K.Keeper.follows_on _ c.host.new.self _ c.host.ensures.follows c.decide_fresh.ensures.follows;
   leaves = λ kept e found left.
-      leaves-later c.args.who c.args.seq (effect_of kept c.args.gate c.args.request) (change_with c.args.who c.args.seq (effect_of kept c.args.gate c.args.request)) c.in_ok-line.line _ _ found kept
+      leaves-later c.args.who c.args.seq (effect_of kept c.args.gate c.args.request) (change_with c.args.who c.args.seq (effect_of kept c.args.gate
+      c.args.request)) c.in_ok-line.line _ _ found kept
       (c.in_ok-line.ensures.told kept e)
       (sym c.in-None.ensures)
       (g.met.K.Keeper.parts _ c.host.new.self _ found c.host.ensures.follows c.decide_fresh.ensures.follows left)

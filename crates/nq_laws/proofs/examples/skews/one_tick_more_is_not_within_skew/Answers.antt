@@ -12,5 +12,8 @@ four = Event.ServerTick ∷ Event.ServerTick ∷ Event.ServerTick ∷ Event.Serv
 
 pub returns : goal.returns
 unfolding four
-returns c =
-    (skew-test-is-sound 2 60 some_ticks refl, λ within. let few : server_ticks four ≤ ticks_of 0 four + skew = within [] four (Event.ClientTick 1 ∷ Event.ClientTick 0 ∷ Event.Crash 60 ∷ Event.ServerTick ∷ []) refl 0 (omega arith) (omega arith) in absurd (omega arith))
+returns c = (
+  skew-test-is-sound 2 60 some_ticks refl,
+  λ within. let few : server_ticks four ≤ ticks_of 0 four + skew = within [] four (Event.ClientTick 1
+      ∷ Event.ClientTick 0 ∷ Event.Crash 60 ∷ Event.ServerTick ∷ []) refl 0 (omega arith) (omega arith) in absurd (omega arith),
+)

@@ -19,11 +19,16 @@ loop-row-preserved c =
             first = search rules;
             grows = (
               so-far.grows.0 ++ sent (to_host row.who.host (call c.loop-row.number (Request.Evicted row.who row.file row.tag))) ∷ [],
-              added ∙ ap (λ d. d ++ sent (to_host row.who.host (call c.loop-row.number (Request.Evicted row.who row.file row.tag))) ∷ []) so-far.grows.1 ∙ append_assoc c.args.out.now.datagrams so-far.grows.0 (sent (to_host row.who.host (call c.loop-row.number (Request.Evicted row.who row.file row.tag))) ∷ []),
+              added ∙ ap (λ d. d ++ sent (to_host row.who.host (call c.loop-row.number (Request.Evicted row.who row.file row.tag))) ∷ [])
+                  so-far.grows.1 ∙ append_assoc c.args.out.now.datagrams so-far.grows.0
+                  (sent (to_host row.who.host (call c.loop-row.number (Request.Evicted row.who row.file row.tag))) ∷ []),
             );
-            told = told-more c.args.file c.args.host c.args.access c.args.rows.now c.loop-row.row-index row c.loop-row-test.true c.row-item.is c.loop-row.number c.if-is_in_the_way.number _ c.loop-row.out.datagrams c.if-is_in_the_way.out.datagrams told w.number-is so-far.told added;
-            fit = λ rest. so-far.fit (fit-more c.args.file c.args.host c.args.access c.args.rows.now c.loop-row.row-index row c.loop-row-test.true c.row-item.is c.loop-row.number c.if-is_in_the_way.number told w.number-is w.in_ok-tell.ensures.fits rest);
-            counted = counted-more c.args.file c.args.host c.args.access c.args.rows.now c.loop-row.row-index row c.loop-row-test.true c.row-item.is c.loop-row.number c.if-is_in_the_way.number _ told w.number-is so-far.counted;
+            told = told-more c.args.file c.args.host c.args.access c.args.rows.now c.loop-row.row-index row c.loop-row-test.true c.row-item.is
+                c.loop-row.number c.if-is_in_the_way.number _ c.loop-row.out.datagrams c.if-is_in_the_way.out.datagrams told w.number-is so-far.told added;
+            fit = λ rest. so-far.fit (fit-more c.args.file c.args.host c.args.access c.args.rows.now c.loop-row.row-index row c.loop-row-test.true
+                c.row-item.is c.loop-row.number c.if-is_in_the_way.number told w.number-is w.in_ok-tell.ensures.fits rest);
+            counted = counted-more c.args.file c.args.host c.args.access c.args.rows.now c.loop-row.row-index row c.loop-row-test.true c.row-item.is
+                c.loop-row.number c.if-is_in_the_way.number _ told w.number-is so-far.counted;
             small = search rules;
           }
       | else-is_in_the_way w ↦
@@ -31,9 +36,13 @@ loop-row-preserved c =
           record {
             first = search rules;
             grows = search rules;
-            told = told-passed c.args.file c.args.host c.args.access c.args.rows.now c.loop-row.row-index row c.loop-row-test.true c.row-item.is c.loop-row.number c.if-is_in_the_way.number _ c.loop-row.out.datagrams c.if-is_in_the_way.out.datagrams passed w.number-is so-far.told (ap (λ o. o.datagrams) w.out-is);
-            fit = λ rest. so-far.fit (fit-passed c.args.file c.args.host c.args.access c.args.rows.now c.loop-row.row-index row c.loop-row-test.true c.row-item.is c.loop-row.number c.if-is_in_the_way.number passed w.number-is rest);
-            counted = counted-passed c.args.file c.args.host c.args.access c.args.rows.now c.loop-row.row-index row c.loop-row-test.true c.row-item.is c.loop-row.number c.if-is_in_the_way.number _ passed w.number-is so-far.counted;
+            told = told-passed c.args.file c.args.host c.args.access c.args.rows.now c.loop-row.row-index row c.loop-row-test.true c.row-item.is
+                c.loop-row.number c.if-is_in_the_way.number _ c.loop-row.out.datagrams c.if-is_in_the_way.out.datagrams passed w.number-is so-far.told
+                (ap (λ o. o.datagrams) w.out-is);
+            fit = λ rest. so-far.fit (fit-passed c.args.file c.args.host c.args.access c.args.rows.now c.loop-row.row-index row c.loop-row-test.true
+                c.row-item.is c.loop-row.number c.if-is_in_the_way.number passed w.number-is rest);
+            counted = counted-passed c.args.file c.args.host c.args.access c.args.rows.now c.loop-row.row-index row c.loop-row-test.true c.row-item.is
+                c.loop-row.number c.if-is_in_the_way.number _ passed w.number-is so-far.counted;
             small = search rules;
           }
     ]

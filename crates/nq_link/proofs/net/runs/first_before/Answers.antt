@@ -12,5 +12,7 @@ returns-clause-same c =
     let one = c.first_by-far.ensures.before in
     let two = c.first_by-near.ensures.before in
     let three = c.first_by.ensures.before in
-    let first = repeated-on bytes at near (near - at) (far - near) (far - at) (omega (arith, three)) (omega (arith, two, three)) c.first_by.ensures.same c.first_by-near.ensures.same in
-    repeated-on bytes at far (far - at) (place - far) (place - at) (omega (arith, two, three)) (omega (arith, one, two, three)) first c.first_by-far.ensures.same
+    let first = repeated-on bytes at near (near - at) (far - near) (far - at) (omega (arith, three)) (omega (arith, two, three))
+    c.first_by.ensures.same c.first_by-near.ensures.same in
+    repeated-on bytes at far (far - at) (place - far) (place - at) (omega (arith, two, three)) (omega (arith, one, two, three)) first
+    c.first_by-far.ensures.same

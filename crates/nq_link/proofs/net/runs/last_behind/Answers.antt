@@ -13,5 +13,7 @@ returns-clause-same c =
     let one = c.last_by-far.ensures.behind in
     let two = c.last_by-near.ensures.behind in
     let three = c.last_by.ensures.behind in
-    let first = repeated-on bytes (place - 4) (far - 4) (far - place) (near - far) (near - place) (omega (arith, four, one)) (omega (arith, one, two)) c.last_by-far.ensures.same c.last_by-near.ensures.same in
-    repeated-on bytes (place - 4) (near - 4) (near - place) (end - near) (end - place) (omega (arith, four, one, two)) (omega (arith, one, two, three)) first c.last_by.ensures.same
+    let first = repeated-on bytes (place - 4) (far - 4) (far - place) (near - far) (near - place) (omega (arith, four, one)) (omega (arith, one, two))
+    c.last_by-far.ensures.same c.last_by-near.ensures.same in
+    repeated-on bytes (place - 4) (near - 4) (near - place) (end - near) (end - place) (omega (arith, four, one, two))
+    (omega (arith, one, two, three)) first c.last_by.ensures.same

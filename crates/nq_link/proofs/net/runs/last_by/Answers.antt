@@ -17,6 +17,12 @@ loop-end-preserved c =
     let one : end + step - 4 - (end - 4) ≡ step = omega (arith, four, behind) in
     let two : end + step - end ≡ step = omega arith in
     let further : end ≡ end - 4 + 4 = omega (arith, four, behind) in
-    let same = (bytes_eq-Decides (take (end + step - 4 - (end - 4)) (drop (end - 4) bytes)) (take (end + step - end) (drop end bytes))).0 (sym c.eq.ensures ∙ c.if-eq.true) in
-    let far : IsRepeated bytes (end - 4) step = ap (λ k. take k (drop (end - 4) bytes)) (sym one) ∙ same ∙ ap (λ k. take k (drop end bytes)) two ∙ ap (λ k. take step (drop k bytes)) further in
-    (omega (arith, behind), omega (arith, room, within), repeated-on bytes (place - 4) (end - 4) (end - place) step (end + step - place) (omega (arith, four, behind)) (omega (arith, behind)) c.loop-end.invariant.2 far)
+    let same = (bytes_eq-Decides (take (end + step - 4 - (end - 4)) (drop (end - 4) bytes)) (take (end + step - end) (drop end bytes))).0
+    (sym c.eq.ensures ∙ c.if-eq.true) in
+    let far : IsRepeated bytes (end - 4) step = ap (λ k. take k (drop (end - 4) bytes)) (sym one) ∙ same ∙ ap (λ k. take k (drop end bytes)) two
+    ∙ ap (λ k. take step (drop k bytes)) further in (
+      omega (arith, behind),
+      omega (arith, room, within),
+      repeated-on bytes (place - 4) (end - 4) (end - place) step (end + step - place)
+          (omega (arith, four, behind)) (omega (arith, behind)) c.loop-end.invariant.2 far,
+    )

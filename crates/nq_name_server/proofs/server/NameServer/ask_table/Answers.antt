@@ -8,7 +8,8 @@ use Rattle.nq_name_server.proofs.server.NameServer.ask_table.Goals as goal
 pub ask-requires-clause-shared : goal.ask-requires-clause-shared
 ask-requires-clause-shared c =
     λ row found caches.
-    own-runs c.self.inside.time c.self.inside.table c.args.question.now row (c.requires.time ∙ sym (ap (λ (s : Served). s.time) c.self.view_is)) c.self.invariant.0.run found caches
+    own-runs c.self.inside.time c.self.inside.table c.args.question.now row (c.requires.time ∙ sym (ap (λ (s : Served). s.time) c.self.view_is))
+    c.self.invariant.0.run found caches
 
 pub invariant_of-self : goal.invariant_of-self
 invariant_of-self c =

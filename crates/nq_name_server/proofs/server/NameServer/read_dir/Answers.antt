@@ -12,5 +12,7 @@ returns-in-None-clause-read c =
     let r = c.args.request.now in
     let leaf : Leaf = record { names = c.args.names.now; more = c.args.more } in
     let begun = c.in_ok-replies.replies.page.bytes in
-    let sends = c.give_page.ensures.sends ∙ ap (λ d. d ++ (Party.Client r.who.host, begun ++ optional grant_bytes None) ∷ []) c.in_ok-reserve.ensures.datagrams in
-    subst (λ m. IsServed m s c.args.out.now c.give_page.new.out) (sym (none_is_left s r leaf (sym c.in-None.ensures))) (given s s r leaf begun c.in_ok-replies.replies.later.items None c.args.out.now c.give_page.new.out c.in_ok-replies.ensures.ready refl sends)
+    let sends = c.give_page.ensures.sends ∙ ap (λ d. d ++ (Party.Client r.who.host, begun ++ optional grant_bytes None) ∷ [])
+    c.in_ok-reserve.ensures.datagrams in
+    subst (λ m. IsServed m s c.args.out.now c.give_page.new.out) (sym (none_is_left s r leaf (sym c.in-None.ensures)))
+    (given s s r leaf begun c.in_ok-replies.replies.later.items None c.args.out.now c.give_page.new.out c.in_ok-replies.ensures.ready refl sends)

@@ -15,7 +15,8 @@ invariant_of-self c =
         early = sound.early;
         long = sound.long;
         short = sound.short;
-        run = subst (λ t. RowsRun i.time t.rows) (sym c.vacated.ensures.table) (vacated-run i.time said.who c.in-Some.number said.tag i.table.rows own sound.run);
+        run = subst (λ t. RowsRun i.time t.rows) (sym c.vacated.ensures.table) (vacated-run i.time said.who c.in-Some.number said.tag i.table.rows own
+            sound.run);
         few = sound.few;
       },
       c.self.invariant.1,

@@ -11,5 +11,7 @@ returns-in-Done-clause-ran g c = λ head plays.
     let same = c.in-Done.ensures.around in
     let ran' = rw (← c.self-2.view_is) at ran in
     let same' = rw (← c.self-2.view_is) at same in
-    let at : c.server_time-time.result ≡ c.args.self.now.inner.server.beside.time = c.server_time-time.ensures ∙ ap (λ (w : NamesOver _). w.inner.server.beside.time) c.self.view_is in
-    runs-crashed head c.args.longest c.server_time-time.result c.in-Ok.server c.args.self.now mid (record mid { around = c.reboot.new.self }) _ _ plays ran' same' c.in-Ok.ensures at c.reboot.ensures refl refl
+    let at : c.server_time-time.result ≡ c.args.self.now.inner.server.beside.time = c.server_time-time.ensures
+    ∙ ap (λ (w : NamesOver _). w.inner.server.beside.time) c.self.view_is in
+    runs-crashed head c.args.longest c.server_time-time.result c.in-Ok.server c.args.self.now mid (record mid { around = c.reboot.new.self }) _ _
+    plays ran' same' c.in-Ok.ensures at c.reboot.ensures refl refl

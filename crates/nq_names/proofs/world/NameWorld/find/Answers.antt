@@ -13,5 +13,6 @@ returns g c = record {
       let there = c.requires in
       let there' = rw (← c.self.view_is) at there in
       found-kept head events _ kept c.args.host c.args.name.now c.find.result plays'.reaches
-      (found-outside head events _ _ c.args.host c.args.name.now c.time-now.result c.find.result plays'.reaches there' c.time-now.ensures c.find.ensures) known;
+      (found-outside head events _ _ c.args.host c.args.name.now c.time-now.result c.find.result plays'.reaches there' c.time-now.ensures
+      c.find.ensures) known;
 }

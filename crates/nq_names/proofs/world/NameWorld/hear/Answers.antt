@@ -10,7 +10,8 @@ returns-then-host-self-clause-hears g c =
     let same = c.host.view_is in
     let test = c.if-host-self.true in
     let less : c.args.host < length c.args.self.now.inner.clients = omega arith in
-    heard_on c.hear_there.result c.args.self.now.inner.clients c.args.self.now.around c.hear_there.new.self.around c.args.host c.args.datagram.now less c.hear_there.ensures.hears
+    heard_on c.hear_there.result c.args.self.now.inner.clients c.args.self.now.around c.hear_there.new.self.around c.args.host c.args.datagram.now
+    less c.hear_there.ensures.hears
 
 pub returns-else-host-self-clause-hears : goal.returns-else-host-self-clause-hears
 returns-else-host-self-clause-hears g c = λ w ran are.

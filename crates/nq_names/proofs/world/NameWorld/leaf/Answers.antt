@@ -14,15 +14,18 @@ returns-then-read-clause-told g c = λ kept is.
     let inv = c.files.invariant in
     let within = g.met.K.Keeper.within c.args.self.now.inner.server.keeper kept is in
     let next = subst (λ a. IsNext kept a c.in_ok-next.next) c.last.ensures (c.in_ok-next.ensures.told kept (inv.still.tells ∙ is)) in
-    subst (λ b. IsRead b kept.files c.args.prefix.now c.args.after c.read.new.self) c.if-read.true (c.read.ensures kept c.args.after within next (inv.far kept is))
+    subst (λ b. IsRead b kept.files c.args.prefix.now c.args.after c.read.new.self) c.if-read.true (c.read.ensures kept c.args.after within next
+    (inv.far kept is))
 
 pub files-preserved : goal.files-preserved
 files-preserved g c =
     let inv = c.files.invariant in
     record {
-      still = reads-on g.K.Keeper.content g.K.Keeper.faults g.K.Keeper.follows c.args.self.now c.files.self c.next_file.new.self g.met.K.Keeper.follows_on inv.still c.in_ok-next.ensures.reads;
+      still = reads-on g.K.Keeper.content g.K.Keeper.faults g.K.Keeper.follows c.args.self.now c.files.self c.next_file.new.self
+          g.met.K.Keeper.follows_on inv.still c.in_ok-next.ensures.reads;
       far = λ kept is.
           let within = g.met.K.Keeper.within c.args.self.now.inner.server.keeper kept is in
           let next = subst (λ a. IsNext kept a c.in_ok-next.next) c.last.ensures (c.in_ok-next.ensures.told kept (inv.still.tells ∙ is)) in
-          subst (λ b. IsRead b kept.files c.args.prefix.now c.args.after c.read.new.self) c.if-read.false (c.read.ensures kept c.args.after within next (inv.far kept is));
+          subst (λ b. IsRead b kept.files c.args.prefix.now c.args.after c.read.new.self) c.if-read.false (c.read.ensures kept c.args.after within
+          next (inv.far kept is));
     }

@@ -7,4 +7,10 @@ use Rattle.nq_names.proofs.world.NameWorld.new.Goals as goal
 pub returns-in-Ok-clause-plays : goal.returns-in-Ok-clause-plays
 returns-in-Ok-clause-plays g c = λ head told plays.
     subst (λ a. PlaysOutside head [] (record { inner = c.args.world; around = a; ran = c.no_events.result; events = 0 }) told) (sym c.in-Ok.ensures)
-    (subst (λ l. PlaysOutside head [] (record { inner = c.args.world; around = new_around (first-leases c.args.world) (first-sides c.args.world.clients); ran = l; events = 0 }) told) (sym c.no_events.ensures) (begins-plays head c.args.world told plays))
+    (subst (λ l. PlaysOutside head [] (record {
+      inner = c.args.world;
+      around = new_around (first-leases c.args.world)
+          (first-sides c.args.world.clients);
+      ran = l;
+      events = 0;
+    }) told) (sym c.no_events.ensures) (begins-plays head c.args.world told plays))

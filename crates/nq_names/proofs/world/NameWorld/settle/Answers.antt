@@ -12,5 +12,6 @@ returns-clause-same g c = λ head events told plays.
     let said = c.settle.ensures in
     let gone = subst (λ ds. i.around.gone ≤ length ds → a.gone ≤ length ds) c.packets.ensures said.gone in (
       settled-plays head events w a told (λ v ran are. said.shows v ran (c.packets.ensures ∙ are)) gone plays',
-      settled-on c.settle.result (length i.world.datagrams) (length c.packets.result.now.datagrams) a (ap length c.packets.ensures) said.none said.all (gone plays'.reaches.gone),
+      settled-on c.settle.result (length i.world.datagrams) (length c.packets.result.now.datagrams) a (ap length c.packets.ensures) said.none said.all
+          (gone plays'.reaches.gone),
     )

@@ -5,6 +5,7 @@ use Rattle.nq_names.proofs.world.NameWorld.step.Goals as goal
 
 pub returns-in-Err-Memory-clause-steps : goal.returns-in-Err-Memory-clause-steps
 returns-in-Err-Memory-clause-steps g c = λ head events plays. (
-  subst (λ (i : WorldOver _). PlaysOutside head events c.settle.new.self (g.K.Keeper.content i.server.keeper)) (sym c.settle.ensures.inner) (c.settle.ensures.same head events _ plays).0,
+  subst (λ (i : WorldOver _). PlaysOutside head events c.settle.new.self (g.K.Keeper.content i.server.keeper)) (sym c.settle.ensures.inner)
+      (c.settle.ensures.same head events _ plays).0,
   ap (λ (i : WorldOver _). g.K.Keeper.content i.server.keeper) c.settle.ensures.inner,
 )

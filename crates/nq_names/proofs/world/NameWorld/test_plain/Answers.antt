@@ -9,4 +9,5 @@ use Rattle.nq_names.proofs.world.NameWorld.test_plain.Goals as goal
 pub returns-in-ServerTick-clause-tests : goal.returns-in-ServerTick-clause-tests
 returns-in-ServerTick-clause-tests g c = λ head events told ready r.
     subst (λ e. IsTested c.test_tick.result (tested_outside head (outside_run head events) (NameEvent.Plain e))) (sym c.in-ServerTick.is)
-    (subst (λ o. IsTested c.test_tick.result (tested_outside head o (NameEvent.Plain Event.ServerTick))) (sym (reached-over head events c.args.self.now told ready r)) (c.test_tick.ensures.tests head events told r))
+    (subst (λ o. IsTested c.test_tick.result (tested_outside head o (NameEvent.Plain Event.ServerTick)))
+    (sym (reached-over head events c.args.self.now told ready r)) (c.test_tick.ensures.tests head events told r))

@@ -11,4 +11,5 @@ returns-in-Done-clause-ran g c = λ head plays.
     let same = c.in-Done.ensures.around in
     let ran' = rw (← c.self.view_is) at ran in
     let same' = rw (← c.self.view_is) at same in
-    runs-ticked head c.in-Some.time c.args.self.now mid (record mid { around = c.tick.new.self }) _ _ plays ran' same' c.in-Some.ensures.next c.tick.ensures refl refl
+    runs-ticked head c.in-Some.time c.args.self.now mid (record mid { around = c.tick.new.self }) _ _ plays ran' same' c.in-Some.ensures.next
+    c.tick.ensures refl refl

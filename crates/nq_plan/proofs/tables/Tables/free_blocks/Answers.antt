@@ -1,4 +1,4 @@
-use Rattle.std.proofs.Common.{◌≡◌, ◌≤◌, ◌<◌, ◌∷◌, [], length, sym, ap, ◌∙◌, arith, length-append}
+use Rattle.std.proofs.Common.{◌<◌, ◌∷◌, [], length, sym, ◌∙◌, arith, length-append}
 use Rattle.nq_plan.specs.Placing.{free_blocks}
 use Rattle.nq_plan.proofs.Walking.{all-looked-at, free-passes, given-passes, none-looked-at}
 use Rattle.nq_plan.proofs.tables.Tables.free_blocks.Goals as goal
@@ -24,7 +24,8 @@ loop-block-preserved c =
           let pushed = w.in_ok-push.ensures.items in
           record {
             few = rw (w.free-is, pushed) (omega (arith, length-append free (block ∷ []), short));
-            same = rw (w.free-is, pushed) (free-passes held count block free (free_blocks held count) below short (sym c.is_free.ensures ∙ w.if-is_free.true) so.same);
+            same = rw (w.free-is, pushed) (free-passes held count block free (free_blocks held count) below short (sym c.is_free.ensures
+                ∙ w.if-is_free.true) so.same);
           }
       | else-is_free w ↦
           record {
@@ -34,4 +35,5 @@ loop-block-preserved c =
     ]
 
 pub returns : goal.returns
-returns c = all-looked-at c.args.self.now c.args.count c.loop-block.block c.loop-block.free.items (free_blocks c.args.self.now c.args.count) (omega arith) c.loop-block.invariant.same
+returns c = all-looked-at c.args.self.now c.args.count c.loop-block.block c.loop-block.free.items (free_blocks c.args.self.now c.args.count)
+    (omega arith) c.loop-block.invariant.same

@@ -6,7 +6,8 @@ use Rattle.nq_replay.proofs.asides.aside.aside_at.Goals as goal
 pub returns-in-Some : goal.returns-in-Some
 returns-in-Some g c =
     let there : slice_get c.args.asides.now c.args.place ≡ Some c.in-Some.aside.now =
-    slice_get_read c.args.asides.now (length c.args.asides.now) c.args.place c.in-Some.aside.now refl c.in-Some.ensures.lookup.3.0 c.in-Some.ensures.lookup.1 in
+    slice_get_read c.args.asides.now (length c.args.asides.now) c.args.place c.in-Some.aside.now refl c.in-Some.ensures.lookup.3.0
+    c.in-Some.ensures.lookup.1 in
     sym (aside-told c.args.asides.now c.args.place c.in-Some.aside.now there)
 
 pub returns-in-None : goal.returns-in-None

@@ -11,8 +11,10 @@ pub lines-preserved : goal.lines-preserved
 lines-preserved g c =
     let read = g.A.AsideLine.said c.args.hosts in
     record {
-      plain = plain-more read c.lines.bytes.items _ c.lines.rest.now c.in-Some.line.now c.in-Some.after.now (sym c.in-Some.ensures) c.in_ok-push_line.ensures.plain ∙ c.lines.invariant.plain;
-      asides = asides-more read c.lines.asides.items _ c.lines.rest.now c.in-Some.line.now c.in-Some.after.now (sym c.in-Some.ensures) c.in_ok-push_line.ensures.aside ∙ c.lines.invariant.asides;
+      plain = plain-more read c.lines.bytes.items _ c.lines.rest.now c.in-Some.line.now c.in-Some.after.now (sym c.in-Some.ensures)
+          c.in_ok-push_line.ensures.plain ∙ c.lines.invariant.plain;
+      asides = asides-more read c.lines.asides.items _ c.lines.rest.now c.in-Some.line.now c.in-Some.after.now (sym c.in-Some.ensures)
+          c.in_ok-push_line.ensures.aside ∙ c.lines.invariant.asides;
     }
 
 pub returns-in_default-clause-plain : goal.returns-in_default-clause-plain

@@ -15,7 +15,8 @@ read_plain-requires g c =
     let plain : c.in_ok-plain.plain.bytes.items ≡ take out.bytes text ++ plain_bytes read (drop out.bytes text) =
     c.in_ok-plain.ensures.plain ∙ ap (λ f. f ++ plain_bytes read c.split_at.result.1.now) c.split_at.ensures.front
     ∙ ap (λ b. take out.bytes text ++ plain_bytes read b) c.split_at.ensures.back in
-    plain-short read (g.met.A.AsideLine.is_long out.head.hosts) out.head out.lines out.bytes (2 ^ 31) text c.in_ok-plain.plain.bytes.items c.in_ok-out.ensures.found plain c.requires
+    plain-short read (g.met.A.AsideLine.is_long out.head.hosts) out.head out.lines out.bytes (2 ^ 31) text c.in_ok-plain.plain.bytes.items
+    c.in_ok-out.ensures.found plain c.requires
 
 pub returns-clause-found : goal.returns-clause-found
 returns-clause-found g c =
@@ -25,7 +26,8 @@ returns-clause-found g c =
     let plain : c.in_ok-plain.plain.bytes.items ≡ take out.bytes text ++ plain_bytes read (drop out.bytes text) =
     c.in_ok-plain.ensures.plain ∙ ap (λ f. f ++ plain_bytes read c.split_at.result.1.now) c.split_at.ensures.front
     ∙ ap (λ b. take out.bytes text ++ plain_bytes read b) c.split_at.ensures.back in
-    mixed-found g.A.AsideLine.said out.head out.lines out.bytes text c.in_ok-plain.plain.bytes.items c.in_ok-plain.plain.asides.items c.read_plain.result c.in_ok-out.ensures.found
+    mixed-found g.A.AsideLine.said out.head out.lines out.bytes text c.in_ok-plain.plain.bytes.items c.in_ok-plain.plain.asides.items
+    c.read_plain.result c.in_ok-out.ensures.found
     c.if-out-ne-VERSION.false plain (c.in_ok-plain.ensures.asides ∙ ap (asides_in read) c.split_at.ensures.back) c.read_plain.ensures.found
 
 pub returns-clause-ready : goal.returns-clause-ready
@@ -38,4 +40,5 @@ returns-clause-ready g c =
     ∙ ap (λ b. take out.bytes text ++ plain_bytes read b) c.split_at.ensures.back in
     mixed-ready g.A.AsideLine.said g.met.A.AsideLine.is_long g.A.AsideLine.fits g.met.A.AsideLine.is_fit out.head out.lines out.bytes text
     c.in_ok-plain.plain.bytes.items c.in_ok-plain.plain.asides.items c.read_plain.result c.in_ok-out.ensures.found
-    c.if-out-ne-VERSION.false plain (c.in_ok-plain.ensures.asides ∙ ap (asides_in read) c.split_at.ensures.back) c.requires c.read_plain.ensures.found c.read_plain.ensures.first
+    c.if-out-ne-VERSION.false plain (c.in_ok-plain.ensures.asides ∙ ap (asides_in read) c.split_at.ensures.back) c.requires c.read_plain.ensures.found
+    c.read_plain.ensures.first

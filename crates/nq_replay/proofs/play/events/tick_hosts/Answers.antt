@@ -10,14 +10,20 @@ pub returns-in_default : goal.returns-in_default
 returns-in_default g c = record {
   goes = λ head events at.
       let on = c.loop-host.invariant.on head events at in
-      stops-here (play_event head (Event.ClientTick c.loop-host.host) on.events) (play_ticks head (c.loop-host.host + 1) (c.args.hosts - (c.loop-host.host + 1))) c.take.result _ _ _ (c.take.ensures.goes head on.events on.here) c.in_default.not-Done (ticks-step head c.args.hosts c.loop-host.host on.events _ c.loop-host-test.true on.same);
-  keeps = keeps-on g.K.Keeper.faults g.K.Keeper.follows c.take.result c.args.world.now c.loop-host.world c.take.new.world g.met.K.Keeper.follows_on c.loop-host.invariant.keeps c.take.ensures.keeps;
+      stops-here (play_event head (Event.ClientTick c.loop-host.host) on.events) (play_ticks head (c.loop-host.host + 1)
+      (c.args.hosts - (c.loop-host.host + 1))) c.take.result _ _ _ (c.take.ensures.goes head on.events on.here) c.in_default.not-Done
+      (ticks-step head c.args.hosts c.loop-host.host on.events _ c.loop-host-test.true on.same);
+  keeps = keeps-on g.K.Keeper.faults g.K.Keeper.follows c.take.result c.args.world.now c.loop-host.world c.take.new.world g.met.K.Keeper.follows_on
+      c.loop-host.invariant.keeps c.take.ensures.keeps;
 }
 
 pub loop-host-preserved : goal.loop-host-preserved
 loop-host-preserved g c = record {
   on = λ head events at.
       let on = c.loop-host.invariant.on head events at in
-      goes-on (play_event head (Event.ClientTick c.loop-host.host) on.events) (play_ticks head (c.loop-host.host + 1) (c.args.hosts - (c.loop-host.host + 1))) _ _ (c.in-Done.ensures.goes head on.events on.here) (ticks-step head c.args.hosts c.loop-host.host on.events _ c.loop-host-test.true on.same);
-  keeps = keeps-on g.K.Keeper.faults g.K.Keeper.follows Stepped.Done c.args.world.now c.loop-host.world c.take.new.world g.met.K.Keeper.follows_on c.loop-host.invariant.keeps c.in-Done.ensures.keeps;
+      goes-on (play_event head (Event.ClientTick c.loop-host.host) on.events) (play_ticks head (c.loop-host.host + 1)
+      (c.args.hosts - (c.loop-host.host + 1))) _ _ (c.in-Done.ensures.goes head on.events on.here) (ticks-step head c.args.hosts c.loop-host.host
+      on.events _ c.loop-host-test.true on.same);
+  keeps = keeps-on g.K.Keeper.faults g.K.Keeper.follows Stepped.Done c.args.world.now c.loop-host.world c.take.new.world g.met.K.Keeper.follows_on
+      c.loop-host.invariant.keeps c.in-Done.ensures.keeps;
 }

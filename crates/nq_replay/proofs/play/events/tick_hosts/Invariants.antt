@@ -11,6 +11,7 @@ use Rattle.nq_replay.proofs.play.events.tick_hosts.Given as goal
 abbrev pub invariant-loop-host : goal.invariant-loop-host
 invariant-loop-host g l = record {
   on : (head : Head) (events : List Event) → IsAt head events l.fn.world (g.K.Keeper.content l.fn.world.server.keeper) l.fn.delivered
-      → IsOn (λ es. IsAt head es l.world (g.K.Keeper.content l.world.server.keeper) l.delivered) (play_ticks head l.host (l.hosts - l.host)) (play_ticks head 0 l.hosts events);
+      → IsOn (λ es. IsAt head es l.world (g.K.Keeper.content l.world.server.keeper) l.delivered) (play_ticks head l.host (l.hosts - l.host))
+      (play_ticks head 0 l.hosts events);
   keeps : GoesOn g.K.Keeper.faults g.K.Keeper.follows Stepped.Done l.fn.world l.world;
 }

@@ -1,5 +1,4 @@
-use Rattle.std.proofs.Common.{◌≡◌, ◌+◌, List, [], drop}
-use Rattle.nq_base.specs.declared.Event.{Event}
+use Rattle.std.proofs.Common.{◌≡◌, ◌+◌, [], drop}
 use Rattle.nq_model.specs.World.{Head}
 use Rattle.nq_replay.proofs.Onward.{IsOn}
 use Rattle.nq_replay.specs.Going.{IsAt}
@@ -11,6 +10,7 @@ use Rattle.nq_replay.proofs.play.lines.play.Given as goal
 abbrev pub invariant-loop-place : goal.invariant-loop-place
 invariant-loop-place g l = record {
   on : (head : Head) → head.hosts ≡ l.hosts → Plays head [] l.fn.world (g.K.Keeper.content l.fn.world.server.keeper)
-      → IsOn (λ es. IsAt head es l.world (g.K.Keeper.content l.world.server.keeper) l.delivered) (play_lines head l.most (l.first + l.place) (drop l.place l.lines)) (play_lines head l.most l.first l.lines []);
+      → IsOn (λ es. IsAt head es l.world (g.K.Keeper.content l.world.server.keeper) l.delivered) (play_lines head l.most (l.first + l.place)
+      (drop l.place l.lines)) (play_lines head l.most l.first l.lines []);
   keeps : GoesOn g.K.Keeper.faults g.K.Keeper.follows Stepped.Done l.fn.world l.world;
 }

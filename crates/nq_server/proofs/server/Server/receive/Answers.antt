@@ -10,7 +10,8 @@ use Rattle.nq_server.proofs.server.Server.receive.Goals as goal
 
 pub returns-in-Ok-clause-takes : goal.returns-in-Ok-clause-takes
 returns-in-Ok-clause-takes g c =
-    let step : Kept → ServerStep = λ kept. received (server_of (beside_of c.self.inside.state) kept) c.args.sender (next_of c.args.out.now) (told c.read_incoming-incoming.result) in
+    let step : Kept → ServerStep = λ kept. received (server_of (beside_of c.self.inside.state) kept) c.args.sender (next_of c.args.out.now)
+    (told c.read_incoming-incoming.result) in
     rw
     (← c.read_incoming-incoming.ensures, ← c.self.view_is)
     (is-said-taken
@@ -36,7 +37,8 @@ returns-in-Ok-clause-leaves g c = rw (← c.read_incoming-incoming.ensures, ← 
 
 pub returns-in-Err-clause-takes : goal.returns-in-Err-clause-takes
 returns-in-Err-clause-takes g c =
-    let step : Kept → ServerStep = λ kept. received (server_of (beside_of c.self.inside.state) kept) c.args.sender (next_of c.args.out.now) (told c.read_incoming-incoming.result) in
+    let step : Kept → ServerStep = λ kept. received (server_of (beside_of c.self.inside.state) kept) c.args.sender (next_of c.args.out.now)
+    (told c.read_incoming-incoming.result) in
     rw
     (← c.read_incoming-incoming.ensures, ← c.self.view_is)
     (is-said-not-taken

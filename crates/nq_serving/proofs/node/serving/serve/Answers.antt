@@ -14,7 +14,13 @@ returns-in-Ok-clause-stages g c =
     (record { server = c.args.server.now; out = c.args.out.now; log = c.args.log.now })
     (record { server = c.tick_to.new.server; out = c.tick_to.new.out; log = c.tick_to.new.log })
     (record { server = c.go_on.new.server; out = c.go_on.new.out; log = c.go_on.new.log })
-    (record { rises = c.now-reading.ensures.rises; floor = c.now-reading.ensures.floor; below = c.now-reading.ensures.below; told = c.now-reading.ensures.told }) c.in-Ok.ensures.ticked c.is_below-rises.ensures
+    (record {
+      rises = c.now-reading.ensures.rises;
+      floor = c.now-reading.ensures.floor;
+      below = c.now-reading.ensures.below;
+      told =
+          c.now-reading.ensures.told;
+    }) c.in-Ok.ensures.ticked c.is_below-rises.ensures
     c.in-Ok.ensures.leaves c.tick_to.ensures.follows c.go_on.ensures.goes
 
 pub returns-in-Ok-clause-follows : goal.returns-in-Ok-clause-follows
@@ -29,4 +35,10 @@ returns-in-Err-clause-stages g c =
     (link_of c.args.link.now)
     (record { server = c.args.server.now; out = c.args.out.now; log = c.args.log.now })
     (record { server = c.tick_to.new.server; out = c.tick_to.new.out; log = c.tick_to.new.log })
-    (record { rises = c.now-reading.ensures.rises; floor = c.now-reading.ensures.floor; below = c.now-reading.ensures.below; told = c.now-reading.ensures.told }) c.in-Err.ensures.ticked c.in-Err.ensures.leaves
+    (record {
+      rises = c.now-reading.ensures.rises;
+      floor = c.now-reading.ensures.floor;
+      below = c.now-reading.ensures.below;
+      told =
+          c.now-reading.ensures.told;
+    }) c.in-Err.ensures.ticked c.in-Err.ensures.leaves

@@ -29,7 +29,8 @@ returns-in-Datagram-clause-receives g c =
     let at : Moment g.row.K.Denot = record { server = c.args.server.now; out = c.args.out.now; log = c.args.log.now } in
     let after : Moment g.row.K.Denot = record { server = c.take_in.new.server; out = c.take_in.new.out; log = c.take_in.new.log } in
     subst (λ r. LeavesReceiving g.K.Keeper.content g.K.Keeper.faults g.K.Keeper.follows g.K.Keeper.leaves r link link' at after) (sym c.taken.ensures)
-    (came_leaves g.K.Keeper.content g.K.Keeper.faults g.K.Keeper.follows g.K.Keeper.leaves g.met.K.Keeper.follows_on g.met.K.Keeper.parts c.take_in.result (c.in-Datagram.sender, take c.in-Datagram.length c.receive.new.into) link link' at after
+    (came_leaves g.K.Keeper.content g.K.Keeper.faults g.K.Keeper.follows g.K.Keeper.leaves g.met.K.Keeper.follows_on g.met.K.Keeper.parts
+    c.take_in.result (c.in-Datagram.sender, take c.in-Datagram.length c.receive.new.into) link link' at after
     (record {
       hears =
           heard most_bytes c.in-Datagram.length c.in-Datagram.sender (g.L.Link.waiting c.args.link.now) (g.L.Link.waiting c.receive.new.self) c.args.buffer.now

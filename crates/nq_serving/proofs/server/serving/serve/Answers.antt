@@ -30,7 +30,8 @@ returns-clause-serves g c =
     let clock_of = clock_told g.C.Clock.floor g.C.Clock.readings in
     let link_of = link_told g.L.Link.sent g.L.Link.waiting g.L.Link.faults g.L.Link.receives in
     let ran = c.boot_and_run-ended.result in
-    tells (λ ended. LeavesServing g.K.Keeper.content g.K.Keeper.faults g.K.Keeper.follows g.K.Keeper.leaves c.args.longest c.args.turns c.args.keeper ended ran.keeper
+    tells (λ ended. LeavesServing g.K.Keeper.content g.K.Keeper.faults g.K.Keeper.follows g.K.Keeper.leaves c.args.longest c.args.turns c.args.keeper
+    ended ran.keeper
     (clock_of c.args.clock.now) (clock_of c.boot_and_run-ended.new.clock) (link_of c.args.link.now) (link_of c.boot_and_run-ended.new.link))
     ran.ended c.args.turns c.tell-end.result (g.S.Sink.held c.args.out.now) (g.S.Sink.held c.tell-end.new.out) (g.S.Sink.faults c.args.out.now)
     (g.S.Sink.faults c.tell-end.new.out)

@@ -7,4 +7,5 @@ loop-host-preserved g c =
     let test = c.loop-host-test.true in
     let many = c.requires in
     let below : c.loop-host.host < length c.args.world.now.clients = omega arith in
-    sides_more c.args.world.now.clients c.loop-host.host c.loop-host.sides.items c.push.new.self.items c.side_of-side.result c.loop-host.invariant below c.side_of-side.ensures c.in_ok-push.ensures.items
+    sides_more c.args.world.now.clients c.loop-host.host c.loop-host.sides.items c.push.new.self.items c.side_of-side.result c.loop-host.invariant
+    below c.side_of-side.ensures c.in_ok-push.ensures.items

@@ -29,10 +29,12 @@ invariant_of-self g c =
     let told = g.D.Disk.told inside.redo.disk in
     let may = g.D.Disk.may_leave inside.redo.disk in
     let disk = c.carry_out.new.redo.disk in
-    let settles = settles-as inside.tables change placed may is_placed told sound fits own c.fresh_blocks.result.now c.args.plan.batch c.fresh_blocks.ensures are (g.D.Disk.told disk) (g.D.Disk.may_leave disk) c.in-Ok.ensures.settled in (
+    let settles = settles-as inside.tables change placed may is_placed told sound fits own c.fresh_blocks.result.now c.args.plan.batch
+    c.fresh_blocks.ensures are (g.D.Disk.told disk) (g.D.Disk.may_leave disk) c.in-Ok.ensures.settled in (
       c.carry_out.ensures.area,
       λ goes. subst (λ (t : HeldTables). ForSome (g.D.Disk.told disk) (IsKeptOn t (g.D.Disk.may_leave disk))) (sym c.settle.ensures)
-          (sound-then inside.tables change placed may is_placed told sound fits own (g.D.Disk.told disk) (g.D.Disk.may_leave disk) (g.met.D.Disk.silent inside.redo.disk disk c.carry_out.ensures.follows) settles),
+          (sound-then inside.tables change placed may is_placed told sound fits own (g.D.Disk.told disk) (g.D.Disk.may_leave disk)
+          (g.met.D.Disk.silent inside.redo.disk disk c.carry_out.ensures.follows) settles),
     )
 
 pub returns-in-Ok-clause-commits : goal.returns-in-Ok-clause-commits
@@ -52,9 +54,11 @@ returns-in-Ok-clause-commits g c =
     let may = g.D.Disk.may_leave inside.redo.disk in
     let disk = c.carry_out.new.redo.disk in
     let new = stored disk c.settle.new.self inside.ended inside.refused in
-    let settles = settles-as inside.tables change placed may is_placed told sound fits own c.fresh_blocks.result.now c.args.plan.batch c.fresh_blocks.ensures are (g.D.Disk.told disk) (g.D.Disk.may_leave disk) c.in-Ok.ensures.settled in
+    let settles = settles-as inside.tables change placed may is_placed told sound fits own c.fresh_blocks.result.now c.args.plan.batch
+    c.fresh_blocks.ensures are (g.D.Disk.told disk) (g.D.Disk.may_leave disk) c.in-Ok.ensures.settled in
     commits-ok view store c.self.view_is c.requires.goes_on new refl change g.D.Disk.told g.D.Disk.faults refl
-    (told-then inside.tables change placed may is_placed told sound fits own (g.D.Disk.told disk) (g.D.Disk.may_leave disk) (g.met.D.Disk.silent inside.redo.disk disk c.carry_out.ensures.follows) settles)
+    (told-then inside.tables change placed may is_placed told sound fits own (g.D.Disk.told disk) (g.D.Disk.may_leave disk)
+    (g.met.D.Disk.silent inside.redo.disk disk c.carry_out.ensures.follows) settles)
     c.in-Ok.ensures.cause
 
 pub returns-in-Ok-clause-leaves : goal.returns-in-Ok-clause-leaves
@@ -77,7 +81,8 @@ returns-in-Ok-clause-leaves g c =
     let leaves = g.D.Disk.leaves inside.redo.disk disk in
     leaves-so view store c.self.view_is c.requires.goes_on new refl change g.D.Disk.told g.D.Disk.leaves
     (leaves-then inside.tables change placed may is_placed told sound fits own leaves
-    (whole-as inside.tables change placed may is_placed told sound fits own c.fresh_blocks.result.now c.args.plan.batch c.fresh_blocks.ensures are leaves c.carry_out.ensures.whole))
+    (whole-as inside.tables change placed may is_placed told sound fits own c.fresh_blocks.result.now c.args.plan.batch c.fresh_blocks.ensures are
+    leaves c.carry_out.ensures.whole))
 
 pub returns-in-Ok-clause-follows : goal.returns-in-Ok-clause-follows
 returns-in-Ok-clause-follows g c =
@@ -91,7 +96,8 @@ returns-clause-follows g c =
     let inside = c.self.inside in
     let view = stored inside.redo.disk inside.tables inside.ended inside.refused in
     let new = stored c.carry_out.new.redo.disk inside.tables true inside.refused in
-    follows-so view c.args.self.now c.self.view_is c.requires.goes_on new refl g.D.Disk.faults g.D.Disk.follows (inr c.in-Err-Failed.ensures.cause) c.carry_out.ensures.follows
+    follows-so view c.args.self.now c.self.view_is c.requires.goes_on new refl g.D.Disk.faults g.D.Disk.follows (inr c.in-Err-Failed.ensures.cause)
+    c.carry_out.ensures.follows
 
 pub returns-clause-commits : goal.returns-clause-commits
 returns-clause-commits g c =
@@ -121,4 +127,5 @@ returns-clause-leaves g c =
     let leaves = g.D.Disk.leaves inside.redo.disk disk in
     leaves-so view store c.self.view_is c.requires.goes_on new refl change g.D.Disk.told g.D.Disk.leaves
     (leaves-then inside.tables change placed may is_placed told sound fits own leaves
-    (whole-as inside.tables change placed may is_placed told sound fits own c.fresh_blocks.result.now c.args.plan.batch c.fresh_blocks.ensures are leaves c.carry_out.ensures.whole))
+    (whole-as inside.tables change placed may is_placed told sound fits own c.fresh_blocks.result.now c.args.plan.batch c.fresh_blocks.ensures are
+    leaves c.carry_out.ensures.whole))

@@ -11,7 +11,8 @@ invariant_of-result g c =
     let last = c.open_tables.new.redo.disk in
     let told = g.D.Disk.told in
     let may = g.D.Disk.may_leave in
-    let opens = opens-both (Ok c.in-Ok.tables) (told c.args.disk) (told mid) (told last) (may mid) (may last) c.in_ok-redo.ensures.shut c.in-Ok.ensures.told in (
+    let opens = opens-both (Ok c.in-Ok.tables) (told c.args.disk) (told mid) (told last) (may mid) (may last) c.in_ok-redo.ensures.shut
+    c.in-Ok.ensures.told in (
       c.open_tables.ensures.area,
       λ goes. sound-opened c.in-Ok.tables (told c.args.disk) (told last) (may last)
           (λ none. g.met.D.Disk.silent mid last c.open_tables.ensures.follows (g.met.D.Disk.silent c.args.disk mid c.in_ok-redo.ensures.follows none)) opens,
@@ -42,7 +43,8 @@ returns-in-Err-clause-wrong g c =
     let last = c.open_tables.new.redo.disk in
     let told = g.D.Disk.told in
     let may = g.D.Disk.may_leave in
-    let opens = opens-both (Err c.in-Err.fault) (told c.args.disk) (told mid) (told last) (may mid) (may last) c.in_ok-redo.ensures.shut c.in-Err.ensures.told in
+    let opens = opens-both (Err c.in-Err.fault) (told c.args.disk) (told mid) (told last) (may mid) (may last) c.in_ok-redo.ensures.shut
+    c.in-Err.ensures.told in
     says-opened (StoredStore g.row.D.Denot) c.in-Err.fault last c.of.result (told c.args.disk) (told last) (may last) c.of.ensures opens
 
 pub returns-in-Ok-clause-leaves : goal.returns-in-Ok-clause-leaves

@@ -21,7 +21,8 @@ returns-then-has_ended-clause-reads g c =
 pub returns-then-has_ended-clause-follows : goal.returns-then-has_ended-clause-follows
 returns-then-has_ended-clause-follows g c =
     let is : c.has_ended.result ≡ true = cc in
-    refused-follows c.args.self.now c.refuse.new.self (sym c.has_ended.ensures.ended ∙ is) c.refuse.ensures.counted g.D.Disk.faults g.D.Disk.follows g.met.D.Disk.follows_itself c.refuse.ensures.rises
+    refused-follows c.args.self.now c.refuse.new.self (sym c.has_ended.ensures.ended ∙ is) c.refuse.ensures.counted g.D.Disk.faults g.D.Disk.follows
+    g.met.D.Disk.follows_itself c.refuse.ensures.rises
 
 pub returns-then-has_ended-clause-leaves : goal.returns-then-has_ended-clause-leaves
 returns-then-has_ended-clause-leaves g c =

@@ -14,10 +14,12 @@ pub returns-in-Some-clause-told : goal.returns-in-Some-clause-told
 returns-in-Some-clause-told g c =
     let store = c.args.self.now in
     let here = ap (λ (t : HeldTables). slice_get (blocks_of t.standing c.args.id) c.args.block) (sym c.tables.ensures) ∙ sym c.in-Some.ensures in
-    block-told store.ended (g.D.Disk.told store.disk) store.tables (g.D.Disk.may_leave store.disk) c.read_block.result c.args.id c.args.block c.in-Some.physical c.has_ended.ensures.sound here c.read_block.ensures.told
+    block-told store.ended (g.D.Disk.told store.disk) store.tables (g.D.Disk.may_leave store.disk) c.read_block.result c.args.id c.args.block
+    c.in-Some.physical c.has_ended.ensures.sound here c.read_block.ensures.told
 
 pub returns-in-None-clause-told : goal.returns-in-None-clause-told
 returns-in-None-clause-told g c =
     let store = c.args.self.now in
     let none = ap (λ (t : HeldTables). slice_get (blocks_of t.standing c.args.id) c.args.block) (sym c.tables.ensures) ∙ sym c.in-None.ensures in
-    block-there store.ended (g.D.Disk.told store.disk) store.tables (g.D.Disk.may_leave store.disk) _ c.args.id c.args.block c.has_ended.ensures.sound none c.requires
+    block-there store.ended (g.D.Disk.told store.disk) store.tables (g.D.Disk.may_leave store.disk) _ c.args.id c.args.block c.has_ended.ensures.sound
+    none c.requires

@@ -10,5 +10,7 @@ use Rattle.nq_store.proofs.store.StoreKeeper.file.Goals as goal
 pub returns-clause-told : goal.returns-clause-told
 returns-clause-told g c =
     let store = c.args.self.now in
-    told-answer c.tell.result c.row-row.result (λ kept. row_of_found (find_file c.args.id kept.files)) store.ended (g.D.Disk.told store.disk) store.tables (g.D.Disk.may_leave store.disk) c.tell.ensures.sound c.tell.ensures.answer
-    (λ bytes is_held. c.row-row.ensures ∙ ap (λ (t : HeldTables). row_of t.standing c.args.id) c.tables.ensures ∙ row-is bytes store.tables.standing (apart-in bytes store.tables is_held) c.args.id)
+    told-answer c.tell.result c.row-row.result (λ kept. row_of_found (find_file c.args.id kept.files)) store.ended (g.D.Disk.told store.disk)
+    store.tables (g.D.Disk.may_leave store.disk) c.tell.ensures.sound c.tell.ensures.answer
+    (λ bytes is_held. c.row-row.ensures ∙ ap (λ (t : HeldTables). row_of t.standing c.args.id) c.tables.ensures ∙ row-is bytes store.tables.standing
+    (apart-in bytes store.tables is_held) c.args.id)

@@ -9,5 +9,7 @@ use Rattle.nq_store.proofs.store.StoreKeeper.host.Goals as goal
 pub returns-clause-told : goal.returns-clause-told
 returns-clause-told g c =
     let store = c.args.self.now in
-    told-answer c.tell.result c.host-row.result (λ kept. host_row kept c.args.host) store.ended (g.D.Disk.told store.disk) store.tables (g.D.Disk.may_leave store.disk) c.tell.ensures.sound c.tell.ensures.answer
-    (λ bytes is_held. c.host-row.ensures ∙ ap (λ (t : HeldTables). slice_index_or t.standing.hosts c.args.host fresh_row) c.tables.ensures ∙ host-is bytes store.tables.standing c.args.host)
+    told-answer c.tell.result c.host-row.result (λ kept. host_row kept c.args.host) store.ended (g.D.Disk.told store.disk) store.tables
+    (g.D.Disk.may_leave store.disk) c.tell.ensures.sound c.tell.ensures.answer
+    (λ bytes is_held. c.host-row.ensures ∙ ap (λ (t : HeldTables). slice_index_or t.standing.hosts c.args.host fresh_row) c.tables.ensures
+    ∙ host-is bytes store.tables.standing c.args.host)

@@ -11,7 +11,8 @@ use Rattle.nq_store.proofs.store.StoreKeeper.space.Goals as goal
 pub returns-clause-told : goal.returns-clause-told
 returns-clause-told g c =
     let store = c.args.self.now in
-    told-answer c.tell.result c.space-space.result (λ kept. space_of kept) store.ended (g.D.Disk.told store.disk) store.tables (g.D.Disk.may_leave store.disk) c.tell.ensures.sound c.tell.ensures.answer
+    told-answer c.tell.result c.space-space.result (λ kept. space_of kept) store.ended (g.D.Disk.told store.disk) store.tables
+    (g.D.Disk.may_leave store.disk) c.tell.ensures.sound c.tell.ensures.answer
     (λ bytes is_held. space-is bytes store.tables.standing c.space-space.result
     (c.space-space.ensures.files ∙ ap (λ (t : HeldTables). count_by (λ row. is_some row) t.standing.rows) c.tables.ensures)
     (c.space-space.ensures.blocks ∙ ap (λ (t : HeldTables). sum_by (λ row. length (row_blocks row)) t.standing.rows) c.tables.ensures))

@@ -1,6 +1,5 @@
-use Rattle.std.proofs.Common.{◌≡◌, ◌+◌, ◌-◌, ◌∙◌, Some, ap, refl, sym, arith}
+use Rattle.std.proofs.Common.{◌-◌, ◌∙◌, Some, ap, refl, sym, arith}
 use Rattle.nq_base.specs.declared.Event.{Event}
-use Rattle.nq_storm.specs.Places.{tick_count}
 use Rattle.nq_storm.proofs.MenuPlaces.{delivery-at, tick-at, restart-at, crash-at, call-at}
 use Rattle.nq_storm.proofs.fates.menus.event_at.Goals as goal
 

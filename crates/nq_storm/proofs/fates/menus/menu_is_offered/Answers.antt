@@ -1,5 +1,4 @@
-use Rattle.std.proofs.Common.{◌≡◌, ◌+◌, ◌∙◌, arith}
-use Rattle.nq_storm.specs.Places.{tick_count}
+use Rattle.std.proofs.Common.{arith}
 use Rattle.nq_storm.proofs.MenuPlaces.{menu-size}
 use Rattle.nq_storm.proofs.fates.menus.menu_is_offered.Goals as goal
 

@@ -12,7 +12,8 @@ pub returns-in_err-request-clause-only : goal.returns-in_err-request-clause-only
 returns-in_err-request-clause-only c =
     λ r is.
     let was = failed (request_at c.in-Some.called c.new-reader.result) c.in_err-request.field-0.0 c.in_err-request.ensures in
-    absurd (no_request c.in-Some.called c.args.procedure r c.args.bytes.now c.new-reader.result c.in_err-request.field-0.0 c.in-Some.ensures.some c.new-reader.ensures was is)
+    absurd (no_request c.in-Some.called c.args.procedure r c.args.bytes.now c.new-reader.result c.in_err-request.field-0.0 c.in-Some.ensures.some
+    c.new-reader.ensures was is)
 
 pub returns-in_err-request-clause-garbage : goal.returns-in_err-request-clause-garbage
 returns-in_err-request-clause-garbage c =
@@ -21,7 +22,8 @@ returns-in_err-request-clause-garbage c =
       λ _. (
         number_fits c.in-Some.called c.args.procedure c.in-Some.ensures.some,
         λ r is.
-            no_request c.in-Some.called c.args.procedure r c.args.bytes.now c.new-reader.result c.in_err-request.field-0.0 c.in-Some.ensures.some c.new-reader.ensures was is,
+            no_request c.in-Some.called c.args.procedure r c.args.bytes.now c.new-reader.result c.in_err-request.field-0.0 c.in-Some.ensures.some
+            c.new-reader.ensures was is,
       ),
       λ _. rw (p.1, p.2) refl,
     )
@@ -30,13 +32,15 @@ returns-in_err-request-clause-garbage c =
 pub returns-in_err-end-clause-only : goal.returns-in_err-end-clause-only
 returns-in_err-end-clause-only c =
     λ r is.
-    let was = left_over (request_at c.in-Some.called c.new-reader.result) c.in_ok-request.request c.request.new.reader c.in_ok-request.ensures (λ none. false≢true (c.in_err-end.ensures.1 none)) in
+    let was = left_over (request_at c.in-Some.called c.new-reader.result) c.in_ok-request.request c.request.new.reader c.in_ok-request.ensures
+    (λ none. false≢true (c.in_err-end.ensures.1 none)) in
     absurd (no_request c.in-Some.called c.args.procedure r c.args.bytes.now c.new-reader.result garbage c.in-Some.ensures.some c.new-reader.ensures was is)
 
 pub returns-in_err-end-clause-garbage : goal.returns-in_err-end-clause-garbage
 returns-in_err-end-clause-garbage c =
     let p = err_from_is_err_and c.from_residual-in_err-end.result c.from_residual-in_err-end.ensures.1 in
-    let was = left_over (request_at c.in-Some.called c.new-reader.result) c.in_ok-request.request c.request.new.reader c.in_ok-request.ensures (λ none. false≢true (c.in_err-end.ensures.1 none)) in (
+    let was = left_over (request_at c.in-Some.called c.new-reader.result) c.in_ok-request.request c.request.new.reader c.in_ok-request.ensures
+    (λ none. false≢true (c.in_err-end.ensures.1 none)) in (
       λ _. (
         number_fits c.in-Some.called c.args.procedure c.in-Some.ensures.some,
         λ r is.
@@ -48,20 +52,24 @@ returns-in_err-end-clause-garbage c =
 -- it is read
 pub returns-clause-found : goal.returns-clause-found
 returns-clause-found c =
-    arguments_read c.in-Some.called c.args.procedure c.in_ok-request.request c.args.bytes.now c.new-reader.result c.request.new.reader (λ i. omega (arith, c.type_inv.bytes i)) c.in-Some.ensures.some c.new-reader.ensures c.in_ok-request.ensures (c.in_ok-end.ensures.0 refl)
+    arguments_read c.in-Some.called c.args.procedure c.in_ok-request.request c.args.bytes.now c.new-reader.result c.request.new.reader
+    (λ i. omega (arith, c.type_inv.bytes i)) c.in-Some.ensures.some c.new-reader.ensures c.in_ok-request.ensures (c.in_ok-end.ensures.0 refl)
 
 pub returns-clause-garbage : goal.returns-clause-garbage
 returns-clause-garbage c =
     let is =
-    arguments_read c.in-Some.called c.args.procedure c.in_ok-request.request c.args.bytes.now c.new-reader.result c.request.new.reader (λ i. omega (arith, c.type_inv.bytes i)) c.in-Some.ensures.some c.new-reader.ensures c.in_ok-request.ensures (c.in_ok-end.ensures.0 refl) in
+    arguments_read c.in-Some.called c.args.procedure c.in_ok-request.request c.args.bytes.now c.new-reader.result c.request.new.reader
+    (λ i. omega (arith, c.type_inv.bytes i)) c.in-Some.ensures.some c.new-reader.ensures c.in_ok-request.ensures (c.in_ok-end.ensures.0 refl) in
     (λ e. absurd cc, λ none. absurd (none.1 c.in_ok-request.request is))
 
 pub returns-clause-only : goal.returns-clause-only
 returns-clause-only c =
     λ r is.
-    let was = ended (request_at c.in-Some.called c.new-reader.result) c.in_ok-request.request c.request.new.reader c.in_ok-request.ensures (c.in_ok-end.ensures.0 refl) in
+    let was = ended (request_at c.in-Some.called c.new-reader.result) c.in_ok-request.request c.request.new.reader c.in_ok-request.ensures
+    (c.in_ok-end.ensures.0 refl) in
     ap (λ x. Ok x)
-    (one_request c.in-Some.called c.args.procedure r c.in_ok-request.request c.args.bytes.now c.new-reader.result c.in-Some.ensures.some c.new-reader.ensures was is)
+    (one_request c.in-Some.called c.args.procedure r c.in_ok-request.request c.args.bytes.now c.new-reader.result c.in-Some.ensures.some
+    c.new-reader.ensures was is)
 
 -- all of it, as reading from the left
 pub returns-in_default-clause-step : goal.returns-in_default-clause-step
@@ -71,17 +79,22 @@ pub returns-in_err-request-clause-step : goal.returns-in_err-request-clause-step
 returns-in_err-request-clause-step c =
     let p = err_from_is_err_and c.from_residual.result c.from_residual.ensures.1 in
     let was = failed (request_at c.in-Some.called c.new-reader.result) c.in_err-request.field-0.0 c.in_err-request.ensures in
-    let is = request_is c.in-Some.called c.args.procedure c.args.bytes.now c.new-reader.result (Err c.in_err-request.field-0.0) (sym c.in-Some.ensures.is) c.new-reader.ensures was in
+    let is = request_is c.in-Some.called c.args.procedure c.args.bytes.now c.new-reader.result (Err c.in_err-request.field-0.0)
+    (sym c.in-Some.ensures.is) c.new-reader.ensures was in
     rw (p.1, p.2) (sym is)
 
 pub returns-in_err-end-clause-step : goal.returns-in_err-end-clause-step
 returns-in_err-end-clause-step c =
     let p = err_from_is_err_and c.from_residual-in_err-end.result c.from_residual-in_err-end.ensures.1 in
-    let was = left_over (request_at c.in-Some.called c.new-reader.result) c.in_ok-request.request c.request.new.reader c.in_ok-request.ensures (λ none. false≢true (c.in_err-end.ensures.1 none)) in
-    let is = request_is c.in-Some.called c.args.procedure c.args.bytes.now c.new-reader.result (Err garbage) (sym c.in-Some.ensures.is) c.new-reader.ensures was in
+    let was = left_over (request_at c.in-Some.called c.new-reader.result) c.in_ok-request.request c.request.new.reader c.in_ok-request.ensures
+    (λ none. false≢true (c.in_err-end.ensures.1 none)) in
+    let is = request_is c.in-Some.called c.args.procedure c.args.bytes.now c.new-reader.result (Err garbage) (sym c.in-Some.ensures.is)
+    c.new-reader.ensures was in
     rw (p.1, p.2) (sym is)
 
 pub returns-clause-step : goal.returns-clause-step
 returns-clause-step c =
-    let was = ended (request_at c.in-Some.called c.new-reader.result) c.in_ok-request.request c.request.new.reader c.in_ok-request.ensures (c.in_ok-end.ensures.0 refl) in
-    sym (request_is c.in-Some.called c.args.procedure c.args.bytes.now c.new-reader.result (Ok c.in_ok-request.request) (sym c.in-Some.ensures.is) c.new-reader.ensures was)
+    let was = ended (request_at c.in-Some.called c.new-reader.result) c.in_ok-request.request c.request.new.reader c.in_ok-request.ensures
+    (c.in_ok-end.ensures.0 refl) in
+    sym (request_is c.in-Some.called c.args.procedure c.args.bytes.now c.new-reader.result (Ok c.in_ok-request.request) (sym c.in-Some.ensures.is)
+    c.new-reader.ensures was)

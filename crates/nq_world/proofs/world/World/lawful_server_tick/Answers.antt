@@ -9,7 +9,8 @@ use Rattle.nq_world.proofs.world.World.lawful_server_tick.Goals as goal
 pub returns : goal.returns
 returns g c = λ head events told plays.
     let i = c.self.inside in
-    subst (λ (v : WorldOver g.row.K.Denot). Follows v.skew events → length v.skew.hosts ≡ head.hosts → v.skew.window ≡ head.longest → IsTrue c.lawful.result ↔ IsWithinSkew head.hosts head.longest (Event.ServerTick ∷ events)) c.self.view_is
+    subst (λ (v : WorldOver g.row.K.Denot). Follows v.skew events → length v.skew.hosts ≡ head.hosts → v.skew.window ≡ head.longest
+    → IsTrue c.lawful.result ↔ IsWithinSkew head.hosts head.longest (Event.ServerTick ∷ events)) c.self.view_is
     (λ follows hosts window.
     subst (λ n. IsTrue c.lawful.result ↔ IsWithinSkew n head.longest (Event.ServerTick ∷ events)) hosts
     (subst (λ n. IsTrue c.lawful.result ↔ IsWithinSkew (length i.skew.hosts) n (Event.ServerTick ∷ events)) window

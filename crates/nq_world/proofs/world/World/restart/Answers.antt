@@ -8,6 +8,8 @@ pub returns-clause-takes : goal.returns-clause-takes
 returns-clause-takes g c =
     let i = c.self.inside in
     let content = g.K.Keeper.content in
-    subst (λ (v : WorldOver g.row.K.Denot). TakesIn content (Event.Restart c.args.host) c.finish.result v (world i.server c.restart-made.new.clients.items c.finish.new.packets c.restart-made.new.log i.skew c.finish.new.events i.term)) c.self.view_is
-    (restart-takes content c.args.host c.restart-made.result c.finish.result i.server i.clients.items c.restart-made.new.clients.items i.packets c.outbox.new.packets c.finish.new.packets i.journal c.restart-made.new.log i.skew c.restart-made.new.out.datagrams i.events c.finish.new.events i.term
+    subst (λ (v : WorldOver g.row.K.Denot). TakesIn content (Event.Restart c.args.host) c.finish.result v
+    (world i.server c.restart-made.new.clients.items c.finish.new.packets c.restart-made.new.log i.skew c.finish.new.events i.term)) c.self.view_is
+    (restart-takes content c.args.host c.restart-made.result c.finish.result i.server i.clients.items c.restart-made.new.clients.items i.packets
+    c.outbox.new.packets c.finish.new.packets i.journal c.restart-made.new.log i.skew c.restart-made.new.out.datagrams i.events c.finish.new.events i.term
     (record { acts = c.restart-made.ensures.acts; has_room = c.in-Ok.ensures.room; same = c.in-Ok.ensures.datagrams; ends = c.finish.ensures.ends }))

@@ -8,6 +8,10 @@ pub returns-clause-takes : goal.returns-clause-takes
 returns-clause-takes g c =
     let i = c.self.inside in
     let content = g.K.Keeper.content in
-    subst (λ (v : WorldOver g.row.K.Denot). TakesIn content (Event.ClientTick c.args.host) c.finish.result v (world i.server c.tick-made.new.clients.items c.finish.new.packets c.tick-made.new.log c.tick-made.new.skew c.finish.new.events i.term)) c.self.view_is
-    (tick-takes content c.args.host c.tick-made.result c.finish.result i.server i.clients.items c.tick-made.new.clients.items i.packets c.outbox.new.packets c.finish.new.packets i.journal c.tick-made.new.log i.skew c.tick-made.new.skew c.tick-made.new.out.datagrams i.events c.finish.new.events i.term
-    (record { acts = c.tick-made.ensures.acts; has_room = c.in-Ok.ensures.room; same = c.in-Ok.ensures.datagrams; ends = c.finish.ensures.ends }) c.tick-made.ensures.clocks)
+    subst (λ (v : WorldOver g.row.K.Denot). TakesIn content (Event.ClientTick c.args.host) c.finish.result v
+    (world i.server c.tick-made.new.clients.items c.finish.new.packets c.tick-made.new.log c.tick-made.new.skew c.finish.new.events i.term)) c.self.view_is
+    (tick-takes content c.args.host c.tick-made.result c.finish.result i.server i.clients.items c.tick-made.new.clients.items i.packets
+    c.outbox.new.packets c.finish.new.packets i.journal c.tick-made.new.log i.skew c.tick-made.new.skew c.tick-made.new.out.datagrams i.events
+    c.finish.new.events i.term
+    (record { acts = c.tick-made.ensures.acts; has_room = c.in-Ok.ensures.room; same = c.in-Ok.ensures.datagrams; ends = c.finish.ensures.ends })
+    c.tick-made.ensures.clocks)

@@ -10,7 +10,8 @@ pub returns-in_err-body-clause-only : goal.returns-in_err-body-clause-only
 returns-in_err-body-clause-only c =
     λ body rest le e.
     let bytes = c.self.inside.bytes.now in
-    absurd (no_value (opaque_at c.args.max bytes) (body, rest) c.in_err-body.field-0.0 (opaque_only c.args.max bytes (Ok (body, rest)) (c.ranges.max.fits) (le, c.self.view_is ∙ e)) c.in_err-body.ensures.step)
+    absurd (no_value (opaque_at c.args.max bytes) (body, rest) c.in_err-body.field-0.0 (opaque_only c.args.max bytes (Ok (body, rest))
+    (c.ranges.max.fits) (le, c.self.view_is ∙ e)) c.in_err-body.ensures.step)
 
 pub returns-in_err-body-clause-only_fault : goal.returns-in_err-body-clause-only_fault
 returns-in_err-body-clause-only_fault c =
@@ -18,13 +19,15 @@ returns-in_err-body-clause-only_fault c =
     let bytes = c.self.inside.bytes.now in
     let IsFault : List ℕ → Type 0 = λ b. IsOpaqueFault c.args.max b e in
     let p = err_from_is_err_and c.from_residual.result c.from_residual.ensures.1 in
-    rw (p.1, p.2) (one_fault (opaque_at c.args.max bytes) c.in_err-body.field-0.0 e c.in_err-body.ensures.step (opaque_only c.args.max bytes (Err e) (c.ranges.max.fits) (subst IsFault (sym c.self.view_is) says)))
+    rw (p.1, p.2) (one_fault (opaque_at c.args.max bytes) c.in_err-body.field-0.0 e c.in_err-body.ensures.step (opaque_only c.args.max bytes (Err e)
+    (c.ranges.max.fits) (subst IsFault (sym c.self.view_is) says)))
 
 pub returns-clause-only : goal.returns-clause-only
 returns-clause-only c =
     λ body rest le e.
     let bytes = c.self.inside.bytes.now in
-    let same = same_parts (opaque_at c.args.max bytes) c.in_ok-body.body.now body c.in_ok-body.rest.now rest c.in_ok-body.ensures.step (opaque_only c.args.max bytes (Ok (body, rest)) (c.ranges.max.fits) (le, c.self.view_is ∙ e)) in
+    let same = same_parts (opaque_at c.args.max bytes) c.in_ok-body.body.now body c.in_ok-body.rest.now rest c.in_ok-body.ensures.step
+    (opaque_only c.args.max bytes (Ok (body, rest)) (c.ranges.max.fits) (le, c.self.view_is ∙ e)) in
     same
 
 pub returns-clause-only_fault : goal.returns-clause-only_fault
@@ -32,4 +35,5 @@ returns-clause-only_fault c =
     λ e says.
     let bytes = c.self.inside.bytes.now in
     let IsFault : List ℕ → Type 0 = λ b. IsOpaqueFault c.args.max b e in
-    absurd (no_value (opaque_at c.args.max bytes) (c.in_ok-body.body.now, c.in_ok-body.rest.now) e c.in_ok-body.ensures.step (opaque_only c.args.max bytes (Err e) (c.ranges.max.fits) (subst IsFault (sym c.self.view_is) says)))
+    absurd (no_value (opaque_at c.args.max bytes) (c.in_ok-body.body.now, c.in_ok-body.rest.now) e c.in_ok-body.ensures.step
+    (opaque_only c.args.max bytes (Err e) (c.ranges.max.fits) (subst IsFault (sym c.self.view_is) says)))

@@ -9,13 +9,15 @@ pub returns-in_err-number-clause-only : goal.returns-in_err-number-clause-only
 returns-in_err-number-clause-only c =
     λ n rest fits e.
     let bytes = c.self.inside.bytes.now in
-    absurd (no_value (hyper_at bytes) (n, rest) c.in_err-number.field-0.0 (hyper_only bytes (Ok (n, rest)) (fits, c.self.view_is ∙ e)) c.in_err-number.ensures.step)
+    absurd (no_value (hyper_at bytes) (n, rest) c.in_err-number.field-0.0 (hyper_only bytes (Ok (n, rest)) (fits, c.self.view_is ∙ e))
+    c.in_err-number.ensures.step)
 
 pub returns-clause-only : goal.returns-clause-only
 returns-clause-only c =
     λ n rest fits e.
     let bytes = c.self.inside.bytes.now in
-    let same = same_parts (hyper_at bytes) c.in_ok-number.number n c.in_ok-number.rest.now rest c.in_ok-number.ensures.step (hyper_only bytes (Ok (n, rest)) (fits, c.self.view_is ∙ e)) in
+    let same = same_parts (hyper_at bytes) c.in_ok-number.number n c.in_ok-number.rest.now rest c.in_ok-number.ensures.step
+    (hyper_only bytes (Ok (n, rest)) (fits, c.self.view_is ∙ e)) in
     (ap (λ (x : ℕ). Ok x) same.0, same.1)
 
 pub returns-clause-only_fault : goal.returns-clause-only_fault
@@ -23,4 +25,5 @@ returns-clause-only_fault c =
     λ e says.
     let bytes = c.self.inside.bytes.now in
     let IsFault : List ℕ → Type 0 = λ b. IsShort 8 b e in
-    absurd (no_value (hyper_at bytes) (c.in_ok-number.number, c.in_ok-number.rest.now) e c.in_ok-number.ensures.step (hyper_only bytes (Err e) (subst IsFault (sym c.self.view_is) says)))
+    absurd (no_value (hyper_at bytes) (c.in_ok-number.number, c.in_ok-number.rest.now) e c.in_ok-number.ensures.step
+    (hyper_only bytes (Err e) (subst IsFault (sym c.self.view_is) says)))

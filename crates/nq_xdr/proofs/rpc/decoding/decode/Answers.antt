@@ -13,7 +13,8 @@ pub returns-clause-only : goal.returns-clause-only
 returns-clause-only c =
     λ m says.
     let bytes = c.args.bytes.now in
-    decoded_only m c.message_copied.result (message_at bytes) (message_only bytes (Ok m) (λ i. omega (arith, c.type_inv.bytes i)) says) c.message_copied.ensures
+    decoded_only m c.message_copied.result (message_at bytes) (message_only bytes (Ok m) (λ i. omega (arith, c.type_inv.bytes i)) says)
+    c.message_copied.ensures
 
 pub returns-clause-fault : goal.returns-clause-fault
 returns-clause-fault c =
@@ -24,4 +25,5 @@ pub returns-clause-only_fault : goal.returns-clause-only_fault
 returns-clause-only_fault c =
     λ e says.
     let bytes = c.args.bytes.now in
-    decoded_only_fault e c.message_copied.result (message_at bytes) (message_only bytes (Err e) (λ i. omega (arith, c.type_inv.bytes i)) says) c.message_copied.ensures
+    decoded_only_fault e c.message_copied.result (message_at bytes) (message_only bytes (Err e) (λ i. omega (arith, c.type_inv.bytes i)) says)
+    c.message_copied.ensures

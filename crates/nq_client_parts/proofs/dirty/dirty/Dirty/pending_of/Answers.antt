@@ -14,7 +14,8 @@ overflow_add-result c =
 pub returns-then-is_of-clause-pending : goal.returns-then-is_of-clause-pending
 returns-then-is_of-clause-pending c =
     let listed = c.count-listed.ensures ∙ sym (count_of_file c.args.file c.self.inside.entries.entries) in
-    rw (← c.self.view_is) (count-with-push c.args.file (delayed c.self.inside.entries.entries) c.self.inside.push c.count-listed.result listed (sym c.if-is_of.ensures))
+    rw (← c.self.view_is) (count-with-push c.args.file (delayed c.self.inside.entries.entries) c.self.inside.push c.count-listed.result listed
+    (sym c.if-is_of.ensures))
 
 pub returns-then-is_of-clause-few : goal.returns-then-is_of-clause-few
 returns-then-is_of-clause-few c =
@@ -26,11 +27,13 @@ returns-then-is_of-clause-few c =
 pub returns-else-is_of-clause-pending : goal.returns-else-is_of-clause-pending
 returns-else-is_of-clause-pending c =
     let listed = c.count-listed.ensures ∙ sym (count_of_file c.args.file c.self.inside.entries.entries) in
-    rw (← c.self.view_is) (count-without-push c.args.file (delayed c.self.inside.entries.entries) c.self.inside.push c.count-listed.result listed (sym c.if-is_of.ensures))
+    rw (← c.self.view_is) (count-without-push c.args.file (delayed c.self.inside.entries.entries) c.self.inside.push c.count-listed.result listed
+    (sym c.if-is_of.ensures))
 
 pub returns-else-is_of-clause-few : goal.returns-else-is_of-clause-few
 returns-else-is_of-clause-few c =
     let listed = c.count-listed.ensures ∙ sym (count_of_file c.args.file c.self.inside.entries.entries) in
-    let all = count-without-push c.args.file (delayed c.self.inside.entries.entries) c.self.inside.push c.count-listed.result listed (sym c.if-is_of.ensures) in
+    let all = count-without-push c.args.file (delayed c.self.inside.entries.entries) c.self.inside.push c.count-listed.result listed
+    (sym c.if-is_of.ensures) in
     let few = all-few c.args.file (delayed c.self.inside.entries.entries) c.self.inside.push in
     omega (arith, all, few, c.self.invariant)

@@ -22,7 +22,9 @@ loop-turn-preserved c =
     let within = so.within in
     record {
       same =
-          sym (wrong-next c.args.self.place c.args.self.size c.args.self.bound (c.args.count - c.loop-turn._turn) (c.args.count - (c.loop-turn._turn + 1)) c.loop-turn.end c.longer-end.result c.loop-turn.at (c.loop-turn.at + (12 + length c.in-Some.body.now)) c.loop-turn.rest.now
+          sym (wrong-next c.args.self.place c.args.self.size c.args.self.bound (c.args.count - c.loop-turn._turn)
+          (c.args.count - (c.loop-turn._turn + 1)) c.loop-turn.end c.longer-end.result c.loop-turn.at
+          (c.loop-turn.at + (12 + length c.in-Some.body.now)) c.loop-turn.rest.now
           (front_of c.in-Some.place c.in-Some.body.now c.in-Some.behind.now) next c.in-Some.ensures right c.longer-end.ensures (omega arith))
           ∙ so.same;
       within = omega arith;
@@ -46,7 +48,8 @@ returns-in-None c =
     let so = c.loop-turn.invariant in
     let next : c.args.count - c.loop-turn._turn ≡ suc (c.args.count - (c.loop-turn._turn + 1)) = let lt = c.loop-turn-test.true in omega arith in
     ap Some c.unfit_field.ensures
-    ∙ sym (wrong-unfit c.args.self.place c.args.self.size c.args.self.bound (c.args.count - c.loop-turn._turn) (c.args.count - (c.loop-turn._turn + 1)) c.loop-turn.end c.loop-turn.at c.loop-turn.rest.now next c.in-None.ensures)
+    ∙ sym (wrong-unfit c.args.self.place c.args.self.size c.args.self.bound (c.args.count - c.loop-turn._turn)
+    (c.args.count - (c.loop-turn._turn + 1)) c.loop-turn.end c.loop-turn.at c.loop-turn.rest.now next c.in-None.ensures)
     ∙ so.same
 
 pub returns-then-is_misplaced : goal.returns-then-is_misplaced
@@ -54,7 +57,8 @@ returns-then-is_misplaced c =
     let so = c.loop-turn.invariant in
     let next : c.args.count - c.loop-turn._turn ≡ suc (c.args.count - (c.loop-turn._turn + 1)) = let lt = c.loop-turn-test.true in omega arith in
     let wrong : is_misplaced c.args.self.place c.args.self.size c.args.self.bound c.loop-turn.end c.in-Some.place (length c.in-Some.body.now) ≡ true = cc in
-    sym (wrong-here c.args.self.place c.args.self.size c.args.self.bound (c.args.count - c.loop-turn._turn) (c.args.count - (c.loop-turn._turn + 1)) c.loop-turn.end c.loop-turn.at c.loop-turn.rest.now
+    sym (wrong-here c.args.self.place c.args.self.size c.args.self.bound (c.args.count - c.loop-turn._turn) (c.args.count - (c.loop-turn._turn + 1))
+    c.loop-turn.end c.loop-turn.at c.loop-turn.rest.now
     (front_of c.in-Some.place c.in-Some.body.now c.in-Some.behind.now) next c.in-Some.ensures wrong)
     ∙ so.same
 
@@ -62,4 +66,5 @@ pub returns : goal.returns
 returns c =
     let so = c.loop-turn.invariant in
     let none : c.args.count - c.loop-turn._turn ≡ 0 = let over = c.loop-turn-test.false in omega arith in
-    sym (wrong-end c.args.self.place c.args.self.size c.args.self.bound (c.args.count - c.loop-turn._turn) c.loop-turn.end c.loop-turn.at c.loop-turn.rest.now none) ∙ so.same
+    sym (wrong-end c.args.self.place c.args.self.size c.args.self.bound (c.args.count - c.loop-turn._turn) c.loop-turn.end c.loop-turn.at
+    c.loop-turn.rest.now none) ∙ so.same

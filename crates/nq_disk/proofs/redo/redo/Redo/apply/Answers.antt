@@ -14,7 +14,8 @@ returns-clause-applied g c = on-ok c.change.result _ (λ is old told closed fit.
     let same = ap (λ (n : ℕ). ranges_in n c.ranges-2.result.now) c.count.ensures.counts ∙ c.ranges-2.ensures in
     let open_now = as-open area c.requires rs c.count.ensures.fits old shut fit c.body.result.now spells in
     let ranges = as-ranges area c.requires rs c.count.ensures.fits old shut fit c.body.result.now spells c.count.result c.ranges-2.result.now same in
-    subst (λ (r : Result (List ℕ) ℕ). Settled area r (g.D.Disk.told c.change.new.disk) (g.D.Disk.may_leave c.change.new.disk)) (as-after area c.requires rs c.count.ensures.fits old shut fit c.body.result.now spells)
+    subst (λ (r : Result (List ℕ) ℕ). Settled area r (g.D.Disk.told c.change.new.disk) (g.D.Disk.may_leave c.change.new.disk))
+    (as-after area c.requires rs c.count.ensures.fits old shut fit c.body.result.now spells)
     (then-ok c.change.result _ is c.change.ensures.settled old told open_now ranges))
 
 pub returns-clause-whole : goal.returns-clause-whole

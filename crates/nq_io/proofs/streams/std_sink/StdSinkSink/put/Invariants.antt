@@ -10,7 +10,8 @@ invariant-loop-written g l = record {
   tells : l.self.tells ≡ l.fn.self.tells;
   within : l.written ≤ length l.bytes;
   appended : Appends (g.W.Write.contents l.fn.self.writer) (g.W.Write.contents l.self.writer) (take l.written l.bytes);
-  told : told_where l.self.tells (g.W.Write.contents l.self.writer) ≡ with_end (told_where l.fn.self.tells (g.W.Write.contents l.fn.self.writer)) (take l.written l.bytes);
+  told : told_where l.self.tells (g.W.Write.contents l.self.writer) ≡ with_end (told_where l.fn.self.tells (g.W.Write.contents l.fn.self.writer))
+      (take l.written l.bytes);
 }
 
 abbrev pub decreases-loop-written : goal.decreases-loop-written

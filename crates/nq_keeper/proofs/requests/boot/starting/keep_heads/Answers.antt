@@ -17,4 +17,5 @@ commit-requires-clause-within g c = λ kept told. heads-within kept c.args.heads
 
 pub returns-clause-leaves : goal.returns-clause-leaves
 returns-clause-leaves g c =
-    subst (λ change. LeavesTwo change (g.K.Keeper.content c.args.keeper.now) (g.K.Keeper.leaves c.args.keeper.now c.commit.new.self)) c.change_to-change.ensures c.commit.ensures.leaves
+    subst (λ change. LeavesTwo change (g.K.Keeper.content c.args.keeper.now) (g.K.Keeper.leaves c.args.keeper.now c.commit.new.self))
+    c.change_to-change.ensures c.commit.ensures.leaves

@@ -17,7 +17,9 @@ returns-then-heads-ge-LAST_BOOT-clause-starts g c = (
 pub keep_heads-requires : goal.keep_heads-requires
 keep_heads-requires g c =
     λ kept told.
-    after-boot-within kept c.args.longest c.in-Ok.heads c.after_boot.result (g.met.K.Keeper.within c.heads.new.self kept told) (record { long = c.requires.long; short = c.requires.short }) (c.in-Ok.ensures.told kept (sym c.in-Ok.ensures.reads.0 ∙ told)) c.after_boot.ensures (omega arith)
+    after-boot-within kept c.args.longest c.in-Ok.heads c.after_boot.result (g.met.K.Keeper.within c.heads.new.self kept told)
+    (record { long = c.requires.long; short = c.requires.short }) (c.in-Ok.ensures.told kept (sym c.in-Ok.ensures.reads.0 ∙ told))
+    c.after_boot.ensures (omega arith)
 
 pub returns-in-Ok-keep_heads-clause-starts : goal.returns-in-Ok-keep_heads-clause-starts
 returns-in-Ok-keep_heads-clause-starts g c = (
@@ -26,7 +28,8 @@ returns-in-Ok-keep_heads-clause-starts g c = (
       let below : c.in-Ok.heads.boot < last_boot = omega arith in (
         subst (λ h. h.boot < last_boot) is below,
         c.begun.ensures.begun kept is,
-        c.in-Ok-keep_heads.ensures.commits.0 ∙ ap (told_after (change_of_heads c.after_boot.result)) (c.in-Ok.ensures.reads.0 ∙ told) ∙ ap (λ k. Some k) (kept-booted kept c.args.longest c.in-Ok.heads c.after_boot.result is c.after_boot.ensures),
+        c.in-Ok-keep_heads.ensures.commits.0 ∙ ap (told_after (change_of_heads c.after_boot.result)) (c.in-Ok.ensures.reads.0 ∙ told)
+            ∙ ap (λ k. Some k) (kept-booted kept c.args.longest c.in-Ok.heads c.after_boot.result is c.after_boot.ensures),
       ),
   c.in-Ok-keep_heads.ensures.commits.1 ∙ c.in-Ok.ensures.reads.1,
 )
@@ -34,16 +37,20 @@ returns-in-Ok-keep_heads-clause-starts g c = (
 pub returns-in-Ok-keep_heads-clause-leaves : goal.returns-in-Ok-keep_heads-clause-leaves
 returns-in-Ok-keep_heads-clause-leaves g c =
     λ kept told found left.
-    leaves-booted kept (applied kept (change_of_heads c.after_boot.result)) (booted kept c.args.longest) found (kept-booted kept c.args.longest c.in-Ok.heads c.after_boot.result (c.in-Ok.ensures.told kept told) c.after_boot.ensures)
-    (two-of found kept (applied kept (change_of_heads c.after_boot.result)) _ _ (g.met.K.Keeper.parts _ c.heads.new.self _ found c.heads.ensures.follows c.keep_heads.ensures.follows left)
+    leaves-booted kept (applied kept (change_of_heads c.after_boot.result)) (booted kept c.args.longest) found (kept-booted kept c.args.longest
+    c.in-Ok.heads c.after_boot.result (c.in-Ok.ensures.told kept told) c.after_boot.ensures)
+    (two-of found kept (applied kept (change_of_heads c.after_boot.result)) _ _ (g.met.K.Keeper.parts _ c.heads.new.self _ found
+    c.heads.ensures.follows c.keep_heads.ensures.follows left)
     (c.heads.ensures.leaves kept told found)
     (c.keep_heads.ensures.leaves kept (c.in-Ok.ensures.reads.0 ∙ told) found))
 
 pub returns-in-Err-keep_heads-clause-leaves : goal.returns-in-Err-keep_heads-clause-leaves
 returns-in-Err-keep_heads-clause-leaves g c =
     λ kept told found left.
-    leaves-booted kept (applied kept (change_of_heads c.after_boot.result)) (booted kept c.args.longest) found (kept-booted kept c.args.longest c.in-Ok.heads c.after_boot.result (c.in-Ok.ensures.told kept told) c.after_boot.ensures)
-    (two-of found kept (applied kept (change_of_heads c.after_boot.result)) _ _ (g.met.K.Keeper.parts _ c.heads.new.self _ found c.heads.ensures.follows c.keep_heads.ensures.follows left)
+    leaves-booted kept (applied kept (change_of_heads c.after_boot.result)) (booted kept c.args.longest) found (kept-booted kept c.args.longest
+    c.in-Ok.heads c.after_boot.result (c.in-Ok.ensures.told kept told) c.after_boot.ensures)
+    (two-of found kept (applied kept (change_of_heads c.after_boot.result)) _ _ (g.met.K.Keeper.parts _ c.heads.new.self _ found
+    c.heads.ensures.follows c.keep_heads.ensures.follows left)
     (c.heads.ensures.leaves kept told found)
     (c.keep_heads.ensures.leaves kept (c.in-Ok.ensures.reads.0 ∙ told) found))
 

@@ -13,12 +13,21 @@ returns-clause-pushed c =
     let back = drop (run.at + 4 * run.times) bytes in
     let one : c.extend_from_slice.new.self.items ≡ base ++ front = rw c.unwrap.ensures at c.extend_from_slice.ensures.items in
     let added = rw c.unwrap-2.ensures at c.extend_from_slice-2.ensures.items in
-    let two : c.extend_from_slice-2.new.self.items ≡ c.extend_from_slice.new.self.items ++ back = added ∙ ap (λ b. c.extend_from_slice.new.self.items ++ b) (take_rest bytes (run.at + 4 * run.times)) in
+    let two : c.extend_from_slice-2.new.self.items ≡ c.extend_from_slice.new.self.items ++ back = added ∙ ap (λ b. c.extend_from_slice.new.self.items
+    ++ b) (take_rest bytes (run.at + 4 * run.times)) in
     let all : c.extend_from_slice-2.new.self.items ≡ (base ++ front) ++ back = two ∙ ap (λ b. b ++ back) one in
     let start : c.len-start.result ≡ length base = omega (arith, c.self.inside.bytes.ok.0, c.len-start.ensures) in
     let middle : c.len-middle.result ≡ length c.extend_from_slice.new.self.items = omega (arith, c.extend_from_slice.new.self.ok.0, c.len-middle.ensures) in
     let end : c.len-end.result ≡ length c.extend_from_slice-2.new.self.items = omega (arith, c.extend_from_slice-2.new.self.ok.0, c.len-end.ensures) in
-    let mark : Mark = record { sender = c.args.sender; to = c.args.to; start = c.len-start.result; middle = c.len-middle.result; end = c.len-end.result; word = run.word; times = run.times } in
+    let mark : Mark = record {
+      sender = c.args.sender;
+      to = c.args.to;
+      start = c.len-start.result;
+      middle = c.len-middle.result;
+      end = c.len-end.result;
+      word = run.word;
+      times = run.times;
+    } in
     let within = c.in_bytes-run.ensures.within in
     let long-front = length-take-le run.at bytes (omega (arith, within)) in
     let long-back = length-drop (run.at + 4 * run.times) bytes in
@@ -30,4 +39,5 @@ returns-clause-pushed c =
       end = end ∙ ap length all;
       short = omega (arith, long-front, long-back, within, size);
     } in
-    rw (c.push.ensures.items, c.unwrap-3.ensures, all, ← c.reserve.ensures.datagrams, ← c.self.view_is) (datagrams_pushed base front back bytes c.self.inside.marks.items mark c.self.invariant is c.in_bytes-run.ensures.parts)
+    rw (c.push.ensures.items, c.unwrap-3.ensures, all, ← c.reserve.ensures.datagrams, ← c.self.view_is) (datagrams_pushed base front back bytes
+    c.self.inside.marks.items mark c.self.invariant is c.in_bytes-run.ensures.parts)

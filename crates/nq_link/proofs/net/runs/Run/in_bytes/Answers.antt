@@ -11,4 +11,5 @@ run_at-requires-clause-same c =
     let one = c.first_before-at.ensures.before in
     let two = c.last_behind-end.ensures.behind in
     let back : middle + 4 - 4 ≡ middle = omega arith in
-    repeated-on bytes at middle (middle - at) (end - (middle + 4)) (end - 4 - at) (omega (arith, one)) (omega (arith, one, two)) c.first_before-at.ensures.same (rw back at c.last_behind-end.ensures.same)
+    repeated-on bytes at middle (middle - at) (end - (middle + 4)) (end - 4 - at) (omega (arith, one)) (omega (arith, one, two))
+    c.first_before-at.ensures.same (rw back at c.last_behind-end.ensures.same)

@@ -5,7 +5,8 @@ use Rattle.nq_name_server.proofs.around.around.Around.hear.Goals as goal
 
 pub returns-then-is_there-clause-hears : goal.returns-then-is_there-clause-hears
 returns-then-is_there-clause-hears c =
-    hears_on c.hear_there.result c.args.self.now c.hear_there.new.self c.args.host c.args.datagram.now c.args.term c.args.now (c.is_there.ensures.0 c.if-is_there.true) c.hear_there.ensures.hears
+    hears_on c.hear_there.result c.args.self.now c.hear_there.new.self c.args.host c.args.datagram.now c.args.term c.args.now
+    (c.is_there.ensures.0 c.if-is_there.true) c.hear_there.ensures.hears
 
 pub returns-else-is_there-clause-hears : goal.returns-else-is_there-clause-hears
 returns-else-is_there-clause-hears c = λ w ran client its-term its-now.

@@ -7,7 +7,8 @@ returns c =
     let old = c.args.self.now in
     let new = c.send_next.new.self in
     record {
-      shows = λ w ran are. send_all c.send_next.result packets old new c.requires.settled c.requires.there c.send_next.ensures.sent c.send_next.ensures.refused w ran are;
+      shows = λ w ran are. send_all c.send_next.result packets old new c.requires.settled c.requires.there c.send_next.ensures.sent
+          c.send_next.ensures.refused w ran are;
       none = send_due c.send_next.result packets old new c.requires.settled c.requires.there c.send_next.ensures.sent c.send_next.ensures.refused;
       gone = send_gone c.send_next.result packets old new c.requires.there c.send_next.ensures.sent;
       refused = c.send_next.ensures.refused;

@@ -11,6 +11,8 @@ returns-clause-next c = λ events marks.
     let flagged = rw c.deref.ensures.value at f.ensures.flagged in
     let unflagged = rw c.deref.ensures.value at f.ensures.unflagged in
     elim c.if-self-sent.branch [
-      | then-self-sent w ↦ w.result-is ∙ next-some c.self.inside.flags.items c.self.inside.least f.result c.args.sent events here c.self.invariant flagged unflagged w.if-self-sent.true
-      | else-self-sent w ↦ w.result-is ∙ next-none c.self.inside.flags.items c.self.inside.least f.result c.args.sent events here c.self.invariant flagged unflagged w.if-self-sent.false
+      | then-self-sent w ↦ w.result-is ∙ next-some c.self.inside.flags.items c.self.inside.least f.result c.args.sent events here c.self.invariant
+          flagged unflagged w.if-self-sent.true
+      | else-self-sent w ↦ w.result-is ∙ next-none c.self.inside.flags.items c.self.inside.least f.result c.args.sent events here c.self.invariant
+          flagged unflagged w.if-self-sent.false
     ]

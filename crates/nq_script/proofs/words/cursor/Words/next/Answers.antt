@@ -5,13 +5,15 @@ use Rattle.nq_script.proofs.words.cursor.Words.next.Goals as goal
 
 pub returns-in-Some-clause-found : goal.returns-in-Some-clause-found
 returns-in-Some-clause-found c =
-    next_words (λ line. line.now) c.self.inside.rest c.in_ok-line.line c.args.self.now (Some (c.in-Some.word.now, c.in-Some.rest.now)) c.self.view_is c.in_ok-line.was
+    next_words (λ line. line.now) c.self.inside.rest c.in_ok-line.line c.args.self.now (Some (c.in-Some.word.now, c.in-Some.rest.now)) c.self.view_is
+    c.in_ok-line.was
     c.in-Some.ensures
 
 pub returns-in-Some-clause-step : goal.returns-in-Some-clause-step
 returns-in-Some-clause-step c =
     ap word_at
-    (next_words (λ line. line.now) c.self.inside.rest c.in_ok-line.line c.args.self.now (Some (c.in-Some.word.now, c.in-Some.rest.now)) c.self.view_is c.in_ok-line.was
+    (next_words (λ line. line.now) c.self.inside.rest c.in_ok-line.line c.args.self.now (Some (c.in-Some.word.now, c.in-Some.rest.now)) c.self.view_is
+    c.in_ok-line.was
     c.in-Some.ensures)
 
 pub returns-in-None-clause-found : goal.returns-in-None-clause-found

@@ -16,7 +16,8 @@ returns-then-is_none c =
     let s = c.args.self.now in
     let place = c.loop-place.place in
     let found = c.find.ensures ∙ ap (λ (t : Staged). verifier_of c.written-written.result t.acknowledged) c.self.view_is in
-    sym (unknown-at s.who s.acknowledged c.args.dirty.now.dirty place c.in-Some.loss c.written-written.result c.find.result c.in-Some.ensures c.written-written.ensures found c.if-is_none.ensures)
+    sym (unknown-at s.who s.acknowledged c.args.dirty.now.dirty place c.in-Some.loss c.written-written.result c.find.result c.in-Some.ensures
+    c.written-written.ensures found c.if-is_none.ensures)
     ∙ c.loop-place.invariant
 
 pub loop-place-preserved : goal.loop-place-preserved
@@ -24,5 +25,6 @@ loop-place-preserved c =
     let s = c.args.self.now in
     let place = c.loop-place.place in
     let found = c.find.ensures ∙ ap (λ (t : Staged). verifier_of c.written-written.result t.acknowledged) c.self.view_is in
-    unknown-behind s.who s.acknowledged c.args.dirty.now.dirty place c.in-Some.loss c.written-written.result c.find.result c.in-Some.ensures c.written-written.ensures found c.if-is_none.ensures
+    unknown-behind s.who s.acknowledged c.args.dirty.now.dirty place c.in-Some.loss c.written-written.result c.find.result c.in-Some.ensures
+    c.written-written.ensures found c.if-is_none.ensures
     ∙ c.loop-place.invariant

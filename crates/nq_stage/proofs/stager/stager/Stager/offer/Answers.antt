@@ -1,4 +1,4 @@
-use Rattle.std.proofs.Common.{◌≡◌, ◌∙◌, ap, sym}
+use Rattle.std.proofs.Common.{◌∙◌, ap, sym}
 use Rattle.std.specs.Prelude.{option_copied}
 use Rattle.nq_stage.proofs.Offered.{unknown_has_body}
 use Rattle.nq_stage.proofs.stager.stager.Stager.offer.Goals as goal

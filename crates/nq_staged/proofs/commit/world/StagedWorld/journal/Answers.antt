@@ -1,4 +1,4 @@
-use Rattle.std.proofs.Common.{◌≡◌, ◌∙◌, ap, map, reverse, sym}
+use Rattle.std.proofs.Common.{◌∙◌, ap, map, reverse, sym}
 use Rattle.nq_base.specs.Plain.{plain}
 use Rattle.nq_staged.proofs.Reaching.{reached-inner}
 use Rattle.nq_staged.specs.Worlds.{StagedOver}

@@ -1,4 +1,4 @@
-use Rattle.std.proofs.Common.{◌≡◌, ◌∙◌, ap, map, sym}
+use Rattle.std.proofs.Common.{◌∙◌, ap, map, sym}
 use Rattle.nq_staged.proofs.Reaching.{reached-over}
 use Rattle.nq_staged.specs.Around.{datagram_of}
 use Rattle.nq_staged.specs.Worlds.{StagedOver}

@@ -1,4 +1,4 @@
-use Rattle.std.proofs.Common.{◌≡◌, ◌∙◌, ap, length, sym}
+use Rattle.std.proofs.Common.{◌∙◌, ap, length, sym}
 use Rattle.nq_staged.proofs.Reaching.{reached-over}
 use Rattle.nq_staged.specs.Worlds.{StagedOver}
 use Rattle.nq_stage.specs.Outer.{Outside}
@@ -7,7 +7,8 @@ use Rattle.nq_staged.proofs.commit.world.StagedWorld.sent.Goals as goal
 pub returns-clause-packets : goal.returns-clause-packets
 returns-clause-packets g c = λ head events told plays.
     let on = c.in_ok-settle.ensures.same head events told plays in
-    c.sent.ensures ∙ ap (λ (w : StagedOver _). length w.around.sent) c.self.view_is ∙ sym (ap (λ (o : Outside). length o.sent) (reached-over head events c.settle.new.self told on.1 on.0.reaches))
+    c.sent.ensures ∙ ap (λ (w : StagedOver _). length w.around.sent) c.self.view_is
+    ∙ sym (ap (λ (o : Outside). length o.sent) (reached-over head events c.settle.new.self told on.1 on.0.reaches))
 
 pub returns-clause-same : goal.returns-clause-same
 returns-clause-same g c = λ head events told plays. (c.settle.ensures.same head events told plays).0

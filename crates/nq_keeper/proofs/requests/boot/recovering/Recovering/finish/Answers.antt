@@ -11,7 +11,8 @@ reached : (until time : ℕ) → until ≤ time → nat_le until time ≡ true
 reached until time h = grind (arith, nat_tests)
 
 -- what a stop leaves, where the time has come
-leaves-ended : (r : Recovery) (time longest : ℕ) (kept : Kept) (found : Option Kept) → r.until ≤ time → longest ≡ r.longest → (found ≡ Some kept) ⊎ (found ≡ Some (opened_by kept longest)) → (found ≡ Some kept) ⊎ (found ≡ Some (ended_at r time kept))
+leaves-ended : (r : Recovery) (time longest : ℕ) (kept : Kept) (found : Option Kept) → r.until ≤ time → longest ≡ r.longest → (found ≡ Some kept)
+    ⊎ (found ≡ Some (opened_by kept longest)) → (found ≡ Some kept) ⊎ (found ≡ Some (ended_at r time kept))
 leaves-ended r time longest kept found come same (inl h) = inl h
 leaves-ended r time longest kept found come same (inr h) =
     inr (h ∙ ap (λ n. Some (opened_by kept n)) same ∙ sym (ap (λ b. Some (if b then opened_by kept r.longest else kept)) (reached r.until time come)))
@@ -19,14 +20,17 @@ leaves-ended r time longest kept found come same (inr h) =
 pub returns-in-Ok-clause-leaves : goal.returns-in-Ok-clause-leaves
 returns-in-Ok-clause-leaves g c =
     λ kept told found left.
-    leaves-ended c.args.self c.args.now c.longest.result kept found (first_of (search rules, grind (arith, common_steps, nat_tests))) c.longest.ensures.longest (c.open.ensures.leaves kept told found left)
+    leaves-ended c.args.self c.args.now c.longest.result kept found (first_of (search rules, grind (arith, common_steps, nat_tests)))
+    c.longest.ensures.longest (c.open.ensures.leaves kept told found left)
 
 pub returns-in-Err-Failed-clause-leaves : goal.returns-in-Err-Failed-clause-leaves
 returns-in-Err-Failed-clause-leaves g c =
     λ kept told found left.
-    leaves-ended c.args.self c.args.now c.longest.result kept found (first_of (search rules, grind (arith, common_steps, nat_tests))) c.longest.ensures.longest (c.open.ensures.leaves kept told found left)
+    leaves-ended c.args.self c.args.now c.longest.result kept found (first_of (search rules, grind (arith, common_steps, nat_tests)))
+    c.longest.ensures.longest (c.open.ensures.leaves kept told found left)
 
 pub returns-in-Err-Memory-clause-leaves : goal.returns-in-Err-Memory-clause-leaves
 returns-in-Err-Memory-clause-leaves g c =
     λ kept told found left.
-    leaves-ended c.args.self c.args.now c.longest.result kept found (first_of (search rules, grind (arith, common_steps, nat_tests))) c.longest.ensures.longest (c.open.ensures.leaves kept told found left)
+    leaves-ended c.args.self c.args.now c.longest.result kept found (first_of (search rules, grind (arith, common_steps, nat_tests)))
+    c.longest.ensures.longest (c.open.ensures.leaves kept told found left)
