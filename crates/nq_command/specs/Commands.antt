@@ -1,4 +1,5 @@
 -- What words say.
+use Rattle.nq_base.specs.Steps.{◌>>=◌}
 use Rattle.std.specs.Prelude.{◌≡◌, ◌≤◌, ℕ, nat_lt, List, [], ◌∷◌, Option, Some, None, if◌then◌else◌, codes, ⊤}
 use Rattle.std.specs.Str.{bytes_eq}
 use Rattle.nq_command.specs.declared.commands.Command.{Command}

@@ -11,7 +11,7 @@ use Rattle.nq_xdr.specs.RpcReading.{message_at}
 use Rattle.nq_wire.specs.declared.Garbage.{Garbage}
 use Rattle.nq_wire.specs.Garbage.{garbage}
 use Rattle.nq_wire.specs.Reading.{item, head_at, tag_at, grant_at, optional_at, name_at}
-use Rattle.nq_xdr.specs.Reading.{word_at, boolean_at, opaque_at}
+use Rattle.nq_xdr.specs.Reading.{◌>>=◌, word_at, boolean_at, opaque_at}
 use Rattle.nq_directory.specs.declared.listing.messages.DirTag.{DirTag}
 use Rattle.nq_directory.specs.declared.names.FileName.{FileName}
 use Rattle.nq_directory.specs.declared.listing.messages.ReadDir.{ReadDir}

@@ -1,4 +1,5 @@
 -- The lines of lists and of finds.
+use Rattle.nq_base.specs.Steps.{◌>>=◌}
 use Rattle.std.specs.Prelude.{ℕ, ◌-◌, List, [], Option, Some, None, codes, nat_lt, if◌then◌else◌}
 use Rattle.std.specs.Str.{bytes_eq}
 use Rattle.nq_script.specs.Reading.{after}

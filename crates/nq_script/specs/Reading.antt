@@ -1,5 +1,6 @@
 -- How words and numbers are read from the front of a text. The grammar does not speak of these; the laws in proofs/
 -- tie the two.
+use Rattle.nq_base.specs.Steps.{◌>>=◌}
 use Rattle.std.specs.Prelude.{ℕ, ◌==◌, ◌&&◌, nat_le, nat_lt, List, [], ◌∷◌, Option, Some, None, if◌then◌else◌, codes}
 use Rattle.std.specs.Str.{bytes_eq}
 use Rattle.nq_base.specs.declared.Told.{Told}

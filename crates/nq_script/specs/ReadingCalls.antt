@@ -1,4 +1,5 @@
 -- Reading the words of a call.
+use Rattle.nq_base.specs.Steps.{◌>>=◌}
 use Rattle.std.specs.Prelude.{ℕ, ◌==◌, Bool, true, ◌&&◌, List, Option, Some, None, codes, if◌then◌else◌}
 use Rattle.std.specs.Str.{bytes_eq}
 use Rattle.nq_base.specs.declared.Told.{Told}

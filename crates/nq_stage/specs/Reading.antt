@@ -11,7 +11,7 @@ use Rattle.nq_xdr.specs.declared.rpc.fault.RpcFault.{RpcFault}
 use Rattle.nq_xdr.specs.RpcReading.{message_at}
 use Rattle.nq_xdr.specs.declared.XdrFault.{XdrFault}
 use Rattle.nq_xdr.specs.declared.XdrFault.TheVariants.{Short, Bool as NoBoolean, Trailing}
-use Rattle.nq_xdr.specs.Reading.{word_at, hyper_at, boolean_at, opaque_at}
+use Rattle.nq_xdr.specs.Reading.{◌>>=◌, word_at, hyper_at, boolean_at, opaque_at}
 use Rattle.nq_stage.specs.declared.messages.Commit.{Commit}
 use Rattle.nq_stage.specs.declared.messages.Pushed.{Pushed}
 use Rattle.nq_stage.specs.declared.messages.Written.{Written}
