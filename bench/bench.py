@@ -11,7 +11,7 @@ prints datagrams and megabytes, or requests of a server, per second; or times ca
     bench/bench.py [--program FILE] --storms
 
 The program is the built `nqnfs` or, with --codecs or --parts, the built `story_parts` (the gate leaves both in their crates' `out/`). Each
-input is run three times; the fastest run counts. The words are `replay` where none are given. With --calls each schedule is run five times, with and without
+input is run three times, and each storm five times; the fastest run counts. The words are `replay` where none are given. With --calls each schedule is run five times, with and without
 the calls that are timed, and the least processor times count. With --journals it times `nqnfs check` on sound journals of five kinds, of a tenth of so many
 lines and of so many.
 """
@@ -123,7 +123,7 @@ def codecs(program):
     return 0
 
 
-# What a host does that holds so many files, with so many of their blocks in turn.
+# How often a host calls, and on how many files and blocks in turn.
 CALLS = 50_000
 EXTENTS = ((1, 1), (1, 32), (1, 512), (256, 256), (256, 512))
 
@@ -178,8 +178,10 @@ def seconds(program, command, schedule):
         took = []
         for _ in range(5):
             began = processor()
-            assert run(program, [command], made.name)[2] == 0, "a schedule that the program does not run"
+            status = run(program, [command], made.name)[2]
             took.append(processor() - began)
+            if status != 0:
+                sys.exit("the program does not run a schedule")
         return min(took)
 
 
@@ -388,7 +390,7 @@ def storms(program):
 
 
 def main():
-    parser = argparse.ArgumentParser(description="Times nqnfs replay, check or storm, or story_parts.")
+    parser = argparse.ArgumentParser(description="Times nqnfs replay, names, check or storm, or story_parts.")
     parser.add_argument("--program")
     parser.add_argument("--words", nargs="*", default=["replay"])
     parser.add_argument("--codecs", action="store_true")
