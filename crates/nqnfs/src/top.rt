@@ -33,7 +33,11 @@ pub(crate) fn ran<S: Source, K: Sink, D: Disk + Drop, L: Link, C: Clock>(
     requires tells { makes_a_run (command_of words.now) ≡ true → (bytes : List ℕ) × (D.told disk ≡ Some bytes) }
     requires links { (hosts turns : ℕ) → command_of words.now ≡ Some (Command.Loop hosts turns) → length links.old ≡ hosts + 1 }
 {
-    let mut fates = fates(alloc)?;
+    let mut fates: Vec<Box<dyn Fate>> = Vec::new(alloc);
+    fates.push(Box::new(alloc, SteadyFate::new())?)?;
+    fates.push(Box::new(alloc, LossyFate::new())?)?;
+    fates.push(Box::new(alloc, CutFate::new())?)?;
+    fates.push(Box::new(alloc, HostileFate::new())?)?;
     let ended = run(
         alloc,
         words,
@@ -46,14 +50,4 @@ pub(crate) fn ran<S: Source, K: Sink, D: Disk + Drop, L: Link, C: Clock>(
         fates.as_mut_slice(),
     );
     Ok(ended)
-}
-
-/// The four fates.
-fn fates(alloc: Global) -> Result<Vec<Box<dyn Fate>>, NoMemory> {
-    let mut fates: Vec<Box<dyn Fate>> = Vec::new(alloc);
-    fates.push(Box::new(alloc, SteadyFate::new())?)?;
-    fates.push(Box::new(alloc, LossyFate::new())?)?;
-    fates.push(Box::new(alloc, CutFate::new())?)?;
-    fates.push(Box::new(alloc, HostileFate::new())?)?;
-    Ok(fates)
 }
