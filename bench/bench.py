@@ -102,6 +102,13 @@ def processor():
     return used.ru_utime + used.ru_stime
 
 
+def spent(program, words, path):
+    """Seconds of processor time of one run, and what `run` tells of it."""
+    began = processor()
+    ran = run(program, words, path)
+    return processor() - began, ran
+
+
 def often(program, words, times):
     """Seconds of processor time of the fastest of three runs of story_parts, and what it prints."""
     fastest = None
@@ -152,8 +159,8 @@ def parts(program):
     return 0
 
 
-def held(verb, files, blocks, times):
-    """A schedule in which a host reads or writes so many blocks of so many files once, and then so many times from its cache."""
+def of_held_blocks(verb, files, blocks, times):
+    """A schedule in which a host reads or writes so many blocks of so many files once, and then so many times under its leases."""
     head = ["nqnfs-schedule 1", "hosts 1", "term 30", *(f"file f{number} {blocks // files}" for number in range(files)), "begin"]
     calls = []
     for place in range(blocks):
@@ -163,7 +170,7 @@ def held(verb, files, blocks, times):
     return "\n".join([*head, *first, *itertools.islice(itertools.cycle(calls), times), "end", ""])
 
 
-def finds(names, times):
+def of_finds(names, times):
     """A schedule in which a host lists a directory of so many names, and then finds one after the other so many times."""
     head = ["nqnfs-schedule 2", "hosts 1", "term 60", "longest 600", *(f"file f{number:03} 1" for number in range(names)), "begin"]
     asked = [f"find 0 f{number:03}" for number in range(names)]
@@ -175,24 +182,22 @@ def seconds(program, command, schedule):
     with tempfile.NamedTemporaryFile("w", suffix=".schedule") as made:
         made.write(schedule)
         made.flush()
-        took = []
-        for _ in range(5):
-            began = processor()
-            status = run(program, [command], made.name)[2]
-            took.append(processor() - began)
-            if status != 0:
-                sys.exit("the program does not run a schedule")
-        return min(took)
+        runs = [spent(program, [command], made.name) for _ in range(5)]
+        if any(ran[2] != 0 for _, ran in runs):
+            sys.exit("the program does not run a schedule")
+        return min(took for took, _ in runs)
 
 
 def calls(program):
     """Prints what a cached read, a delayed write and a find take, with the reading of its line and the printing of what it tells."""
     for name, verb in (("a cached read", "read"), ("a delayed write", "write")):
         for files, blocks in EXTENTS:
-            each = (seconds(program, "replay", held(verb, files, blocks, CALLS)) - seconds(program, "replay", held(verb, files, blocks, 0))) / CALLS
+            many, none = (seconds(program, "replay", of_held_blocks(verb, files, blocks, times)) for times in (CALLS, 0))
+            each = (many - none) / CALLS
             print(f"{f'{name}, {files} files, {blocks} blocks':40} {each * 1e6:6.2f} us {1 / each:12,.0f} per second")
     for names in NAMES:
-        each = (seconds(program, "names", finds(names, FINDS)) - seconds(program, "names", finds(names, 0))) / FINDS
+        many, none = (seconds(program, "names", of_finds(names, times)) for times in (FINDS, 0))
+        each = (many - none) / FINDS
         print(f"{f'a find among {names}':40} {each * 1e6:6.2f} us {1 / each:12,.0f} per second")
     return 0
 
@@ -380,9 +385,7 @@ def storms(program):
     for kind, events, most in STORMS:
         fastest = None
         for _ in range(5):
-            began = processor()
-            _, memory, status, printed = run(program, ["storm", kind, "1", str(events)], os.devnull)
-            took = processor() - began
+            took, (_, memory, status, printed) = spent(program, ["storm", kind, "1", str(events)], os.devnull)
             fastest = took if fastest is None else min(took, fastest)
         print(f"{kind:12} {events:9,} {fastest:8.3f} {memory:6.0f} {status:6}  {printed:,}")
         failed = failed or status != 0 or (most is not None and fastest > most)
