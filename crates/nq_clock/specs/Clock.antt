@@ -14,6 +14,11 @@ abbrev pub AreRising : (floor : ℕ) → List ℕ → Type 0
 AreRising floor [] = ⊤
 AreRising floor (reading ∷ later) = (floor ≤ reading) × (reading < 2 ^ 62) × AreRising reading later
 
+-- a clock in memory: the readings to come, and how many were asked for
+pub record StoredClock : Type 0 where
+  pub readings : List ℕ
+  pub reads : ℕ
+
 -- the first reading to come
 abbrev pub first_of_readings : List ℕ → ℕ
 first_of_readings [] = 0

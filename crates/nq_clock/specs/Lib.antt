@@ -1,4 +1,5 @@
 pub mod Clock
 pub mod Clocks
 pub mod Counts
+pub mod StdClock
 pub mod Tracks

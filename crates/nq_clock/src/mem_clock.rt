@@ -8,20 +8,21 @@ use nq_base::Ticks;
 use std::marker::Model;
 
 /// A clock that gives the readings that it is told, and then the last of them for ever. Contracts see the readings to
-/// come.
+/// come, and how many were asked for.
 #[derive(Drop)]
 pub struct MemClock {
     readings: Vec<Ticks>,
     place: usize,
+    reads: u64,
 }
 
 impl Model for MemClock {
-    ghost use Rattle.std.specs.Prelude.{ℕ, ◌<◌, List, drop, length};
-    ghost use Rattle.nq_clock.specs.Clock.{AreRising};
+    ghost use Rattle.std.specs.Prelude.{◌<◌, drop, length};
+    ghost use Rattle.nq_clock.specs.Clock.{AreRising, StoredClock};
 
-    ghost Value = { List ℕ };
+    ghost Value = { StoredClock };
 
-    ghost view = { λ c. drop c.place c.readings.items };
+    ghost view = { λ c. record { readings = drop c.place c.readings.items; reads = c.reads } };
 
     ghost invariant = { λ c. (c.place < length c.readings.items) × AreRising 0 (drop c.place c.readings.items) };
 }
@@ -31,18 +32,25 @@ impl MemClock {
     pub fn new(readings: Vec<Ticks>) -> MemClock
         requires some { 0 < length readings.items }
         requires rising { AreRising 0 readings.items }
-        ensures { result ≡ readings.items }
+        ensures { result ≡ record { readings = readings.items; reads = 0 } }
     {
-        MemClock { readings, place: 0 }
+        MemClock {
+            readings,
+            place: 0,
+            reads: 0,
+        }
     }
 }
 
 impl Clock for MemClock {
-    ghost floor = { λ clock. first_of_readings clock };
+    ghost floor = { λ clock. first_of_readings clock.readings };
 
-    ghost readings = { λ clock. Some clock };
+    ghost readings = { λ clock. Some clock.readings };
+
+    ghost reads = { λ clock. clock.reads };
 
     fn now(&mut self) -> Ticks {
+        self.reads = self.reads.saturating_add(1);
         let reading = self.readings[self.place];
         if self.place + 1 < self.readings.len() {
             self.place += 1;

@@ -1,12 +1,12 @@
 //! One file as a disk.
 
-ghost use Rattle.std.specs.Prelude.{◌≡◌, ◌≤◌, ℕ, List, Option, None, true, false, length, drop, IfOk, OnOk};
+ghost use Rattle.std.specs.Prelude.{◌≡◌, ◌+◌, ◌≤◌, ℕ, List, Option, None, true, false, length, drop, IfOk, OnOk};
 ghost use Rattle.std.specs.Option.{ForSome};
 ghost use Rattle.std.proofs.Common.{inl};
 ghost use Rattle.nq_io.specs.Faults.{Rose, count_up};
 ghost use Rattle.nq_disk.specs.Bytes.{AreBytes};
 ghost use Rattle.nq_disk.specs.Calling.{Counts, IsAllThatIsLeft, LeavesNoMore, LeavesTorn, ReadsFront, Writes};
-ghost use Rattle.nq_disk.specs.FileDisk.{Anything, StaysFile, untold};
+ghost use Rattle.nq_disk.specs.FileDisk.{Anything, StaysFile, TookAll, unasked, untold};
 ghost use Rattle.nq_disk.specs.FileLaws.{stays-itself, stays-on};
 
 use crate::copying::copy_in;
@@ -24,14 +24,17 @@ const PIECE: usize = 4096;
 
 /// A file of the operating system as a disk, which tells nothing of its bytes. It is opened, or made where it is not there, at
 /// the first call, and locked, so that two disks never write one file. A sync is `fsync`, and the first one syncs the folder,
-/// too. Each error is a fault. Contracts see where the file is, whether it was opened and its name synced, and the count of
-/// faults, which stands still at `u64::MAX`.
+/// too. Each error is a fault. Contracts see where the file is, whether it was opened and its name synced, what it took and
+/// whether that was synced, and the count of faults. Each count stands still at `u64::MAX`.
 #[derive(Drop)]
 pub struct FileDisk {
     files: HostRuntime,
     path: String,
     file: Option<File>,
     knows_name: bool,
+    end: u64,
+    taken: u64,
+    is_synced: bool,
     faults: u64,
 }
 
@@ -41,7 +44,13 @@ impl Model for FileDisk {
 
     ghost Value = { SeenFile };
 
-    ghost view = { λ d. record { path = string_bytes d.path; is_open = is_some d.file; name_lasts = d.knows_name; faults = d.faults } };
+    ghost view = { λ d. record {
+      path = string_bytes d.path;
+      is_open = is_some d.file;
+      name_lasts = d.knows_name;
+      asked = record { end = d.end; taken = d.taken; is_synced = d.is_synced };
+      faults = d.faults;
+    } };
 }
 
 /// Opens a file, or makes it, and locks it.
@@ -66,7 +75,9 @@ fn sync_folder(files: &HostRuntime, path: &str) -> io::Result<()> {
 }
 
 /// The place so many bytes further on.
-fn further(place: u64, count: usize) -> io::Result<u64> {
+fn further(place: u64, count: usize) -> io::Result<u64>
+    ensures { IfOk result (λ further. further ≡ place + count) }
+{
     match place.checked_add(count as u64) {
         Some(further) => Ok(further),
         None => Err(io::Error::from(ErrorKind::InvalidInput)),
@@ -92,18 +103,6 @@ fn read_from(file: &File, place: u64, into: &mut [u8]) -> io::Result<usize>
     Ok(count)
 }
 
-/// Writes all the bytes at a place.
-fn write_whole(file: &File, place: u64, bytes: &[u8]) -> io::Result<()> {
-    let mut count = 0;
-    while count < bytes.len() {
-        match file.write_at(&bytes[count..], further(place, count)?)? {
-            0 => return Err(io::Error::from(ErrorKind::WriteZero)),
-            taken => count += taken,
-        }
-    }
-    Ok(())
-}
-
 impl FileDisk {
     /// The file at a path, which is opened at the first call.
     ///
@@ -111,7 +110,7 @@ impl FileDisk {
     ///
     /// Only want of memory.
     pub fn new(alloc: Global, files: HostRuntime, path: &str) -> Result<FileDisk, NoMemory>
-        ensures { IfOk result (λ disk. disk ≡ record { path = path.now; is_open = false; name_lasts = false; faults = 0 }) }
+        ensures { IfOk result (λ disk. disk ≡ record { path = path.now; is_open = false; name_lasts = false; asked = unasked; faults = 0 }) }
     {
         let path = String::from_str(alloc, path)?;
         Ok(FileDisk {
@@ -119,6 +118,9 @@ impl FileDisk {
             path,
             file: None,
             knows_name: false,
+            end: 0,
+            taken: 0,
+            is_synced: false,
             faults: 0,
         })
     }
@@ -137,6 +139,7 @@ impl FileDisk {
     fn open(&mut self) -> io::Result<()>
         ensures path { self.new.path ≡ self.old.path }
         ensures same { self.new.faults ≡ self.old.faults }
+        ensures asked { self.new.asked ≡ self.old.asked }
         ensures opened { OnOk result (self.new.is_open ≡ true) }
     {
         if self.file.is_some() {
@@ -158,6 +161,7 @@ impl FileDisk {
     fn measure(&mut self) -> io::Result<u64>
         ensures path { self.new.path ≡ self.old.path }
         ensures same { self.new.faults ≡ self.old.faults }
+        ensures asked { self.new.asked ≡ self.old.asked }
         ensures opened { OnOk result (self.new.is_open ≡ true) }
     {
         self.open()?;
@@ -168,6 +172,7 @@ impl FileDisk {
     fn read_some(&mut self, place: u64, into: &mut [u8]) -> io::Result<usize>
         ensures path { self.new.path ≡ self.old.path }
         ensures same { self.new.faults ≡ self.old.faults }
+        ensures asked { self.new.asked ≡ self.old.asked }
         ensures opened { OnOk result (self.new.is_open ≡ true) }
         ensures within { IfOk result (λ count. count ≤ length into.old) }
         ensures rest { IfOk result (λ count. drop count into.new ≡ drop count into.old) }
@@ -176,14 +181,51 @@ impl FileDisk {
         read_from(self.file()?, place, into)
     }
 
+    /// Asks the file to write bytes at a place, and says how many it took.
+    fn write_some(&mut self, place: u64, bytes: &[u8]) -> io::Result<usize>
+        ensures path { self.new.path ≡ self.old.path }
+        ensures same { self.new.faults ≡ self.old.faults }
+        ensures stays_open { self.new.is_open ≡ self.old.is_open }
+        ensures within { IfOk result (λ count. count ≤ length bytes.now) }
+        ensures took { IfOk result (λ count. TookAll place count self.old.asked self.new.asked) }
+        ensures unsynced { self.new.asked.is_synced ≡ false }
+    {
+        self.is_synced = false;
+        let count = self.file()?.write_at(bytes, place)?;
+        self.end = further(place, count)?;
+        self.taken = self.taken.saturating_add(count as u64);
+        Ok(count)
+    }
+
     /// Writes all the bytes at a place.
     fn write_all(&mut self, place: u64, bytes: &[u8]) -> io::Result<()>
         ensures path { self.new.path ≡ self.old.path }
         ensures same { self.new.faults ≡ self.old.faults }
         ensures opened { OnOk result (self.new.is_open ≡ true) }
+        ensures took { OnOk result (TookAll place (length bytes.now) self.old.asked self.new.asked) }
+        ensures unsynced { OnOk result (self.new.asked.is_synced ≡ false) }
     {
         self.open()?;
-        write_whole(self.file()?, place, bytes)
+        let mut count = self.write_some(place, bytes)?;
+        while count < bytes.len() {
+            match self.write_some(further(place, count)?, &bytes[count..])? {
+                0 => return Err(io::Error::from(ErrorKind::WriteZero)),
+                taken => count += taken,
+            }
+        }
+        Ok(())
+    }
+
+    /// Asks the machine to sync the file.
+    fn sync_file(&mut self) -> io::Result<()>
+        ensures path { self.new.path ≡ self.old.path }
+        ensures same { self.new.faults ≡ self.old.faults }
+        ensures stays_open { self.new.is_open ≡ self.old.is_open }
+        ensures synced { OnOk result (self.new.asked.is_synced ≡ true) }
+    {
+        self.file()?.sync_all()?;
+        self.is_synced = true;
+        Ok(())
     }
 
     /// Syncs the file, and its folder if that was not done yet.
@@ -191,10 +233,11 @@ impl FileDisk {
         ensures path { self.new.path ≡ self.old.path }
         ensures same { self.new.faults ≡ self.old.faults }
         ensures opened { OnOk result (self.new.is_open ≡ true) }
+        ensures synced { OnOk result (self.new.asked.is_synced ≡ true) }
         ensures lasts { OnOk result (self.new.name_lasts ≡ true) }
     {
         self.open()?;
-        self.file()?.sync_all()?;
+        self.sync_file()?;
         if !self.knows_name {
             sync_folder(&self.files, self.path.as_str())?;
             self.knows_name = true;
@@ -243,6 +286,7 @@ impl Disk for FileDisk {
 
         // Of this one.
         ensures opened { OnOk result (self.new.is_open ≡ true) }
+        ensures asked { self.new.asked ≡ self.old.asked }
     {
         match self.measure() {
             Ok(size) => Ok(size),
@@ -262,6 +306,7 @@ impl Disk for FileDisk {
 
         // Of this one.
         ensures opened { OnOk result (self.new.is_open ≡ true) }
+        ensures asked { self.new.asked ≡ self.old.asked }
     {
         match self.read_some(place, into) {
             Ok(count) => Ok(count),
@@ -278,6 +323,8 @@ impl Disk for FileDisk {
 
         // Of this one.
         ensures opened { OnOk result (self.new.is_open ≡ true) }
+        ensures took { OnOk result (TookAll place (length bytes.now) self.old.asked self.new.asked) }
+        ensures unsynced { OnOk result (self.new.asked.is_synced ≡ false) }
     {
         match self.write_all(place, bytes) {
             Ok(()) => Ok(()),
@@ -295,6 +342,7 @@ impl Disk for FileDisk {
 
         // Of this one.
         ensures opened { OnOk result (self.new.is_open ≡ true) }
+        ensures synced { OnOk result (self.new.asked.is_synced ≡ true) }
         ensures lasts { OnOk result (self.new.name_lasts ≡ true) }
     {
         match self.sync_all() {

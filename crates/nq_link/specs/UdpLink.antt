@@ -7,11 +7,14 @@ use Rattle.std.specs.declared.net.socket_addr.SocketAddr.{SocketAddr}
 use Rattle.nq_base.specs.declared.Party.{Party}
 use Rattle.nq_link.specs.declared.link.Came.{Came}
 
--- whose link it is, its count of faults, and its count of receives
+-- whose link it is, its count of faults, its count of receives, where the last datagram was sent to, and where that one came from which
+-- the last receive brought, if it brought one
 pub record CountedSocket : Type 0 where
   pub me : Party
   pub faults : ℕ
   pub receives : ℕ
+  pub receiver : Option SocketAddr
+  pub sender : Option SocketAddr
 
 -- the port of the server is 20560, and that of host h is 20561 + h; a host from 64 on has none
 abbrev pub port_of : Party → Option ℕ
@@ -47,6 +50,18 @@ abbrev pub ComesFrom : SocketAddr → (length : ℕ) → Came → Type 0
 ComesFrom address length (Came.Datagram count sender) = (count ≡ length) × IsAddressOf sender address
 ComesFrom address length Came.Nothing = (party : Party) → IsAddressOf party address → ⊥
 ComesFrom address length Came.Failed = ⊥
+
+-- it is the address of a party, and there is one
+abbrev pub IsOf : Party → Option SocketAddr → Type 0
+IsOf party None = ⊥
+IsOf party (Some address) = IsAddressOf party address
+
+-- what a receive answers is from the party at the address of the datagram that it brought; a stranger's counts as nothing
+abbrev pub CameFrom : Came → Option SocketAddr → Type 0
+CameFrom (Came.Datagram count sender) address = IsOf sender address
+CameFrom Came.Nothing None = ⊤
+CameFrom Came.Nothing (Some address) = (party : Party) → IsAddressOf party address → ⊥
+CameFrom Came.Failed address = address ≡ None
 
 -- whoever sent what came has an address
 abbrev pub IsFromParty : Came → Type 0

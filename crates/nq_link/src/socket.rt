@@ -1,6 +1,6 @@
 //! A UDP socket that looks again for a moment before it waits.
 
-ghost use Rattle.std.specs.Prelude.{◌≤◌, length, IfOk};
+ghost use Rattle.std.specs.Prelude.{◌≡◌, ◌≤◌, length, None, Some, IfOk, OnErr};
 
 use std::io;
 use std::io::ErrorKind;
@@ -30,6 +30,10 @@ pub(crate) struct PatientSocket {
     rest: u32,
     /// How many did so behind the last looks in vain.
     last_rest: u32,
+    /// Where the last datagram was sent to.
+    receiver: Option<SocketAddr>,
+    /// Where the datagram came from that the last receive brought, if it brought one.
+    sender: Option<SocketAddr>,
 }
 
 /// Whether an error says only that nothing came in time.
@@ -46,7 +50,10 @@ impl PatientSocket {
         net: &R,
         address: SocketAddr,
         wait: Option<Duration>,
-    ) -> io::Result<PatientSocket> {
+    ) -> io::Result<PatientSocket>
+        ensures receiver { IfOk result (λ socket. socket.receiver ≡ None) }
+        ensures sender { IfOk result (λ socket. socket.sender ≡ None) }
+    {
         let socket = UdpSocket::bind(net, address)?;
         match wait {
             Some(wait) => socket.set_read_timeout(Some(wait))?,
@@ -60,17 +67,26 @@ impl PatientSocket {
             is_busy: false,
             rest: 0,
             last_rest: 0,
+            receiver: None,
+            sender: None,
         })
     }
 
     /// Sends a datagram, and says how many of its bytes were sent.
-    pub(crate) fn send(&self, to: SocketAddr, bytes: &[u8]) -> io::Result<usize> {
+    pub(crate) fn send(&mut self, to: SocketAddr, bytes: &[u8]) -> io::Result<usize>
+        ensures goes { self.new.receiver ≡ Some to }
+        ensures sender { self.new.sender ≡ self.old.sender }
+    {
+        self.receiver = Some(to);
         self.socket.send_to(bytes, to)
     }
 
     /// Receives a datagram, and says how many bytes it has and where it came from.
     pub(crate) fn receive(&mut self, into: &mut [u8]) -> io::Result<(usize, SocketAddr)>
-        ensures { IfOk result (λ r. r.0 ≤ length into.old) }
+        ensures within { IfOk result (λ r. r.0 ≤ length into.old) }
+        ensures came { IfOk result (λ r. self.new.sender ≡ Some r.1) }
+        ensures nothing { OnErr result (self.new.sender ≡ None) }
+        ensures receiver { self.new.receiver ≡ self.old.receiver }
     {
         let came = if self.looks_first() {
             self.look_and_wait(into)
@@ -78,11 +94,17 @@ impl PatientSocket {
             self.wait(into)
         };
         self.is_busy = self.waits && came.is_ok();
+        self.sender = match &came {
+            Ok((_, sender)) => Some(*sender),
+            Err(_) => None,
+        };
         came
     }
 
     /// Whether the next receive looks some times before it waits.
-    fn looks_first(&mut self) -> bool {
+    fn looks_first(&mut self) -> bool
+        ensures { self.new.receiver ≡ self.old.receiver }
+    {
         if !self.is_busy || self.rest == 0 {
             return self.is_busy;
         }
@@ -92,7 +114,8 @@ impl PatientSocket {
 
     /// Looks some times whether a datagram is there, and then waits for one.
     fn look_and_wait(&mut self, into: &mut [u8]) -> io::Result<(usize, SocketAddr)>
-        ensures { IfOk result (λ r. r.0 ≤ length into.old) }
+        ensures within { IfOk result (λ r. r.0 ≤ length into.old) }
+        ensures receiver { self.new.receiver ≡ self.old.receiver }
     {
         self.set_blocking(false)?;
         for _look in 0..LOOKS {
@@ -112,14 +135,17 @@ impl PatientSocket {
 
     /// Waits for a datagram, where a receive may wait.
     fn wait(&mut self, into: &mut [u8]) -> io::Result<(usize, SocketAddr)>
-        ensures { IfOk result (λ r. r.0 ≤ length into.old) }
+        ensures within { IfOk result (λ r. r.0 ≤ length into.old) }
+        ensures receiver { self.new.receiver ≡ self.old.receiver }
     {
         self.set_blocking(self.waits)?;
         self.socket.recv_from(into)
     }
 
     /// Sees to it that the machine waits in the calls of the socket, or does not.
-    fn set_blocking(&mut self, is_blocking: bool) -> io::Result<()> {
+    fn set_blocking(&mut self, is_blocking: bool) -> io::Result<()>
+        ensures { self.new.receiver ≡ self.old.receiver }
+    {
         if self.is_blocking != is_blocking {
             self.socket.set_nonblocking(!is_blocking)?;
             self.is_blocking = is_blocking;

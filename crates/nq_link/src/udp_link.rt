@@ -1,10 +1,10 @@
 //! A link over UDP.
 
-ghost use Rattle.std.specs.Prelude.{◌≡◌, ◌↔◌, ◌<◌, ◌≤◌, ◌≢◌, nat_lt, None, Some, IsTrue, IfOk, IfSome, length, if◌then◌else◌};
+ghost use Rattle.std.specs.Prelude.{◌≡◌, ◌↔◌, ◌<◌, ◌≤◌, ◌≢◌, nat_lt, None, Some, IsTrue, IfOk, IfSome, OnErr, OnOk, length, if◌then◌else◌};
 ghost use Rattle.nq_base.specs.declared.Party.{Party};
 ghost use Rattle.nq_io.specs.Faults.{Rose, count_up};
 ghost use Rattle.nq_link.specs.Link.{Comes, CountsReceive, CountsSend, Sends};
-ghost use Rattle.nq_link.specs.UdpLink.{ComesFrom, HasAddress, IsAt, IsAtPort, IsFromParty, IsLocal, port_of};
+ghost use Rattle.nq_link.specs.UdpLink.{CameFrom, ComesFrom, HasAddress, IsAt, IsAtPort, IsFromParty, IsLocal, IsOf, port_of};
 ghost use Rattle.nq_link.specs.declared.link.Sent.{Sent};
 
 use crate::socket::{PatientSocket, is_silence};
@@ -32,8 +32,8 @@ const WAIT: u64 = 5;
 /// before it by [`open`](UdpLink::open). Where nothing has come, a receive asks the machine to wait for 5 milliseconds; a machine
 /// counts them in ticks of its own, and one that ticks 250 times a second waits for up to 12. Behind a receive that brought a
 /// datagram it looks for another one for some microseconds before it waits. A datagram from another port or
-/// address is taken and counts as nothing. Each error of the socket is a fault. Contracts see whose link it is and its counts,
-/// which stand still at `u64::MAX`.
+/// address is taken and counts as nothing. Each error of the socket is a fault. Contracts see whose link it is, its counts,
+/// which stand still at `u64::MAX`, and to and from which address the last datagrams went.
 #[derive(Drop)]
 pub struct UdpLink<R> {
     net: R,
@@ -46,11 +46,18 @@ pub struct UdpLink<R> {
 }
 
 impl<R> Model for UdpLink<R> {
+    ghost use Rattle.std.specs.Prelude.{option_and_then};
     ghost use Rattle.nq_link.specs.UdpLink.{CountedSocket};
 
     ghost Value = { CountedSocket };
 
-    ghost view = { λ l. record { me = l.me; faults = l.faults; receives = l.receives } };
+    ghost view = { λ l. record {
+      me = l.me;
+      faults = l.faults;
+      receives = l.receives;
+      receiver = option_and_then (λ s. s.receiver) l.socket;
+      sender = option_and_then (λ s. s.sender) l.socket;
+    } };
 }
 
 /// The address of a party; None for a host that there cannot be.
@@ -121,7 +128,10 @@ fn party_of(port: u16) -> Option<Party>
 }
 
 /// A socket at the address of a party, which waits for so long in each receive, or not at all.
-fn bound<R: Net>(net: &R, me: Party, wait: Option<Duration>) -> io::Result<PatientSocket> {
+fn bound<R: Net>(net: &R, me: Party, wait: Option<Duration>) -> io::Result<PatientSocket>
+    ensures receiver { IfOk result (λ socket. socket.receiver ≡ None) }
+    ensures sender { IfOk result (λ socket. socket.sender ≡ None) }
+{
     match address_of(me) {
         Some(address) => PatientSocket::bind(net, address, wait),
         None => Err(io::Error::from(ErrorKind::InvalidInput)),
@@ -131,7 +141,7 @@ fn bound<R: Net>(net: &R, me: Party, wait: Option<Duration>) -> io::Result<Patie
 impl<R: Net> UdpLink<R> {
     /// A link of this party. It takes no memory.
     pub fn new(net: R, me: Party) -> UdpLink<R>
-        ensures { result ≡ record { me = me; faults = 0; receives = 0 } }
+        ensures { result ≡ record { me = me; faults = 0; receives = 0; receiver = None; sender = None } }
     {
         UdpLink {
             net,
@@ -146,7 +156,7 @@ impl<R: Net> UdpLink<R> {
 
     /// A link of this party whose receives do not wait, for somebody who looks after many links in turn. It takes no memory.
     pub fn without_wait(net: R, me: Party) -> UdpLink<R>
-        ensures { result ≡ record { me = me; faults = 0; receives = 0 } }
+        ensures { result ≡ record { me = me; faults = 0; receives = 0; receiver = None; sender = None } }
     {
         UdpLink {
             net,
@@ -197,7 +207,8 @@ impl<R: Net> UdpLink<R> {
 
     /// Binds the socket, if that was not done yet.
     fn bind(&mut self) -> io::Result<()>
-        ensures { self.new ≡ self.old }
+        ensures same { self.new ≡ self.old }
+        ensures nothing { OnErr result (self.new.sender ≡ None) }
     {
         if self.socket.is_some() {
             return Ok(());
@@ -216,14 +227,15 @@ impl<R: Net> UdpLink<R> {
 
     /// Sends a datagram, and says how many of its bytes were sent. A party without an address is an error.
     fn send_to(&mut self, to: Party, bytes: &[u8]) -> io::Result<usize>
-        ensures same { self.new ≡ self.old }
+        ensures same { self.new ≡ record self.old { receiver = self.new.receiver } }
+        ensures goes { OnOk result (IsOf to self.new.receiver) }
         ensures nowhere { IfOk result (λ _. port_of to ≢ None) }
     {
         let Some(address) = address_of(to) else {
             return Err(io::Error::from(ErrorKind::InvalidInput));
         };
         self.bind()?;
-        match &self.socket {
+        match &mut self.socket {
             Some(socket) => socket.send(address, bytes),
             None => Err(io::Error::from(ErrorKind::NotConnected)),
         }
@@ -231,8 +243,10 @@ impl<R: Net> UdpLink<R> {
 
     /// Receives a datagram, and says how many bytes it has and where it came from.
     fn receive_from(&mut self, into: &mut [u8]) -> io::Result<(usize, SocketAddr)>
-        ensures same { self.new ≡ self.old }
+        ensures same { self.new ≡ record self.old { sender = self.new.sender } }
         ensures within { IfOk result (λ r. r.0 ≤ length into.old) }
+        ensures came { IfOk result (λ r. self.new.sender ≡ Some r.1) }
+        ensures nothing { OnErr result (self.new.sender ≡ None) }
     {
         self.bind()?;
         match &mut self.socket {
@@ -268,6 +282,7 @@ impl<R: Net> Link for UdpLink<R> {
         ensures cause { CountsSend result self.old.faults self.new.faults }
 
         // Of this one.
+        ensures goes { result ≡ Sent.All → IsOf to self.new.receiver }
         ensures nowhere { port_of to ≡ None → result ≡ Sent.Failed }
     {
         match self.send_to(to, bytes) {
@@ -286,6 +301,7 @@ impl<R: Net> Link for UdpLink<R> {
         ensures cause { CountsReceive result self.old.faults self.new.faults }
 
         // Of this one.
+        ensures came { CameFrom result self.new.sender }
         ensures known { IsFromParty result }
     {
         self.count_receive();
