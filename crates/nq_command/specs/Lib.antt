@@ -3,3 +3,4 @@ pub mod Commands
 pub mod Lines
 pub mod Pieces
 pub mod Starts
+pub mod Wrongs

@@ -6,9 +6,9 @@ use Rattle.nq_command.specs.declared.prompt.lines.Line.{Line}
 use Rattle.nq_script.specs.Calls.{SpellsCall}
 use Rattle.nq_script.specs.WordsReading.{words_of}
 
--- a line tells to put a file of the machine under a name
-abbrev pub TellsToPut : (path name text : List ℕ) → Type 0
-TellsToPut path name text = IsName name × (words_of text ≡ codes "put" ∷ path ∷ name ∷ [])
+-- a line tells to store a file of the machine under a name
+abbrev pub TellsToStore : (path name text : List ℕ) → Type 0
+TellsToStore path name text = IsName name × (words_of text ≡ codes "store" ∷ path ∷ name ∷ [])
 
 -- a line tells to get the file of a name, as a file of the machine
 abbrev pub TellsToGet : (name path text : List ℕ) → Type 0
@@ -16,7 +16,7 @@ TellsToGet name path text = IsName name × (words_of text ≡ codes "get" ∷ na
 
 -- a line tells neither
 pub record NamesNoFile (text : List ℕ) : Type 0 where
-  pub none_put : (path name : List ℕ) → TellsToPut path name text → ⊥
+  pub none_stored : (path name : List ℕ) → TellsToStore path name text → ⊥
   pub none_got : (path name : List ℕ) → TellsToGet name path text → ⊥
 
 -- a line that says nothing that can be done
@@ -33,6 +33,6 @@ Says Line.Empty text = text ≡ []
 Says Line.Help text = text ≡ codes "help"
 Says Line.Quit text = text ≡ codes "quit"
 Says (Line.Call call) text = SpellsCall 2 call text
-Says (Line.Put path name) text = TellsToPut path.now name text
+Says (Line.Store path name) text = TellsToStore path.now name text
 Says (Line.Get name path) text = TellsToGet name path.now text
 Says Line.Unknown text = SaysNothing text

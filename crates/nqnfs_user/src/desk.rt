@@ -16,11 +16,15 @@ const MOST_TURNS: u32 = 1 << 30;
 /// The term that a client wants, in ticks.
 const TERM: u32 = 30;
 
-/// After how many ticks without an answer a call is given up: a recovery and the leases of somebody else come within it.
-const PATIENCE: u64 = 120;
+/// After how many ticks without an answer it is said that it is waited for.
+const QUIETLY: u64 = 3;
 
 /// After how many ticks without an answer the leases are not given back.
 const FAREWELL: u64 = 10;
+
+// What is said once an answer is waited for.
+const WAITING: &str = "waiting for an answer: no server runs, it recovers, somebody else has a lease on the file, \
+    or the server knows a later start of this host; Ctrl-C ends this program";
 
 /// A client that begins an incarnation now, if there is memory for it. It asks the server to attach it.
 fn begin(
@@ -40,7 +44,8 @@ fn begin(
 
 /// A client at work, with its link and its clock. A turn that the link stopped is borne: what was not sent is sent again later.
 /// It remembers why no more can be asked, and what refused a step. It has to be closed in the end.
-pub(crate) struct UserDesk {
+pub(crate) struct UserDesk<'a> {
+    rt: &'a HostRuntime,
     /// Where the memory of its calls comes from.
     pub(crate) alloc: Global,
     client: Client,
@@ -54,19 +59,21 @@ pub(crate) struct UserDesk {
     pub(crate) refusal: Option<Answer>,
 }
 
-impl UserDesk {
+impl<'a> UserDesk<'a> {
     /// A client that begins an incarnation, which no start before this one had, if there is memory for it. It is attached, or `halt` tells why
     /// it is not.
     pub(crate) fn open(
-        alloc: Global,
+        rt: &'a HostRuntime,
         who: Who,
         link: UdpLink<HostRuntime>,
         clock: StdClock<HostRuntime>,
-    ) -> Option<UserDesk> {
+    ) -> Option<UserDesk<'a>> {
+        let alloc = rt.alloc();
         let mut clock = clock;
         let mut link = link;
         let client = begin(alloc, who, &mut link, &mut clock)?;
         let mut desk = UserDesk {
+            rt,
             alloc,
             client,
             next: 0,
@@ -75,12 +82,29 @@ impl UserDesk {
             halt: None,
             refusal: None,
         };
-        let _attached = desk.wait(PATIENCE);
+        let _attached = desk.wait(None);
         Some(desk)
     }
 
-    /// Makes a call, and takes turns until it is answered. There is no answer where no more can be asked.
+    /// Takes in what came since the last call, and ends what is over by now: takes turns until one brings nothing. Each reads the clock
+    /// first. Whether more can be asked.
+    pub(crate) fn hear(&mut self) -> bool {
+        for _turn in 0..MOST_TURNS {
+            let before = self.next;
+            self.take_turn();
+            if self.halt.is_some() || self.next == before {
+                break;
+            }
+        }
+        self.halt.is_none()
+    }
+
+    /// Makes a call, and takes turns until it is answered. Where the clock has gone on since the last turn, what came is taken in before,
+    /// so that no lease is used that is over by the clock. There is no answer where no more can be asked.
     pub(crate) fn ask(&mut self, call: Call) -> Option<Answer> {
+        if self.clock.now() > self.client.time() && !self.hear() {
+            return None;
+        }
         match self.make(call) {
             Answer::Pending => self.wait_for_answer(),
             Answer::Memory => self.stop(Halt::Memory),
@@ -138,31 +162,47 @@ impl UserDesk {
 
     /// Takes turns until the call under way is answered.
     fn wait_for_answer(&mut self) -> Option<Answer> {
-        let answer = self.wait(PATIENCE);
+        let answer = self.wait(None);
         if answer.is_none() && self.halt.is_none() {
             return self.stop(Halt::NoAnswer);
         }
         answer
     }
 
-    /// Takes turns until the call under way is answered or, where there is none, the client is attached; for so many ticks at most.
-    fn wait(&mut self, patience: u64) -> Option<Answer> {
+    /// Takes turns until the call under way is answered or, where there is none, the client is attached; for so many ticks at most, if it is
+    /// said. Once it takes longer it says so.
+    fn wait(&mut self, patience: Option<u64>) -> Option<Answer> {
         let began = self.client.time().0;
+        let mut is_quiet = true;
         for _turn in 0..MOST_TURNS {
-            match self.turn() {
-                ClientTurn::Quiet | ClientTurn::Link => {}
-                ClientTurn::Answered(answer) => return Some(answer),
-                ClientTurn::Memory => return self.stop(Halt::Memory),
-                ClientTurn::Spent => return self.stop(Halt::Spent),
+            if let Some(answer) = self.take_turn() {
+                return Some(answer);
             }
-            if self.client.is_attached() && self.client.call_under_way().is_none() {
+            if self.halt.is_some()
+                || (self.client.is_attached() && self.client.call_under_way().is_none())
+            {
                 return None;
             }
-            if self.client.time().0.saturating_sub(began) > patience {
+            let waited = self.client.time().0.saturating_sub(began);
+            if is_quiet && waited >= QUIETLY {
+                let _told = eprintln!(self.rt; "{WAITING}");
+                is_quiet = false;
+            }
+            if patience.is_some_and(|most| waited > most) {
                 break;
             }
         }
         self.stop(Halt::NoAnswer)
+    }
+
+    /// Takes a turn, and notes where it says that no more can be asked; what answers the call under way, if anything does.
+    fn take_turn(&mut self) -> Option<Answer> {
+        match self.turn() {
+            ClientTurn::Quiet | ClientTurn::Link => None,
+            ClientTurn::Answered(answer) => Some(answer),
+            ClientTurn::Memory => self.stop(Halt::Memory),
+            ClientTurn::Spent => self.stop(Halt::Spent),
+        }
     }
 
     /// Takes a turn, with a journal that is dropped behind it.
@@ -188,13 +228,14 @@ impl UserDesk {
         };
         mem::replace(&mut self.client, client).stop();
         self.next = 0;
-        let _attached = self.wait(FAREWELL);
+        let _attached = self.wait(Some(FAREWELL));
         self.halt.is_none()
     }
 
     /// Ends the client. What it delays still is lost.
     pub(crate) fn close(self) {
         let UserDesk {
+            rt: _,
             alloc: _,
             client,
             next: _,

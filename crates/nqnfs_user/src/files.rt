@@ -10,7 +10,7 @@ use nq_command::prompt::{blocks_for, cut_to, first_block, length_in, piece, push
 /// from the server and compared. The first block has 0 until all else is stored, and then one more than the length, and a mark. None where
 /// a step was not taken or something else was read back. Then the file, if there is one, has nothing that can be got whole, or what it had
 /// before.
-pub(crate) fn put_file(desk: &mut UserDesk, name: Name, bytes: &[u8]) -> Option<FileId>
+pub(crate) fn put_file(desk: &mut UserDesk<'_>, name: Name, bytes: &[u8]) -> Option<FileId>
     requires { length bytes.now ≤ 4190208 }
 {
     let blocks = blocks_for(bytes.len());
@@ -27,7 +27,7 @@ pub(crate) fn put_file(desk: &mut UserDesk, name: Name, bytes: &[u8]) -> Option<
 }
 
 /// Stores the pieces of a file, behind its first block.
-fn put_pieces(desk: &mut UserDesk, file: FileId, bytes: &[u8])
+fn put_pieces(desk: &mut UserDesk<'_>, file: FileId, bytes: &[u8])
     requires { length bytes.now ≤ 4190208 }
 {
     for place in 0..bytes.len().div_ceil(Block::SIZE) {
@@ -40,7 +40,7 @@ fn put_pieces(desk: &mut UserDesk, file: FileId, bytes: &[u8])
 }
 
 /// Stores a block of a file, if there was memory to make it.
-fn put(desk: &mut UserDesk, file: FileId, block: u32, body: Result<Block, NoMemory>) {
+fn put(desk: &mut UserDesk<'_>, file: FileId, block: u32, body: Result<Block, NoMemory>) {
     match body {
         Ok(body) => {
             let block = BlockNo(block);
@@ -51,7 +51,7 @@ fn put(desk: &mut UserDesk, file: FileId, block: u32, body: Result<Block, NoMemo
 }
 
 /// So many bytes of a file, behind its first block, if all steps were taken. Each block is read from the server.
-fn fetch_all(desk: &mut UserDesk, file: FileId, blocks: u32, length: usize) -> Option<Vec<u8>> {
+fn fetch_all(desk: &mut UserDesk<'_>, file: FileId, blocks: u32, length: usize) -> Option<Vec<u8>> {
     let mut bytes = Vec::new(desk.alloc);
     for block in 1..blocks {
         let body = fetch(desk, file, block);
@@ -67,7 +67,7 @@ fn fetch_all(desk: &mut UserDesk, file: FileId, blocks: u32, length: usize) -> O
 }
 
 /// The bytes of the file of this name, if it was put as a whole file and all steps were taken. Each block is read from the server.
-pub(crate) fn get_file(desk: &mut UserDesk, name: Name) -> Option<Vec<u8>> {
+pub(crate) fn get_file(desk: &mut UserDesk<'_>, name: Name) -> Option<Vec<u8>> {
     let file = look_up(desk, name);
     let blocks = blocks_of(desk, file);
     if blocks == 0 {
@@ -81,7 +81,7 @@ pub(crate) fn get_file(desk: &mut UserDesk, name: Name) -> Option<Vec<u8>> {
 }
 
 /// The file of this name with so many blocks; it is made where there is none.
-fn make(desk: &mut UserDesk, name: Name, blocks: u32) -> FileId {
+fn make(desk: &mut UserDesk<'_>, name: Name, blocks: u32) -> FileId {
     match desk.ask(Call::Create { name, blocks }) {
         Some(Answer::Exists) => {
             let file = look_up(desk, name);
@@ -93,7 +93,7 @@ fn make(desk: &mut UserDesk, name: Name, blocks: u32) -> FileId {
 }
 
 /// The file of this name.
-fn look_up(desk: &mut UserDesk, name: Name) -> FileId {
+fn look_up(desk: &mut UserDesk<'_>, name: Name) -> FileId {
     file_in(&desk.step(Call::Lookup { name }))
 }
 
@@ -106,7 +106,7 @@ fn file_in(value: &Value) -> FileId {
 }
 
 /// How many blocks a file has.
-fn blocks_of(desk: &mut UserDesk, file: FileId) -> u32 {
+fn blocks_of(desk: &mut UserDesk<'_>, file: FileId) -> u32 {
     match desk.step(Call::Attr { file }) {
         Value::Blocks(blocks) => blocks,
         _ => 0,
@@ -114,7 +114,7 @@ fn blocks_of(desk: &mut UserDesk, file: FileId) -> u32 {
 }
 
 /// A block of a file, as the server has it.
-fn fetch(desk: &mut UserDesk, file: FileId, block: u32) -> Block {
+fn fetch(desk: &mut UserDesk<'_>, file: FileId, block: u32) -> Block {
     let block = BlockNo(block);
     match desk.step(Call::Fetch { file, block }) {
         Value::Body(body) => body,

@@ -8,7 +8,7 @@ mod starts;
 
 use crate::desk::UserDesk;
 use crate::prompting::serve_lines;
-use crate::starts::next_inc;
+use crate::starts::{let_second_pass, next_inc};
 use nq_base::ending::{Ending, Halt};
 use nq_base::{Host, Party, Who};
 use nq_clock::StdClock;
@@ -77,34 +77,36 @@ fn be_host(rt: &HostRuntime, host: Host) -> Ending {
         );
         return Ending::LinkFault;
     }
+    let_second_pass(rt);
     let Some(inc) = next_inc(rt, host) else {
         let _told = eprintln!(rt;
             "nqnfs_user: the file nqnfs-host-{number} cannot be read or written, or holds no number"
         );
         return Ending::KeepFault;
     };
-    match UserDesk::open(rt.alloc(), Who { host, inc }, link, StdClock::new(watch)) {
+    match UserDesk::open(rt, Who { host, inc }, link, StdClock::new(watch)) {
         Some(desk) => sit(rt, host, desk),
         None => told(rt, Halt::Memory),
     }
 }
 
 /// Reads lines at a desk to their end, and gives the leases back behind them. It is said where that did not go well.
-fn sit(rt: &HostRuntime, host: Host, desk: UserDesk) -> Ending {
+fn sit(rt: &HostRuntime, host: Host, desk: UserDesk<'_>) -> Ending {
     let mut desk = desk;
+    let mut is_read = true;
     if desk.halt.is_none() {
-        serve_lines(rt, &mut desk);
+        is_read = serve_lines(rt, &mut desk);
     }
     let ending = match desk.halt {
         Some(why) => told(rt, why),
-        None => give_back(rt, host, &mut desk),
+        None => give_back(rt, host, &mut desk, is_read),
     };
     desk.close();
     ending
 }
 
-/// Gives the leases back.
-fn give_back(rt: &HostRuntime, host: Host, desk: &mut UserDesk) -> Ending {
+/// Gives the leases back, and ends a run whose input could be read, or could not.
+fn give_back(rt: &HostRuntime, host: Host, desk: &mut UserDesk<'_>, is_read: bool) -> Ending {
     let is_given = match next_inc(rt, host) {
         Some(inc) => desk.give_back(inc),
         None => false,
@@ -114,16 +116,18 @@ fn give_back(rt: &HostRuntime, host: Host, desk: &mut UserDesk) -> Ending {
             "nqnfs_user: the leases were not given back; whoever comes next may wait for 38 seconds"
         );
     }
-    Ending::Done
+    if is_read {
+        Ending::Done
+    } else {
+        let _told = eprintln!(rt; "nqnfs_user: the input cannot be read");
+        Ending::ReadFault
+    }
 }
 
 /// Tells why a run has ended before its input; how it ends.
 fn told(rt: &HostRuntime, why: Halt) -> Ending {
     let (words, ending) = match why {
-        Halt::NoAnswer => (
-            "no answer: no server runs, it recovers, somebody else has a lease on the file, or the server knows a later start of this host",
-            Ending::NoAnswer,
-        ),
+        Halt::NoAnswer => ("there was no answer for too long", Ending::NoAnswer),
         Halt::Memory => ("memory was wanting", Ending::Memory),
         Halt::Spent => (
             "this start takes in no more calls; start again",

@@ -1,9 +1,40 @@
-//! The number of a host's start, its incarnation, which rises with each: a small file keeps the last one.
+//! The number of a host's start, its incarnation: a small file keeps the last one, and the machine's clock says how high it has to be at least.
 
 use nq_base::{Host, Inc};
-use nq_command::prompt::{FIRST_START, next_start, start_text};
+use nq_command::prompt::{next_start, risen, start_text};
 use std::fs::{self, File};
 use std::io::{self, ErrorKind, Write};
+use std::thread;
+use std::time::{Duration, SystemTime};
+
+/// How often it is looked at most whether a second is over.
+const LOOKS: u32 = 150;
+
+/// For how many milliseconds to sleep between two looks.
+const PAUSE: u64 = 10;
+
+/// Waits until the second is over that the machine's clock shows. A host does so behind binding its port: whoever was this host before took
+/// its incarnation in an earlier second, also by a file in another folder.
+pub(crate) fn let_second_pass(rt: &HostRuntime) {
+    let began = seconds_now(rt);
+    for _look in 0..LOOKS {
+        if seconds_now(rt) != began {
+            return;
+        }
+        let _slept = thread::sleep(rt, Duration::from_millis(PAUSE));
+    }
+}
+
+/// The seconds since 1970 that the machine's clock shows; 0 where it shows none.
+fn seconds_now(rt: &HostRuntime) -> u64 {
+    match SystemTime::now(rt) {
+        Ok(now) => match now.duration_since(SystemTime::UNIX_EPOCH) {
+            Ok(passed) => passed.as_secs(),
+            Err(_) => 0,
+        },
+        Err(_) => 0,
+    }
+}
 
 /// The next incarnation of a host. It is written down before anything is sent. None where the file cannot be read or written or holds no
 /// number, and where no number is left.
@@ -46,11 +77,12 @@ fn put_down(rt: &HostRuntime, name: &str, start: u32) -> bool {
     }
 }
 
-/// The start behind the one that the file of this name tells; the first one where there is no file.
+/// The start behind the one that the file of this name tells. Where there is no file, only the clock says how high it is.
 fn start_after(rt: &HostRuntime, name: &str) -> Option<u32> {
+    let seconds = seconds_now(rt);
     match fs::read(rt, name) {
-        Ok(text) => next_start(&text),
-        Err(error) if error.kind() == ErrorKind::NotFound => Some(FIRST_START),
+        Ok(text) => next_start(&text, seconds),
+        Err(error) if error.kind() == ErrorKind::NotFound => Some(risen(1, seconds)),
         Err(_) => None,
     }
 }

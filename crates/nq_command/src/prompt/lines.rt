@@ -19,15 +19,15 @@ pub enum Line<'a> {
     Quit,
     /// Make this call.
     Call(Call),
-    /// Put the file of the machine at this path under this name.
-    Put { path: &'a [u8], name: Name },
+    /// Store the file of the machine at this path under this name.
+    Store { path: &'a [u8], name: Name },
     /// Get the file of this name, as a new file of the machine at this path.
     Get { name: Name, path: &'a [u8] },
     /// It says nothing that can be done.
     Unknown,
 }
 
-/// What this line says, which has no end of line: the words of a call of version 2, `put PATH NAME`, `get NAME PATH`, `help`, `quit`, or
+/// What this line says, which has no end of line: the words of a call of version 2, `store PATH NAME`, `get NAME PATH`, `help`, `quit`, or
 /// nothing. One blank stands between two words.
 pub fn line_of(alloc: Global, text: &[u8]) -> Line<'_>
     ensures { Says result text.now }
@@ -60,8 +60,8 @@ fn file_line(text: &[u8]) -> Option<Line<'_>>
     let second = words.next()?;
     if !words.is_empty() {
         None
-    } else if is(verb, b"put") {
-        Some(Line::Put {
+    } else if is(verb, b"store") {
+        Some(Line::Store {
             path: first,
             name: Name::new(second)?,
         })
