@@ -68,6 +68,7 @@ pub mod SomeStaying
 pub mod SomeSync
 pub mod SomeVacated
 pub mod Standings
+pub mod Starting
 pub mod TagOrder
 pub mod TagSources
 pub mod TagWorlds

@@ -22,7 +22,7 @@ use Rattle.nq_model.specs.ClientStep.{sends_again, client_tick, fresh_client, st
 use Rattle.nq_base.specs.Calls.{told}
 use Rattle.nq_model.specs.Hear.{inc_of, replied, cancels, evicted, hear}
 use Rattle.nq_model.specs.Ordered.{HasOpen, IsOpenCall}
-use Rattle.nq_model.specs.BusyIsSaidAtOnce.{IsStartOf}
+use Rattle.nq_model.specs.BusyIsSaidAtOnce.{IsStarting}
 use Rattle.nq_model.proofs.Lists.{exists-map}
 use Rattle.nq_model.specs.Journal.{Exists, Throughout, IsCall, IsAnswer, IsOpen, call_of, told_by}
 use Rattle.nq_model.specs.Message.{Message, reply, sequence_of}
@@ -46,8 +46,8 @@ pub record Ready (line : HostRow) (c : Client) (journal : List Entry) : Type 0 w
   pub above : line.inc ≡ c.who.inc → line.seq < c.seq
   pub kept : Throughout KeptHere journal
   pub alone : Alone c
-  -- an incarnation that is not attached was started by a B
-  pub began : c.attached ≡ false → Exists (IsStartOf c.who) journal
+  -- an incarnation that is not attached is starting
+  pub began : c.attached ≡ false → IsStarting c.who journal
   -- no call of it has a number above the count of its calls, and no entry is of a later incarnation of its host
   pub counted : (u : UnderWay) → c.call ≡ Some u → u.q ≤ c.calls
   pub numbers : (e : Entry) (q : ℕ) → In journal e → entry_who e ≡ Some c.who → entry_call e ≡ Some q → q ≤ c.calls
@@ -155,12 +155,12 @@ module _ (line : HostRow) (c : Client) (journal : List Entry) (h : Ready line c 
       case (inl bad) = bad
       case (inr a) = unanswered c.who (c.calls + 1) journal fresh a
 
-  -- another call is open, or the incarnation was started again
-  cause : (is_some c.call ≡ true) ⊎ (c.attached ≡ false) → HasOpen journal c.who ⊎ Exists (IsStartOf c.who) journal
+  -- another call is open, or the incarnation is starting
+  cause : (is_some c.call ≡ true) ⊎ (c.attached ≡ false) → HasOpen journal c.who ⊎ IsStarting c.who journal
   cause (inr off) = inr (h.began off)
   cause (inl some) = from c.call refl some
     where
-      from : (o : Option UnderWay) → c.call ≡ o → is_some o ≡ true → HasOpen journal c.who ⊎ Exists (IsStartOf c.who) journal
+      from : (o : Option UnderWay) → c.call ≡ o → is_some o ≡ true → HasOpen journal c.who ⊎ IsStarting c.who journal
       from None is e = absurd (cc)
       from (Some u) is e = inl (has-open-call c.who u.q journal (h.keeps.is_open u is).is_open)
 

@@ -13,15 +13,14 @@ use Rattle.nq_model.specs.Bounds.{KeepsBounds, InEveryRun}
 use Rattle.nq_model.specs.Client.{Client, ClientStep, UnderWay}
 use Rattle.nq_model.specs.ClientStep.{client_call, client_tick, restart, starts as starts_client, attached_client, fresh_client}
 use Rattle.nq_model.specs.Hear.{hear}
-use Rattle.nq_model.specs.Journal.{Exists, Throughout}
+use Rattle.nq_model.specs.Journal.{Each, Throughout}
 use Rattle.nq_model.specs.Kept.{host_row}
 use Rattle.nq_model.specs.Message.{Packet, reply, datagram_of}
 use Rattle.nq_model.specs.Server.{ServerStep}
 use Rattle.nq_model.specs.Skew.{IsWithinSkew}
 use Rattle.nq_model.specs.World.{Head, World, after_server, after_client, at_client, after_hearing, sending_host, deliver_to_client, deliver_to}
 use Rattle.nq_model.specs.World.{deliver, start, run}
-use Rattle.nq_model.proofs.Lists.{exists-right}
-use Rattle.nq_model.specs.BusyIsSaidAtOnce.{IsStartOf}
+use Rattle.nq_model.specs.BusyIsSaidAtOnce.{IsBusyOnly, IsStarting}
 use Rattle.walk_steps.proofs.WorldClocks.{StillOf, StillIf, call-still, tick-still, hear-still}
 use Rattle.walk_steps.proofs.RunCases.{During, client_at, Keeps, run-keeps, OfClients, clients-after}
 use Rattle.walk_steps.proofs.Packets.{In, in-get, Told}
@@ -29,11 +28,12 @@ use Rattle.walk_steps.proofs.Worlds.{to-server, to-told, first-client, run-holds
 use Rattle.law_runs.proofs.KeptPlaces.{KeptHere, synchronized}
 use Rattle.law_runs.proofs.OkClient.{Ready, call-end, tick-end, hear-end, restart-end}
 use Rattle.law_runs.proofs.OkFacts.{KeepsOf, book_of, After, ended}
-use Rattle.law_runs.proofs.OkMoves.{foreign-mild}
+use Rattle.law_runs.proofs.OkMoves.{IsMild, foreign-mild}
 use Rattle.law_runs.proofs.OkServer.{Standing, all-mild, all-kept, server-keeps}
 use Rattle.law_runs.proofs.OkSettle.{End}
 use Rattle.law_runs.proofs.ServerMakes.{ServerMakes, LineMoves, hears-makes, tick-makes, crash-makes}
 use Rattle.nq_model.specs.OksAreKept.{SynchronizedInEveryRun}
+use Rattle.law_runs.proofs.Starting.{all-idle, still-starting, next-idle, call-idles, tick-idles, hear-idles}
 
 -- what is known of the delayed writes and losses of each client, in every run
 abbrev pub StandingInEveryRun : Type 0
@@ -60,9 +60,9 @@ CountedInEveryRun =
 abbrev pub OkOf : ℕ → Client → World → Type 0
 OkOf host c w = KeepsOf (host_row w.server.kept host) c w.journal
 
--- an incarnation that is not attached was started by a B
+-- an incarnation that is not attached is starting
 abbrev pub BeganOf : ℕ → Client → World → Type 0
-BeganOf host c w = c.attached ≡ false → Exists (IsStartOf c.who) w.journal
+BeganOf host c w = c.attached ≡ false → IsStarting c.who w.journal
 
 pub record Oks (w : World) : Type 0 where
   pub clients : OfClients OkOf w
@@ -104,12 +104,13 @@ module _ (stands : StandingInEveryRun) (counts : CountedInEveryRun) (most : ℕ)
   client-step : (e : Event) (events : List Event) (host : ℕ) (c : Client) (t : ClientStep) → During most head e events
       → client_at head events host ≡ Some c → run head (e ∷ events) ≡ after_client (run head events) host t
       → (After (run head events).journal (book_of t) → End (host_row (run head events).server.kept host) (run head events).journal (book_of t))
-      → (t.client.attached ≡ false → Exists (IsStartOf t.client.who) (t.entries ++ (run head events).journal)) → Oks (run head events)
+      → (t.client.attached ≡ false → IsStarting t.client.who (t.entries ++ (run head events).journal)) → Oks (run head events)
       → Oks (after_client (run head events) host t)
   unfolding after_client
   client-step e events host c t during is same goes began g = record {
     clients = clients-after OkOf w host t ended_here.keeps others;
-    began = clients-after BeganOf w host t began (λ other d apart there off. exists-right (IsStartOf d.who) t.entries w.journal (g.began other d there off));
+    began = clients-after BeganOf w host t began (λ other d apart there off. still-starting d.who t.entries w.journal
+        (all-idle d.who t.entries (λ x i. foreign other d apart there x i)) (g.began other d there off));
     kept = ended_here.kept;
   } where
     w : World
@@ -133,10 +134,13 @@ module _ (stands : StandingInEveryRun) (counts : CountedInEveryRun) (most : ℕ)
     here : t.client.who.host ≡ host
     here = ((run-holds head (e ∷ events)).clients host t.client at_end).here
 
+    foreign : (other : ℕ) (d : Client) → other ≢ host → slice_get w.clients other ≡ Some d → (x : Entry) → In t.entries x → IsMild d.who x
+    foreign other d apart there x i =
+        foreign-mild d.who t.client.who x (ended_here.own x i)
+        (λ eq. apart (sym ((run-holds head events).clients other d there).here ∙ ap (λ z. z.host) (sym eq) ∙ here))
+
     others : (other : ℕ) (d : Client) → other ≢ host → slice_get w.clients other ≡ Some d → KeepsOf (host_row w.server.kept other) d (t.entries ++ w.journal)
-    others other d apart there =
-        all-mild d t.entries w.journal (λ x i. foreign-mild d.who t.client.who x (ended_here.own x i)
-        (λ eq. apart (sym ((run-holds head events).clients other d there).here ∙ ap (λ z. z.host) (sym eq) ∙ here))) (g.clients other d there)
+    others other d apart there = all-mild d t.entries w.journal (λ x i. foreign other d apart there x i) (g.clients other d there)
 
   -- a step of the server
   server-step : (e : Event) (events : List Event) (t : ServerStep) → During most head e events
@@ -144,7 +148,8 @@ module _ (stands : StandingInEveryRun) (counts : CountedInEveryRun) (most : ℕ)
   unfolding after_server
   server-step e events t during makes g = record {
     clients = λ host c is. keeps host c is;
-    began = λ host c is off. exists-right (IsStartOf c.who) t.entries (run head events).journal (g.began host c is off);
+    began = λ host c is off. still-starting c.who t.entries (run head events).journal (all-idle c.who t.entries (λ x i. makes.mild x i c.who))
+        (g.began host c is off);
     kept = all-kept t.entries (run head events).journal makes.mild g.kept;
   } where
     w : World
@@ -158,16 +163,19 @@ module _ (stands : StandingInEveryRun) (counts : CountedInEveryRun) (most : ℕ)
         (stands most head events during.bounds during.within host c is) t.entries makes.mild
         (subst (λ n. LineMoves w.packets (host_row w.server.kept host) (host_row t.server.kept host) n t.entries) (sym a.here) (makes.moves host))
 
-  -- a client that is still not attached after its step was started by a B
+  -- a client that is still not attached after its step is still starting
   still-began : (events : List Event) (host now : ℕ) (c : Client) (t : ClientStep) → client_at head events host ≡ Some c → StillOf now c t
-      → Oks (run head events) → t.client.attached ≡ false → Exists (IsStartOf t.client.who) (t.entries ++ (run head events).journal)
-  still-began events host now c t is s g off =
-      exists-right (IsStartOf t.client.who) t.entries (run head events).journal
-      (subst (λ v. Exists (IsStartOf v) (run head events).journal) (sym s.same) (g.began host c is (s.stays off)))
+      → (c.attached ≡ false → Each (IsBusyOnly c.who) t.entries) → Oks (run head events) → t.client.attached ≡ false
+      → IsStarting t.client.who (t.entries ++ (run head events).journal)
+  still-began events host now c t is s idles g off =
+      subst (λ v. IsStarting v (t.entries ++ (run head events).journal)) (sym s.same)
+      (still-starting c.who t.entries (run head events).journal (idles (s.stays off)) (g.began host c is (s.stays off)))
 
-  restart-began : (c : Client) (journal : List Entry) → Exists (IsStartOf (restart c).client.who) ((restart c).entries ++ journal)
+  restart-began : (c : Client) (journal : List Entry)
+      → ((e : Entry) (w : Who) → In journal e → entry_who e ≡ Some w → w.host ≡ c.who.host → w.inc ≤ c.who.inc)
+      → IsStarting (restart c).client.who ((restart c).entries ++ journal)
   unfolding starts_client fresh_client
-  restart-began c journal = inl refl
+  restart-began c journal past = record { started = inl refl; idle = (tt, next-idle c journal past) }
 
   -- a delivery to a client
   delivered : (events : List Event) (k : ℕ) (p : Packet) (host : ℕ) (c : Client) (t : ClientStep) → slice_get (run head events).packets k ≡ Some p
@@ -183,16 +191,17 @@ module _ (stands : StandingInEveryRun) (counts : CountedInEveryRun) (most : ℕ)
     called =
         λ events host c op during is g. client-step (Event.Call host op) events host c (client_call c op) during is
         (ap (at_client (run head events) host (λ d. client_call d op)) is) (call-end _ c _ (ready (Event.Call host op) events host c during is g) op)
-        (still-began events host c.now c (client_call c op) is (call-still host c _ op ((run-holds head events).clients host c is)) g) g;
+        (still-began events host c.now c (client_call c op) is (call-still host c _ op ((run-holds head events).clients host c is)) (call-idles c op) g) g;
     ticked =
         λ events host c during is g. client-step (Event.ClientTick host) events host c (client_tick c (c.now + 1)) during is
         (ap (at_client (run head events) host (λ d. client_tick d (d.now + 1))) is)
         (tick-end _ c _ (ready (Event.ClientTick host) events host c during is g) (c.now + 1))
-        (still-began events host (c.now + 1) c (client_tick c (c.now + 1)) is (tick-still host c _ ((run-holds head events).clients host c is)) g) g;
+        (still-began events host (c.now + 1) c (client_tick c (c.now + 1)) is (tick-still host c _ ((run-holds head events).clients host c is))
+        (tick-idles c (c.now + 1) ((run-holds head events).clients host c is).alone) g) g;
     restarted =
         λ events host c during is g. client-step (Event.Restart host) events host c (restart c) during is
         (ap (at_client (run head events) host restart) is) (λ a. restart-end _ _ c _ (ready (Event.Restart host) events host c during is g))
-        (λ off. restart-began c (run head events).journal) g;
+        (λ off. restart-began c (run head events).journal (counts most head events during.bounds during.within host c is).past) g;
     heard = λ events k p host c t during sent to is hears g.
         let w = run head events in
         let held = run-holds head events in
@@ -205,7 +214,8 @@ module _ (stands : StandingInEveryRun) (counts : CountedInEveryRun) (most : ℕ)
         (λ xid r ticket n m has same inc draws. answered.replies xid r
         (subst (λ z. Told w.packets z (reply xid r)) (sym at.here) (subst (Told w.packets host) m told)) inc ticket has (sym same) n draws)
         hears)
-        (still-began events host c.now c t is (subst (StillIf c) hears (hear-still host c w.packets k p.message told at)) g)
+        (still-began events host c.now c t is (subst (StillIf c) hears (hear-still host c w.packets k p.message told at))
+        (λ off. hear-idles c k p.message t at.alone off hears) g)
         g;
     received = λ events k p during sent to g.
         let w = run head events in

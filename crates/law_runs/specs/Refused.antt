@@ -13,6 +13,7 @@ use Rattle.nq_model.specs.SynchronizedTest.{is_synchronized}
 use Rattle.nq_model.specs.AnswersAreOfTheirCalls.{AnswersAreOfTheirCalls}
 use Rattle.nq_model.specs.BusyIsSaidAtOnce.{BusyIsSaidAtOnce}
 use Rattle.nq_model.specs.OksHaveTheirDeeds.{OksHaveTheirDeeds}
+use Rattle.nq_model.specs.RefusalsAreOfTheirCalls.{RefusalsAreOfTheirCalls}
 
 -- whether a journal passes the tests of all other laws of journals
 abbrev pub passes : (journal : List Entry) → Bool
@@ -55,3 +56,31 @@ pub record OnlyBusyRefuses : Type 0 where
   pub answered : AnswersAreOfTheirCalls a_late_busy
   pub done : OksHaveTheirDeeds a_late_busy
   pub refused : ¬ BusyIsSaidAtOnce a_late_busy
+
+-- a client that is attached, since a call of it was answered ok, answers busy while none is open
+abbrev pub a_busy_for_nothing : List Entry
+a_busy_for_nothing =
+    Entry.A (record { host = 0; inc = 2 }) 2 Said.Busy ∷ Entry.C (record { host = 0; inc = 2 }) 2 (Told.Sync 1) ∷
+    Entry.A (record { host = 0; inc = 2 }) 1 Said.Ok ∷ Entry.C (record { host = 0; inc = 2 }) 1 (Told.Sync 1) ∷
+    Entry.B (record { host = 0; inc = 2 }) ∷ []
+
+-- the busy for nothing is refused since busy has a cause at its call, and for nothing else
+pub record OnlyCausesRefuse : Type 0 where
+  pub others : IsTrue (passes a_busy_for_nothing)
+  pub answered : AnswersAreOfTheirCalls a_busy_for_nothing
+  pub done : OksHaveTheirDeeds a_busy_for_nothing
+  pub forms : RefusalsAreOfTheirCalls a_busy_for_nothing
+  pub refused : ¬ BusyIsSaidAtOnce a_busy_for_nothing
+
+-- a lookup is told that there is such a name already
+abbrev pub a_strange_refusal : List Entry
+a_strange_refusal =
+    Entry.A (record { host = 0; inc = 1 }) 1 Said.Exists ∷ Entry.C (record { host = 0; inc = 1 }) 1 (Told.Lookup (97 ∷ [])) ∷ []
+
+-- the strange refusal is refused since no lookup is answered so, and for nothing else
+pub record OnlyFormsRefuse : Type 0 where
+  pub others : IsTrue (passes a_strange_refusal)
+  pub answered : AnswersAreOfTheirCalls a_strange_refusal
+  pub done : OksHaveTheirDeeds a_strange_refusal
+  pub busy : BusyIsSaidAtOnce a_strange_refusal
+  pub refused : ¬ RefusalsAreOfTheirCalls a_strange_refusal

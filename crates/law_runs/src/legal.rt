@@ -17,7 +17,9 @@ pub use oks::{
     answers_are_of_their_calls_in_every_run, busy_is_said_at_once_in_every_run,
     oks_are_kept_in_every_run, oks_are_met,
 };
-pub use refused::{only_busy_refuses, only_calls_refuse, only_deeds_refuse};
+pub use refused::{
+    only_busy_refuses, only_calls_refuse, only_causes_refuse, only_deeds_refuse, only_forms_refuse,
+};
 pub use reports::{losses_are_kept_until_named, losses_are_met, losses_are_reported_in_every_run};
 pub use undisturbed::{
     bound_and_fenced_are_met, delayed_writes_are_undisturbed_in_every_run,

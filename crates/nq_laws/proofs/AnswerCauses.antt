@@ -1,4 +1,4 @@
--- What an answer says was so at the server: what it tells of a file, and the cause where it refuses.
+-- What an answer says was so at the server between the call and the answer: what it tells of a file, and the cause where it refuses.
 use Rattle.std.proofs.Common.{◌≡◌, ◌⊎◌, ℕ, List, [], ◌∷◌, Option, Some, None, refl, sym, subst, ap, ◌∙◌, inl, inr}
 use Rattle.std.specs.Prelude.{⊤}
 use Rattle.nq_base.specs.Calls.{told}
@@ -12,63 +12,61 @@ use Rattle.nq_base.specs.declared.Reply.{Reply}
 use Rattle.nq_base.specs.declared.Request.{Request}
 use Rattle.nq_base.specs.declared.Said.{Said}
 use Rattle.nq_base.specs.declared.Told.{Told}
+use Rattle.nq_base.specs.declared.Who.{Who}
 use Rattle.nq_model.specs.Client.{UnderWay}
 use Rattle.nq_model.specs.Hear.{answer_of, inc_of}
 use Rattle.nq_model.specs.Journal.{SpeaksOf, call_of}
 use Rattle.nq_model.specs.Settle.{said}
 use Rattle.nq_model.specs.World.{Head, World}
-use Rattle.nq_model.specs.AnswersTellWhatWas.{HasNamed, HasLength, ToldSo}
-use Rattle.nq_model.specs.RepliesTellWhatWas.{Once, KeepsNamed}
+use Rattle.nq_model.specs.AnswersHaveCauses.{LacksName, HasName, LacksFile, HasNoRoom, CannotGrow, LacksBlock, IsNoLength, HadNoBlock, IsAnsweredSo}
+use Rattle.nq_model.specs.AnswersTellWhatWas.{Meanwhile, HasNamed, HasLength, ToldSo}
+use Rattle.nq_model.specs.RepliesTellWhatWas.{KeepsNamed}
 use Rattle.law_rounds.specs.RequestsAreMeant.{IsWriteTo}
 use Rattle.law_runs.proofs.OkFacts.{IsFor}
-use Rattle.nq_laws.specs.RefusalsHaveCauses.{LacksName, HasName, LacksFile, HasNoRoom, CannotGrow, LacksBlock, IsNoLength, IsAnsweredSo}
-use Rattle.nq_laws.proofs.RunTells.{once-map, HadSo}
+use Rattle.nq_laws.proofs.Anchors.{meanwhile-map, at-some-moment}
+use Rattle.nq_laws.proofs.RunTells.{HadSo}
 use Rattle.walk_steps.proofs.RepliedCases.{IsNamed, looked_up, created, attributes}
 use Rattle.walk_steps.proofs.SettleCases.{IsRead}
 use Rattle.walk_steps.proofs.ClientEntries.{IsOfBlock, IsTelling, names, refuses}
 
 -- what an answer to this call says was so
-abbrev pub Says : Head → List Event → Said → Option Told → Type 0
-Says head events (Said.OkValue value) told = ToldSo head events value told
-Says head events other told = IsAnsweredSo head events other told
+abbrev pub Says : Head → List Event → (who : Who) (q : ℕ) → Said → Option Told → Type 0
+Says head events who q (Said.OkValue value) told = ToldSo head events who q value told
+Says head events who q other told = IsAnsweredSo head events who q other told
 
 -- what is asked of an A at its place
 abbrev pub SaysAt : Head → List Event → Entry → (before : List Entry) → Type 0
-SaysAt head events (Entry.A who q answer) before = Says head events answer (call_of before who q)
+SaysAt head events (Entry.A who q answer) before = Says head events who q answer (call_of before who q)
 SaysAt head events other before = ⊤
 
 -- ---- facts of later schedules
 
-later-told : (head : Head) (event : Event) (earlier : List Event) (value : ℕ) (o : Option Told) → ToldSo head earlier value o
-    → ToldSo head (event ∷ earlier) value o
-later-told head event earlier value (Some (Told.Lookup name)) so = inr so
-later-told head event earlier value (Some (Told.Create name blocks)) so = inr so
-later-told head event earlier value (Some (Told.Attr file)) so = inr so
-later-told head event earlier value other so = tt
+later-told : (head : Head) (event : Event) (earlier : List Event) (who : Who) (q value : ℕ) (o : Option Told) → ToldSo head earlier who q value o
+    → ToldSo head (event ∷ earlier) who q value o
+later-told head event earlier who q value (Some (Told.Lookup name)) so = inr so
+later-told head event earlier who q value (Some (Told.Create name blocks)) so = inr so
+later-told head event earlier who q value (Some (Told.Attr file)) so = inr so
+later-told head event earlier who q value other so = tt
 
-pub later-says : (head : Head) (event : Event) (earlier : List Event) (answer : Said) (o : Option Told) → Says head earlier answer o
-    → Says head (event ∷ earlier) answer o
-later-says head event earlier (Said.OkValue value) o so = later-told head event earlier value o so
-later-says head event earlier Said.NoEntry (Some (Told.Lookup name)) so = inr so
-later-says head event earlier Said.NoEntry other so = absurd so
-later-says head event earlier Said.Stale o so = (so.0, so.1, inr so.2)
-later-says head event earlier Said.Exists (Some (Told.Create name blocks)) so = inr so
-later-says head event earlier Said.Exists other so = absurd so
-later-says head event earlier Said.NoSpace (Some (Told.Create name blocks)) so = inr so
-later-says head event earlier Said.NoSpace (Some (Told.Resize file blocks)) so = inr so
-later-says head event earlier Said.NoSpace other so = absurd so
-later-says head event earlier Said.Range (Some (Told.Create name blocks)) so = so
-later-says head event earlier Said.Range (Some (Told.Resize file blocks)) so = so
-later-says head event earlier Said.Range (Some (Told.Read file block)) so = inr so
-later-says head event earlier Said.Range (Some (Told.Fetch file block)) so = inr so
-later-says head event earlier Said.Range (Some (Told.Write file block value)) so = inr so
-later-says head event earlier Said.Range (Some (Told.WriteSync file block value)) so = inr so
-later-says head event earlier Said.Range other so = absurd so
-later-says head event earlier answer o so = tt
-
--- at some moment the file had no such block
-abbrev pub HadNoBlock : Head → List Event → (file block : ℕ) → Type 0
-HadNoBlock head events file block = Once (λ w. LacksBlock w.server.kept.files file block) head events
+pub later-says : (head : Head) (event : Event) (earlier : List Event) (who : Who) (q : ℕ) (answer : Said) (o : Option Told) → Says head earlier who q answer o
+    → Says head (event ∷ earlier) who q answer o
+later-says head event earlier who q (Said.OkValue value) o so = later-told head event earlier who q value o so
+later-says head event earlier who q Said.NoEntry (Some (Told.Lookup name)) so = inr so
+later-says head event earlier who q Said.NoEntry other so = absurd so
+later-says head event earlier who q Said.Stale o so = (so.0, so.1, inr so.2)
+later-says head event earlier who q Said.Exists (Some (Told.Create name blocks)) so = inr so
+later-says head event earlier who q Said.Exists other so = absurd so
+later-says head event earlier who q Said.NoSpace (Some (Told.Create name blocks)) so = inr so
+later-says head event earlier who q Said.NoSpace (Some (Told.Resize file blocks)) so = inr so
+later-says head event earlier who q Said.NoSpace other so = absurd so
+later-says head event earlier who q Said.Range (Some (Told.Create name blocks)) so = so
+later-says head event earlier who q Said.Range (Some (Told.Resize file blocks)) so = so
+later-says head event earlier who q Said.Range (Some (Told.Read file block)) so = inr so
+later-says head event earlier who q Said.Range (Some (Told.Fetch file block)) so = inr so
+later-says head event earlier who q Said.Range (Some (Told.Write file block value)) so = inr so
+later-says head event earlier who q Said.Range (Some (Told.WriteSync file block value)) so = inr so
+later-says head event earlier who q Said.Range other so = absurd so
+later-says head event earlier who q answer o so = tt
 
 same-block : (head : Head) (events : List Event) (file block f b : ℕ) → (f ≡ file) × (b ≡ block) → HadNoBlock head events file block
     → HadNoBlock head events f b
@@ -76,84 +74,86 @@ same-block head events file block f b same had =
     subst (λ n. HadNoBlock head events n b) (sym same.0) (subst (λ n. HadNoBlock head events file n) (sym same.1) had)
 
 -- `range` is said to a call that reads or writes a block which its file had not
-pub range-of-block : (head : Head) (events : List Event) (file block : ℕ) (op : Call) → IsOfBlock file block op → HadNoBlock head events file block
-    → Says head events Said.Range (Some (told op))
-range-of-block head events file block (Call.Read f b) of_block had = same-block head events file block f b of_block had
-range-of-block head events file block (Call.Fetch f b) of_block had = same-block head events file block f b of_block had
-range-of-block head events file block (Call.Write f b body) of_block had = same-block head events file block f b of_block had
-range-of-block head events file block (Call.WriteSync f b body) of_block had = same-block head events file block f b of_block had
-range-of-block head events file block other of_block had = absurd of_block
+pub range-of-block : (head : Head) (events : List Event) (who : Who) (q file block : ℕ) (op : Call) → IsOfBlock file block op → HadNoBlock head events file block
+    → Says head events who q Said.Range (Some (told op))
+range-of-block head events who q file block (Call.Read f b) of_block had = same-block head events file block f b of_block had
+range-of-block head events who q file block (Call.Fetch f b) of_block had = same-block head events file block f b of_block had
+range-of-block head events who q file block (Call.Write f b body) of_block had = same-block head events file block f b of_block had
+range-of-block head events who q file block (Call.WriteSync f b body) of_block had = same-block head events file block f b of_block had
+range-of-block head events who q file block other of_block had = absurd of_block
 
 -- ---- the refusal that is answered with
 
-never : (head : Head) (events : List Event) → Once (λ w. ⊥) head events → ⊥
-never head [] bad = bad
-never head (event ∷ earlier) (inl bad) = bad
-never head (event ∷ earlier) (inr before) = never head earlier before
+never : (who : Who) (q : ℕ) (head : Head) (events : List Event) → Meanwhile (λ w. ⊥) who q head events → ⊥
+never who q head [] bad = bad
+never who q head (event ∷ earlier) (inl bad) = bad.0
+never who q head (event ∷ earlier) (inr before) = never who q head earlier before
 
 -- what is of no moment
-at-no-moment : (X : Type 0) (head : Head) (events : List Event) → Once (λ w. X) head events → X
-at-no-moment X head [] so = so
-at-no-moment X head (event ∷ earlier) (inl so) = so
-at-no-moment X head (event ∷ earlier) (inr before) = at-no-moment X head earlier before
+at-no-moment : (X : Type 0) (who : Who) (q : ℕ) (head : Head) (events : List Event) → Meanwhile (λ w. X) who q head events → X
+at-no-moment X who q head [] bad = absurd bad
+at-no-moment X who q head (event ∷ earlier) (inl so) = so.0
+at-no-moment X who q head (event ∷ earlier) (inr before) = at-no-moment X who q head earlier before
 
-module _ (head : Head) (events : List Event) (host xid inc : ℕ) (u : UnderWay) (dirty : List Push) (push : Option Push) where
+module _ (head : Head) (events : List Event) (by : Who) (n : ℕ) (host xid inc : ℕ) (u : UnderWay) (dirty : List Push) (push : Option Push) where
+  mapped : (P Q : World → Type 0) → ((w : World) → P w → Q w) → Meanwhile P by n head events → Meanwhile Q by n head events
+  mapped P Q f had = meanwhile-map P Q by n head events f had
+
   -- when this request had been sent, the cause of its refusal stood
   abbrev Had : Refusal → Request → Type 0
-  Had status r = Once (HadSo host xid (Reply.Refused inc status) r) head events
+  Had status r = Meanwhile (HadSo host xid (Reply.Refused inc status) r) by n head events
 
   abbrev Answered : Refusal → Type 0
-  Answered status = Says head events (said (answer_of status) None) (Some (told u.call))
+  Answered status = Says head events by n (said (answer_of status) None) (Some (told u.call))
 
   -- where a status has no cause it is not said
   causeless : (status : Refusal) (r : Request) → ((w : World) → HadSo host xid (Reply.Refused inc status) r w → ⊥) → Had status r → ⊥
-  causeless status r none had = never head events (once-map (HadSo host xid (Reply.Refused inc status) r) (λ w. ⊥) head events none had)
+  causeless status r none had = never by n head events (mapped (HadSo host xid (Reply.Refused inc status) r) (λ w. ⊥) none had)
 
   no-entry : (r : Request) → IsFor u dirty push r → Had Refusal.NoEnt r → Answered Refusal.NoEnt
   no-entry (Request.Lookup who name) is had =
-      subst (λ k. Says head events Said.NoEntry (Some (told k))) (sym is)
-      (once-map (HadSo host xid (Reply.Refused inc Refusal.NoEnt) (Request.Lookup who name)) (λ w. LacksName w.server.kept.files name) head events
+      subst (λ k. Says head events by n Said.NoEntry (Some (told k))) (sym is)
+      (mapped (HadSo host xid (Reply.Refused inc Refusal.NoEnt) (Request.Lookup who name)) (λ w. LacksName w.server.kept.files name)
       (λ w so. so.1.1) had)
   no-entry r is had = absurd (causeless Refusal.NoEnt r (λ w so. so.1.1) had)
 
   exists : (r : Request) → IsFor u dirty push r → Had Refusal.Exist r → Answered Refusal.Exist
   exists (Request.Create who seq name blocks) is had =
-      subst (λ k. Says head events Said.Exists (Some (told k))) (sym is)
-      (once-map (HadSo host xid (Reply.Refused inc Refusal.Exist) (Request.Create who seq name blocks)) (λ w. HasName w.server.kept.files name) head
-      events (λ w so. so.1.1) had)
+      subst (λ k. Says head events by n Said.Exists (Some (told k))) (sym is)
+      (mapped (HadSo host xid (Reply.Refused inc Refusal.Exist) (Request.Create who seq name blocks)) (λ w. HasName w.server.kept.files name) (λ w so. so.1.1) had)
   exists r is had = absurd (causeless Refusal.Exist r (λ w so. so.1.1) had)
 
   no-space : (r : Request) → IsFor u dirty push r → Had Refusal.NoSpc r → Answered Refusal.NoSpc
   no-space (Request.Create who seq name blocks) is had =
-      subst (λ k. Says head events Said.NoSpace (Some (told k))) (sym is)
-      (once-map (HadSo host xid (Reply.Refused inc Refusal.NoSpc) (Request.Create who seq name blocks)) (λ w. HasNoRoom w.server.kept.files
-      w.server.kept.next blocks) head
-      events (λ w so. so.1.1) had)
+      subst (λ k. Says head events by n Said.NoSpace (Some (told k))) (sym is)
+      (mapped (HadSo host xid (Reply.Refused inc Refusal.NoSpc) (Request.Create who seq name blocks)) (λ w. HasNoRoom w.server.kept.files
+      w.server.kept.next blocks) (λ w so. so.1.1) had)
   no-space (Request.Resize who seq q file blocks) is had =
-      subst (λ k. Says head events Said.NoSpace (Some (told k))) (sym is.0)
-      (once-map (HadSo host xid (Reply.Refused inc Refusal.NoSpc) (Request.Resize who seq q file blocks))
-      (λ w. CannotGrow w.server.kept.files file blocks) head events (λ w so. so.1.1) had)
+      subst (λ k. Says head events by n Said.NoSpace (Some (told k))) (sym is.0)
+      (mapped (HadSo host xid (Reply.Refused inc Refusal.NoSpc) (Request.Resize who seq q file blocks))
+      (λ w. CannotGrow w.server.kept.files file blocks) (λ w so. so.1.1) had)
   no-space r is had = absurd (causeless Refusal.NoSpc r (λ w so. so.1.1) had)
 
   no-length : (r : Request) (blocks : ℕ) → ((w : World) → HadSo host xid (Reply.Refused inc Refusal.Inval) r w → IsNoLength blocks) → Had Refusal.Inval r
       → IsNoLength blocks
   no-length r blocks f had =
-      at-no-moment (IsNoLength blocks) head events
-      (once-map (HadSo host xid (Reply.Refused inc Refusal.Inval) r) (λ w. IsNoLength blocks) head events f had)
+      at-no-moment (IsNoLength blocks) by n head events
+      (mapped (HadSo host xid (Reply.Refused inc Refusal.Inval) r) (λ w. IsNoLength blocks) f had)
 
   of-block : (r : Request) (file block : ℕ) (op : Call) → u.call ≡ op → IsOfBlock file block op
       → ((w : World) → HadSo host xid (Reply.Refused inc Refusal.Inval) r w → LacksBlock w.server.kept.files file block) → Had Refusal.Inval r
       → Answered Refusal.Inval
   of-block r file block op is of_block lacks had =
-      range-of-block head events file block u.call (subst (IsOfBlock file block) (sym is) of_block)
-      (once-map (HadSo host xid (Reply.Refused inc Refusal.Inval) r) (λ w. LacksBlock w.server.kept.files file block) head events lacks had)
+      range-of-block head events by n file block u.call (subst (IsOfBlock file block) (sym is) of_block)
+      (at-some-moment (λ w. LacksBlock w.server.kept.files file block) by n head events
+      (mapped (HadSo host xid (Reply.Refused inc Refusal.Inval) r) (λ w. LacksBlock w.server.kept.files file block) lacks had))
 
   out-of-range : (r : Request) → IsFor u dirty push r → Had Refusal.Inval r → Answered Refusal.Inval
   out-of-range (Request.Create who seq name blocks) is had =
-      subst (λ k. Says head events Said.Range (Some (told k))) (sym is)
+      subst (λ k. Says head events by n Said.Range (Some (told k))) (sym is)
       (no-length (Request.Create who seq name blocks) blocks (λ w so. so.1.1) had)
   out-of-range (Request.Resize who seq q file blocks) is had =
-      subst (λ k. Says head events Said.Range (Some (told k))) (sym is.0)
+      subst (λ k. Says head events by n Said.Range (Some (told k))) (sym is.0)
       (no-length (Request.Resize who seq q file blocks) blocks (λ w so. so.1.1) had)
   out-of-range (Request.Read who q file block want) (inl is) had =
       of-block (Request.Read who q file block want) file block (Call.Read file block) is (refl, refl) (λ w so. so.1.1) had
@@ -168,25 +168,24 @@ module _ (head : Head) (events : List Event) (host xid inc : ℕ) (u : UnderWay)
   -- ---- what a reply names
 
   pub named-says : (request : Request) (r : Reply) (a : Answer) → IsNamed request r a → IsFor u dirty push request
-      → Once (HadSo host xid r request) head events → Says head events (said a None) (Some (told u.call))
+      → Meanwhile (HadSo host xid r request) by n head events → Says head events by n (said a None) (Some (told u.call))
   named-says request r a (looked_up who name i file blocks asks e) for had =
       let is_call : u.call ≡ Call.Lookup name = subst (IsFor u dirty push) asks for in
-      subst (λ k. ToldSo head events file (Some (told k))) (sym is_call)
-      (once-map (HadSo host xid (Reply.Lookup i file blocks) (Request.Lookup who name)) (HasNamed name file) head events (λ w so. (blocks, so.1.0))
-      (subst (λ b. Once (HadSo host xid b (Request.Lookup who name)) head events) e (subst (λ q. Once (HadSo host xid r q) head events) asks had)))
+      subst (λ k. ToldSo head events by n file (Some (told k))) (sym is_call)
+      (mapped (HadSo host xid (Reply.Lookup i file blocks) (Request.Lookup who name)) (HasNamed name file) (λ w so. (blocks, so.1.0))
+      (subst (λ b. Meanwhile (HadSo host xid b (Request.Lookup who name)) by n head events) e (subst (λ q. Meanwhile (HadSo host xid r q) by n head events) asks had)))
   named-says request r a (created who seq name blocks i file asks e) for had =
       let is_call : u.call ≡ Call.Create name blocks = subst (IsFor u dirty push) asks for in
-      subst (λ k. ToldSo head events file (Some (told k))) (sym is_call)
-      (once-map (HadSo host xid (Reply.Create i file) (Request.Create who seq name blocks)) (λ w. KeepsNamed w.server.kept.files name file blocks)
-      head events (λ w so. so.1.0)
-      (subst (λ b. Once (HadSo host xid b (Request.Create who seq name blocks)) head events) e
-      (subst (λ q. Once (HadSo host xid r q) head events) asks had)))
+      subst (λ k. ToldSo head events by n file (Some (told k))) (sym is_call)
+      (mapped (HadSo host xid (Reply.Create i file) (Request.Create who seq name blocks)) (λ w. KeepsNamed w.server.kept.files name file blocks) (λ w so. so.1.0)
+      (subst (λ b. Meanwhile (HadSo host xid b (Request.Create who seq name blocks)) by n head events) e
+      (subst (λ q. Meanwhile (HadSo host xid r q) by n head events) asks had)))
   named-says request r a (attributes who file i blocks rev asks e) for had =
       let is_call : u.call ≡ Call.Attr file = subst (IsFor u dirty push) asks for in
-      subst (λ k. ToldSo head events blocks (Some (told k))) (sym is_call)
-      (once-map (HadSo host xid (Reply.GetAttr i blocks rev) (Request.GetAttr who file)) (HasLength file blocks) head events (λ w so. (rev, so.1.0))
-      (subst (λ b. Once (HadSo host xid b (Request.GetAttr who file)) head events) e
-      (subst (λ q. Once (HadSo host xid r q) head events) asks had)))
+      subst (λ k. ToldSo head events by n blocks (Some (told k))) (sym is_call)
+      (mapped (HadSo host xid (Reply.GetAttr i blocks rev) (Request.GetAttr who file)) (HasLength file blocks) (λ w so. (rev, so.1.0))
+      (subst (λ b. Meanwhile (HadSo host xid b (Request.GetAttr who file)) by n head events) e
+      (subst (λ q. Meanwhile (HadSo host xid r q) by n head events) asks had)))
 
   -- ---- what a reply refuses
 
@@ -207,7 +206,7 @@ module _ (head : Head) (events : List Event) (host xid inc : ℕ) (u : UnderWay)
       → ((w : World) → HadSo host xid (Reply.Refused inc Refusal.Stale) r w → LacksFile w.server.kept.files file) → Had Refusal.Stale r
       → Answered Refusal.Stale
   stale-on r file speaks lacks had =
-      (file, speaks, once-map (HadSo host xid (Reply.Refused inc Refusal.Stale) r) (λ w. LacksFile w.server.kept.files file) head events lacks had)
+      (file, speaks, mapped (HadSo host xid (Reply.Refused inc Refusal.Stale) r) (λ w. LacksFile w.server.kept.files file) lacks had)
 
   -- a GETLEASE of the call is for its file
   abbrev pub Leases : Request → Type 0
@@ -239,9 +238,9 @@ module _ (head : Head) (events : List Event) (host xid inc : ℕ) (u : UnderWay)
 
   -- an answer says what the reply to the call's request says
   pub telling-says : (request : Request) (r : Reply) (a : Answer) → IsTelling request r a → inc_of r ≡ inc → IsFor u dirty push request
-      → Leases request → Once (HadSo host xid r request) head events → Says head events (said a None) (Some (told u.call))
+      → Leases request → Meanwhile (HadSo host xid r request) by n head events → Says head events by n (said a None) (Some (told u.call))
   telling-says request r a (names answer named) same for leases had = named-says request r answer named for had
   telling-says request r a (refuses i status e counts) same for leases had =
       let one : i ≡ inc = ap inc_of (sym e) ∙ same in
       refused-says status request for leases
-      (subst (λ n. Once (HadSo host xid (Reply.Refused n status) request) head events) one (subst (λ b. Once (HadSo host xid b request) head events) e had))
+      (subst (λ m. Meanwhile (HadSo host xid (Reply.Refused m status) request) by n head events) one (subst (λ b. Meanwhile (HadSo host xid b request) by n head events) e had))

@@ -12,6 +12,7 @@ use Rattle.law_runs.proofs.FateLaws.{accounted, waiting, fates}
 use Rattle.law_runs.proofs.HeldLaws.{held-in-every-run}
 use Rattle.law_runs.proofs.ZeroRuns.{untouched}
 use Rattle.nq_laws.proofs.CachedReads.{cached-in-every-run}
+use Rattle.nq_laws.proofs.RunAnswers.{refusals-are-of-their-calls, answers-tell-what-was, answers-have-causes}
 use Rattle.nq_model.specs.Headline.{HeadlineHolds, AtEveryMoment}
 use Rattle.walk_steps.proofs.NoCrash.{bounds-before}
 use Rattle.nq_model.specs.Bounds.{KeepsBounds}
@@ -35,6 +36,7 @@ headline most head events bounds within =
       of_their_call = of-their-call-in-every-run most head events bounds within;
       answered = answers-in-every-run most head events bounds within;
       done = deeds-in-every-run most head events bounds within;
+      refused = refusals-are-of-their-calls most head events bounds within;
       busy = busy-in-every-run most head events bounds within;
       legal = legal-in-every-run most head events bounds within;
       accounted = accounted most head events bounds within;
@@ -115,8 +117,12 @@ within-earlier hosts most (e ∷ later) earlier w = within-earlier hosts most la
 pub at-every-moment : AtEveryMoment
 at-every-moment most head later earlier bounds within =
     let g = run-grows head later earlier in
+    let bounded : KeepsBounds most head earlier = bounds-earlier most head later earlier bounds in
+    let skewed : IsWithinSkew head.hosts most earlier = within-earlier head.hosts most later earlier within in
     record {
-      holds = headline most head earlier (bounds-earlier most head later earlier bounds) (within-earlier head.hosts most later earlier within);
+      holds = headline most head earlier bounded skewed;
+      told = answers-tell-what-was most head earlier bounded skewed;
+      caused = answers-have-causes most head earlier bounded skewed;
       more = g.more;
       grows = g.is;
     }

@@ -51,6 +51,7 @@ module _ (w : World) (packets : List Packet) (s : Server) where
     of_their_call = h.of_their_call;
     answered = h.answered;
     done = h.done;
+    refused = h.refused;
     busy = h.busy;
     legal = h.legal;
     accounted = h.accounted;

@@ -1,4 +1,5 @@
--- In every run what an answer says was so at the server: what it tells of files, and its cause where it refuses.
+-- In every run what an answer says was so at the server between the call and the answer: what it tells of files, and its cause where
+-- it refuses.
 use Rattle.std.proofs.Common.{◌≡◌, ◌≤◌, ℕ, ◌+◌, List, [], ◌∷◌, ◌++◌, Option, Some, None, length, refl, sym, subst, inl, inr, arith}
 use Rattle.std.specs.Prelude.{slice_get}
 use Rattle.nq_base.specs.declared.Answer.{Answer}
@@ -24,23 +25,25 @@ use Rattle.nq_model.specs.Settle.{said}
 use Rattle.nq_model.specs.Skew.{IsWithinSkew}
 use Rattle.nq_model.specs.World.{Head, World, after_server, after_client, at_client, after_hearing, sending_host, deliver_to_client, deliver_to}
 use Rattle.nq_model.specs.World.{deliver, start, run}
+use Rattle.nq_model.specs.AnswersHaveCauses.{LacksBlock, HadNoBlock, IsAnsweredSo, HasCauseAt, AnswersHaveCauses}
 use Rattle.nq_model.specs.AnswersTellWhatWas.{HasLength, ToldSo, TellsSoAt, AnswersTellWhatWas}
 use Rattle.nq_model.specs.Bounds.{KeepsBounds, InEveryRun}
+use Rattle.nq_model.specs.RefusalsAreOfTheirCalls.{IsRefusalOf, IsRefusalAt, RefusalsAreOfTheirCallsInEveryRun}
 use Rattle.nq_model.specs.RepliesTellWhatWas.{Once}
 use Rattle.walk_files.proofs.CallFacts.{CallsAt}
 use Rattle.walk_files.proofs.Placed.{Placed, call-told, call-later}
 use Rattle.walk_steps.proofs.ClientEntries.{IsTelling, Lent}
 use Rattle.walk_steps.proofs.Clocks.{within-before}
 use Rattle.walk_steps.proofs.NoCrash.{bounds-before}
-use Rattle.walk_steps.proofs.Packets.{In, in-get, Told as ToldTo}
+use Rattle.walk_steps.proofs.Packets.{In, in-get, Asked, Told as ToldTo}
 use Rattle.walk_steps.proofs.RunCases.{client_at}
 use Rattle.walk_steps.proofs.Worlds.{Holds, to-told, run-holds}
 use Rattle.law_rounds.proofs.Meant.{requests-are-meant}
 use Rattle.law_runs.proofs.RunCalls.{calls-known}
 use Rattle.law_runs.proofs.OkFacts.{KeepsOf}
 use Rattle.law_runs.proofs.Standings.{oks-in-every-run}
-use Rattle.nq_laws.specs.RefusalsHaveCauses.{LacksBlock, HasCauseAt, AnswersHaveCauses}
-use Rattle.nq_laws.proofs.AnswerCauses.{Says, SaysAt, Leases, HadNoBlock, later-says, range-of-block, telling-says}
+use Rattle.nq_laws.proofs.Anchors.{asked-while-open, then-meanwhile}
+use Rattle.nq_laws.proofs.AnswerCauses.{Says, SaysAt, Leases, later-says, range-of-block, telling-says}
 use Rattle.nq_laws.proofs.ClientRests.{IsCachedNext, IsOutside, Rests, AllRest, call-rests, tick-rests, hear-rests, restart-rests}
 use Rattle.nq_laws.proofs.LeaseLengths.{HadLength, granted-length, leases-lent, own-reply}
 use Rattle.nq_laws.proofs.RunTells.{once-map, HadSo}
@@ -50,7 +53,7 @@ use Rattle.nq_laws.proofs.ServerEntries.{IsNoAnswer, NoneAnswers, receive-answer
 
 later-at : (head : Head) (event : Event) (earlier : List Event) (e : Entry) (before : List Entry) → SaysAt head earlier e before
     → SaysAt head (event ∷ earlier) e before
-later-at head event earlier (Entry.A who q answer) before so = later-says head event earlier answer (call_of before who q) so
+later-at head event earlier (Entry.A who q answer) before so = later-says head event earlier who q answer (call_of before who q) so
 later-at head event earlier other before so = tt
 
 later-all : (head : Head) (event : Event) (earlier : List Event) (journal : List Entry) → Throughout (SaysAt head earlier) journal
@@ -71,10 +74,11 @@ server-so head events (e ∷ entries) journal none all =
     (no-answer-so head events e (entries ++ journal) none.0, server-so head events entries journal none.1 all)
 
 -- a call that read tells of no file
-reads-so : (head : Head) (events : List Event) (value file block : ℕ) (o : Option Told) → Reads file block o → ToldSo head events value o
-reads-so head events value file block (Some (Told.Read f b)) reads = tt
-reads-so head events value file block (Some (Told.Fetch f b)) reads = tt
-reads-so head events value file block other reads = absurd reads
+reads-so : (head : Head) (events : List Event) (who : Who) (q value file block : ℕ) (o : Option Told) → Reads file block o
+    → ToldSo head events who q value o
+reads-so head events who q value file block (Some (Told.Read f b)) reads = tt
+reads-so head events who q value file block (Some (Told.Fetch f b)) reads = tt
+reads-so head events who q value file block other reads = absurd reads
 
 reads-more : (file block : ℕ) (e : Entry) (before : List Entry) (who : Who) (q : ℕ) → Reads file block (call_of before who q)
     → Reads file block (call_of (e ∷ before) who q)
@@ -88,22 +92,22 @@ reads-more file block e before who q reads = case (call_of before who q) refl re
 record TellsOf (head : Head) (events : List Event) (journal : List Entry) (who : Who) (q : ℕ) (answer : Said) : Type 0 where
   asks : Told
   call : call_of journal who q ≡ Some asks
-  so : Says head events answer (Some asks)
+  so : Says head events who q answer (Some asks)
 
 cached-so : (head : Head) (events : List Event) (who : Who) (q value : ℕ) (entries journal : List Entry) → IsCachedNext who q entries
-    → Throughout Placed (entries ++ journal) → ToldSo head events value (call_of (entries ++ journal) who q)
+    → Throughout Placed (entries ++ journal) → ToldSo head events who q value (call_of (entries ++ journal) who q)
 cached-so head events who q value (Entry.R by n file block v None ∷ before) journal next placed =
     let reads = placed.0.reads in
     let mine : Reads file block (call_of (before ++ journal) who q) = subst (λ m. Reads file block (call_of (before ++ journal) who m)) next.1
     (subst (λ w. Reads file block (call_of (before ++ journal) w n)) next.0 reads) in
-    reads-so head events value file block (call_of (Entry.R by n file block v None ∷ (before ++ journal)) who q)
+    reads-so head events who q value file block (call_of (Entry.R by n file block v None ∷ (before ++ journal)) who q)
     (reads-more file block (Entry.R by n file block v None) (before ++ journal) who q mine)
 cached-so head events who q value other journal next placed = absurd next
 
 caused-so : (head : Head) (events : List Event) (who : Who) (q : ℕ) (answer : Said) (entries journal : List Entry) → TellsOf head events journal who q answer
-    → Says head events answer (call_of (entries ++ journal) who q)
+    → Says head events who q answer (call_of (entries ++ journal) who q)
 caused-so head events who q answer entries journal cause =
-    subst (Says head events answer) (sym (call-later entries journal who q cause.asks cause.call)) cause.so
+    subst (Says head events who q answer) (sym (call-later entries journal who q cause.asks cause.call)) cause.so
 
 -- a file of so many blocks has none behind them
 had-no-block : (head : Head) (events : List Event) (file blocks block : ℕ) → blocks ≤ block → HadLength head events file blocks
@@ -113,11 +117,11 @@ had-no-block head events file blocks block beyond had =
     (λ w has. let same = has.1.has_length in record { file = has.1.file; found = has.1.found; beyond = omega arith }) had
 
 outside-so : (head : Head) (events : List Event) (who : Who) (q : ℕ) (journal : List Entry) → IsOutside (HadLength head events) who q journal
-    → Says head events Said.Range (call_of journal who q)
+    → Says head events who q Said.Range (call_of journal who q)
 outside-so head events who q journal out =
     let p = out.past in
-    subst (Says head events Said.Range) (sym out.tells)
-    (range-of-block head events p.file p.block out.op p.of_block (had-no-block head events p.file p.blocks p.block p.beyond p.had))
+    subst (Says head events who q Said.Range) (sym out.tells)
+    (range-of-block head events who q p.file p.block out.op p.of_block (had-no-block head events p.file p.blocks p.block p.beyond p.had))
 
 rests-so : (head : Head) (events : List Event) (e : Entry) (entries journal : List Entry) → Rests (HadLength head events)
     (TellsOf head events journal) journal e entries
@@ -179,9 +183,11 @@ module _ (most : ℕ) (head : Head) (event : Event) (earlier : List Event) (boun
       asks = told u.call;
       call = (keeps.is_open u call).tells;
       so =
-          later-says head event earlier (said answer None) (Some (told u.call))
-          (telling-says head earlier host xid c.who.inc u c.dirty c.push ticket.request r answer telling inc (keeps.fits ticket u has job call)
-          (leases ticket.request refl) was);
+          telling-says head (event ∷ earlier) c.who u.q host xid c.who.inc u c.dirty c.push ticket.request r answer telling inc
+          (keeps.fits ticket u has job call) (leases ticket.request refl)
+          (then-meanwhile (HadSo host xid r ticket.request) host ticket.xid ticket.request c.who u.q head event earlier
+          (λ v so. subst (λ n. Asked v.packets host n ticket.request) same so.0)
+          (asked-while-open most head earlier bounds within host c is ticket u has job call) was);
     } where
       keeps : KeepsOf (host_row w.server.kept host) c w.journal
       keeps = (oks-in-every-run most head earlier bounds within).clients host c is
@@ -189,7 +195,7 @@ module _ (most : ℕ) (head : Head) (event : Event) (earlier : List Event) (boun
       was : Once (HadSo host xid r ticket.request) head earlier
       was = own-reply head earlier host xid c r ticket is sent has same inc
 
-      leases : (q : Request) → ticket.request ≡ q → Leases head earlier host xid c.who.inc u c.dirty c.push q
+      leases : (q : Request) → ticket.request ≡ q → Leases head (event ∷ earlier) c.who u.q host xid c.who.inc u c.dirty c.push q
       leases (Request.GetLease who file want) asks = ((requests-are-meant head earlier host c ticket u is has job call).leases who file want asks).0
       leases other asks = tt
 
@@ -302,6 +308,35 @@ cause-at : (head : Head) (events : List Event) (e : Entry) (place : List Entry) 
 cause-at head events (Entry.A who q (Said.OkValue value)) place so = tt
 cause-at head events (Entry.A who q answer) place so = so
 cause-at head events other place so = tt
+
+-- the form of a refusal, from its cause
+forms-of : (head : Head) (events : List Event) (who : Who) (q : ℕ) (answer : Said) (o : Option Told) → IsAnsweredSo head events who q answer o
+    → IsRefusalOf answer o
+forms-of head events who q Said.NoEntry (Some (Told.Lookup name)) so = tt
+forms-of head events who q Said.NoEntry other so = absurd so
+forms-of head events who q Said.Stale o so = (so.0, so.1)
+forms-of head events who q Said.Exists (Some (Told.Create name blocks)) so = tt
+forms-of head events who q Said.Exists other so = absurd so
+forms-of head events who q Said.NoSpace (Some (Told.Create name blocks)) so = tt
+forms-of head events who q Said.NoSpace (Some (Told.Resize file blocks)) so = tt
+forms-of head events who q Said.NoSpace other so = absurd so
+forms-of head events who q Said.Range (Some (Told.Create name blocks)) so = inl tt
+forms-of head events who q Said.Range (Some (Told.Resize file blocks)) so = inl tt
+forms-of head events who q Said.Range (Some (Told.Read file block)) so = inr (inl tt)
+forms-of head events who q Said.Range (Some (Told.Fetch file block)) so = inr (inl tt)
+forms-of head events who q Said.Range (Some (Told.Write file block value)) so = inr (inr tt)
+forms-of head events who q Said.Range (Some (Told.WriteSync file block value)) so = inr (inr tt)
+forms-of head events who q Said.Range other so = absurd so
+forms-of head events who q answer o so = tt
+
+form-at : (head : Head) (events : List Event) (e : Entry) (place : List Entry) → SaysAt head events e place → IsRefusalAt e place
+form-at head events (Entry.A who q (Said.OkValue value)) place so = tt
+form-at head events (Entry.A who q answer) place so = forms-of head events who q answer (call_of place who q) so
+form-at head events other place so = tt
+
+pub refusals-are-of-their-calls : RefusalsAreOfTheirCallsInEveryRun
+refusals-are-of-their-calls most head events bounds within =
+    says-all IsRefusalAt head events (form-at head events) (run head events).journal (answers-say-what-was most head events bounds within)
 
 pub answers-tell-what-was : AnswersTellWhatWas
 answers-tell-what-was most head events bounds within =

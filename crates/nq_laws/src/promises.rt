@@ -1,6 +1,8 @@
 //! The headline.
 
 ghost use Rattle.nq_model.specs.AnswersAreOfTheirCalls.{AnswersAreOfTheirCallsInEveryRun};
+ghost use Rattle.nq_model.specs.AnswersHaveCauses.{AnswersHaveCauses};
+ghost use Rattle.nq_model.specs.AnswersTellWhatWas.{AnswersTellWhatWas};
 ghost use Rattle.nq_model.specs.BusyIsSaidAtOnce.{BusyIsSaidAtOnceInEveryRun};
 ghost use Rattle.nq_model.specs.OksHaveTheirDeeds.{OksHaveTheirDeedsInEveryRun};
 ghost use Rattle.nq_model.specs.CallsAreOrdered.{OrderedInEveryRun, ReadsAreOfTheirCallInEveryRun};
@@ -10,20 +12,25 @@ ghost use Rattle.nq_model.specs.BlocksAreHeld.{KeptBlocksAreHeldInEveryRun};
 ghost use Rattle.nq_model.specs.CachedReadsAreAtOnce.{CachedAtOnceInEveryRun};
 ghost use Rattle.nq_model.specs.Headline.{AtEveryMoment};
 ghost use Rattle.nq_model.specs.ReadsAreLegal.{ReadsAreLegalInEveryRun};
+ghost use Rattle.nq_model.specs.RefusalsAreOfTheirCalls.{RefusalsAreOfTheirCallsInEveryRun};
 ghost use Rattle.nq_model.specs.LossesAreReported.{ReportedInEveryRun};
 ghost use Rattle.nq_model.specs.UntouchedAreZeros.{UntouchedAreZerosInEveryRun};
 ghost use Rattle.nq_model.specs.OksAreKept.{SynchronizedInEveryRun};
 
 /// For every schedule of calls, losses, repeats, reorderings, ticks within skew, restarts and crashes, the journal keeps each
-/// client's order; each answer is of its call, and the deed of each ok stands before it; every successful read gives the latest standing write before it; missing are only delayed writes of clients
-/// that restarted or were cut off beyond write slack, which survivors report by name; synchronized writes that were answered ok
-/// never are; and a cached read under a live lease is answered at once. So it is at every moment of the schedule (Macklem 1994;
-/// Gray and Cheriton 1989).
+/// client's order; each answer is of its call, in a form that the call can have, and the deed of each ok stands before it; what
+/// an ok tells of files, and why an answer refuses, was so between the call and the answer; every successful read gives the
+/// latest standing write before it; missing are only delayed writes of clients that restarted or were cut off beyond write slack,
+/// which survivors report by name; synchronized writes that were answered ok never are; and a cached read under a live lease is
+/// answered at once. So it is at every moment of the schedule (Macklem 1994; Gray and Cheriton 1989).
 pub fn headline()
     ensures ordered { OrderedInEveryRun }
     ensures of_their_call { ReadsAreOfTheirCallInEveryRun }
     ensures answered { AnswersAreOfTheirCallsInEveryRun }
     ensures done { OksHaveTheirDeedsInEveryRun }
+    ensures refused { RefusalsAreOfTheirCallsInEveryRun }
+    ensures told { AnswersTellWhatWas }
+    ensures caused { AnswersHaveCauses }
     ensures busy { BusyIsSaidAtOnceInEveryRun }
     ensures legal { ReadsAreLegalInEveryRun }
     ensures accounted { AccountedInEveryRun }

@@ -5,7 +5,7 @@ use Rattle.nq_base.specs.declared.Entry.TheVariants.{C, B, A}
 use Rattle.nq_base.specs.declared.Said.TheVariants.{Busy}
 use Rattle.nq_base.specs.declared.Who.{Who}
 use Rattle.nq_model.specs.Bounds.{InEveryRun}
-use Rattle.nq_model.specs.Journal.{Exists, Throughout}
+use Rattle.nq_model.specs.Journal.{Each, Exists, Throughout}
 use Rattle.nq_model.specs.Ordered.{HasOpen}
 use Rattle.nq_model.specs.World.{run}
 
@@ -14,10 +14,19 @@ abbrev pub IsStartOf : (who : Who) → Entry → Type 0
 IsStartOf who (B by) = by ≡ who
 IsStartOf who other = ⊥
 
--- the last entry is the C of call q; before it another call of its incarnation is open, or the incarnation was started again by a
--- B, after which it is busy until it is attached
+-- where the entry is an A of the incarnation, it is `busy`
+abbrev pub IsBusyOnly : (who : Who) → Entry → Type 0
+IsBusyOnly who (A by q said) = by ≡ who → said ≡ Busy
+IsBusyOnly who other = ⊤
+
+-- the incarnation was started again by a B, and each of its calls was answered `busy` since, as it is until it is attached
+pub record IsStarting (who : Who) (before : List Entry) : Type 0 where
+  pub started : Exists (IsStartOf who) before
+  pub idle : Each (IsBusyOnly who) before
+
+-- the last entry is the C of call q; before it another call of its incarnation is open, or the incarnation is still starting
 abbrev pub IsBusyCall : (who : Who) (q : ℕ) → (before : List Entry) → Type 0
-IsBusyCall who q (C by n told ∷ before) = (by ≡ who) × (n ≡ q) × (HasOpen before who ⊎ Exists (IsStartOf who) before)
+IsBusyCall who q (C by n told ∷ before) = (by ≡ who) × (n ≡ q) × (HasOpen before who ⊎ IsStarting who before)
 IsBusyCall who q other = ⊥
 
 -- what is asked of an A `busy` at its place

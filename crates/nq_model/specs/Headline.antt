@@ -4,8 +4,11 @@ use Rattle.nq_base.specs.declared.Call.{Call}
 use Rattle.nq_base.specs.declared.Entry.{Entry}
 use Rattle.nq_base.specs.declared.Event.{Event}
 use Rattle.nq_model.specs.AnswersAreOfTheirCalls.{AnswersAreOfTheirCalls}
+use Rattle.nq_model.specs.AnswersHaveCauses.{HaveCauses}
+use Rattle.nq_model.specs.AnswersTellWhatWas.{TellWhatWas}
 use Rattle.nq_model.specs.BusyIsSaidAtOnce.{BusyIsSaidAtOnce}
 use Rattle.nq_model.specs.OksHaveTheirDeeds.{OksHaveTheirDeeds}
+use Rattle.nq_model.specs.RefusalsAreOfTheirCalls.{RefusalsAreOfTheirCalls}
 use Rattle.nq_model.specs.WritesAreAccounted.{WaitingAreUnsaved, EachHasItsFate}
 use Rattle.nq_model.specs.BlocksAreHeld.{KeptBlocksAreHeld}
 use Rattle.nq_model.specs.UntouchedAreZeros.{AreZeros}
@@ -41,6 +44,8 @@ pub record HeadlineHolds (w : World) : Type 0 where
   -- each answer is of its call, and the deed of each ok stands before it
   pub answered : AnswersAreOfTheirCalls w.journal
   pub done : OksHaveTheirDeeds w.journal
+  -- a refusal has a form that the call can have
+  pub refused : RefusalsAreOfTheirCalls w.journal
   -- busy is said at once, and for a cause
   pub busy : BusyIsSaidAtOnce w.journal
   -- every successful read gives the latest standing write before it
@@ -62,9 +67,12 @@ pub record HeadlineHolds (w : World) : Type 0 where
   -- a cached read under a live lease is answered at once
   pub cached : CachedReadsAreAtOnce w
 
--- at a moment of a schedule the headline holds, and from there on the journal only grows
+-- at a moment of a schedule the headline holds; what the answers tell of files, and why they refuse, was so between each call and its
+-- answer; and from there on the journal only grows
 pub record HoldsAt (head : Head) (later earlier : List Event) : Type 0 where
   pub holds : HeadlineHolds (run head earlier)
+  pub told : TellWhatWas head earlier
+  pub caused : HaveCauses head earlier
   pub more : List Entry
   pub grows : (run head (later ++ earlier)).journal ≡ more ++ (run head earlier).journal
 

@@ -5,6 +5,7 @@
 -- the words in which the laws are told
 -- what the server and the clients have
 pub mod AnswersAreOfTheirCalls
+pub mod AnswersHaveCauses
 pub mod AnswersTellWhatWas
 pub mod Ask
 pub mod BlocksAreHeld
@@ -56,6 +57,7 @@ pub mod ReadsAreLegal
 pub mod RecoveriesWait
 pub mod RepliesAreOwed
 pub mod RepliesTellWhatWas
+pub mod RefusalsAreOfTheirCalls
 pub mod Reported
 pub mod ReportedTest
 pub mod RevisionsHaveOneContent

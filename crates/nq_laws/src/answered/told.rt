@@ -2,8 +2,10 @@
 //! in `proofs/`.
 
 ghost use Rattle.nq_laws.specs.ToldMet.{NoRoomIsMet, RefusalsAreMet, TellingsAreMet};
-ghost use Rattle.nq_laws.specs.RefusalsHaveCauses.{AnswersHaveCauses, RefusalsHaveCauses};
+ghost use Rattle.nq_laws.specs.RefusalsHaveCauses.{RefusalsHaveCauses};
+ghost use Rattle.nq_model.specs.AnswersHaveCauses.{AnswersHaveCauses};
 ghost use Rattle.nq_model.specs.AnswersTellWhatWas.{AnswersTellWhatWas};
+ghost use Rattle.nq_model.specs.RefusalsAreOfTheirCalls.{RefusalsAreOfTheirCallsInEveryRun};
 ghost use Rattle.nq_model.specs.RepliesTellWhatWas.{RepliesTellWhatWas};
 
 /// After every schedule, what a reply to LOOKUP, CREATE or GETATTR tells of a file was so at the server at some moment when the
@@ -12,8 +14,8 @@ pub fn replies_tell_what_was()
     ensures { RepliesTellWhatWas }
 {}
 
-/// After every schedule within skew, what an `ok` to `lookup`, `create` or `attr` tells was so at the server at some moment, and that
-/// not after the answer: the file of that name had that id, or the file had that length.
+/// After every schedule within skew, what an `ok` to `lookup`, `create` or `attr` tells was so at the server at some moment between the
+/// call and the answer: the file of that name had that id, or the file had that length.
 pub fn answers_tell_what_was()
     ensures { AnswersTellWhatWas }
 {}
@@ -25,12 +27,18 @@ pub fn refusals_have_causes()
     ensures { RefusalsHaveCauses }
 {}
 
-/// After every schedule within skew, what an answer that refuses says stood at the server at some moment, and that not after the answer:
+/// After every schedule within skew, what an answer that refuses says stood at the server at some moment between the call and the answer:
 /// `noentry` that no file of the name was kept, `stale` that no file of the id was, `exists` that one of the name was, and `nospace` that
-/// there was no room. `range` is said to a call that reads or writes a block where the file had no such block, and to `create` and `resize`
-/// with a length that no file can have.
+/// there was no room. `range` is said to `create` and `resize` with a length that no file can have, and to a call that reads or writes a
+/// block where the file had, at some moment of the run, no such block.
 pub fn answers_have_causes()
     ensures { AnswersHaveCauses }
+{}
+
+/// After every schedule within skew, a refusal has a form that the call can have: `noentry` is said to `lookup` alone, `exists` to `create`
+/// alone, `stale` to a call that speaks of a file, `nospace` to `create` and `resize`, and `range` to those and to reads and writes.
+pub fn refusals_are_of_their_calls()
+    ensures { RefusalsAreOfTheirCallsInEveryRun }
 {}
 
 /// There is such a schedule: a client makes a file, looks it up and asks for its attributes.

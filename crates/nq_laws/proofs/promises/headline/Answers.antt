@@ -7,6 +7,7 @@ use Rattle.law_runs.proofs.HeldLaws.{held-in-every-run}
 use Rattle.law_runs.proofs.ZeroRuns.{untouched}
 use Rattle.nq_laws.proofs.CachedReads.{cached-in-every-run}
 use Rattle.nq_laws.proofs.HeadlineParts.{at-every-moment}
+use Rattle.nq_laws.proofs.RunAnswers.{refusals-are-of-their-calls, answers-tell-what-was, answers-have-causes}
 use Rattle.nq_laws.proofs.promises.headline.Goals as goal
 use Rattle.law_runs.proofs.LegalLaws.{legal-in-every-run}
 use Rattle.law_runs.proofs.ReportedRuns.{reported-in-every-run}
@@ -23,6 +24,15 @@ returns-clause-answered c = answers-in-every-run
 
 pub returns-clause-done : goal.returns-clause-done
 returns-clause-done c = deeds-in-every-run
+
+pub returns-clause-refused : goal.returns-clause-refused
+returns-clause-refused c = refusals-are-of-their-calls
+
+pub returns-clause-told : goal.returns-clause-told
+returns-clause-told c = answers-tell-what-was
+
+pub returns-clause-caused : goal.returns-clause-caused
+returns-clause-caused c = answers-have-causes
 
 pub returns-clause-busy : goal.returns-clause-busy
 returns-clause-busy c = busy-in-every-run
