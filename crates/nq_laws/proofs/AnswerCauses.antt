@@ -48,7 +48,8 @@ later-told head event earlier who q value (Some (Told.Create name blocks)) so = 
 later-told head event earlier who q value (Some (Told.Attr file)) so = inr so
 later-told head event earlier who q value other so = tt
 
-pub later-says : (head : Head) (event : Event) (earlier : List Event) (who : Who) (q : ℕ) (answer : Said) (o : Option Told) → Says head earlier who q answer o
+pub later-says : (head : Head) (event : Event) (earlier : List Event) (who : Who) (q : ℕ) (answer : Said) (o : Option Told)
+    → Says head earlier who q answer o
     → Says head (event ∷ earlier) who q answer o
 later-says head event earlier who q (Said.OkValue value) o so = later-told head event earlier who q value o so
 later-says head event earlier who q Said.NoEntry (Some (Told.Lookup name)) so = inr so
@@ -74,7 +75,8 @@ same-block head events file block f b same had =
     subst (λ n. HadNoBlock head events n b) (sym same.0) (subst (λ n. HadNoBlock head events file n) (sym same.1) had)
 
 -- `range` is said to a call that reads or writes a block which its file had not
-pub range-of-block : (head : Head) (events : List Event) (who : Who) (q file block : ℕ) (op : Call) → IsOfBlock file block op → HadNoBlock head events file block
+pub range-of-block : (head : Head) (events : List Event) (who : Who) (q file block : ℕ) (op : Call) → IsOfBlock file block op
+    → HadNoBlock head events file block
     → Says head events who q Said.Range (Some (told op))
 range-of-block head events who q file block (Call.Read f b) of_block had = same-block head events file block f b of_block had
 range-of-block head events who q file block (Call.Fetch f b) of_block had = same-block head events file block f b of_block had
@@ -120,7 +122,8 @@ module _ (head : Head) (events : List Event) (by : Who) (n : ℕ) (host xid inc 
   exists : (r : Request) → IsFor u dirty push r → Had Refusal.Exist r → Answered Refusal.Exist
   exists (Request.Create who seq name blocks) is had =
       subst (λ k. Says head events by n Said.Exists (Some (told k))) (sym is)
-      (mapped (HadSo host xid (Reply.Refused inc Refusal.Exist) (Request.Create who seq name blocks)) (λ w. HasName w.server.kept.files name) (λ w so. so.1.1) had)
+      (mapped (HadSo host xid (Reply.Refused inc Refusal.Exist) (Request.Create who seq name blocks)) (λ w. HasName w.server.kept.files name)
+      (λ w so. so.1.1) had)
   exists r is had = absurd (causeless Refusal.Exist r (λ w so. so.1.1) had)
 
   no-space : (r : Request) → IsFor u dirty push r → Had Refusal.NoSpc r → Answered Refusal.NoSpc
@@ -173,11 +176,13 @@ module _ (head : Head) (events : List Event) (by : Who) (n : ℕ) (host xid inc 
       let is_call : u.call ≡ Call.Lookup name = subst (IsFor u dirty push) asks for in
       subst (λ k. ToldSo head events by n file (Some (told k))) (sym is_call)
       (mapped (HadSo host xid (Reply.Lookup i file blocks) (Request.Lookup who name)) (HasNamed name file) (λ w so. (blocks, so.1.0))
-      (subst (λ b. Meanwhile (HadSo host xid b (Request.Lookup who name)) by n head events) e (subst (λ q. Meanwhile (HadSo host xid r q) by n head events) asks had)))
+      (subst (λ b. Meanwhile (HadSo host xid b (Request.Lookup who name)) by n head events) e
+      (subst (λ q. Meanwhile (HadSo host xid r q) by n head events) asks had)))
   named-says request r a (created who seq name blocks i file asks e) for had =
       let is_call : u.call ≡ Call.Create name blocks = subst (IsFor u dirty push) asks for in
       subst (λ k. ToldSo head events by n file (Some (told k))) (sym is_call)
-      (mapped (HadSo host xid (Reply.Create i file) (Request.Create who seq name blocks)) (λ w. KeepsNamed w.server.kept.files name file blocks) (λ w so. so.1.0)
+      (mapped (HadSo host xid (Reply.Create i file) (Request.Create who seq name blocks)) (λ w. KeepsNamed w.server.kept.files name file blocks)
+      (λ w so. so.1.0)
       (subst (λ b. Meanwhile (HadSo host xid b (Request.Create who seq name blocks)) by n head events) e
       (subst (λ q. Meanwhile (HadSo host xid r q) by n head events) asks had)))
   named-says request r a (attributes who file i blocks rev asks e) for had =
@@ -243,4 +248,5 @@ module _ (head : Head) (events : List Event) (by : Who) (n : ℕ) (host xid inc 
   telling-says request r a (refuses i status e counts) same for leases had =
       let one : i ≡ inc = ap inc_of (sym e) ∙ same in
       refused-says status request for leases
-      (subst (λ m. Meanwhile (HadSo host xid (Reply.Refused m status) request) by n head events) one (subst (λ b. Meanwhile (HadSo host xid b request) by n head events) e had))
+      (subst (λ m. Meanwhile (HadSo host xid (Reply.Refused m status) request) by n head events) one
+      (subst (λ b. Meanwhile (HadSo host xid b request) by n head events) e had))

@@ -12,6 +12,7 @@ use Rattle.law_runs.proofs.FateLaws.{accounted, waiting, fates}
 use Rattle.law_runs.proofs.HeldLaws.{held-in-every-run}
 use Rattle.law_runs.proofs.ZeroRuns.{untouched}
 use Rattle.nq_laws.proofs.CachedReads.{cached-in-every-run}
+use Rattle.nq_laws.proofs.FullRuns.{full-has-its-cause}
 use Rattle.nq_laws.proofs.RunAnswers.{refusals-are-of-their-calls, answers-tell-what-was, answers-have-causes}
 use Rattle.nq_model.specs.Headline.{HeadlineHolds, AtEveryMoment}
 use Rattle.walk_steps.proofs.NoCrash.{bounds-before}
@@ -123,6 +124,7 @@ at-every-moment most head later earlier bounds within =
       holds = headline most head earlier bounded skewed;
       told = answers-tell-what-was most head earlier bounded skewed;
       caused = answers-have-causes most head earlier bounded skewed;
+      full = full-has-its-cause most head earlier bounded skewed;
       more = g.more;
       grows = g.is;
     }

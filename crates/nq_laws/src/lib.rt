@@ -15,6 +15,7 @@ pub use crate::answered::answers_have_causes;
 pub use crate::answered::answers_tell_what_was;
 pub use crate::answered::calls_answered;
 pub use crate::answered::few_calls_answered;
+pub use crate::answered::full_has_its_cause;
 pub use crate::answered::links_matter;
 pub use crate::answered::looks_are_answered;
 pub use crate::answered::no_tag_is_later;

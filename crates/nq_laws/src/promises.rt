@@ -10,6 +10,7 @@ ghost use Rattle.nq_model.specs.LossesAreExcused.{LossesAreExcused};
 ghost use Rattle.nq_model.specs.WritesAreAccounted.{AccountedInEveryRun, EachHasItsFateInEveryRun, WaitingAreUnsavedInEveryRun};
 ghost use Rattle.nq_model.specs.BlocksAreHeld.{KeptBlocksAreHeldInEveryRun};
 ghost use Rattle.nq_model.specs.CachedReadsAreAtOnce.{CachedAtOnceInEveryRun};
+ghost use Rattle.nq_model.specs.FullHasItsCause.{FullHasItsCause};
 ghost use Rattle.nq_model.specs.Headline.{AtEveryMoment};
 ghost use Rattle.nq_model.specs.ReadsAreLegal.{ReadsAreLegalInEveryRun};
 ghost use Rattle.nq_model.specs.RefusalsAreOfTheirCalls.{RefusalsAreOfTheirCallsInEveryRun};
@@ -31,6 +32,7 @@ pub fn headline()
     ensures refused { RefusalsAreOfTheirCallsInEveryRun }
     ensures told { AnswersTellWhatWas }
     ensures caused { AnswersHaveCauses }
+    ensures full { FullHasItsCause }
     ensures busy { BusyIsSaidAtOnceInEveryRun }
     ensures legal { ReadsAreLegalInEveryRun }
     ensures accounted { AccountedInEveryRun }

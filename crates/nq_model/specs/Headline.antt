@@ -18,6 +18,7 @@ use Rattle.nq_model.specs.Client.{Client, Lease}
 use Rattle.nq_model.specs.ClientStep.{client_call}
 use Rattle.nq_model.specs.CutOff.{IsExcused}
 use Rattle.nq_model.specs.Fate.{IsAccounted}
+use Rattle.nq_model.specs.FullHasItsCause.{FullHaveCauses}
 use Rattle.nq_model.specs.Legal.{IsLegal}
 use Rattle.nq_model.specs.OfTheirCall.{AreOfTheirCall}
 use Rattle.nq_model.specs.Ordered.{IsOrdered}
@@ -67,12 +68,13 @@ pub record HeadlineHolds (w : World) : Type 0 where
   -- a cached read under a live lease is answered at once
   pub cached : CachedReadsAreAtOnce w
 
--- at a moment of a schedule the headline holds; what the answers tell of files, and why they refuse, was so between each call and its
--- answer; and from there on the journal only grows
+-- at a moment of a schedule the headline holds; what the answers tell of files, and why they refuse or say `dirtyfull`, was so between
+-- each call and its answer; and from there on the journal only grows
 pub record HoldsAt (head : Head) (later earlier : List Event) : Type 0 where
   pub holds : HeadlineHolds (run head earlier)
   pub told : TellWhatWas head earlier
   pub caused : HaveCauses head earlier
+  pub full : FullHaveCauses head earlier
   pub more : List Entry
   pub grows : (run head (later ++ earlier)).journal ≡ more ++ (run head earlier).journal
 

@@ -32,6 +32,7 @@ pub mod EndingsComeLate
 pub mod EventsSendFew
 pub mod Fate
 pub mod FateTest
+pub mod FullHasItsCause
 pub mod Headline
 pub mod Hear
 pub mod Journal

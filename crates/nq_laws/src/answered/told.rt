@@ -5,6 +5,7 @@ ghost use Rattle.nq_laws.specs.ToldMet.{NoRoomIsMet, RefusalsAreMet, TellingsAre
 ghost use Rattle.nq_laws.specs.RefusalsHaveCauses.{RefusalsHaveCauses};
 ghost use Rattle.nq_model.specs.AnswersHaveCauses.{AnswersHaveCauses};
 ghost use Rattle.nq_model.specs.AnswersTellWhatWas.{AnswersTellWhatWas};
+ghost use Rattle.nq_model.specs.FullHasItsCause.{FullHasItsCause};
 ghost use Rattle.nq_model.specs.RefusalsAreOfTheirCalls.{RefusalsAreOfTheirCallsInEveryRun};
 ghost use Rattle.nq_model.specs.RepliesTellWhatWas.{RepliesTellWhatWas};
 
@@ -39,6 +40,12 @@ pub fn answers_have_causes()
 /// alone, `stale` to a call that speaks of a file, `nospace` to `create` and `resize`, and `range` to those and to reads and writes.
 pub fn refusals_are_of_their_calls()
     ensures { RefusalsAreOfTheirCallsInEveryRun }
+{}
+
+/// After every schedule within skew, `dirtyfull` has its cause at some moment between the call and the answer: as many blocks of the client
+/// were delayed or under way as there may be.
+pub fn full_has_its_cause()
+    ensures { FullHasItsCause }
 {}
 
 /// There is such a schedule: a client makes a file, looks it up and asks for its attributes.

@@ -6,6 +6,7 @@ use Rattle.law_runs.proofs.FateLaws.{accounted, waiting, fates}
 use Rattle.law_runs.proofs.HeldLaws.{held-in-every-run}
 use Rattle.law_runs.proofs.ZeroRuns.{untouched}
 use Rattle.nq_laws.proofs.CachedReads.{cached-in-every-run}
+use Rattle.nq_laws.proofs.FullRuns.{full-has-its-cause}
 use Rattle.nq_laws.proofs.HeadlineParts.{at-every-moment}
 use Rattle.nq_laws.proofs.RunAnswers.{refusals-are-of-their-calls, answers-tell-what-was, answers-have-causes}
 use Rattle.nq_laws.proofs.promises.headline.Goals as goal
@@ -33,6 +34,9 @@ returns-clause-told c = answers-tell-what-was
 
 pub returns-clause-caused : goal.returns-clause-caused
 returns-clause-caused c = answers-have-causes
+
+pub returns-clause-full : goal.returns-clause-full
+returns-clause-full c = full-has-its-cause
 
 pub returns-clause-busy : goal.returns-clause-busy
 returns-clause-busy c = busy-in-every-run
