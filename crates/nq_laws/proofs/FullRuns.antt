@@ -1,4 +1,4 @@
--- In every run `dirtyfull` has its cause.
+-- In every run `dirtyfull` has its cause, and `lost` names some write.
 use Rattle.std.proofs.Common.{◌≡◌, ℕ, ◌+◌, List, [], ◌∷◌, ◌++◌, Some, length, sym, subst, inl, inr}
 use Rattle.std.specs.Prelude.{slice_get}
 use Rattle.nq_base.specs.declared.Entry.{Entry}
@@ -7,7 +7,9 @@ use Rattle.nq_base.specs.declared.Said.{Said}
 use Rattle.nq_base.specs.declared.Who.{Who}
 use Rattle.law_runs.proofs.Standings.{answers-in-every-run}
 use Rattle.nq_laws.proofs.FullSteps.{IsWell, call-well, tick-well, hear-well, restart-well}
+use Rattle.nq_laws.proofs.Pushing.{HasPush, pushes-are-had}
 use Rattle.nq_laws.proofs.ServerEntries.{IsNoAnswer, NoneAnswers, receive-answers-none, tick-answers-none, crash-answers-none}
+use Rattle.nq_model.specs.LossesAreNamed.{IsLostNaming, LossesAreNamed, LossesAreNamedInEveryRun}
 use Rattle.nq_model.proofs.Lists.{each-map, each-append, exists-right}
 use Rattle.nq_model.specs.AnswersAreOfTheirCalls.{IsAnswerOfCall}
 use Rattle.nq_model.specs.Client.{Client, ClientStep}
@@ -36,11 +38,11 @@ server-none w t (received k p sent to is) = subst (λ (s : ServerStep). NoneAnsw
 server-none w t (ticks is) = subst (λ (s : ServerStep). NoneAnswers s.entries) (sym is) (tick-answers-none w.server (w.server.now + 1))
 server-none w t (crashes longest is) = subst (λ (s : ServerStep). NoneAnswers s.entries) (sym is) (crash-answers-none w.server longest)
 
-client-well : (w : World) (host : ℕ) (c : Client) (t : ClientStep) → ClientActs w host c t → Alone c → Each (IsWell c) t.entries
-client-well w host c t (called op is) alone = subst (λ (s : ClientStep). Each (IsWell c) s.entries) (sym is) (call-well c op)
-client-well w host c t (ticked is) alone = subst (λ (s : ClientStep). Each (IsWell c) s.entries) (sym is) (tick-well c (c.now + 1))
-client-well w host c t (restarted is) alone = subst (λ (s : ClientStep). Each (IsWell c) s.entries) (sym is) (restart-well c)
-client-well w host c t (heard k p sent to hears) alone = hear-well c k p.message t alone hears
+client-well : (w : World) (host : ℕ) (c : Client) (t : ClientStep) → ClientActs w host c t → Alone c → HasPush c → Each (IsWell c) t.entries
+client-well w host c t (called op is) alone had = subst (λ (s : ClientStep). Each (IsWell c) s.entries) (sym is) (call-well c op)
+client-well w host c t (ticked is) alone had = subst (λ (s : ClientStep). Each (IsWell c) s.entries) (sym is) (tick-well c (c.now + 1))
+client-well w host c t (restarted is) alone had = subst (λ (s : ClientStep). Each (IsWell c) s.entries) (sym is) (restart-well c)
+client-well w host c t (heard k p sent to hears) alone had = hear-well c k p.message t alone had hears
 
 module _ (most : ℕ) (head : Head) (event : Event) (earlier : List Event) (during : During most head event earlier)
     (g : Each (IsFullSo head earlier) (run head earlier).journal) where
@@ -87,7 +89,7 @@ module _ (most : ℕ) (head : Head) (event : Event) (earlier : List Event) (duri
   changed (by_client host c t at acts is) =
       subst (λ (z : World). Each (IsFullSo head (event ∷ earlier)) z.journal) (sym is)
       (each-append (IsFullSo head (event ∷ earlier)) t.entries w.journal
-      (new host c at t.entries (client-well w host c t acts ((run-holds head earlier).clients host c at).alone)
+      (new host c at t.entries (client-well w host c t acts ((run-holds head earlier).clients host c at).alone (pushes-are-had head earlier host c at))
       (subst (λ (z : World). Throughout IsAnswerOfCall z.journal) is
       (answers-in-every-run most head (event ∷ earlier) during.bounds_after during.within_after))
       (λ who q h. subst (λ (z : World). Exists (IsCall who q) z.journal) (sym is) h)) old)
@@ -100,3 +102,36 @@ pub full-has-its-cause : FullHasItsCause
 full-has-its-cause most head events bounds within =
     run-goes most head (λ es. Each (IsFullSo head es) (run head es).journal) (λ b. starts-full head)
     (λ e es during changes g. changed most head e es during g changes) events bounds within
+
+-- ---- `lost` names some write
+
+no-answer-named : (e : Entry) → IsNoAnswer e → IsLostNaming e
+no-answer-named (Entry.A who q said) none = absurd none
+no-answer-named other none = tt
+
+well-named : (c : Client) (e : Entry) → IsWell c e → IsLostNaming e
+well-named c (Entry.A who q (Said.Lost spans)) well = well
+well-named c other well = tt
+
+module _ (head : Head) (events : List Event) (g : LossesAreNamed (run head events).journal) where
+  named : (w : World) → Changes (run head events) w → LossesAreNamed w.journal
+  unfolding after_client after_server
+  named w (nothing is) = subst (λ (z : World). LossesAreNamed z.journal) (sym is) g
+  named w (by_server t acts is) =
+      subst (λ (z : World). LossesAreNamed z.journal) (sym is)
+      (each-append IsLostNaming t.entries (run head events).journal
+      (each-map IsNoAnswer IsLostNaming t.entries (λ e none. no-answer-named e none) (server-none (run head events) t acts)) g)
+  named w (by_client host c t at acts is) =
+      subst (λ (z : World). LossesAreNamed z.journal) (sym is)
+      (each-append IsLostNaming t.entries (run head events).journal
+      (each-map (IsWell c) IsLostNaming t.entries (λ e well. well-named c e well)
+      (client-well (run head events) host c t acts ((run-holds head events).clients host c at).alone (pushes-are-had head events host c at))) g)
+
+starts-named : (head : Head) → LossesAreNamed (start head).journal
+unfolding start
+starts-named head = tt
+
+pub losses-are-named : LossesAreNamedInEveryRun
+losses-are-named most head events bounds within =
+    run-goes most head (λ es. LossesAreNamed (run head es).journal) (λ b. starts-named head)
+    (λ e es during changes g. named head es g (run head (e ∷ es)) changes) events bounds within

@@ -1,31 +1,42 @@
--- A step of a client answers `dirtyfull` only where the client was full before it.
-use Rattle.std.proofs.Common.{◌≡◌, ◌≤◌, ℕ, ◌+◌, Bool, true, false, List, [], ◌∷◌, ◌++◌, Option, Some, None, if◌then◌else◌, length, refl, sym, ap, ◌∙◌, arith}
+-- A step of a client answers `dirtyfull` only where the client was full before it, and `lost` only with a name.
+use Rattle.std.proofs.Common.{◌≡◌, ◌≤◌, ℕ, ◌+◌, Bool, true, false, List, [], ◌∷◌, ◌++◌, Option, Some, None, if◌then◌else◌, length}
+use Rattle.std.proofs.Common.{map, refl, sym, ap, ◌∙◌, subst, arith}
 use Rattle.std.proofs.lemmas.Bool.Decides.{nat_tests}
 use Rattle.std.proofs.lemmas.Bool.{and_parts}
-use Rattle.std.specs.Prelude.{◌&&◌, not, nat_le, filter, is_some, ⊤}
+use Rattle.std.specs.Prelude.{◌&&◌, ◌||◌, ◌==◌, not, nat_le, filter, is_some, ⊤}
+use Rattle.std.specs.List.{list_any}
 use Rattle.nq_base.specs.declared.Answer.{Answer}
 use Rattle.nq_base.specs.declared.Call.{Call}
 use Rattle.nq_base.specs.declared.Entry.{Entry}
 use Rattle.nq_base.specs.declared.Grant.{Grant}
+use Rattle.nq_base.specs.declared.Loss.{Loss}
 use Rattle.nq_base.specs.declared.Push.{Push}
+use Rattle.nq_base.specs.declared.PushBase.{PushBase}
 use Rattle.nq_base.specs.declared.Refusal.{Refusal}
 use Rattle.nq_base.specs.declared.Reply.{Reply}
+use Rattle.nq_base.specs.declared.Request.{Request}
 use Rattle.nq_base.specs.declared.Said.{Said}
 use Rattle.nq_base.specs.declared.Tag.{Tag}
 use Rattle.nq_base.specs.declared.Value.{Value}
 use Rattle.nq_base.specs.declared.Who.{Who}
-use Rattle.nq_model.specs.Client.{Client, ClientStep, Notice, Ticket, begun, is_push_of, notice_on}
+use Rattle.nq_model.specs.Client.{Client, ClientStep, Notice, Ticket, pushing, begun, is_push_of, notice_on, losses_of, add_losses, file_of_loss}
+use Rattle.nq_model.specs.Client.{span_of, is_clean_in}
 use Rattle.nq_model.specs.ClientStep.{begins_call, is_called, says_busy, client_call, at_time, sends_again, client_tick, starts, restart, fresh_client}
-use Rattle.nq_model.specs.Hear.{hear, spends, attached, vacates_lease, vacates_noticed, loses, loss_entry, all_dirty, other_push, reports, without_lease}
+use Rattle.nq_model.specs.Hear.{hear, spends, attached, vacates_lease, vacates_noticed, loses, loss_entry, loss_of, losses_in, all_dirty, all_dirty_in, other_push, reports, without_lease}
 use Rattle.nq_model.specs.Hear.{push_refused, breaks_chain, if_broken, holds, takes_grant, takes_optional, answers_call, caches_block, then_caches, purges}
 use Rattle.nq_model.specs.Hear.{knows_revision, read_done, marks_through, lease_done, caches_write, write_done, ends_push, caches_push, push_done, answer_of}
 use Rattle.nq_model.specs.Hear.{pauses, replied, reply_counts, cancels, notes_notice, evicted, goes_on}
 use Rattle.nq_model.specs.Journal.{Each}
+use Rattle.nq_laws.proofs.Pushing.{HasPush}
+use Rattle.nq_model.specs.LossesAreNamed.{NameSome}
+use Rattle.nq_model.proofs.ByFile.{of-added}
 use Rattle.nq_model.specs.Message.{Message}
 use Rattle.nq_model.specs.Profile.{most_dirty}
 use Rattle.nq_model.specs.Send.{sends_request, after_seq, after_number, takes_push, gives_up, send_next}
 use Rattle.nq_model.specs.Settle.{said, answers, reads_cached, after_read, after_write, marks_written, names_losses, settle, pending}
-use Rattle.walk_steps.proofs.ClientFacts.{Alone, fits_job}
+use Rattle.walk_steps.proofs.ClientFacts.{Alone, fits_job, push_in}
+use Rattle.walk_steps.proofs.ClientMoves.{some-same}
+use Rattle.walk_steps.proofs.Rows.{same-number, number-same}
 use Rattle.walk_steps.proofs.Losses.{fold-losses}
 use Rattle.walk_steps.proofs.PartCases.{answers-call-cases, vacates-noticed-cases, reports-cases, if-broken-cases, takes-optional-cases}
 use Rattle.walk_steps.proofs.PartCases.{lease-done-cases, then-caches-cases, caches-write-cases, caches-push-cases, vacates-if-clean-cases}
@@ -34,8 +45,9 @@ use Rattle.walk_steps.proofs.SendCases.{send-moves}
 use Rattle.walk_steps.proofs.SettleCases.{settle-cases}
 use Rattle.walk_steps.proofs.StepCases.{call-cases, unless-cached-cases, tick-cases, evicted-cases, heard-cases}
 
--- an A that says so is of this client, which was full
+-- an A `dirtyfull` is of this client, which was full, and `lost` names some write
 abbrev pub IsWell : Client → Entry → Type 0
+IsWell c (Entry.A who q (Said.Lost spans)) = NameSome spans.items
 IsWell c (Entry.A who q Said.DirtyFull) = (who ≡ c.who) × (most_dirty ≤ pending c)
 IsWell c other = ⊤
 
@@ -53,6 +65,97 @@ fewer test (p ∷ ps) = case (test p) (fewer test ps)
     case : (b : Bool) → length (filter test ps) ≤ length ps → length (if b then p ∷ filter test ps else filter test ps) ≤ length (p ∷ ps)
     case true less = omega arith
     case false less = omega arith
+
+-- ---- losses
+
+-- there is an element
+abbrev IsSome : {X : Type 0} → List X → Type 0
+IsSome [] = ⊥
+IsSome (x ∷ xs) = ⊤
+
+some-right : {X : Type 0} (xs ys : List X) → IsSome ys → IsSome (xs ++ ys)
+some-right [] ys some = some
+some-right (x ∷ xs) ys some = tt
+
+some-named : (losses : List Loss) → IsSome losses → NameSome (map span_of losses)
+some-named [] none = none
+some-named (loss ∷ losses) some = tt
+
+-- those of a file are of it
+all-on : (file : ℕ) (ps : List Push) → Each (λ l. l.file ≡ file) (map loss_of (filter (is_push_of file) ps))
+all-on file [] = tt
+all-on file (p ∷ ps) = case (p.file == file) refl (all-on file ps)
+  where
+    case : (b : Bool) → (p.file == file) ≡ b → Each (λ l. l.file ≡ file) (map loss_of (filter (is_push_of file) ps))
+        → Each (λ l. l.file ≡ file) (map loss_of (if b then p ∷ filter (is_push_of file) ps else filter (is_push_of file) ps))
+    case true e rest = (same-number p.file file e, rest)
+    case false e rest = rest
+
+both-on : (file : ℕ) (dirty : List Push) (push : Option Push) → Each (λ l. l.file ≡ file) (losses_in file dirty push)
+both-on file dirty None = all-on file dirty
+both-on file dirty (Some p) = case (p.file == file) refl
+  where
+    case : (b : Bool) → (p.file == file) ≡ b
+        → Each (λ l. l.file ≡ file) (map loss_of ((if b then p ∷ [] else []) ++ filter (is_push_of file) dirty))
+    case true e = (same-number p.file file e, all-on file dirty)
+    case false e = all-on file dirty
+
+-- where all are of a file, those of the file are some
+some-of : (file : ℕ) (losses : List Loss) → Each (λ l. l.file ≡ file) losses → IsSome losses → IsSome (losses_of file losses)
+some-of file [] all none = none
+some-of file (loss ∷ losses) all some = case (loss.file == file) (number-same loss.file file all.0)
+  where
+    case : (b : Bool) → b ≡ true → IsSome (if b then loss ∷ losses_of file losses else losses_of file losses)
+    case true e = tt
+    case false e = absurd (cc)
+
+-- what is lost is named then
+lost-named : (file : ℕ) (dirty : List Push) (push : Option Push) (losses : List Loss) → IsSome (all_dirty_in file dirty push)
+    → NameSome (map span_of (losses_of file (add_losses file (losses_in file dirty push) losses)))
+lost-named file dirty push losses some =
+    let added = of-added file_of_loss file file (losses_in file dirty push) losses (both-on file dirty push) in
+    let found : IsSome (losses_of file (losses_in file dirty push)) =
+    some-of file (losses_in file dirty push) (both-on file dirty push) (mapped (all_dirty_in file dirty push) some) in
+    some-named (losses_of file (add_losses file (losses_in file dirty push) losses))
+    (subst IsSome (sym added) (some-right (losses_of file losses) (losses_of file (losses_in file dirty push)) found))
+  where
+    mapped : (ps : List Push) → IsSome ps → IsSome (map loss_of ps)
+    mapped [] none = none
+    mapped (p ∷ ps) some = tt
+
+-- a push under way of the file is one
+pushed-some : (file : ℕ) (dirty : List Push) (p : Push) → p.file ≡ file → IsSome (all_dirty_in file dirty (Some p))
+pushed-some file dirty p on = case (p.file == file) (number-same p.file file on)
+  where
+    case : (b : Bool) → b ≡ true → IsSome ((if b then p ∷ [] else []) ++ filter (is_push_of file) dirty)
+    case true e = tt
+    case false e = absurd (cc)
+
+-- a file that is not clean has some
+any-some : (file : ℕ) (ps : List Push) → list_any (is_push_of file) ps ≡ true → IsSome (filter (is_push_of file) ps)
+any-some file [] any = absurd (cc)
+any-some file (p ∷ ps) any = case (is_push_of file p) any (λ e. any-some file ps e)
+  where
+    case : (b : Bool) → (b || list_any (is_push_of file) ps) ≡ true
+        → (list_any (is_push_of file) ps ≡ true → IsSome (filter (is_push_of file) ps)) → IsSome (if b then p ∷ filter (is_push_of file) ps else filter (is_push_of file) ps)
+    case true e rest = tt
+    case false e rest = rest e
+
+dirty-some : (file : ℕ) (dirty : List Push) (push : Option Push) → is_clean_in file dirty push ≡ false → IsSome (all_dirty_in file dirty push)
+dirty-some file dirty None unclean = case (list_any (is_push_of file) dirty) refl unclean
+  where
+    case : (b : Bool) → list_any (is_push_of file) dirty ≡ b → (not b && true) ≡ false → IsSome (filter (is_push_of file) dirty)
+    case true e f = any-some file dirty e
+    case false e f = absurd (cc)
+dirty-some file dirty (Some p) unclean = case (is_push_of file p) (list_any (is_push_of file) dirty) refl unclean
+  where
+    case : (b d : Bool) → list_any (is_push_of file) dirty ≡ d → (not d && not b) ≡ false
+        → IsSome ((if b then p ∷ [] else []) ++ filter (is_push_of file) dirty)
+    case true d e f = tt
+    case false true e f = any-some file dirty e
+    case false false e f = absurd (cc)
+
+-- ---- how many are delayed
 
 -- how many are under way
 abbrev one_if : Option Push → ℕ
@@ -129,10 +232,27 @@ module _ (c : Client) where
         omega arith;
   }
 
-  told : (t : ClientStep) (file : ℕ) → K t → K (reports t file)
+  told : (t : ClientStep) (file : ℕ) → NameSome (map span_of (losses_of file t.client.losses)) → K t → K (reports t file)
   unfolding answers
-  told t file k =
-      reports-cases t file K (λ none. k) (λ u is other. k) (λ u is waits. record { well = (tt, k.well); same = k.same; less = k.less })
+  told t file some k =
+      reports-cases t file K (λ none. k) (λ u is other. k) (λ u is waits. record { well = (some, k.well); same = k.same; less = k.less })
+
+  -- a file with some delayed writes, once they are lost
+  lost-some : (t : ClientStep) (file : ℕ) → IsSome (all_dirty t.client file)
+      → NameSome (map span_of (losses_of file (loses t file).client.losses))
+  unfolding loses
+  lost-some t file some = lost-named file t.client.dirty t.client.push t.client.losses some
+
+  noticed-some : (t : ClientStep) (file : ℕ) (n : Option Notice) → NameSome (map span_of (losses_of file t.client.losses))
+      → NameSome (map span_of (losses_of file (vacates_noticed t file n).client.losses))
+  unfolding vacates_lease
+  noticed-some t file None some = some
+  noticed-some t file (Some n) some = some
+
+  unleased-some : (t : ClientStep) (file : ℕ) → NameSome (map span_of (losses_of file t.client.losses))
+      → NameSome (map span_of (losses_of file (without_lease t file).client.losses))
+  unfolding without_lease
+  unleased-some t file some = some
 
   vacated : (t : ClientStep) (file : ℕ) (tag : Tag) → K t → K (vacates_lease t file tag)
   unfolding vacates_lease
@@ -145,16 +265,18 @@ module _ (c : Client) where
   unfolding without_lease
   unleased t file k = record { well = k.well; same = k.same; less = k.less }
 
-  refused : (t : ClientStep) (file : ℕ) → K t → K (push_refused t file)
-  refused t file k =
+  refused : (t : ClientStep) (file : ℕ) → IsSome (all_dirty t.client file) → K t → K (push_refused t file)
+  refused t file some k =
       let u : ClientStep = without_lease (loses t file) file in
-      told (vacates_noticed u file (notice_on file t.client.notices)) file
-      (noticed-vacated u file (notice_on file t.client.notices) (unleased (loses t file) file (lost t file k)))
+      let n = notice_on file t.client.notices in
+      told (vacates_noticed u file n) file (noticed-some u file n (unleased-some (loses t file) file (lost-some t file some)))
+      (noticed-vacated u file n (unleased (loses t file) file (lost t file k)))
 
-  broken : (t : ClientStep) (file : ℕ) → K t → K (breaks_chain t file)
-  broken t file k =
+  broken : (t : ClientStep) (file : ℕ) → IsSome (all_dirty t.client file) → K t → K (breaks_chain t file)
+  broken t file some k =
       let u : ClientStep = loses t file in
-      told (vacates_noticed u file (notice_on file t.client.notices)) file (noticed-vacated u file (notice_on file t.client.notices) (lost t file k))
+      let n = notice_on file t.client.notices in
+      told (vacates_noticed u file n) file (noticed-some u file n (lost-some t file some)) (noticed-vacated u file n (lost t file k))
 
   held : (t : ClientStep) (file : ℕ) (g : Grant) (sending : ℕ) → K t → K (holds t file g sending)
   unfolding holds
@@ -163,7 +285,7 @@ module _ (c : Client) where
   optional : (t : ClientStep) (file : ℕ) (g : Option Grant) (sending : ℕ) → K t → K (takes_optional t file g sending)
   optional t file g sending k =
       takes-optional-cases t file g sending K (λ none. k)
-      (λ given is. held (if_broken t file given) file given sending (if-broken-cases t file given K (λ whole. k) (λ l is below dirty. broken t file k)))
+      (λ given is. held (if_broken t file given) file given sending (if-broken-cases t file given K (λ whole. k) (λ l is below dirty. broken t file (dirty-some file t.client.dirty t.client.push dirty) k)))
 
   cached : (t : ClientStep) (file block : ℕ) (body : List ℕ) → K t → K (caches_block t file block body)
   unfolding caches_block
@@ -212,7 +334,7 @@ module _ (c : Client) where
   refusal-well who q Refusal.NotAttached = tt
   refusal-well who q Refusal.Old = tt
 
-  module _ (number : ℕ) (ticket : Ticket) (r : Reply) where
+  module _ (number : ℕ) (ticket : Ticket) (r : Reply) (has : c.ticket ≡ Some ticket) (alone : Alone c) (had : HasPush c) where
     abbrev t0 : ClientStep
     t0 = spends (begun c)
 
@@ -246,6 +368,22 @@ module _ (c : Client) where
         let b : K (caches_push t file block body) = caches-push-cases t file block body K (λ dirty. a) (λ clean. cached t file block body a) in
         vacates-if-clean-cases (caches_push t file block body) file K b (λ n clean is. vacated (caches_push t file block body) file n.tag b)
 
+    -- the push that is refused is of the file of its request
+    push-some : (who : Who) (seq file block first last : ℕ) (base : PushBase) (body : List ℕ) → ticket.job ≡ pushing
+        → ticket.request ≡ Request.Write who seq file block first last (Some base) body → IsSome (all_dirty t0.client file)
+    unfolding spends
+    push-some who seq file block first last base body job asks = case c.push refl (had ticket has job)
+      where
+        case : (o : Option Push) → c.push ≡ o → is_some o ≡ true → IsSome (all_dirty_in file c.dirty c.push)
+        case None is some = absurd (cc)
+        case (Some p) is some =
+            let k = alone.delaying.under_way p is in
+            let request : push_in ticket.request ≡ Some p =
+            ap (λ (x : Ticket). push_in x.request) (some-same ticket k.request (sym has ∙ k.asks)) ∙ k.pushes in
+            let one = some-same (record { file = file; block = block; first = first; last = last; body = body }) p (ap push_in (sym asks) ∙ request) in
+            let on : p.file ≡ file = ap (λ (x : Push). x.file) (sym one) in
+            subst (λ z. IsSome (all_dirty_in file c.dirty z)) (sym is) (pushed-some file c.dirty p on)
+
     reply-well : fits_job ticket.job ticket.request ≡ true → reply_counts r ticket ≡ true → K (replied (begun c) number ticket r)
     reply-well fits counts = replied-cases c number ticket r K fits counts (record {
       attaching = λ who inc job asks is. is-attached t0 spent;
@@ -261,7 +399,7 @@ module _ (c : Client) where
       putting_off = λ inc status job is off. paused t0 spent;
       refusing = λ inc status job is counts off. call-answered t0 (answer_of status) None (λ q. refusal-well t0.client.who q status) spent;
       renewal_refused = λ inc status job is off. spent;
-      push_refused = λ who seq file block first last base body inc status job asks is off. refused t0 file spent;
+      push_refused = λ who seq file block first last base body inc status job asks is off. refused t0 file (push-some who seq file block first last base body job asks) spent;
     })
 
   cancelled : (file : ℕ) → K (cancels (begun c) file)
@@ -288,7 +426,7 @@ module _ (c : Client) where
   unfolding says_busy begins_call answers
   call-well op = call-cases c op E (record {
     busy = λ why. (tt, (tt, tt));
-    telling = λ file loss losses none on changes has. (tt, (tt, tt));
+    telling = λ file loss losses none on changes has. (some-named (losses_of file c.losses) (subst IsSome (sym has) tt), (tt, tt));
     going = λ none on no_loss.
         let t : ClientStep = settle (is_called (begins_call c op) op) in
         let e : E t = settled (is_called (begins_call c op) op) (called op) in
@@ -307,10 +445,10 @@ module _ (c : Client) where
     free = λ none. went-on true (begun (at_time c now)) (timed now);
   })
 
-  pub hear-well : (k : ℕ) (m : Message) (t : ClientStep) → Alone c → hear c k m ≡ Some t → E t
-  hear-well k m t alone hears = heard-cases c k m t E hears (record {
+  pub hear-well : (k : ℕ) (m : Message) (t : ClientStep) → Alone c → HasPush c → hear c k m ≡ Some t → E t
+  hear-well k m t alone had hears = heard-cases c k m t E hears (record {
     answered = λ xid r ticket is has same inc counts.
-        went-on false (replied (begun c) k ticket r) (reply-well k ticket r (alone.asking.ticketed ticket has).fits counts);
+        went-on false (replied (begun c) k ticket r) (reply-well k ticket r has alone had (alone.asking.ticketed ticket has).fits counts);
     noticed = λ xid file tag is later. went-on false (evicted (cancels (begun c) file) file tag) (notice-well file tag);
   })
 

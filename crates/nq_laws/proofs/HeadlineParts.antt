@@ -12,7 +12,7 @@ use Rattle.law_runs.proofs.FateLaws.{accounted, waiting, fates}
 use Rattle.law_runs.proofs.HeldLaws.{held-in-every-run}
 use Rattle.law_runs.proofs.ZeroRuns.{untouched}
 use Rattle.nq_laws.proofs.CachedReads.{cached-in-every-run}
-use Rattle.nq_laws.proofs.FullRuns.{full-has-its-cause}
+use Rattle.nq_laws.proofs.FullRuns.{full-has-its-cause, losses-are-named}
 use Rattle.nq_laws.proofs.RunAnswers.{refusals-are-of-their-calls, answers-tell-what-was, answers-have-causes}
 use Rattle.nq_model.specs.Headline.{HeadlineHolds, AtEveryMoment}
 use Rattle.walk_steps.proofs.NoCrash.{bounds-before}
@@ -45,6 +45,7 @@ headline most head events bounds within =
       fates = fates most head events bounds within;
       excused = losses-excused chain-fits most head events bounds within;
       reported = reported-in-every-run head events;
+      named = losses-are-named most head events bounds within;
       synchronized = synchronized-in-every-run most head events bounds within;
       kept = held-in-every-run most head events bounds within;
       untouched = untouched head events;

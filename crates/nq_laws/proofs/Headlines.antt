@@ -59,6 +59,7 @@ module _ (w : World) (packets : List Packet) (s : Server) where
     fates = fates h.fates;
     excused = h.excused;
     reported = h.reported;
+    named = h.named;
     synchronized = h.synchronized;
     kept = record { values = h.kept.values; past = h.kept.past; lengths = h.kept.lengths };
     untouched = h.untouched;

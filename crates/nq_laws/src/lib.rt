@@ -18,6 +18,7 @@ pub use crate::answered::few_calls_answered;
 pub use crate::answered::full_has_its_cause;
 pub use crate::answered::links_matter;
 pub use crate::answered::looks_are_answered;
+pub use crate::answered::losses_are_named;
 pub use crate::answered::no_tag_is_later;
 pub use crate::answered::notices_are_heard;
 pub use crate::answered::open_calls_are_met;

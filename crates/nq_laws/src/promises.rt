@@ -14,6 +14,7 @@ ghost use Rattle.nq_model.specs.FullHasItsCause.{FullHasItsCause};
 ghost use Rattle.nq_model.specs.Headline.{AtEveryMoment};
 ghost use Rattle.nq_model.specs.ReadsAreLegal.{ReadsAreLegalInEveryRun};
 ghost use Rattle.nq_model.specs.RefusalsAreOfTheirCalls.{RefusalsAreOfTheirCallsInEveryRun};
+ghost use Rattle.nq_model.specs.LossesAreNamed.{LossesAreNamedInEveryRun};
 ghost use Rattle.nq_model.specs.LossesAreReported.{ReportedInEveryRun};
 ghost use Rattle.nq_model.specs.UntouchedAreZeros.{UntouchedAreZerosInEveryRun};
 ghost use Rattle.nq_model.specs.OksAreKept.{SynchronizedInEveryRun};
@@ -40,6 +41,7 @@ pub fn headline()
     ensures fates { EachHasItsFateInEveryRun }
     ensures excused { LossesAreExcused }
     ensures reported { ReportedInEveryRun }
+    ensures named { LossesAreNamedInEveryRun }
     ensures synchronized { SynchronizedInEveryRun }
     ensures kept { KeptBlocksAreHeldInEveryRun }
     ensures untouched { UntouchedAreZerosInEveryRun }

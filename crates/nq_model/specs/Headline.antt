@@ -20,6 +20,7 @@ use Rattle.nq_model.specs.CutOff.{IsExcused}
 use Rattle.nq_model.specs.Fate.{IsAccounted}
 use Rattle.nq_model.specs.FullHasItsCause.{FullHaveCauses}
 use Rattle.nq_model.specs.Legal.{IsLegal}
+use Rattle.nq_model.specs.LossesAreNamed.{LossesAreNamed}
 use Rattle.nq_model.specs.OfTheirCall.{AreOfTheirCall}
 use Rattle.nq_model.specs.Ordered.{IsOrdered}
 use Rattle.nq_model.specs.Reported.{IsReported}
@@ -58,8 +59,9 @@ pub record HeadlineHolds (w : World) : Type 0 where
   pub fates : EachHasItsFate w
   -- a client that lost a write was cut off for longer than the write slack
   pub excused : IsExcused w.journal
-  -- a client that goes on names each loss
+  -- a client that goes on names each loss, and `lost` names some write
   pub reported : IsReported w.journal
+  pub named : LossesAreNamed w.journal
   -- synchronized writes that were answered ok are never missing, and the server has what was written
   pub synchronized : IsSynchronized w.journal
   pub kept : KeptBlocksAreHeld w

@@ -44,6 +44,7 @@ pub mod Legal
 pub mod LegalTest
 pub mod Lines
 pub mod LossesAreExcused
+pub mod LossesAreNamed
 pub mod LossesAreReported
 pub mod Message
 pub mod OfTheirCall

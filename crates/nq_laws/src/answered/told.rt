@@ -2,6 +2,7 @@
 //! in `proofs/`.
 
 ghost use Rattle.nq_laws.specs.ToldMet.{NoRoomIsMet, RefusalsAreMet, TellingsAreMet};
+ghost use Rattle.nq_model.specs.LossesAreNamed.{LossesAreNamedInEveryRun};
 ghost use Rattle.nq_laws.specs.RefusalsHaveCauses.{RefusalsHaveCauses};
 ghost use Rattle.nq_model.specs.AnswersHaveCauses.{AnswersHaveCauses};
 ghost use Rattle.nq_model.specs.AnswersTellWhatWas.{AnswersTellWhatWas};
@@ -46,6 +47,11 @@ pub fn refusals_are_of_their_calls()
 /// were delayed or under way as there may be.
 pub fn full_has_its_cause()
     ensures { FullHasItsCause }
+{}
+
+/// After every schedule within skew, `lost` names some write.
+pub fn losses_are_named()
+    ensures { LossesAreNamedInEveryRun }
 {}
 
 /// There is such a schedule: a client makes a file, looks it up and asks for its attributes.

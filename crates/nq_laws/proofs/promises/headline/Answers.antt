@@ -6,7 +6,7 @@ use Rattle.law_runs.proofs.FateLaws.{accounted, waiting, fates}
 use Rattle.law_runs.proofs.HeldLaws.{held-in-every-run}
 use Rattle.law_runs.proofs.ZeroRuns.{untouched}
 use Rattle.nq_laws.proofs.CachedReads.{cached-in-every-run}
-use Rattle.nq_laws.proofs.FullRuns.{full-has-its-cause}
+use Rattle.nq_laws.proofs.FullRuns.{full-has-its-cause, losses-are-named}
 use Rattle.nq_laws.proofs.HeadlineParts.{at-every-moment}
 use Rattle.nq_laws.proofs.RunAnswers.{refusals-are-of-their-calls, answers-tell-what-was, answers-have-causes}
 use Rattle.nq_laws.proofs.promises.headline.Goals as goal
@@ -58,6 +58,9 @@ returns-clause-excused c = losses-excused chain-fits
 
 pub returns-clause-reported : goal.returns-clause-reported
 returns-clause-reported c = reported-in-every-run
+
+pub returns-clause-named : goal.returns-clause-named
+returns-clause-named c = losses-are-named
 
 pub returns-clause-synchronized : goal.returns-clause-synchronized
 returns-clause-synchronized c = synchronized-in-every-run
