@@ -5,8 +5,9 @@ use nq_base::{Host, Party};
 use nq_clock::{Clock, StdClock};
 use nq_disk::{Disk, FileDisk};
 use nq_link::{Came, Link, Sent, UdpLink};
-use std::fs;
 use std::net::{IpAddr, Ipv4Addr, SocketAddr, UdpSocket};
+use std::time::Duration;
+use std::{fs, thread};
 
 const PATH: &str = "story_parts.img";
 
@@ -29,13 +30,14 @@ pub(crate) fn try_part(rt: &HostRuntime, part: &str, page: &mut Vec<u8>) {
     say(page, "\n");
 }
 
-/// Two readings of the machine's clock, which does not go back and has not run for a minute.
+/// Two readings of the machine's clock, between which a second passes. The clock has not run for a minute.
 fn clocks(rt: &HostRuntime, page: &mut Vec<u8>) {
     if let Ok(machine) = rt.clone() {
         let mut clock = StdClock::new(machine);
         let first = clock.now().0;
+        thread::sleep(rt, Duration::from_secs(1));
         let second = clock.now().0;
-        let is_so = first <= second && second < 60;
+        let is_so = first < second && second < 60;
         say(page, if is_so { "\ntrue" } else { "\nfalse" });
     }
 }
