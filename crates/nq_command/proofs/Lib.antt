@@ -1,3 +1,4 @@
 pub mod Joining
 pub mod Ranges
 pub mod Rounds
+pub mod Wrongness

@@ -1,9 +1,8 @@
 -- What is wrong with a line at a prompt that says nothing that can be done.
-use Rattle.std.specs.Prelude.{ℕ, Bool, true, List, [], ◌∷◌, Option, Some, None, is_some, if◌then◌else◌, codes, bytes_eq}
-use Rattle.nq_base.specs.Name.{is_name}
+use Rattle.std.specs.Prelude.{ℕ, List, [], ◌∷◌, Option, Some, None, is_some, if◌then◌else◌, codes, bytes_eq}
 use Rattle.nq_command.specs.declared.prompt.wrongs.Field.{Field}
 use Rattle.nq_command.specs.declared.prompt.wrongs.Wrong.{Wrong}
-use Rattle.nq_script.specs.WordsReading.{u32_of, words_of}
+use Rattle.nq_script.specs.WordsReading.{name_of, u32_of, words_of}
 
 -- what stands behind a verb; None where no line begins with it
 unfoldable pub fields_of : (verb : List ℕ) → Option (List Field)
@@ -26,7 +25,7 @@ fields_of verb =
 
 -- what is wrong with a word that stands for this, if anything is
 unfoldable pub wrong_word : Field → (word : List ℕ) → Option Wrong
-wrong_word Field.Name word = if is_name word then None else Some Wrong.Name
+wrong_word Field.Name word = if is_some (name_of word) then None else Some Wrong.Name
 wrong_word Field.Number word = if is_some (u32_of word) then None else Some Wrong.Number
 wrong_word Field.Path word = None
 

@@ -3,8 +3,7 @@
 ghost use Rattle.std.specs.Prelude.{◌≡◌, option_map};
 ghost use Rattle.nq_command.specs.Wrongs.{fields_of, first_wrong, wrong_of, wrong_said, wrong_word, wrong_words};
 
-use nq_base::Name;
-use nq_script::words::{Words, is, number32};
+use nq_script::words::{Words, is, name, number32};
 
 /// What is wrong with a line.
 #[derive(Clone, Copy)]
@@ -76,7 +75,7 @@ fn wrong_word(field: Field, word: &[u8]) -> Option<Wrong>
     ensures { result ≡ wrong_word field word.now }
 {
     match field {
-        Field::Name if Name::new(word).is_none() => Some(Wrong::Name),
+        Field::Name if name(word).is_none() => Some(Wrong::Name),
         Field::Number if number32(word).is_none() => Some(Wrong::Number),
         _ => None,
     }
@@ -92,17 +91,16 @@ pub fn wrong_of(text: &[u8]) -> Option<Wrong>
         return Some(Wrong::Verb);
     };
     match fields_of(verb) {
-        Some(fields) => wrong_words(fields, words),
+        Some(fields) => wrong_words(fields, &mut words),
         None => Some(Wrong::Verb),
     }
 }
 
 /// What is wrong with the words behind a verb.
 #[tactic(auto, unfolding(crate::specs::Wrongs::wrong_words))]
-fn wrong_words(fields: &[Field], words: Words<'_>) -> Option<Wrong>
-    ensures { result ≡ wrong_words fields.now words }
+fn wrong_words(fields: &[Field], words: &mut Words<'_>) -> Option<Wrong>
+    ensures { result ≡ wrong_words fields.now words.old }
 {
-    let mut words = words;
     for field in fields {
         let Some(word) = words.next() else {
             return Some(Wrong::Few);
