@@ -229,6 +229,13 @@ impl<K: Keeper> Server<K> {
         }
     }
 
+    /// A moment between two calls: a stop in it leaves exactly what is kept.
+    pub fn pause(&self)
+        ensures leaves { LeavesOne (K.content self.now.keeper) (K.leaves self.now.keeper self.now.keeper) }
+    {
+        self.keeper.pause();
+    }
+
     /// The keeper, which a later boot finds as it is now.
     pub fn into_keeper(self) -> K
         ensures { result ≡ self.keeper }
