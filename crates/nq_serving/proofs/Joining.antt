@@ -13,13 +13,15 @@ by_boot leaves longest kept found keeper middle Later boots (inl l) = inl (boots
 by_boot leaves longest kept found keeper middle Later boots (inr later) = inr later
 
 -- a later end
-pub further : {K : Type 0} (follows : K → K → Type 0) (leaves : K → K → Option Kept → Type 0)
+pub further : {K : Type 0} (content : K → Option Kept) (follows : K → K → Type 0) (leaves : K → K → Option Kept → Type 0)
     → ((first second third : K) → follows first second → follows second third → follows first third)
     → (at last next : K) (Later New Then : Option Kept → Type 0) → follows last next
     → ((first : K) (found : Option Kept) → follows first last → leaves first next found → leaves first last found ⊎ New found)
-    → ((found : Option Kept) → New found ⊎ Later found → Then found) → IsBeforeEnd follows leaves at last Later → IsBeforeEnd follows leaves at next Then
-further {K = K} follows leaves on at last next Later New Then same new or m =
+    → ((found : Option Kept) → New found ⊎ Later found → Then found) → IsBeforeEnd content follows leaves at last Later
+    → IsBeforeEnd content follows leaves at next Then
+further {K = K} content follows leaves on at last next Later New Then same new or m =
     record {
+      settled = m.settled;
       same = on at last next m.same same;
       later = λ first found before l. beyond first found before (new first found (on first at last before m.same) l);
     }

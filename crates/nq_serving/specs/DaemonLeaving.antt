@@ -9,7 +9,7 @@ use Rattle.nq_base.specs.declared.ending.halt.Halt.{Halt}
 use Rattle.nq_serving.specs.ServerLeaving.{IsBeforeEnd, IsLeftByBoot, IsLeftInOne}
 use Rattle.nq_model.specs.Kept.{Kept}
 use Rattle.nq_clock.specs.Clocks.{ClockTold}
-use Rattle.nq_serving.specs.Leaving.{LeavesOnly}
+use Rattle.nq_serving.specs.Leaving.{IsSettled, LeavesOnly}
 use Rattle.nq_link.specs.Links.{LinkTold}
 use Rattle.nq_server.specs.Holding.{Holding}
 
@@ -52,13 +52,13 @@ IsLeftInRuns content faults follows longest turns time keeper (Err why) left clo
 
 -- ---- in order
 
--- At each moment between so many turns: what a stop from then until the end leaves, that a stop at that very moment does not, is what is kept
--- at a later moment, of the turns behind it or of what `Later` tells. So nothing that was kept before a stop is lost
+-- At each moment between so many turns: a stop at that very moment leaves exactly what is kept then, and what else a stop from then until the end
+-- leaves is what is kept at a later moment, of the turns behind it or of what `Later` tells. So nothing that was kept at that moment is lost
 abbrev pub AreInOrder : {K : Type 0} → (content : K → Option Kept) → (faults : K → ℕ) → (follows : K → K → Type 0) → (leaves : K → K → Option Kept
     → Type 0) → (last : K) → (Later : Option Kept → Type 0) → (count : ℕ) → (at after : Standing K) → Goes content faults count at after → Type 0
-AreInOrder content faults follows leaves last Later zero at after goes = IsBeforeEnd follows leaves after.server.keeper last Later
+AreInOrder content faults follows leaves last Later zero at after goes = IsBeforeEnd content follows leaves after.server.keeper last Later
 AreInOrder content faults follows leaves last Later (suc count) at after goes =
-    IsBeforeEnd follows leaves after.server.keeper last Later
+    IsBeforeEnd content follows leaves after.server.keeper last Later
     × AreInOrder content faults follows leaves last (λ found. IsLeftTaking content faults (Ok tt) goes.0 after goes.2 found ⊎ Later found) count at
     goes.0 goes.1
 
@@ -89,6 +89,7 @@ pub record LeavesTaking {K : Type 0} (content : K → Option Kept) (faults : K �
     (ended : Result Unit Halt) (at after : Standing K) : Type 0 where
   pub taken : TakesTurn content faults ended at after
   pub only : LeavesOnly content follows leaves at.server.keeper after.server.keeper (IsLeftTaking content faults ended at after taken)
+  pub settled : IsSettled content leaves after.server.keeper
 
 -- turns up to the first that stopped the server, and what a stop within them leaves
 pub record LeavesTurns {K : Type 0} (content : K → Option Kept) (faults : K → ℕ) (follows : K → K → Type 0) (leaves : K → K → Option Kept → Type 0)
@@ -96,6 +97,7 @@ pub record LeavesTurns {K : Type 0} (content : K → Option Kept) (faults : K �
   pub taken : TakesTurns content faults turns ended at after
   pub only : LeavesOnly content follows leaves at.server.keeper after.server.keeper (IsLeftInTurns content faults turns ended at after taken)
   pub order : ForSome (content at.server.keeper) (λ kept. TurnsAreInOrder content faults follows leaves turns ended at after taken)
+  pub settled : IsSettled content leaves after.server.keeper
 
 -- the turns of a server that has booted, and what a stop within them leaves
 pub record LeavesRunning {K : Type 0} (content : K → Option Kept) (faults : K → ℕ) (follows : K → K → Type 0) (leaves : K → K → Option Kept → Type 0)
@@ -104,6 +106,7 @@ pub record LeavesRunning {K : Type 0} (content : K → Option Kept) (faults : K 
   pub only : LeavesOnly content follows leaves server.keeper left (IsLeftInTurns content faults turns ended (standing server 0 clock link) ran.last ran.taken)
   pub order : ForSome (content server.keeper) (λ kept. TurnsAreInOrder content faults follows leaves turns ended (standing server 0 clock link)
       ran.last ran.taken)
+  pub settled : IsSettled content leaves left
 
 -- the boot and the turns, and what a stop within them leaves
 pub record LeavesRuns {K : Type 0} (content : K → Option Kept) (faults : K → ℕ) (follows : K → K → Type 0) (leaves : K → K → Option Kept → Type 0)
@@ -112,9 +115,10 @@ pub record LeavesRuns {K : Type 0} (content : K → Option Kept) (faults : K →
   pub only : ForSome (content keeper) (λ kept. (found : Option Kept) → leaves keeper left found → IsLeftInRuns content faults follows longest turns
       time keeper ended left clock clock' link link' runs kept found)
   pub order : ForSome (content keeper) (λ kept. RunsAreInOrder content faults follows leaves longest turns time keeper ended left clock clock' link link' runs)
+  pub settled : IsSettled content leaves left
 
 -- What was done when serving ended so. Where the keeper told what it kept when it was handed in, a stop at any moment until it was handed back
--- leaves that, or what was kept at a moment of the boot and the turns. A stop behind a turn loses nothing that was kept before it
+-- leaves that, or what was kept at a moment of the boot and the turns. Between two turns, and at the end, a stop leaves exactly what is kept
 pub record LeavesServing {K : Type 0} (content : K → Option Kept) (faults : K → ℕ) (follows : K → K → Type 0) (leaves : K → K → Option Kept → Type 0)
     (longest turns : ℕ) (keeper : K) (ended : Result Unit Halt) (left : K) (clock clock' : ClockTold) (link link' : LinkTold) : Type 0 where
   pub serves : Serves content faults follows longest turns keeper ended left clock clock' link link'
@@ -122,3 +126,4 @@ pub record LeavesServing {K : Type 0} (content : K → Option Kept) (faults : K 
       serves.time keeper ended left serves.between clock' link link' serves.runs kept found)
   pub order : ForSome (content keeper) (λ kept. RunsAreInOrder content faults follows leaves longest turns serves.time keeper ended left
       serves.between clock' link link' serves.runs)
+  pub settled : IsSettled content leaves left

@@ -3,6 +3,7 @@
 use Rattle.std.specs.Option.{ForSome}
 use Rattle.std.specs.Prelude.{◌≡◌, ◌⊎◌, ℕ, Bool, Option, Some, None, Result, Ok, Err, nat_lt}
 use Rattle.nq_base.specs.Entries.{EntryList}
+use Rattle.nq_keeper.specs.Keeping.{LeavesOne}
 use Rattle.nq_model.specs.Kept.{Kept}
 use Rattle.nq_clock.specs.Clocks.{ClockTold}
 use Rattle.nq_link.specs.Links.{Letter, LinkTold}
@@ -65,6 +66,11 @@ abbrev pub LeavesOnly : {K : Type 0} → (content : K → Option Kept) → (foll
     → (at after : K) → (Option Kept → Type 0) → Type 0
 LeavesOnly {K = K} content follows leaves at after Found =
     ForSome (content at) (λ kept. (first : K) (found : Option Kept) → follows first at → leaves first after found → leaves first at found ⊎ Found found)
+
+-- A stop at this moment leaves exactly what is kept then, where the keeper tells it. Between two turns this refuses a server that has answered
+-- before what it acknowledges is safe, as one that sends `ok` before the sync of the gate byte: a stop would leave what was kept before
+abbrev pub IsSettled : {K : Type 0} → (content : K → Option Kept) → (leaves : K → K → Option Kept → Type 0) → (at : K) → Type 0
+IsSettled content leaves at = LeavesOne (content at) (leaves at at)
 
 -- the stage that receives, and what a stop within it leaves
 pub record LeavesReceiving {K : Type 0} (content : K → Option Kept) (faults : K → ℕ) (follows : K → K → Type 0) (leaves : K → K → Option Kept

@@ -8,7 +8,7 @@ use Rattle.nq_serving.specs.Serving.{Between, Goes, GoesOn, Ran, Runs, Serves, S
 use Rattle.nq_model.specs.Kept.{Kept}
 use Rattle.nq_model.specs.ServerStep.{booted}
 use Rattle.nq_clock.specs.Clocks.{ClockTold}
-use Rattle.nq_serving.specs.Leaving.{IsLeftInTurn, LeavesOnly}
+use Rattle.nq_serving.specs.Leaving.{IsLeftInTurn, IsSettled, LeavesOnly}
 use Rattle.nq_link.specs.Links.{LinkTold}
 use Rattle.nq_serving.specs.declared.node.turns.Turn.{Turn}
 use Rattle.nq_server.specs.Holding.{Holding}
@@ -78,20 +78,21 @@ IsLeftInRuns content faults follows longest turns time keeper (Err why) left clo
 
 -- ---- in order
 
--- a moment before the end, and the keeper at both: whatever a stop between any earlier moment and the end leaves, a stop before this moment
--- leaves it, or this holds of it
-pub record IsBeforeEnd {K : Type 0} (follows : K → K → Type 0) (leaves : K → K → Option Kept → Type 0) (at last : K) (Later : Option Kept
-    → Type 0) : Type 0 where
+-- A moment before the end, and the keeper at both. A stop at this moment leaves exactly what is kept then. Whatever a stop between any earlier
+-- moment and the end leaves, a stop before this moment leaves it, or this holds of it
+pub record IsBeforeEnd {K : Type 0} (content : K → Option Kept) (follows : K → K → Type 0) (leaves : K → K → Option Kept → Type 0) (at last : K)
+    (Later : Option Kept → Type 0) : Type 0 where
+  pub settled : IsSettled content leaves at
   pub same : follows at last
   pub later : (first : K) (found : Option Kept) → follows first at → leaves first last found → leaves first at found ⊎ Later found
 
--- At each moment between so many turns: what a stop from then until the end leaves, that a stop at that very moment does not, is what is kept
--- at a later moment, of the turns behind it or of what `Later` tells. So nothing that was kept before a stop is lost
+-- At each moment between so many turns: a stop at that very moment leaves exactly what is kept then, and what else a stop from then until the end
+-- leaves is what is kept at a later moment, of the turns behind it or of what `Later` tells. So nothing that was kept at that moment is lost
 abbrev pub AreInOrder : {K : Type 0} → (content : K → Option Kept) → (faults : K → ℕ) → (follows : K → K → Type 0) → (leaves : K → K → Option Kept
     → Type 0) → (last : K) → (Later : Option Kept → Type 0) → (count : ℕ) → (at after : Between K) → Goes content faults count at after → Type 0
-AreInOrder content faults follows leaves last Later zero at after goes = IsBeforeEnd follows leaves after.server.keeper last Later
+AreInOrder content faults follows leaves last Later zero at after goes = IsBeforeEnd content follows leaves after.server.keeper last Later
 AreInOrder content faults follows leaves last Later (suc count) at after goes =
-    IsBeforeEnd follows leaves after.server.keeper last Later
+    IsBeforeEnd content follows leaves after.server.keeper last Later
     × AreInOrder content faults follows leaves last (λ found. IsLeftGoing content faults goes.0 after goes.2 found ⊎ Later found) count at goes.0 goes.1
 
 -- the same of turns up to the first that stopped
@@ -121,6 +122,7 @@ pub record LeavesTaking {K : Type 0} (content : K → Option Kept) (faults : K �
     (ended : Result Unit Halt) (at after : Between K) : Type 0 where
   pub taken : TakesTurn content faults ended at after
   pub only : LeavesOnly content follows leaves at.server.keeper after.server.keeper (IsLeftTaking content faults ended at after taken)
+  pub settled : IsSettled content leaves after.server.keeper
 
 -- turns up to the first that stopped, and what a stop within them leaves
 pub record LeavesTurns {K : Type 0} (content : K → Option Kept) (faults : K → ℕ) (follows : K → K → Type 0) (leaves : K → K → Option Kept → Type 0)
@@ -128,6 +130,7 @@ pub record LeavesTurns {K : Type 0} (content : K → Option Kept) (faults : K �
   pub taken : TakesTurns content faults turns ended at after
   pub only : LeavesOnly content follows leaves at.server.keeper after.server.keeper (IsLeftInTurns content faults turns ended at after taken)
   pub order : ForSome (content at.server.keeper) (λ kept. TurnsAreInOrder content faults follows leaves turns ended at after taken)
+  pub settled : IsSettled content leaves after.server.keeper
 
 -- the turns of a server that has booted, and what a stop within them leaves
 pub record LeavesRunning {K : Type 0} (content : K → Option Kept) (faults : K → ℕ) (follows : K → K → Type 0) (leaves : K → K → Option Kept → Type 0)
@@ -137,6 +140,7 @@ pub record LeavesRunning {K : Type 0} (content : K → Option Kept) (faults : K 
       ran.last ran.taken)
   pub order : ForSome (content server.keeper) (λ kept. TurnsAreInOrder content faults follows leaves turns ended (between server ran.log 0 clock link)
       ran.last ran.taken)
+  pub settled : IsSettled content leaves left
 
 -- the boot and the turns, and what a stop within them leaves
 pub record LeavesRuns {K : Type 0} (content : K → Option Kept) (faults : K → ℕ) (follows : K → K → Type 0) (leaves : K → K → Option Kept → Type 0)
@@ -145,9 +149,10 @@ pub record LeavesRuns {K : Type 0} (content : K → Option Kept) (faults : K →
   pub only : ForSome (content keeper) (λ kept. (found : Option Kept) → leaves keeper left found → IsLeftInRuns content faults follows longest turns
       time keeper ended left clock clock' link link' runs kept found)
   pub order : ForSome (content keeper) (λ kept. RunsAreInOrder content faults follows leaves longest turns time keeper ended left clock clock' link link' runs)
+  pub settled : IsSettled content leaves left
 
 -- What was done when serving ended so. Where the keeper told what it kept when it was handed in, a stop at any moment until it was handed back
--- leaves that, or what was kept at a moment of the boot and the turns. A stop behind a turn loses nothing that was kept before it
+-- leaves that, or what was kept at a moment of the boot and the turns. Between two turns, and at the end, a stop leaves exactly what is kept
 pub record LeavesServing {K : Type 0} (content : K → Option Kept) (faults : K → ℕ) (follows : K → K → Type 0) (leaves : K → K → Option Kept → Type 0)
     (longest turns : ℕ) (keeper : K) (ended : Result Unit Halt) (left : K) (clock clock' : ClockTold) (link link' : LinkTold) : Type 0 where
   pub serves : Serves content faults follows longest turns keeper ended left clock clock' link link'
@@ -155,6 +160,7 @@ pub record LeavesServing {K : Type 0} (content : K → Option Kept) (faults : K 
       serves.time keeper ended left serves.between clock' link link' serves.runs kept found)
   pub order : ForSome (content keeper) (λ kept. RunsAreInOrder content faults follows leaves longest turns serves.time keeper ended left
       serves.between clock' link link' serves.runs)
+  pub settled : IsSettled content leaves left
 
 -- whether a turn stopped, and why
 abbrev pub ended_of : Turn → Result Unit Halt

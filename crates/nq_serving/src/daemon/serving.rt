@@ -3,6 +3,7 @@
 ghost use Rattle.std.specs.Prelude.{◌≡◌, ◌<◌, ◌≤◌, ◌^◌, Err};
 ghost use Rattle.nq_serving.specs.DaemonLeaving.{LeavesRuns, LeavesServing};
 ghost use Rattle.nq_serving.specs.DaemonServing.{EndsBy};
+ghost use Rattle.nq_serving.specs.Leaving.{IsSettled};
 ghost use Rattle.nq_serving.specs.Serving.{halt_of};
 ghost use Rattle.nq_clock.specs.Clocks.{clock_told};
 ghost use Rattle.nq_link.specs.Links.{link_told};
@@ -98,22 +99,27 @@ fn boot_and_run<K: Keeper, L: Link, C: Clock, W: Watcher<L>>(
 }
 
 /// What serving comes to where no server booted: the keeper is left.
-pub(crate) fn not_booted<K>(fault: BootFault<K>) -> Served<K>
+pub(crate) fn not_booted<K: Keeper>(fault: BootFault<K>) -> Served<K>
     ensures why { result.ended ≡ Err (halt_of fault) }
     ensures keeper { result.keeper ≡ keeper_in (Err fault) }
+    ensures settled { IsSettled K.content K.leaves result.keeper }
 {
     match fault {
-        BootFault::Failed(keeper) => Served {
-            ended: Err(Halt::Keep),
-            keeper,
-        },
-        BootFault::Memory(keeper) => Served {
-            ended: Err(Halt::Memory),
-            keeper,
-        },
-        BootFault::Spent(keeper) => Served {
-            ended: Err(Halt::Spent),
-            keeper,
-        },
+        BootFault::Failed(keeper) => unserved(Halt::Keep, keeper),
+        BootFault::Memory(keeper) => unserved(Halt::Memory, keeper),
+        BootFault::Spent(keeper) => unserved(Halt::Spent, keeper),
+    }
+}
+
+/// What serving comes to that ended before it began.
+fn unserved<K: Keeper>(why: Halt, keeper: K) -> Served<K>
+    ensures why { result.ended ≡ Err why }
+    ensures keeper { result.keeper ≡ keeper }
+    ensures settled { IsSettled K.content K.leaves result.keeper }
+{
+    keeper.pause();
+    Served {
+        ended: Err(why),
+        keeper,
     }
 }

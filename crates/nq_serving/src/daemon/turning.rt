@@ -33,6 +33,7 @@ pub(crate) fn take_turns<K: Keeper, L: Link, C: Clock, W: Watcher<L>>(
         (link_told L.sent L.waiting L.faults L.receives link.new)) }
     ensures follows { K.follows server.old.keeper server.new.keeper }
 {
+    server.pause();
     for _turn in 0..turns {
         match take_turn(alloc, server, link, clock, next, watcher) {
             Ok(()) => {}
@@ -60,6 +61,7 @@ fn take_turn<K: Keeper, L: Link, C: Clock, W: Watcher<L>>(
 {
     let mut log = Journal::new(alloc).unwrap();
     let turn = serve_turn(alloc, server, link, clock, next, &mut log);
+    server.pause();
     watcher.turned(link, server.time(), server.table().len(), &log);
     ended_by(turn)
 }

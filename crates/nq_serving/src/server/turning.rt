@@ -32,6 +32,7 @@ pub(crate) fn take_turns<K: Keeper, L: Link, C: Clock>(
         (link_told L.sent L.waiting L.faults L.receives link.new)) }
     ensures follows { K.follows server.old.keeper server.new.keeper }
 {
+    server.pause();
     for _turn in 0..turns {
         match take_turn(alloc, server, link, clock, next, log) {
             Ok(()) => {}
@@ -57,7 +58,9 @@ fn take_turn<K: Keeper, L: Link, C: Clock>(
         (link_told L.sent L.waiting L.faults L.receives link.new)) }
     ensures follows { K.follows server.old.keeper server.new.keeper }
 {
-    ended_by(serve_turn(alloc, server, link, clock, next, log))
+    let turn = serve_turn(alloc, server, link, clock, next, log);
+    server.pause();
+    ended_by(turn)
 }
 
 /// Whether a turn with this answer stopped, and why.

@@ -2,7 +2,7 @@ use Rattle.std.proofs.Common.{refl, sym, subst}
 use Rattle.nq_serving.proofs.DaemonLeaves.{ran_booted, ran_none}
 use Rattle.nq_serving.specs.DaemonLeaving.{IsLeftInTurns}
 use Rattle.nq_serving.specs.Turning.{standing}
-use Rattle.nq_serving.specs.Leaving.{LeavesOnly}
+use Rattle.nq_serving.specs.Leaving.{IsSettled, LeavesOnly}
 use Rattle.nq_clock.specs.Clocks.{clock_told}
 use Rattle.nq_link.specs.Links.{link_told}
 use Rattle.nq_server.specs.Holding.{keeper_in}
@@ -32,6 +32,8 @@ returns-in-Ok-clause-runs g c =
           (standing c.in-Ok.server 0 (clock_of c.args.clock.now) (link_of c.args.link.now)) last c.take_turns-ended.ensures.turns.taken))
           (sym c.into_keeper.ensures) c.take_turns-ended.ensures.turns.only;
       order = c.take_turns-ended.ensures.turns.order;
+      settled =
+          subst (λ k. IsSettled g.K.Keeper.content g.K.Keeper.leaves k) (sym c.into_keeper.ensures) c.take_turns-ended.ensures.turns.settled;
     })
 
 pub returns-in-Err-clause-runs : goal.returns-in-Err-clause-runs
@@ -40,7 +42,7 @@ returns-in-Err-clause-runs g c =
     let link_of = link_told g.L.Link.sent g.L.Link.waiting g.L.Link.faults g.L.Link.receives in
     ran_none g.K.Keeper.content g.K.Keeper.faults g.K.Keeper.follows g.K.Keeper.leaves c.args.longest c.args.turns c.args.now c.args.keeper
     c.not_booted.result.ended c.not_booted.result.keeper (clock_of c.args.clock.now) (link_of c.args.link.now) c.in-Err.fault c.boot.result c.in-Err.is
-    c.boot.ensures.boots c.boot.ensures.follows c.boot.ensures.leaves c.not_booted.ensures.why c.not_booted.ensures.keeper
+    c.boot.ensures.boots c.boot.ensures.follows c.boot.ensures.leaves c.not_booted.ensures.why c.not_booted.ensures.keeper c.not_booted.ensures.settled
 
 pub returns-in-Ok-clause-follows : goal.returns-in-Ok-clause-follows
 returns-in-Ok-clause-follows g c =

@@ -17,6 +17,7 @@ returns-clause-serves g c =
       };
       only = c.boot_and_run.ensures.runs.only;
       order = c.boot_and_run.ensures.runs.order;
+      settled = c.boot_and_run.ensures.runs.settled;
     }
 
 pub returns-clause-cause : goal.returns-clause-cause

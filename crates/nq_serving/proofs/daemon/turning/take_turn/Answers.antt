@@ -14,4 +14,4 @@ returns-clause-turn g c =
     (link_of c.serve_turn-turn.new.link) in
     taking g.K.Keeper.content g.K.Keeper.faults g.K.Keeper.follows g.K.Keeper.leaves c.serve_turn-turn.result c.ended_by.result c.unwrap-log.result
     c.serve_turn-turn.new.log at after c.ended_by.ensures
-    (subst (λ r. IfOk r (λ j. j.entries ≡ [])) c.unwrap-log.ensures c.new.ensures.empty) c.serve_turn-turn.ensures.turn
+    (subst (λ r. IfOk r (λ j. j.entries ≡ [])) c.unwrap-log.ensures c.new.ensures.empty) c.serve_turn-turn.ensures.turn c.pause.ensures.leaves

@@ -19,6 +19,7 @@ returns-in_default-clause-serves g c =
         };
         only = λ kept told found left. inl (c.pause.ensures.leaves kept told found left);
         order = λ kept told. tt;
+        settled = c.pause.ensures.leaves;
       },
       refl,
       refl,
@@ -44,6 +45,7 @@ returns-clause-serves g c =
       };
       only = c.boot_and_run-ended.ensures.runs.only;
       order = c.boot_and_run-ended.ensures.runs.order;
+      settled = c.boot_and_run-ended.ensures.runs.settled;
     })
     (subst (λ line. TellsTurns ran.ended line c.tell-end.result (g.S.Sink.held c.args.out.now) (g.S.Sink.held c.tell-end.new.out)
     (g.S.Sink.faults c.args.out.now)

@@ -12,7 +12,7 @@ loop-turn-init g c =
     record {
       goes = gone_none g.K.Keeper.content g.K.Keeper.faults g.K.Keeper.follows g.K.Keeper.leaves
           (between c.args.server.now c.args.log.now c.args.next.now (clock_of c.args.clock.now) (link_of c.args.link.now))
-          (g.met.K.Keeper.follows_itself c.args.server.now.keeper);
+          (g.met.K.Keeper.follows_itself c.args.server.now.keeper) c.pause.ensures.leaves;
       follows = g.met.K.Keeper.follows_itself c.args.server.now.keeper;
     }
 
