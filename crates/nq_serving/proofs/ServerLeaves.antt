@@ -48,7 +48,8 @@ module _ {K : Type 0} (content : K → Option Kept) (faults : K → ℕ) (follow
   taking Turn.Memory at after t settled = record { taken = t.taken; only = t.left; settled = settled }
   taking Turn.Spent at after t settled = record { taken = t.taken; only = t.left; settled = settled }
 
-  pub gone_none : (at : Between K) → follows at.server.keeper at.server.keeper → IsSettled content leaves at.server.keeper → GoneOn content faults follows leaves zero at at
+  pub gone_none : (at : Between K) → follows at.server.keeper at.server.keeper → IsSettled content leaves at.server.keeper
+      → GoneOn content faults follows leaves zero at at
   gone_none at itself settled = record {
     goes = refl;
     only = λ kept told first found before l. inl l;
@@ -60,7 +61,8 @@ module _ {K : Type 0} (content : K → Option Kept) (faults : K → ℕ) (follow
   pub gone_all : (count turns : ℕ) (at after : Between K) → count ≡ turns → GoneOn content faults follows leaves count at after
       → LeavesTurns content faults follows leaves turns (Ok tt) at after
   gone_all count turns at after same g =
-      subst (λ n. LeavesTurns content faults follows leaves n (Ok tt) at after) same (record { taken = g.goes; only = g.only; order = g.order; settled = g.settled })
+      subst (λ n. LeavesTurns content faults follows leaves n (Ok tt) at after) same
+      (record { taken = g.goes; only = g.only; order = g.order; settled = g.settled })
 
   -- ---- the boot
 
@@ -138,7 +140,8 @@ module _ {K : Type 0} (content : K → Option Kept) (faults : K → ℕ) (follow
       → follows last next → ((first : K) (found : Option Kept) → follows first last → leaves first next found → leaves first last found ⊎ New found)
       → ((found : Option Kept) → New found ⊎ Later found → Then found) → AreInOrder content faults follows leaves last Later count at after goes
       → AreInOrder content faults follows leaves next Then count at after goes
-  all-further zero at after goes last next Later New Then same new or m = further content follows leaves on after.server.keeper last next Later New Then same new or m
+  all-further zero at after goes last next Later New Then same new or m =
+      further content follows leaves on after.server.keeper last next Later New Then same new or m
   all-further (suc count) at after goes last next Later New Then same new or m = (
     further content follows leaves on after.server.keeper last next Later New Then same new or m.0,
     all-further count at goes.0 goes.1 last next (λ found. IsLeftGoing content faults goes.0 after goes.2 found ⊎ Later found) New

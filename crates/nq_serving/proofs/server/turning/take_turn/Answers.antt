@@ -11,6 +11,8 @@ returns-clause-turn g c =
     let clock_of = clock_told g.C.Clock.floor g.C.Clock.readings in
     let link_of = link_told g.L.Link.sent g.L.Link.waiting g.L.Link.faults g.L.Link.receives in
     let at = between c.args.server.now c.args.log.now c.args.next.now (clock_of c.args.clock.now) (link_of c.args.link.now) in
-    let after = between c.serve_turn-turn.new.server c.serve_turn-turn.new.log c.serve_turn-turn.new.next (clock_of c.serve_turn-turn.new.clock) (link_of c.serve_turn-turn.new.link) in
+    let after = between c.serve_turn-turn.new.server c.serve_turn-turn.new.log c.serve_turn-turn.new.next (clock_of c.serve_turn-turn.new.clock)
+    (link_of c.serve_turn-turn.new.link) in
     subst (λ ended. LeavesTaking g.K.Keeper.content g.K.Keeper.faults g.K.Keeper.follows g.K.Keeper.leaves ended at after) (sym c.ended_by.ensures)
-    (taking g.K.Keeper.content g.K.Keeper.faults g.K.Keeper.follows g.K.Keeper.leaves c.serve_turn-turn.result at after c.serve_turn-turn.ensures.turn c.pause.ensures.leaves)
+    (taking g.K.Keeper.content g.K.Keeper.faults g.K.Keeper.follows g.K.Keeper.leaves c.serve_turn-turn.result at after
+    c.serve_turn-turn.ensures.turn c.pause.ensures.leaves)
