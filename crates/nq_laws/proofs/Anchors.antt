@@ -1,7 +1,7 @@
 -- In every run the request of a call was sent while the call was open.
 use Rattle.std.proofs.Common.{◌≡◌, ◌≢◌, ◌⊎◌, ◌≤◌, ℕ, ◌+◌, ◌==◌, Bool, true, false, List, [], ◌∷◌, ◌++◌, Option, Some, None, is_some, refl, sym, subst}
 use Rattle.std.proofs.Common.{map, ap, ◌∙◌, inl, inr, arith}
-use Rattle.std.specs.Prelude.{slice_get, slice_set, ⊤}
+use Rattle.std.specs.Prelude.{slice_get, slice_set}
 use Rattle.nq_base.specs.declared.Call.{Call}
 use Rattle.nq_base.specs.declared.Entry.{Entry}
 use Rattle.nq_base.specs.declared.Event.{Event}
@@ -16,7 +16,7 @@ use Rattle.nq_model.specs.AnswersTellWhatWas.{Meanwhile}
 use Rattle.nq_model.specs.Bounds.{KeepsBounds}
 use Rattle.nq_model.specs.Client.{Client, ClientStep, UnderWay, Ticket, for_call, begun}
 use Rattle.nq_model.specs.ClientStep.{client_call, client_tick, restart, begins_call, says_busy, at_time, starts, fresh_client}
-use Rattle.nq_model.specs.Hear.{hear, inc_of, reply_counts, goes_on, replied, evicted, cancels}
+use Rattle.nq_model.specs.Hear.{hear, inc_of, reply_counts, goes_on, replied}
 use Rattle.nq_model.specs.Journal.{Exists, IsCall, IsAnswer, IsOpen}
 use Rattle.nq_model.specs.Message.{Message, Packet, call, reply, asker}
 use Rattle.nq_model.specs.RepliesTellWhatWas.{Once}
@@ -37,7 +37,7 @@ use Rattle.walk_steps.proofs.RunCases.{During, client_at}
 use Rattle.walk_steps.proofs.ServerKnows.{NoneHeard, NoneGiven}
 use Rattle.walk_steps.proofs.StepCases.{call-cases, heard-cases}
 use Rattle.walk_steps.proofs.Steps.{Changes, nothing, by_client, by_server, ClientActs, called, ticked, restarted, heard, step-changes, run-goes}
-use Rattle.walk_steps.proofs.Worlds.{Holds, IsAt, given-by, run-holds, to-told, get-set-same, get-set-other}
+use Rattle.walk_steps.proofs.Worlds.{IsAt, given-by, run-holds, to-told, get-set-same, get-set-other}
 use Rattle.walk_steps.proofs.Packets.{in-get}
 
 -- ---- the request under way after a step of a client

@@ -22,7 +22,7 @@ use Rattle.walk_steps.proofs.ClientFacts.{Alone}
 use Rattle.walk_steps.proofs.RunCases.{During}
 use Rattle.walk_steps.proofs.Steps.{Changes, nothing, by_client, by_server, ClientActs, called, ticked, restarted, heard, ServerActs, received, ticks}
 use Rattle.walk_steps.proofs.Steps.{crashes, run-goes}
-use Rattle.walk_steps.proofs.Worlds.{IsAt, run-holds}
+use Rattle.walk_steps.proofs.Worlds.{run-holds}
 
 later-full : (head : Head) (event : Event) (earlier : List Event) (e : Entry) → IsFullSo head earlier e → IsFullSo head (event ∷ earlier) e
 later-full head event earlier (Entry.A who q Said.DirtyFull) so = inr so

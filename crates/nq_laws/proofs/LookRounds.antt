@@ -9,7 +9,6 @@ use Rattle.nq_model.specs.ClientStep.{client_tick}
 use Rattle.nq_model.specs.Lines.{Play, play, play_hosts, play_rounds}
 use Rattle.nq_model.specs.Message.{Message, Packet}
 use Rattle.nq_model.specs.Profile.{skew, write_slack}
-use Rattle.nq_model.specs.Server.{Server}
 use Rattle.nq_model.specs.World.{Head, World, from_host, after_client, after_server, at_client, step}
 use Rattle.law_rounds.proofs.ClientCount.{client-count}
 use Rattle.law_rounds.specs.DeliveryEnds.{calmed, enough_deliveries}

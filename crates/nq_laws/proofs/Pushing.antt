@@ -1,11 +1,11 @@
 -- In every run a client whose push is under way has the delayed writes that it pushes.
-use Rattle.std.proofs.Common.{◌≡◌, ◌≢◌, ℕ, ◌+◌, ◌==◌, Bool, true, false, List, [], ◌∷◌, Option, Some, None, is_some, refl, sym, ap, subst, ◌∙◌}
+use Rattle.std.proofs.Common.{◌≡◌, ◌≢◌, ℕ, ◌+◌, ◌==◌, Bool, true, false, List, [], ◌∷◌, Some, None, is_some, refl, sym, ap, subst, ◌∙◌}
 use Rattle.std.specs.Prelude.{slice_get, slice_set}
 use Rattle.nq_base.specs.declared.Call.{Call}
 use Rattle.nq_base.specs.declared.Event.{Event}
 use Rattle.nq_base.specs.declared.Tag.{Tag}
 use Rattle.law_rounds.proofs.Meant.{replied-free}
-use Rattle.nq_model.specs.Client.{Client, ClientStep, begun, for_call, pushing, renewing, Job, Ticket}
+use Rattle.nq_model.specs.Client.{Client, ClientStep, begun, pushing, Ticket}
 use Rattle.nq_model.specs.ClientStep.{begins_call, is_called, says_busy, client_call, at_time, sends_again, client_tick, attached_client, starts}
 use Rattle.nq_model.specs.ClientStep.{fresh_client, restart}
 use Rattle.nq_model.specs.Hear.{hear, replied, cancels, vacates_lease, notes_notice, evicted}

@@ -12,7 +12,7 @@ use Rattle.nq_model.specs.Hear.{hear}
 use Rattle.nq_model.specs.Kept.{host_row}
 use Rattle.nq_model.specs.Lines.{Play, play, play_hosts, play_rounds}
 use Rattle.nq_model.specs.Message.{Message, Packet, call, reply, datagram_of}
-use Rattle.nq_model.specs.Server.{Server, to_host}
+use Rattle.nq_model.specs.Server.{to_host}
 use Rattle.nq_model.specs.ServerStep.{receive}
 use Rattle.nq_model.specs.World.{Head, World, from_host, after_client, after_server, at_client, sending_host, step, run}
 use Rattle.law_rounds.proofs.ClientCount.{client-count}

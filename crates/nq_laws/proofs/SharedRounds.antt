@@ -11,7 +11,7 @@ use Rattle.nq_base.specs.declared.Want.{Want}
 use Rattle.nq_model.specs.Client.{Client, UnderWay}
 use Rattle.nq_model.specs.ClientStep.{client_tick}
 use Rattle.nq_model.specs.Lines.{Play, play, play_flow, flow_first, play_rounds}
-use Rattle.nq_model.specs.Server.{Server, quiet}
+use Rattle.nq_model.specs.Server.{Server}
 use Rattle.nq_model.specs.ServerStep.{tick}
 use Rattle.nq_model.specs.Table.{caches, find_row}
 use Rattle.nq_model.specs.World.{Head, World, after_server}

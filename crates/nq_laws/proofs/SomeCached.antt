@@ -6,10 +6,7 @@ use Rattle.walk_steps.proofs.SomeLease.{two-hosts, one-read}
 use Rattle.nq_laws.specs.CachedReadsMet.{IsReadySometime}
 use Rattle.nq_model.specs.Client.{Client, Lease}
 use Rattle.nq_base.specs.Block.{filled, zeros}
-use Rattle.nq_model.specs.Ask.{free}
 use Rattle.nq_model.specs.ClientStep.{attached_client}
-use Rattle.nq_model.specs.Hear.{attached}
-use Rattle.nq_model.specs.ServerStep.{boot}
 use Rattle.nq_model.specs.World.{run}
 use Rattle.walk_steps.proofs.GivenRuns.{given-run}
 

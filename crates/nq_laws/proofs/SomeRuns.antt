@@ -13,7 +13,6 @@ use Rattle.nq_model.proofs.SkewTest.{skew-test-is-sound}
 use Rattle.nq_model.specs.ClientStep.{next_incarnation}
 use Rattle.nq_model.specs.JournalTest.{exists}
 use Rattle.nq_model.specs.ReportedTest.{names}
-use Rattle.nq_model.specs.ServerStep.{boot}
 use Rattle.nq_model.specs.World.{Head, run}
 use Rattle.nq_model.specs.Witnesses.{in_order, is_delayed_write, is_lost_write, is_loss, is_store, is_silence, is_silence_of, is_crash, is_opening}
 use Rattle.nq_model.specs.Witnesses.{is_start, is_read, is_cut, is_growth, is_write}

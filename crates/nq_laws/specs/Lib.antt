@@ -24,6 +24,7 @@ pub mod NotReported
 pub mod NotSynchronized
 pub mod ToldMet
 pub mod RefusalsHaveCauses
+pub mod RefusedAnswers
 pub mod NoTagIsLater
 pub mod StoredOnceAnswered
 pub mod PutOff

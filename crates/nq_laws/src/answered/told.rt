@@ -4,6 +4,7 @@
 ghost use Rattle.nq_laws.specs.ToldMet.{NoRoomIsMet, RefusalsAreMet, TellingsAreMet};
 ghost use Rattle.nq_model.specs.LossesAreNamed.{LossesAreNamedInEveryRun};
 ghost use Rattle.nq_laws.specs.RefusalsHaveCauses.{RefusalsHaveCauses};
+ghost use Rattle.nq_laws.specs.RefusedAnswers.{OnlyMomentsRefuse, OnlyNamesRefuse};
 ghost use Rattle.nq_model.specs.AnswersHaveCauses.{AnswersHaveCauses};
 ghost use Rattle.nq_model.specs.AnswersTellWhatWas.{AnswersTellWhatWas};
 ghost use Rattle.nq_model.specs.FullHasItsCause.{FullHasItsCause};
@@ -67,4 +68,15 @@ pub fn no_room_is_met()
 /// There is such a schedule: a client asks for a name and a file that are not there, makes a file twice, and asks for one of no block.
 pub fn refusals_are_met()
     ensures { RefusalsAreMet }
+{}
+
+/// In the journal of a run a lookup behind the making of its file is told `noentry` instead: that passes the tests of all other laws, and
+/// is refused since the name was there from the call to the answer.
+pub fn only_moments_refuse()
+    ensures { OnlyMomentsRefuse }
+{}
+
+/// A journal in which `lost` names nothing passes the tests of all other laws, and is refused since `lost` names some write.
+pub fn only_names_refuse()
+    ensures { OnlyNamesRefuse }
 {}

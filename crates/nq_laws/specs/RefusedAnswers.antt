@@ -1,0 +1,65 @@
+-- Journals that only the laws on what answers say refuse: each passes the tests of all other laws.
+use Rattle.std.specs.Prelude.{◌≡◌, ℕ, List, [], ◌∷◌, IsTrue}
+use Rattle.law_runs.specs.Refused.{passes}
+use Rattle.nq_base.specs.declared.Call.{Call}
+use Rattle.nq_base.specs.declared.Entry.{Entry}
+use Rattle.nq_base.specs.declared.Event.{Event}
+use Rattle.nq_base.specs.declared.Said.{Said}
+use Rattle.nq_base.specs.declared.Told.{Told}
+use Rattle.nq_model.specs.AnswersAreOfTheirCalls.{AnswersAreOfTheirCalls}
+use Rattle.nq_model.specs.AnswersHaveCauses.{LacksName, HasCauseAt}
+use Rattle.nq_model.specs.BusyIsSaidAtOnce.{BusyIsSaidAtOnce}
+use Rattle.nq_model.specs.Journal.{Throughout}
+use Rattle.nq_model.specs.LossesAreNamed.{LossesAreNamed}
+use Rattle.nq_model.specs.OksHaveTheirDeeds.{OksHaveTheirDeeds}
+use Rattle.nq_model.specs.RefusalsAreOfTheirCalls.{RefusalsAreOfTheirCalls}
+use Rattle.nq_model.specs.RepliesTellWhatWas.{Once}
+use Rattle.nq_model.specs.World.{Head, run}
+
+-- one host, and no file at first
+abbrev pub no_file_head : Head
+no_file_head = record { hosts = 1; term = 30; longest = 60; files = [] }
+
+-- a file is made, and then looked up; the newest event first
+abbrev pub made_and_found : List Event
+made_and_found =
+    Event.Deliver 3 ∷ Event.Deliver 2 ∷ Event.Call 0 (Call.Lookup (98 ∷ [])) ∷ Event.Deliver 1 ∷ Event.Deliver 0
+    ∷ Event.Call 0 (Call.Create (98 ∷ []) 1) ∷ []
+
+-- the journal of that run
+abbrev pub its_journal : List Entry
+its_journal =
+    Entry.A (record { host = 0; inc = 1 }) 2 (Said.OkValue 1) ∷ Entry.C (record { host = 0; inc = 1 }) 2 (Told.Lookup (98 ∷ [])) ∷
+    Entry.A (record { host = 0; inc = 1 }) 1 (Said.OkValue 1) ∷ Entry.C (record { host = 0; inc = 1 }) 1 (Told.Create (98 ∷ []) 1) ∷ []
+
+-- the same, but the lookup is told that there is no such name
+abbrev pub a_late_no_entry : List Entry
+a_late_no_entry =
+    Entry.A (record { host = 0; inc = 1 }) 2 Said.NoEntry ∷ Entry.C (record { host = 0; inc = 1 }) 2 (Told.Lookup (98 ∷ [])) ∷
+    Entry.A (record { host = 0; inc = 1 }) 1 (Said.OkValue 1) ∷ Entry.C (record { host = 0; inc = 1 }) 1 (Told.Create (98 ∷ []) 1) ∷ []
+
+-- the late `noentry` is refused since there was such a name from the call to the answer, though there was none at first
+pub record OnlyMomentsRefuse : Type 0 where
+  pub ran : (run no_file_head made_and_found).journal ≡ its_journal
+  pub others : IsTrue (passes a_late_no_entry)
+  pub answered : AnswersAreOfTheirCalls a_late_no_entry
+  pub done : OksHaveTheirDeeds a_late_no_entry
+  pub busy : BusyIsSaidAtOnce a_late_no_entry
+  pub forms : RefusalsAreOfTheirCalls a_late_no_entry
+  pub at_first : Once (λ w. LacksName w.server.kept.files (98 ∷ [])) no_file_head made_and_found
+  pub refused : ¬ Throughout (HasCauseAt no_file_head made_and_found) a_late_no_entry
+
+-- a sync is told that something is lost, and not what
+abbrev pub a_loss_of_nothing : List Entry
+a_loss_of_nothing =
+    Entry.A (record { host = 0; inc = 1 }) 1 (Said.Lost (record { items = []; spare = 0 })) ∷
+    Entry.C (record { host = 0; inc = 1 }) 1 (Told.Sync 1) ∷ []
+
+-- the loss of nothing is refused since `lost` names some write, and for nothing else
+pub record OnlyNamesRefuse : Type 0 where
+  pub others : IsTrue (passes a_loss_of_nothing)
+  pub answered : AnswersAreOfTheirCalls a_loss_of_nothing
+  pub done : OksHaveTheirDeeds a_loss_of_nothing
+  pub busy : BusyIsSaidAtOnce a_loss_of_nothing
+  pub forms : RefusalsAreOfTheirCalls a_loss_of_nothing
+  pub refused : ¬ LossesAreNamed a_loss_of_nothing
