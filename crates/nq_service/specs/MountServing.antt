@@ -43,7 +43,9 @@ pub record ServesNot {D : Type 0} (told : D → Option (List ℕ)) (faults : D �
   pub survives : ForSome (told disk) (λ bytes. 0 < length bytes → (kept : Kept) → AllStandFor (may_leave disk) kept
       → AllStandFor (leaves disk (back_of fault)) kept)
 
--- a store was served from, and ended so; this disk is left, which is the store's
+-- A store was served from, and ended so; this disk is left, which is the store's. Between two turns, which `serving` tells, and at the end whatever
+-- a stop leaves stands for exactly what the server keeps then. This refuses a server that answers `ok` once the gate byte is written and before it
+-- is synced
 pub record EndsServing {D : Type 0} (told : D → Option (List ℕ)) (faults : D → ℕ) (follows : D → D → Type 0) (leaves : D → D → List ℕ → Type 0)
     (longest turns : ℕ) (store : StoredStore D) (ended : Result Unit Halt) (left : D) (clock clock' : ClockTold) (link link' : LinkTold) : Type 0 where
   pub served : StoredStore D
@@ -52,6 +54,7 @@ pub record EndsServing {D : Type 0} (told : D → Option (List ℕ)) (faults : D
   pub cause : EndsBy ended (content_of told store) (faults_of faults store) (faults_of faults served)
   pub serving : LeavesServing (content_of told) (faults_of faults) (GoesOn faults follows) (λ first last. LeavesKept (leaves first.disk last.disk))
       longest turns store ended served clock clock' link link'
+  pub settled : ForSome (content_of told served) (λ kept. AllStandFor (leaves left left) kept)
 
 -- this image, which a stop left, opens, and stands for what was kept at first, or after some of the steps: the boot, and the ticks and datagrams of
 -- the turns
