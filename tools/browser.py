@@ -5,6 +5,7 @@ import fcntl
 import json
 import os
 import subprocess
+import time
 
 
 class Browser:
@@ -65,7 +66,7 @@ class Browser:
         self.tell("Page.navigate", url="about:blank")
         self.tell("Page.navigate", url=address)
         while not self.value("typeof current === 'function' && document.readyState === 'complete' && current() !== null"):
-            pass
+            time.sleep(0.02)
 
     def value(self, expression):
         """What an expression is on the page, once it is there."""

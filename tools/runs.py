@@ -3,8 +3,8 @@
 
   tools/runs.py [--look FILE] [--nqnfs FILE] [--write]
 
-The schedules are those of `examples/`, in the order in which examples/README.md says to read them, and those of `web/exercises/`. Of a
-few, a run is stored: the journal that `nqnfs replay` prints, what `nqnfs check` says of that journal, and the run as `nqnfs_look
+The schedules are those of `examples/`, in the order in which examples/README.md says to read them, and those of `web/exercises/`, with one that
+solves each. Of a few, a run is stored: the journal that `nqnfs replay` prints, what `nqnfs check` says of that journal, and the run as `nqnfs_look
 tell` tells it. Both programs are built before, in their crates by `rt run`. With `--write` the file is written; without it
 nothing is, and the status is 1 where the file is old or wanting.
 """
@@ -60,7 +60,8 @@ def starts(asked):
     """The first view, and the exercises in the order of web/exercises.js."""
     yield start_of("web/exercises", "Begin here", FIRST, asked)
     for name in re.findall(r'name: "([a-z-]+)"', (ROOT / "web/exercises.js").read_text()):
-        yield start_of("web/exercises", "Exercises", name, asked)
+        solved = (ROOT / "web/exercises" / f"{name}.solved.schedule").read_text()
+        yield {**start_of("web/exercises", "Exercises", name, asked), "solved": solved}
 
 
 def listed(name, items):

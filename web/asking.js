@@ -4,8 +4,7 @@
 // Asks the program; what it answers. A page without the program has only its stored runs.
 async function ask(path, body) {
   const answer = await fetch(path, { method: "POST", body: typeof body === "string" ? body : JSON.stringify(body) });
-  if (!answer.ok) throw new Error(`the program refuses: ${answer.status} ${await answer.text()}`);
-  return answer.json();
+  return answer.ok ? answer.json() : { status: answer.status, printed: await answer.text() };
 }
 
 // Whether the program is there.
@@ -28,6 +27,7 @@ async function runOf(schedule) {
 // A bent schedule and its run.
 async function bent(schedule, bends, then) {
   const answer = await ask("/bend", { schedule, bends, then });
+  if (answer.status !== 0) return answer;
   return { ...seen(answer.schedule, answer), left: answer.left_out, origin: answer.origin };
 }
 

@@ -86,12 +86,17 @@ function showChange(place, { words, run, before }) {
   place.hidden = !before;
   if (!before) return;
   const parts = [made("h2", "", "The change"), made("p", "", words === "typed" ? "The schedule was typed." : `${words}.`)];
-  const left = run.left ?? [];
-  if (left.length > 0) {
-    parts.push(made("p", "bad", `Left out, since the packet is not sent in this run, or its host is cut off: ${left.length}`));
-    const list = made("ul", "");
-    list.append(...left.map(({ event, line }) => made("li", "", `${line} (was event ${event}${before.events[event] ? `: ${before.events[event].what.replace(/^deliver \d+: /, "")}` : ""})`)));
-    parts.push(list);
-  }
+  const left = (run.left ?? []).filter(({ why }) => why === "no match" || why === "cut off");
+  if (left.length > 0) parts.push(made("p", "bad", `Left out ${left.length === 1 ? "is one event" : `are ${left.length} events`} of the run before:`), leftList(left, before));
   place.replaceChildren(...parts);
+}
+
+// The events that were left out, with why.
+function leftList(left, before) {
+  const list = made("ul", "");
+  list.append(...left.map(({ event, line, why }) => {
+    const words = before.events[event]?.what.replace(/^deliver \d+: /, "") ?? "";
+    return made("li", "", `${event}, ${line} (${words}): ${why === "cut off" ? "its host is cut off" : "nobody sends this packet now"}`);
+  }));
+  return list;
 }

@@ -1,49 +1,77 @@
 "use strict";
 // The chart of a run: a line for each party, a row for each event, an arrow for each packet.
+// It is drawn in strips of some rows, so that a browser lays out only those that are seen. What crosses a strip's edge is drawn in both.
 
+const STRIP = 30;
+const LAYERS = ["band", "bar", "line", "arrow", "dot", "text", "tip"];
 const escaped = (text) => text.replace(/[&<>"]/g, (sign) => `&#${sign.charCodeAt(0)};`);
 
 // Draws a chart into an element, and its names into another one.
 function drawChart(place, names, rows, packets, hosts) {
   const layout = layoutOf(rows, packets, hosts);
-  const parts = [
-    rows.map((row, number) => band(row, number, layout)).join(""),
-    layout.spans.map((span) => bar(span, rows, layout)).join(""),
-    layout.lines.map((x) => `<path class="line" d="M${x} 0V${layout.high}"/>`).join(""),
-  ];
-  const drawn = { arrows: [], texts: [], tips: [] };
-  rows.forEach((row) => layout.parties.forEach((_, party) => ["left", "right"].forEach((side) => drawTexts(drawn, row, party, side, layout))));
-  packets.forEach((packet) => drawArrows(drawn, packet, rows, layout));
-  parts.push(drawn.arrows.join(""), rows.map((row) => dots(row, layout)).join(""), drawn.texts.join(""), drawn.tips.join(""));
-  place.innerHTML = `<svg width="${layout.wide}" height="${layout.high}" viewBox="0 0 ${layout.wide} ${layout.high}">${HEADS}${parts.join("")}<path id="ghost" class="arrow ghost" d=""/></svg>`;
+  const pieces = [];
+  const put = (layer, from, to, text) => pieces.push({ layer, from, to, text });
+  rows.forEach((row, number) => putRow(put, row, number, layout));
+  layout.spans.forEach((span) => putBar(put, span, rows, layout));
+  layout.lines.forEach((x) => put("line", 0, layout.high, `<path class="line" d="M${x} 0V${layout.high}"/>`));
+  packets.forEach((packet) => putArrows(put, packet, rows, layout));
+  place.innerHTML = `${HEADS}${strips(rows, pieces, layout)}<svg class="over" width="${layout.wide}" height="${layout.high}"><path id="ghost" class="arrow ghost" d=""/></svg>`;
+  place.style.width = `${layout.wide}px`;
   names.innerHTML = layout.parties.map((name, party) => `<span style="left:${layout.lines[party]}px">${name}</span>`).join("");
   names.style.width = `${layout.wide}px`;
-  return { rows, packets, layout, picture: place.firstElementChild, ...found(place.firstElementChild) };
+  return { rows, packets, layout, place, ...found(place) };
 }
 
-const HEADS = `<defs><marker id="tip" viewBox="0 0 8 8" refX="7.5" refY="4" markerWidth="8" markerHeight="8" markerUnits="userSpaceOnUse" orient="auto"><path class="head" d="M0 .5L8 4L0 7.5z"/></marker></defs>`;
+const HEADS = `<svg class="heads" width="0" height="0"><defs><marker id="tip" viewBox="0 0 8 8" refX="7.5" refY="4" markerWidth="8" markerHeight="8" ` +
+  `markerUnits="userSpaceOnUse" orient="auto"><path class="head" d="M0 .5L8 4L0 7.5z"/></marker></defs></svg>`;
 
-// The bands and what shows packets, for marking.
-function found(picture) {
-  const shows = new Map();
-  for (const part of picture.querySelectorAll("[data-packet]")) {
-    const number = Number(part.dataset.packet);
-    shows.set(number, [...(shows.get(number) || []), part]);
+// The strips of a chart, each with what is in it, layer upon layer.
+function strips(rows, pieces, { wide, high }) {
+  const drawn = [];
+  for (let first = 0; first < rows.length; first += STRIP) {
+    const top = first === 0 ? 0 : rows[first].top;
+    const end = first + STRIP < rows.length ? rows[first + STRIP].top : high;
+    const own = pieces.filter(({ from, to }) => from < end && to > top);
+    const text = LAYERS.map((layer) => own.filter((piece) => piece.layer === layer).map((piece) => piece.text).join("")).join("");
+    drawn.push(`<svg class="strip" width="${wide}" height="${end - top}" viewBox="0 ${top} ${wide} ${end - top}" style="contain-intrinsic-size:${wide}px ${end - top}px">${text}</svg>`);
   }
-  return { bands: [...picture.querySelectorAll(".band")], shows };
+  return drawn.join("");
 }
 
-// The band of a row, its rule and the numbers of its events.
-function band(row, number, { wide }) {
+// The bands of the rows, and what shows packets, for marking.
+function found(place) {
+  const shows = new Map();
+  for (const part of place.querySelectorAll("[data-packet]")) {
+    const number = Number(part.dataset.packet);
+    if (shows.has(number)) shows.get(number).push(part);
+    else shows.set(number, [part]);
+  }
+  return { bands: [...place.querySelectorAll(".band")], shows };
+}
+
+// A row: its band, the numbers of its events, who acts, and the texts beside the parties.
+function putRow(put, row, number, layout) {
+  const { top, high } = row;
+  const piece = (layer, text) => put(layer, top, top + high, text);
   const label = row.first === row.last ? row.first : `${row.first}-${row.last}`;
+  piece("band", `<rect class="band" data-row="${number}" x="0" y="${top}" width="${layout.wide}" height="${high}"/><path class="rule" d="M0 ${top}H${layout.wide}"/>`);
+  piece("text", `<text class="dim" data-row="${number}" x="6" y="${top + 17}">${label}</text>`);
   const word = row.kind === "resends" ? "unfold" : row.folds === undefined ? "" : "fold";
-  const fold = word && `<text class="fold" data-fold="${row.first}" x="6" y="${row.top + 32}">${word}</text>`;
-  return `<g data-row="${number}"><rect class="band" x="0" y="${row.top}" width="${wide}" height="${row.high}"/><path class="rule" d="M0 ${row.top}H${wide}"/>` +
-    `<text class="dim" x="6" y="${row.top + 17}">${label}</text></g>${fold}`;
+  if (word) piece("text", `<text class="fold" data-fold="${row.first}" x="6" y="${top + 32}">${word}</text>`);
+  const look = row.kind === "event" ? dotOf(row.events[0]) : "dim";
+  for (const who of new Set(row.events.map((event) => event.who))) {
+    piece("dot", `<circle class="dot ${look}" cx="${layout.lines[layout.parties.indexOf(who)]}" cy="${top + 13}" r="4"/>`);
+  }
+  layout.parties.forEach((_, party) => ["left", "right"].forEach((side) => putTexts(piece, row, party, side, layout)));
+}
+
+function dotOf(event) {
+  if (event.arrival !== null) return "packet";
+  return event.what === "call" ? "call" : event.what === "tick" ? "dim" : "start";
 }
 
 // The bar of a lease, of a row of the server, or of a recovery.
-function bar(span, rows, layout) {
+function putBar(put, span, rows, layout) {
   const party = layout.parties.indexOf(span.party);
   const first = rows[layout.rowOfEvent.get(span.from)];
   const end = span.to === null ? rows.at(-1) : rows[layout.rowOfEvent.get(span.to)];
@@ -52,51 +80,44 @@ function bar(span, rows, layout) {
   const x = layout.lines[party] + (party === 0 ? -offset - 6 : offset);
   const kind = /recovery|noncaching|reading|writing/.exec(span.words)[0];
   const words = `${span.party}: ${span.words}, from event ${span.from}${span.to === null ? "" : ` to ${span.to}`}`;
-  return `<rect class="bar ${kind}" x="${x}" y="${first.top + 8}" width="6" height="${Math.max(6, bottom - first.top - 8)}" rx="2"><title>${words}</title></rect>`;
+  put("bar", first.top, bottom, `<rect class="bar ${kind}" x="${x}" y="${first.top + 8}" width="6" height="${Math.max(6, bottom - first.top - 8)}" rx="2"><title>${words}</title></rect>`);
 }
 
-// The dots of who acts in a row.
-function dots(row, { parties, lines }) {
-  const look = row.kind === "event" ? dotOf(row.events[0]) : "dim";
-  return [...new Set(row.events.map(({ who }) => who))].map((who) => `<circle class="dot ${look}" cx="${lines[parties.indexOf(who)]}" cy="${row.top + 13}" r="4"/>`).join("");
-}
+// How far from the line of a party its texts begin, at a side.
+const awayFrom = (party, side, lanes) => 9 + (side === outer(party) ? lanes[party] * LANE : 0);
 
-function dotOf(event) {
-  if (event.arrival !== null) return "packet";
-  return event.what === "call" ? "call" : event.what === "tick" ? "dim" : "start";
-}
-
-// Draws the texts at one side of a party, and the number of each packet that is sent there.
-function drawTexts(drawn, row, party, side, { lines, lanes }) {
+// The texts at one side of a party, and the number of each packet that is sent there.
+function putTexts(piece, row, party, side, { lines, lanes }) {
   const sign = side === "left" ? -1 : 1;
-  const away = 9 + (side === outer(party) ? lanes[party] * LANE : 0);
-  row.sides[party][side].forEach((said, line) => {
-    let x = lines[party] + sign * away;
+  row.sides[party][side].forEach(({ text, look, packet, of }, line) => {
+    let x = lines[party] + sign * awayFrom(party, side, lanes);
     const y = row.top + 13 + STEP * line;
-    const mark = said.packet ?? said.of;
-    if (said.packet !== undefined) {
-      const wide = widthOf(String(said.packet)) + 8;
+    if (packet !== undefined) {
+      const wide = widthOf(String(packet)) + 8;
       const left = sign < 0 ? x - wide : x;
-      drawn.tips.push(`<g class="chip ${said.look}" data-packet="${said.packet}"><rect x="${left}" y="${y - 7}" width="${wide}" height="14" rx="4"/><text x="${left + wide / 2}" y="${y + 4}">${said.packet}</text></g>`);
+      piece("tip", `<g class="chip ${look}" data-packet="${packet}"><rect x="${left}" y="${y - 7}" width="${wide}" height="14" rx="4"/><text x="${left + wide / 2}" y="${y + 4}">${packet}</text></g>`);
       x += sign * (wide + 5);
     }
-    if (said.text) drawn.texts.push(`<text class="${said.look}${sign < 0 ? " end" : ""}"${mark === undefined ? "" : ` data-packet="${mark}"`} x="${x}" y="${y + 4}">${escaped(said.text)}</text>`);
+    const mark = packet ?? of;
+    const data = mark === undefined ? "" : ` data-packet="${mark}"`;
+    if (text) piece("text", `<text class="${look}${sign < 0 ? " end" : ""}"${data} x="${x}" y="${y + 4}">${escaped(text)}</text>`);
   });
 }
 
-// Draws the arrows of a packet, one for each arrival, and a place at its end by which it is dragged.
-function drawArrows(drawn, packet, rows, layout) {
+// The arrows of a packet, one for each arrival, and a place at its end by which it is dragged.
+function putArrows(put, packet, rows, layout) {
   const from = layout.parties.indexOf(packet.from);
   const to = layout.parties.indexOf(packet.to);
   const start = chipOf(packet, rows, layout, from, to);
   if (!start) return;
+  const data = `data-packet="${packet.number}"`;
   packet.arrivals.forEach((event, count) => {
-    const row = rows[layout.rowOfEvent.get(event)];
+    const { top } = rows[layout.rowOfEvent.get(event)];
     const x = layout.lines[to];
-    const path = `M${start.x} ${start.y}L${x} ${row.top + 8}`;
-    const data = `data-packet="${packet.number}"`;
-    drawn.arrows.push(`<path class="arrow${count > 0 ? " again" : ""}" ${data} d="${path}" marker-end="url(#tip)"/><path class="hit" ${data} d="${path}"/>`);
-    drawn.tips.push(`<circle class="tip" ${data} data-arrival="${event}" cx="${x}" cy="${row.top + 9}" r="9"><title>Drag packet ${packet.number}: it arrives later, or earlier</title></circle>`);
+    const path = `M${start.x} ${start.y}L${x} ${top + 8}`;
+    const ends = [Math.min(start.y, top), Math.max(start.y, top) + 12];
+    put("arrow", ...ends, `<path class="arrow${count > 0 ? " again" : ""}" ${data} d="${path}" marker-end="url(#tip)"/><path class="hit" ${data} d="${path}"/>`);
+    put("tip", top, top + 18, `<circle class="tip" ${data} cx="${x}" cy="${top + 9}" r="9"/>`);
   });
 }
 
@@ -106,30 +127,6 @@ function chipOf(packet, rows, { rowOfEvent, lines, lanes }, from, to) {
   const side = toward(from, to);
   const line = row.sides[from][side].findIndex((said) => said.packet === packet.number);
   if (line < 0) return null;
-  const away = 9 + (side === outer(from) ? lanes[from] * LANE : 0) + widthOf(String(packet.number)) / 2 + 4;
+  const away = awayFrom(from, side, lanes) + widthOf(String(packet.number)) / 2 + 4;
   return { x: lines[from] + (side === "left" ? -away : away), y: row.top + 20 + STEP * line };
-}
-
-// Marks the row of an event; the row.
-function markRow(chart, number) {
-  const place = chart.layout.rowOfEvent.get(number);
-  chart.bands.forEach((part, row) => part.classList.toggle("now", row === place));
-  return chart.rows[place] ?? null;
-}
-
-// Marks the rows of events that led to something.
-function markLed(chart, events) {
-  const places = new Set(events.map((event) => chart.layout.rowOfEvent.get(event)));
-  chart.bands.forEach((part, row) => part.classList.toggle("led", places.has(row)));
-}
-
-// Lights up packets, one of which is chosen.
-function light(chart, packets, chosen) {
-  chart.picture.classList.toggle("lights", packets.size > 0);
-  for (const [number, parts] of chart.shows) {
-    for (const part of parts) {
-      part.classList.toggle("lit", packets.has(number));
-      part.classList.toggle("chosen", number === chosen);
-    }
-  }
 }

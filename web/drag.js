@@ -21,7 +21,7 @@ function hearDrags(place, chartNow, drop) {
     const { packet, moved } = held;
     held = null;
     const chart = chartNow();
-    chart.picture.querySelector("#ghost").setAttribute("d", "");
+    chart.place.querySelector("#ghost").setAttribute("d", "");
     if (moved && event.type === "pointerup") drop(packet, eventAt(chart, event.clientY));
   };
   place.addEventListener("pointerup", end);
@@ -30,7 +30,7 @@ function hearDrags(place, chartNow, drop) {
 
 // The event before which a packet arrives that is dropped at a height of the window.
 function eventAt(chart, y) {
-  const at = y - chart.picture.getBoundingClientRect().top;
+  const at = y - chart.place.getBoundingClientRect().top;
   const row = chart.rows.find(({ top, high }) => at < top + high / 2);
   return row ? row.first : chart.rows.at(-1).last + 1;
 }
@@ -40,8 +40,8 @@ function showGhost(chart, held, event) {
   const { lines, parties, rowOfEvent } = chart.layout;
   const from = parties.indexOf(packet.from);
   const start = chart.rows[rowOfEvent.get(packet.sent)];
-  const box = chart.picture.getBoundingClientRect();
+  const box = chart.place.getBoundingClientRect();
   const next = chart.rows.find((row) => row.first === eventAt(chart, event.clientY));
   const y = next ? next.top : Math.min(event.clientY - box.top, chart.layout.high - 4);
-  chart.picture.querySelector("#ghost").setAttribute("d", `M${lines[from]} ${start.top + 13}L${held.x} ${y}M${held.x - 40} ${y}h80`);
+  chart.place.querySelector("#ghost").setAttribute("d", `M${lines[from]} ${start.top + 13}L${held.x} ${y}M${held.x - 40} ${y}h80`);
 }

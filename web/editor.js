@@ -1,7 +1,8 @@
 "use strict";
 // The schedule, in which a reader types: its lines are numbered and marked behind the text.
 
-const editor = { field: null, behind: null, timer: 0, lines: [] };
+const HIGH = 18;
+const editor = { field: null, behind: null, timer: 0 };
 
 // Begins an editor; `typed` is told the text a little after the last key, and `at` the line in which the caret is set, from 0.
 function beginEditor(field, behind, typed, at) {
@@ -24,29 +25,23 @@ function showSchedule(schedule) {
 
 // Numbers the lines.
 function number(text) {
-  const items = text.replace(/\n$/, "").split("\n").map((line) => {
-    const item = document.createElement("div");
-    item.textContent = line || " ";
-    return item;
-  });
-  editor.behind.replaceChildren(...items);
-  editor.lines = items;
-  follow();
+  const count = text.replace(/\n$/, "").split("\n").length;
+  editor.behind.querySelector("pre").textContent = Array.from({ length: count }, (_, line) => line + 1).join("\n");
 }
 
 function follow() {
-  editor.behind.style.transform = `translate(${-editor.field.scrollLeft}px, ${-editor.field.scrollTop}px)`;
+  editor.behind.style.transform = `translateY(${-editor.field.scrollTop}px)`;
 }
 
 // Marks the line of an event, and the line at fault, counted from 0; null for none.
 function markLine(now, fault) {
-  editor.lines.forEach((item, line) => {
-    item.classList.toggle("now", line === now);
-    item.classList.toggle("fault", line === fault);
-  });
-  const item = editor.lines[fault ?? now];
-  if (!item || document.activeElement === editor.field) return;
-  const top = item.offsetTop;
+  for (const [name, line] of [["now", now], ["fault", fault]]) {
+    const mark = editor.behind.querySelector(`.${name}`);
+    mark.hidden = line === null || line < 0;
+    mark.style.top = `${4 + HIGH * line}px`;
+  }
+  if (document.activeElement === editor.field) return;
+  const top = HIGH * (fault ?? now);
   const { scrollTop, clientHeight } = editor.field;
   if (top < scrollTop || top + 40 > scrollTop + clientHeight) editor.field.scrollTop = top - clientHeight / 2;
 }

@@ -112,12 +112,12 @@ function placeColumns(rows, lanes) {
   const bars = (party, side) => (side === outer(party) ? lanes[party] * LANE : 0);
   const need = (party, side) => (row) => room(row, party, side) + bars(party, side);
   const lines = [];
-  let x = 40 + 12 + Math.max(30, ...rows.map(need(0, "left")));
+  let x = 34 + 10 + Math.max(30, ...rows.map(need(0, "left")));
   lanes.forEach((_, party) => {
-    if (party > 0) x += 24 + Math.max(100, ...rows.map((row) => need(party - 1, "right")(row) + need(party, "left")(row)));
+    if (party > 0) x += 20 + Math.max(100, ...rows.map((row) => need(party - 1, "right")(row) + need(party, "left")(row)));
     lines.push(x);
   });
-  const wide = x + 14 + Math.max(30, ...rows.map(need(lanes.length - 1, "right")));
+  const wide = x + 10 + Math.max(30, ...rows.map(need(lanes.length - 1, "right")));
   const last = rows.at(-1);
   return { lines, wide, high: last ? last.top + last.high + 8 : 40 };
 }

@@ -35,6 +35,8 @@ function hear() {
   place("slider").addEventListener("input", ({ target }) => go(Number(target.value), true));
   place("back").addEventListener("click", () => go(current().event - 1, true));
   place("on").addEventListener("click", () => go(current().event + 1, true));
+  place("journal").addEventListener("click", ({ target }) => target.closest(".of") && askWhy(Number(target.closest(".of").dataset.line)));
+  place("journal").addEventListener("pointerover", ({ target }) => target.closest(".of") && tellPromises(target.closest(".of")));
   place("way").addEventListener("click", showWay);
   place("chart").addEventListener("click", ({ target }) => pressed(target));
   place("chart").addEventListener("pointerover", ({ target }) => point(target.closest("[data-packet]")));
@@ -101,17 +103,19 @@ function draw() {
 function showJournal(run) {
   const asked = askedOf(run.entries);
   const items = run.journal.replace(/\n$/, "").split("\n").map((text, number) => {
-    const item = made("li", "", "");
     const entry = run.entries[number - 1];
     const promises = entry ? promisesOf(entry, asked) : [];
-    item.append(made("span", "promise", promises.join(" ")), made("span", "", text));
-    if (!entry) return item;
-    item.title = promises.map((of) => `Promise ${of}: ${PROMISES[of]}`).join("\n");
-    item.className = "of";
-    item.addEventListener("click", () => askWhy(number + 1));
-    return item;
+    const line = String(number + 1).padStart(4);
+    return `<li${entry ? ` class="of" data-line="${number + 1}"` : ""}>${line} <span class="promise">${promises.join(" ").padEnd(4)}</span><span>${escaped(text)}</span></li>`;
   });
-  place("journal").replaceChildren(...items);
+  place("journal").innerHTML = items.join("");
+}
+
+// Tells the promises of the line at which a reader points.
+function tellPromises(item) {
+  const { run } = current();
+  const of = promisesOf(run.entries[Number(item.dataset.line) - 2], askedOf(run.entries));
+  item.title = of.map((number) => `Promise ${number}: ${PROMISES[number]}`).join("\n");
 }
 
 // Goes to the event that made a line of the journal, and shows why the line came.
@@ -243,9 +247,8 @@ function showTask({ exercise, run, before }) {
 // Shows a schedule that solves the exercise.
 async function showWay() {
   const { exercise, run } = current();
-  const answer = await fetch(`exercises/${exercise.name}.solved.schedule`);
-  const solved = answer.ok ? await runOf(await answer.text()) : null;
-  if (!solved || solved.status !== 0) return;
+  const solved = await runOf(STARTS.find(({ name }) => name === exercise.name).solved);
+  if (solved?.status !== 0) return;
   keep({ run: solved, before: run, words: "A way to solve the exercise", event: 0 });
   show();
 }
