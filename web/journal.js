@@ -7,8 +7,8 @@ const PROMISES = [
   "A delayed write is missing only if its client restarted, or was cut off for longer than the write slack.",
   "A client that goes on names each write that it lost, once, in its answer to the next call that changes or syncs the file.",
   "Once its own put, or a later sync, resize or remove of its file, was answered ok, a write is not missing.",
-  "A client answers a read from its cache at once while its lease runs.",
-  "Each answer is of its call: it comes once, behind it, and an ok has its deed in the journal before it.",
+  "With no other call under way, a client answers a read from its cache at once while its lease runs.",
+  "Each answer is of its call: it comes once, behind it. An ok has its deed in the journal before it, and a refusal its cause.",
 ];
 
 // The entries of a journal, each with its line, counted from 1.
