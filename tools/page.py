@@ -39,7 +39,8 @@ SHOWN = """function () {
     }
   });
   if (document.documentElement.scrollWidth > innerWidth) faults.push("wider than the window");
-  for (const { number } of run.packets) if (!shown.chart.shows.has(number) && !shown.chart.rows.some(({ kind }) => kind === "resends")) faults.push(`packet ${number}`);
+  const folds = shown.chart.rows.some(({ kind }) => kind === "resends");
+  for (const { number } of run.packets) if (!shown.chart.shows.has(number) && !folds) faults.push(`packet ${number} is not shown`);
   const journal = [...document.querySelectorAll("#journal li")].map((line) => line.lastChild.textContent + "\\n").join("");
   return { schedule: editor.field.value, journal, verdict: run.verdict, faults, says: document.getElementById("verdict").textContent };
 }"""
@@ -209,7 +210,7 @@ def tried(asked, address):
 
 def main():
     words = argparse.ArgumentParser(description=__doc__.splitlines()[0])
-    words.add_argument("--browser", default=shutil.which("chromium"))
+    words.add_argument("--browser", default=shutil.which("chromium-headless-shell") or shutil.which("chromium"))
     words.add_argument("--nqnfs", default=str(ROOT / "crates/nqnfs/out/nqnfs"))
     words.add_argument("--lab", default=str(ROOT / "crates/nqnfs_lab/out/nqnfs_lab"))
     words.add_argument("--address")

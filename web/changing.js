@@ -87,7 +87,8 @@ function showChange(place, { words, run, before }) {
   if (!before) return;
   const parts = [made("h2", "", "The change"), made("p", "", words === "typed" ? "The schedule was typed." : `${words}.`)];
   const left = (run.left ?? []).filter(({ why }) => why === "no match" || why === "cut off");
-  if (left.length > 0) parts.push(made("p", "bad", `Left out ${left.length === 1 ? "is one event" : `are ${left.length} events`} of the run before:`), leftList(left, before));
+  const count = left.length === 1 ? "is one event" : `are ${left.length} events`;
+  if (left.length > 0) parts.push(made("p", "bad", `Left out ${count} of the run before:`), leftList(left, before));
   place.replaceChildren(...parts);
 }
 

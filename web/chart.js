@@ -15,7 +15,8 @@ function drawChart(place, names, rows, packets, hosts) {
   layout.spans.forEach((span) => putBar(put, span, rows, layout));
   layout.lines.forEach((x) => put("line", 0, layout.high, `<path class="line" d="M${x} 0V${layout.high}"/>`));
   packets.forEach((packet) => putArrows(put, packet, rows, layout));
-  place.innerHTML = `${HEADS}${strips(rows, pieces, layout)}<svg class="over" width="${layout.wide}" height="${layout.high}"><path id="ghost" class="arrow ghost" d=""/></svg>`;
+  const over = `<svg class="over" width="${layout.wide}" height="${layout.high}"><path id="ghost" class="arrow ghost" d=""/></svg>`;
+  place.innerHTML = `${HEADS}${strips(rows, pieces, layout)}${over}`;
   place.style.width = `${layout.wide}px`;
   names.innerHTML = layout.parties.map((name, party) => `<span style="left:${layout.lines[party]}px">${name}</span>`).join("");
   names.style.width = `${layout.wide}px`;
@@ -33,7 +34,8 @@ function strips(rows, pieces, { wide, high }) {
     const end = first + STRIP < rows.length ? rows[first + STRIP].top : high;
     const own = pieces.filter(({ from, to }) => from < end && to > top);
     const text = LAYERS.map((layer) => own.filter((piece) => piece.layer === layer).map((piece) => piece.text).join("")).join("");
-    drawn.push(`<svg class="strip" width="${wide}" height="${end - top}" viewBox="0 ${top} ${wide} ${end - top}" style="contain-intrinsic-size:${wide}px ${end - top}px">${text}</svg>`);
+    const size = `width="${wide}" height="${end - top}" style="contain-intrinsic-size:${wide}px ${end - top}px"`;
+    drawn.push(`<svg class="strip" ${size} viewBox="0 ${top} ${wide} ${end - top}">${text}</svg>`);
   }
   return drawn.join("");
 }
@@ -54,7 +56,8 @@ function putRow(put, row, number, layout) {
   const { top, high } = row;
   const piece = (layer, text) => put(layer, top, top + high, text);
   const label = row.first === row.last ? row.first : `${row.first}-${row.last}`;
-  piece("band", `<rect class="band" data-row="${number}" x="0" y="${top}" width="${layout.wide}" height="${high}"/><path class="rule" d="M0 ${top}H${layout.wide}"/>`);
+  piece("band", `<rect class="band" data-row="${number}" x="0" y="${top}" width="${layout.wide}" height="${high}"/>`);
+  piece("band", `<path class="rule" d="M0 ${top}H${layout.wide}"/>`);
   piece("text", `<text class="dim" data-row="${number}" x="6" y="${top + 17}">${label}</text>`);
   const word = row.kind === "resends" ? "unfold" : row.folds === undefined ? "" : "fold";
   if (word) piece("text", `<text class="fold" data-fold="${row.first}" x="6" y="${top + 32}">${word}</text>`);
@@ -80,7 +83,8 @@ function putBar(put, span, rows, layout) {
   const x = layout.lines[party] + (party === 0 ? -offset - 6 : offset);
   const kind = /recovery|noncaching|reading|writing/.exec(span.words)[0];
   const words = `${span.party}: ${span.words}, from event ${span.from}${span.to === null ? "" : ` to ${span.to}`}`;
-  put("bar", first.top, bottom, `<rect class="bar ${kind}" x="${x}" y="${first.top + 8}" width="6" height="${Math.max(6, bottom - first.top - 8)}" rx="2"><title>${words}</title></rect>`);
+  const high = Math.max(6, bottom - first.top - 8);
+  put("bar", first.top, bottom, `<rect class="bar ${kind}" x="${x}" y="${first.top + 8}" width="6" height="${high}" rx="2"><title>${words}</title></rect>`);
 }
 
 // How far from the line of a party its texts begin, at a side.
@@ -95,7 +99,8 @@ function putTexts(piece, row, party, side, { lines, lanes }) {
     if (packet !== undefined) {
       const wide = widthOf(String(packet)) + 8;
       const left = sign < 0 ? x - wide : x;
-      piece("tip", `<g class="chip ${look}" data-packet="${packet}"><rect x="${left}" y="${y - 7}" width="${wide}" height="14" rx="4"/><text x="${left + wide / 2}" y="${y + 4}">${packet}</text></g>`);
+      const frame = `<rect x="${left}" y="${y - 7}" width="${wide}" height="14" rx="4"/>`;
+      piece("tip", `<g class="chip ${look}" data-packet="${packet}">${frame}<text x="${left + wide / 2}" y="${y + 4}">${packet}</text></g>`);
       x += sign * (wide + 5);
     }
     const mark = packet ?? of;
@@ -116,7 +121,8 @@ function putArrows(put, packet, rows, layout) {
     const x = layout.lines[to];
     const path = `M${start.x} ${start.y}L${x} ${top + 8}`;
     const ends = [Math.min(start.y, top), Math.max(start.y, top) + 12];
-    put("arrow", ...ends, `<path class="arrow${count > 0 ? " again" : ""}" ${data} d="${path}" marker-end="url(#tip)"/><path class="hit" ${data} d="${path}"/>`);
+    put("arrow", ...ends, `<path class="arrow${count > 0 ? " again" : ""}" ${data} d="${path}" marker-end="url(#tip)"/>`);
+    put("arrow", ...ends, `<path class="hit" ${data} d="${path}"/>`);
     put("tip", top, top + 18, `<circle class="tip" ${data} cx="${x}" cy="${top + 9}" r="9"/>`);
   });
 }

@@ -29,7 +29,7 @@ const EXERCISES = [
   },
   {
     name: "a-put-that-waits",
-    task: "Let a put wait for ever: for 30 ticks of the server, though each packet arrives within a tick, nobody starts again, and nothing is lost. The other host may call.",
+    task: "Let a put wait for ever: for 30 ticks of the server, though each packet arrives within a tick, and nobody starts again. The other host may call.",
     solved: (run) => noneStartsAgain(run) && openCalls(run).some(({ words, line }) => words[4] === "put" && waitsInCalm(run, line)),
   },
 ];

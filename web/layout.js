@@ -81,7 +81,8 @@ function lookOf(entry) {
 function tickTexts(row, place, { parties }) {
   parties.forEach((name, party) => {
     const own = row.events.filter(({ who }) => who === name);
-    if (own.length > 0) say(row, party, outer(party), own.length === 1 ? `tick, clock ${own[0].clock}` : `${own.length} ticks, clock ${own.at(-1).clock}`, "dim");
+    const count = own.length === 1 ? "tick" : `${own.length} ticks`;
+    if (own.length > 0) say(row, party, outer(party), `${count}, clock ${own.at(-1).clock}`, "dim");
   });
 }
 

@@ -22,8 +22,10 @@ function serverLines(server) {
 
 function hostLines(host) {
   const lines = [`incarnation ${host.inc}; ${host.leases.length === 0 ? "no lease" : `lease: ${host.leases.join(", ")}`}`];
-  const more = [host.delayed > 0 ? `delays ${host.delayed} ${host.delayed === 1 ? "block" : "blocks"}` : "", host.call === null ? "" : `waits for ${host.call}`];
-  lines.push(more.filter(Boolean).join("; ") || " ");
+  const more = [];
+  if (host.delayed > 0) more.push(`delays ${host.delayed} ${host.delayed === 1 ? "block" : "blocks"}`);
+  if (host.call !== null) more.push(`waits for ${host.call}`);
+  lines.push(more.join("; ") || " ");
   return lines;
 }
 
@@ -78,7 +80,9 @@ function showPacket(place, packet, events, bend) {
   if (arrivals.length > 0) {
     deeds.append(deed("lose it", () => bend({ kind: "lose", packet: number })), deed("twice", () => bend({ kind: "twice", packet: number })));
   }
-  const field = Object.assign(made("input", ""), { type: "number", min: sent + 1, max: events, value: Math.min(events, (arrivals[0] ?? sent) + 2), ariaLabel: "event" });
-  deeds.append(deed(arrivals.length > 0 ? "later: before event" : "let it arrive before event", () => bend({ kind: "later", packet: number, event: Number(field.value) })), field);
+  const soon = Math.min(events, (arrivals[0] ?? sent) + 2);
+  const field = Object.assign(made("input", ""), { type: "number", min: sent + 1, max: events, value: soon, ariaLabel: "event" });
+  const word = arrivals.length > 0 ? "later: before event" : "let it arrive before event";
+  deeds.append(deed(word, () => bend({ kind: "later", packet: number, event: Number(field.value) })), field);
   place.replaceChildren(text, deeds);
 }

@@ -4,15 +4,18 @@
 // Shows the outcome of a run; `before` may be null. A click on a row goes to the line of the journal that says it.
 function showOutcome(place, before, run, ask) {
   const parts = [
-    ["Writes", (entries) => writesOf(entries).map(({ key, fate, missing, line }) => ({ key, said: fate, same: fate, bad: missing, line }))],
-    ["Calls", (entries) => callsOf(entries).map(({ key, said, open, line }) => ({ key, said, same: said.replace(/, by packet \d+$/, ""), bad: open || said.startsWith("lost"), line }))],
+    ["Writes", (entries) => writesOf(entries).map(({ key, fate, missing, line }) => rowFor(key, fate, missing, line)), "not missing"],
+    ["Calls", (entries) => callsOf(entries).map(({ key, said, open, line }) => rowFor(key, said, open || said.startsWith("lost"), line)), "answered"],
   ];
-  const shown = parts.flatMap(([title, of]) => tableOf(title, before && of(before.entries), of(run.entries), ask));
+  const shown = parts.flatMap(([title, of, plain]) => tableOf({ title, plain, ask }, before && of(before.entries), of(run.entries)));
   place.replaceChildren(...shown);
 }
 
+// A row of a table. The number of a packet changes with the run, and is no change of what came of it.
+const rowFor = (key, said, bad, line) => ({ key, said, bad, line, same: said.replace(/, by packet \d+$/, "") });
+
 // A table with what was so before, and what is so now. Rows that changed stand first; many that did not are folded.
-function tableOf(title, before, now, ask) {
+function tableOf({ title, plain: word, ask }, before, now) {
   const rows = pairs(before, now);
   const head = made("h2", "", title);
   if (rows.length === 0) return [head, made("p", "dim", "none")];
@@ -20,7 +23,8 @@ function tableOf(title, before, now, ask) {
   const marked = rows.filter((row) => !plain.includes(row));
   const shown = [head];
   if (marked.length > 0) shown.push(tableWith(marked, before, ask));
-  if (plain.length > 0 && (plain.length > 12 || marked.length > 0)) shown.push(foldedTable(plain, before, ask));
+  const summary = `${plain.length} ${before ? "as before" : word}`;
+  if (plain.length > 12 || (plain.length > 0 && marked.length > 0)) shown.push(foldedTable(summary, plain, before, ask));
   else if (plain.length > 0) shown.push(tableWith(plain, before, ask));
   return shown;
 }
@@ -35,9 +39,9 @@ function pairs(before, now) {
   });
 }
 
-function foldedTable(rows, before, ask) {
+function foldedTable(summary, rows, before, ask) {
   const folded = made("details", "");
-  folded.append(made("summary", "", before ? `${rows.length} as before` : `${rows.length} more`), tableWith(rows, before, ask));
+  folded.append(made("summary", "", summary), tableWith(rows, before, ask));
   return folded;
 }
 
