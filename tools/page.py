@@ -1,158 +1,230 @@
 #!/usr/bin/env python3
-"""Tries the page of web/ in a browser that nobody sees, Chromium, and takes pictures of it.
+"""Tries the page of web/ in Chromium, and takes pictures of it.
 
-  tools/page.py [--browser FILE] [--nqnfs FILE] [--pictures FOLDER]
+  tools/page.py [--lab FILE | --address URL] [--nqnfs FILE] [--browser FILE] [--only NAME..] [--pictures FOLDER]
 
-`web/runs.js` is made before, by tools/runs.py. At 1280 pixels and at a phone's width, light and dark, it opens each run, goes to each
-of its events and points at each packet. It asks that exactly one line of the schedule and one row of the chart is marked, that each
-packet has an arrow, that the page is no wider than the window, and that the journal that is shown is what `nqnfs replay` prints for
-the schedule that is shown. It presses the button for the next event, and looks whether the page went on. The status is 1 where
-something is otherwise.
+It starts `nqnfs_lab`, or takes one that listens at an address. At 1280 pixels and at a phone's width, light and dark, it opens each example,
+goes to each of its events, and lets each of its packets be lost, come twice and come late. It asks that what is shown is what
+`nqnfs replay` and `nqnfs check` print for the schedule that is shown, that no text of a chart stands on another one, and that the page is no
+wider than the window. It drags a packet, goes back and forth, opens its own address, solves the exercises, takes the time of a change in a run of 500
+events, and opens the page without the program. The status is 1 where something is otherwise.
 """
 
 import argparse
-import base64
-import fcntl
+import functools
 import json
-import os
 import pathlib
 import shutil
 import subprocess
 import sys
 import tempfile
 
-ROOT = pathlib.Path(__file__).resolve().parent.parent
-PAGE = (ROOT / "web/index.html").as_uri()
-WINDOWS = {"wide": (1280, 900), "phone": (390, 844)}
-SHOWN = ("an-ordinary-session", "cut-off-beyond-write-slack", "two-crashes")
+from browser import Browser
 
-# What each run shows: its texts, and what is not as it has to be.
-LOOK = """RUNS.map((run) => {
-  choose(run.name);
+ROOT = pathlib.Path(__file__).resolve().parent.parent
+WINDOWS = ((1280, 900, "light"), (1280, 900, "dark"), (390, 844, "light"), (390, 844, "dark"))
+PICTURES = ("a-delayed-write-is-lost", "two-crashes", "an-ordinary-session", "a-put-that-waits")
+MOST = 200
+
+# What the page shows of a run, and what is not as it has to be.
+SHOWN = """function () {
   const faults = [];
-  const text = (name) => [...document.querySelectorAll(`#${name} li`)].map((line) => line.textContent + "\\n").join("");
-  for (const event of shown.events) {
-    go(event.number, false);
-    if (document.querySelectorAll("#schedule li.now").length !== 1) faults.push(`event ${event.number}: lines of the schedule`);
-    if (shown.chart.rows.filter((row) => row.band.classList.contains("now")).length !== 1) faults.push(`event ${event.number}: rows`);
-  }
-  for (const packet of shown.packets) {
-    pointAt(packet.number);
-    if (!shown.chart.picture.querySelector(".lit")) faults.push(`packet ${packet.number}: no arrow`);
-  }
-  pointAt(null);
+  const { run } = current();
+  const texts = [...document.querySelectorAll("#chart text")].map((text) => text.getBoundingClientRect());
+  texts.sort((one, other) => one.top - other.top);
+  texts.forEach((one, place) => {
+    for (let next = place + 1; next < texts.length && texts[next].top < one.bottom - 4; next += 1) {
+      const other = texts[next];
+      if (other.left < one.right - 1 && one.left < other.right - 1) faults.push(`texts at ${one.left}, ${one.top} and ${other.left}`);
+    }
+  });
   if (document.documentElement.scrollWidth > innerWidth) faults.push("wider than the window");
-  return { name: run.name, schedule: text("schedule"), journal: text("journal"), faults };
+  const folds = shown.chart.rows.some(({ kind }) => kind === "resends");
+  for (const { number } of run.packets) if (!shown.chart.shows.has(number) && !folds) faults.push(`packet ${number} is not shown`);
+  const journal = [...document.querySelectorAll("#journal li")].map((line) => line.lastChild.textContent + "\\n").join("");
+  return { schedule: editor.field.value, journal, verdict: run.verdict, faults, says: document.getElementById("verdict").textContent };
+}"""
+
+# Goes to each event: exactly one line of the schedule and one row of the chart is marked then.
+EVENTS = """current().run.events.flatMap(({ number }) => {
+  go(number, true);
+  const marks = ["#behind .now", ".band.now"].map((of) => document.querySelectorAll(of).length);
+  return marks.every((count) => count === 1) ? [] : [`event ${number}: marks ${marks}`];
 })"""
 
-NEXT = """(() => {
-  choose(RUNS[0].name);
-  document.getElementById("on").click();
-  return document.getElementById("event").textContent.startsWith("Event 1 of ");
+# Lets each packet be lost, come twice and come late; what is shown then.
+BENDS = """(async () => {
+  const seen = [];
+  const { run } = current();
+  for (const packet of run.packets) {
+    const at = Math.min(run.events.length, (packet.arrivals[0] ?? packet.sent) + 3);
+    const kinds = packet.arrivals.length > 0 ? ["lose", "twice", "later"] : ["later"];
+    for (const kind of kinds) {
+      await bendPacket(kind === "later" ? { kind, packet: packet.number, event: at } : { kind, packet: packet.number });
+      const isBent = current().run !== run;
+      seen.push({ kind, packet: packet.number, isBent, ...(%s)() });
+      if (isBent) { goBack(-1); show(); }
+    }
+  }
+  return seen;
+})()"""
+
+ADDRESS = """(async () => {
+  await bendPacket({ kind: "lose", packet: 0 });
+  await keepAddress(current());
+  return [location.href, current().run.schedule];
+})()"""
+
+SOLVED = """(async () => {
+  const faults = [];
+  for (const { name } of EXERCISES) {
+    await begins(name);
+    if (document.getElementById("task").className === "solved") faults.push(`${name}: solved from its start`);
+    await showWay();
+    if (document.getElementById("task").className !== "solved") faults.push(`${name}: its way solves it not`);
+  }
+  return faults;
+})()"""
+
+TIMED = """(async (schedule) => {
+  await beginWith(schedule, null);
+  const { run } = current();
+  const packet = run.packets.filter(({ arrivals }) => arrivals.length > 0)[20];
+  const begun = performance.now();
+  await bendPacket({ kind: "lose", packet: packet.number });
+  await new Promise(requestAnimationFrame);
+  document.getElementById("chart").getBoundingClientRect();
+  return [run.events.length, Math.round(performance.now() - begun), current().run !== run];
+})(%s)"""
+
+TIP = """(() => {
+  document.querySelector(".chart").scrollIntoView();
+  const place = (part) => { const box = part.getBoundingClientRect(); return [box.left + box.width / 2, box.top + box.height / 2]; };
+  const tip = document.querySelector(".tip[data-packet='0']");
+  return [place(tip), [place(tip)[0], shown.chart.bands[3].getBoundingClientRect().bottom - 4]];
 })()"""
 
 
-class Browser:
-    """A browser with one page, which is told what to do over a pipe."""
+class Programs:
+    """What the programs print for a schedule."""
 
-    def __init__(self, program, folder):
-        to_browser, self.writes = (fcntl.fcntl(end, fcntl.F_DUPFD, 10) for end in os.pipe())
-        self.reads, from_browser = (fcntl.fcntl(end, fcntl.F_DUPFD, 10) for end in os.pipe())
+    def __init__(self, nqnfs):
+        self.nqnfs = nqnfs
+        self.replayed = functools.cache(self.replayed)
 
-        def placed():
-            os.dup2(to_browser, 3)
-            os.dup2(from_browser, 4)
+    def said(self, word, text):
+        return subprocess.run([self.nqnfs, word], input=text, stdout=subprocess.PIPE, text=True).stdout
 
-        words = [program, "--headless=new", "--no-sandbox", "--disable-gpu", "--hide-scrollbars", "--remote-debugging-pipe"]
-        self.process = subprocess.Popen(
-            [*words, f"--user-data-dir={folder}", "about:blank"],
-            pass_fds=(3, 4),
-            preexec_fn=placed,
-            stdin=subprocess.DEVNULL,
-            stdout=subprocess.DEVNULL,
-            stderr=subprocess.DEVNULL,
-        )
-        self.session, self.count, self.rest, self.faults = None, 0, b"", []
-        target = self.tell("Target.createTarget", url="about:blank")["targetId"]
-        self.session = self.tell("Target.attachToTarget", targetId=target, flatten=True)["sessionId"]
-        self.tell("Page.enable")
-        self.tell("Runtime.enable")
-
-    def message(self):
-        """The next message of the browser."""
-        while b"\0" not in self.rest:
-            self.rest += os.read(self.reads, 65536)
-        message, _, self.rest = self.rest.partition(b"\0")
-        return json.loads(message)
-
-    def tell(self, method, **params):
-        """Tells the browser something; what it answers."""
-        self.count += 1
-        message = {"id": self.count, "method": method, "params": params}
-        if self.session:
-            message["sessionId"] = self.session
-        os.write(self.writes, json.dumps(message).encode() + b"\0")
-        while True:
-            heard = self.message()
-            if heard.get("method") == "Runtime.exceptionThrown":
-                self.faults.append(heard["params"]["exceptionDetails"]["text"])
-            if heard.get("id") == self.count:
-                return heard["result"]
-
-    def open(self, address):
-        self.tell("Page.navigate", url=address)
-        while self.value("document.readyState") != "complete":
-            pass
-
-    def value(self, expression):
-        """What an expression is on the page."""
-        return self.tell("Runtime.evaluate", expression=expression, returnByValue=True)["result"].get("value")
-
-    def picture(self, file):
-        data = self.tell("Page.captureScreenshot", format="png")["data"]
-        file.write_bytes(base64.b64decode(data))
+    def replayed(self, schedule):
+        """The journal of a schedule, and what is said of it."""
+        journal = self.said("replay", schedule)
+        return journal, self.said("check", journal).strip()
 
 
-def replayed(nqnfs, schedule):
-    """The journal of a schedule."""
-    return subprocess.run([nqnfs, "replay"], input=schedule, stdout=subprocess.PIPE, text=True).stdout
+def differs(programs, seen):
+    """What is shown otherwise than it has to be."""
+    yield from seen["faults"]
+    if (seen["journal"], seen["verdict"]) != programs.replayed(seen["schedule"]):
+        yield "another journal or verdict than the programs print"
+    if not seen.get("isBent", True):
+        yield f"is not bent: {seen['says']}"
 
 
-def tried(browser, asked, window, scheme):
-    """What is not as it has to be, in a window and a scheme of colours."""
-    wide, high = WINDOWS[window]
-    browser.tell("Emulation.setDeviceMetricsOverride", width=wide, height=high, deviceScaleFactor=1, mobile=window == "phone")
-    browser.tell("Emulation.setEmulatedMedia", features=[{"name": "prefers-color-scheme", "value": scheme}])
-    browser.open(PAGE)
-    runs = browser.value(LOOK) or []
-    for run in runs:
-        yield from (f"{run['name']}: {fault}" for fault in run["faults"])
-        if run["journal"] != replayed(asked.nqnfs, run["schedule"]):
-            yield f"{run['name']}: another journal"
-    if not runs or not browser.value(NEXT):
-        yield "the page does not go on"
-    for name in SHOWN if asked.pictures else ():
-        browser.value(f"choose('{name}'), go(Math.floor(shown.events.length / 2), true)")
-        browser.picture(asked.pictures / f"{name}-{window}-{scheme}.png")
+def example_faults(browser, programs, name):
+    """What is not as it has to be in an example, and in it with each packet lost, twice and late."""
+    browser.value(f"begins('{name}')")
+    yield from differs(programs, browser.value(f"({SHOWN})()"))
+    yield from browser.value(EVENTS)
+    for seen in browser.value(BENDS % SHOWN):
+        yield from (f"packet {seen['packet']} {seen['kind']}: {fault}" for fault in differs(programs, seen))
+
+
+def deed_faults(browser, address):
+    """What is not as it has to be where a reader drags, goes back, opens an address, or solves."""
+    browser.value("begins('put-then-fetch')")
+    browser.drag(*browser.value(TIP))
+    browser.value("new Promise((done) => setTimeout(done, 500))")
+    if not browser.value("current().before && current().run.packets[0].arrivals[0] > 1"):
+        yield "a packet is not dragged"
+    browser.value("document.getElementById('undo').click()")
+    if browser.value("current().before !== null"):
+        yield "a change is not undone"
+    there, schedule = browser.value(ADDRESS)
+    browser.open(there)
+    if browser.value("current().run.schedule") != schedule:
+        yield "an address opens another schedule"
+    browser.open(address)
+    yield from browser.value(SOLVED)
+
+
+def time_faults(browser, programs):
+    """Whether a change of a run of 500 events is shown in time."""
+    storm = subprocess.run([programs.nqnfs, "storm", "lossy", "1", "500"], stdout=subprocess.PIPE, text=True).stdout
+    schedule = storm[: storm.index("\nend\n") + 5]
+    events, took, is_bent = browser.value(TIMED % json.dumps(schedule))
+    print(f"a change in a run of {events} events shows after {took} ms")
+    if took > MOST or not is_bent:
+        yield f"a change shows after {took} ms"
+
+
+def stored_faults(browser):
+    """What is not as it has to be in a page without the program."""
+    browser.open((ROOT / "web/index.html").as_uri())
+    names = browser.value("[...document.querySelectorAll('#start option')].map(({ value }) => value).filter(Boolean)")
+    for name in names:
+        browser.value(f"begins('{name}')")
+        yield from (f"{name}, stored: {fault}" for fault in browser.value(f"({SHOWN})()")["faults"])
+    if not names or browser.value("document.getElementById('wanting').hidden"):
+        yield "a page without the program does not say so"
+
+
+def pictures(browser, folder, window):
+    """Takes pictures of a few runs."""
+    folder.mkdir(exist_ok=True)
+    for name in PICTURES:
+        browser.value(f"begins('{name}')")
+        browser.value("bendPacket({ kind: 'lose', packet: 1 })")
+        browser.picture(folder / f"{name}-{window[0]}-{window[2]}.png")
+
+
+def tried(asked, address):
+    """What is not as it has to be, in each window."""
+    programs = Programs(asked.nqnfs)
+    names = asked.only or sorted(file.stem for file in (ROOT / "examples").glob("*.schedule"))
+    with tempfile.TemporaryDirectory(ignore_cleanup_errors=True) as folder:
+        browser = Browser(asked.browser, folder)
+        for window in WINDOWS:
+            browser.window(*window)
+            browser.open(address)
+            says = f"{window[0]}, {window[2]}: "
+            for name in names:
+                yield from (f"{says}{name}: {fault}" for fault in example_faults(browser, programs, name))
+            yield from (says + fault for fault in deed_faults(browser, address))
+            yield from (says + fault for fault in time_faults(browser, programs))
+            if asked.pictures:
+                pictures(browser, asked.pictures, window)
+            yield from (says + fault for fault in stored_faults(browser))
+        yield from browser.faults
+        browser.close()
 
 
 def main():
     words = argparse.ArgumentParser(description=__doc__.splitlines()[0])
-    words.add_argument("--browser", default=shutil.which("chromium"))
+    words.add_argument("--browser", default=shutil.which("chromium-headless-shell") or shutil.which("chromium"))
     words.add_argument("--nqnfs", default=str(ROOT / "crates/nqnfs/out/nqnfs"))
+    words.add_argument("--lab", default=str(ROOT / "crates/nqnfs_lab/out/nqnfs_lab"))
+    words.add_argument("--address")
+    words.add_argument("--only", nargs="*")
     words.add_argument("--pictures", type=pathlib.Path)
     asked = words.parse_args()
-    if asked.pictures:
-        asked.pictures.mkdir(exist_ok=True)
-    faults = []
-    with tempfile.TemporaryDirectory(ignore_cleanup_errors=True) as folder:
-        browser = Browser(asked.browser, folder)
-        for window in WINDOWS:
-            for scheme in ("light", "dark"):
-                faults.extend(f"{window}, {scheme}: {fault}" for fault in tried(browser, asked, window, scheme))
-        faults.extend(browser.faults)
-        browser.process.kill()
-        browser.process.wait()
+    lab, address = None, asked.address
+    if not address:
+        lab = subprocess.Popen([asked.lab, "--port", "8059", "--web", str(ROOT / "web")], stdout=subprocess.PIPE, text=True)
+        address = lab.stdout.readline().strip()
+    faults = list(tried(asked, address))
+    if lab:
+        lab.kill()
+        lab.wait()
     print("\n".join(faults) if faults else "the page shows each run as it has to")
     return 1 if faults else 0
 

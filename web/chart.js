@@ -1,106 +1,138 @@
 "use strict";
-// The chart of a run: its rows, and the arrows of its packets.
+// The chart of a run: a line for each party, a row for each event, an arrow for each packet.
+// It is drawn in strips of some rows, so that a browser lays out only those that are seen. What crosses a strip's edge is drawn in both.
 
-const LOOK = `
-:host { display: block; }
-svg { display: block; width: 100%; height: auto; }
-.band { fill: transparent; stroke: none; }
-.band.now { fill: var(--mark); }
-.band.call { fill: var(--asked); }
-.hit { stroke: transparent; stroke-width: 12; fill: none; pointer-events: stroke; cursor: pointer; }
-.hit:focus { outline: none; }
-.lights .a, .lights .x { opacity: .25; }
-.lights .lit { opacity: 1; stroke-width: 3; }
-.k, .l { cursor: pointer; }
-`;
+const STRIP = 30;
+const LAYERS = ["band", "bar", "line", "arrow", "dot", "text", "tip"];
+const escaped = (text) => text.replace(/[&<>"]/g, (sign) => `&#${sign.charCodeAt(0)};`);
 
-// Shows a chart in an element; `point` is told the packet at which a reader points, or null.
-function showChart(place, svg, point) {
-  const root = place.shadowRoot || place.attachShadow({ mode: "open" });
-  root.innerHTML = `<style>${LOOK}</style>${svg}`;
-  const picture = root.querySelector("svg");
-  const wide = Number(picture.getAttribute("width"));
-  picture.style.minWidth = `${Math.round(wide * 0.82)}px`;
-  picture.style.maxWidth = `${Math.round(wide * 1.15)}px`;
-  picture.removeAttribute("role");
-  const chart = { picture, rows: rowsOf(picture, wide), arrows: arrowsOf(picture) };
-  hearArrows(chart, point);
-  return chart;
+// Draws a chart into an element, and its names into another one.
+function drawChart(place, names, rows, packets, hosts) {
+  const layout = layoutOf(rows, packets, hosts);
+  const pieces = [];
+  const put = (layer, from, to, text) => pieces.push({ layer, from, to, text });
+  rows.forEach((row, number) => putRow(put, row, number, layout));
+  layout.spans.forEach((span) => putBar(put, span, rows, layout));
+  layout.lines.forEach((x) => put("line", 0, layout.high, `<path class="line" d="M${x} 0V${layout.high}"/>`));
+  packets.forEach((packet) => putArrows(put, packet, rows, layout));
+  const over = `<svg class="over" width="${layout.wide}" height="${layout.high}"><path id="ghost" class="arrow ghost" d=""/></svg>`;
+  place.innerHTML = `${HEADS}${strips(rows, pieces, layout)}${over}`;
+  place.style.width = `${layout.wide}px`;
+  names.innerHTML = layout.parties.map((name, party) => `<span style="left:${layout.lines[party]}px">${name}</span>`).join("");
+  names.style.width = `${layout.wide}px`;
+  return { rows, packets, layout, place, ...found(place) };
 }
 
-// The rows of a chart, with the events that each shows, and a band behind each.
-function rowsOf(picture, wide) {
-  const rules = [...picture.querySelectorAll("path.r")];
-  const end = Number(picture.getAttribute("height")) - 16;
-  const dots = [...picture.querySelectorAll("circle")];
-  const tops = rules.map((rule) => Number(/M0 (\d+)/.exec(rule.getAttribute("d"))[1]));
-  return rules.map((rule, place) => {
-    const [first, last] = rule.nextElementSibling.textContent.split("-").map(Number);
-    const bottom = place + 1 < tops.length ? tops[place + 1] : end;
-    const band = element("rect", { class: "band", x: 0, y: tops[place], width: wide, height: bottom - tops[place] });
-    rules[0].before(band);
-    return { first, last: last === undefined ? first : last, band, dot: dots[place] };
+const HEADS = `<svg class="heads" width="0" height="0"><defs><marker id="tip" viewBox="0 0 8 8" refX="7.5" refY="4" markerWidth="8" markerHeight="8" ` +
+  `markerUnits="userSpaceOnUse" orient="auto"><path class="head" d="M0 .5L8 4L0 7.5z"/></marker></defs></svg>`;
+
+// The strips of a chart, each with what is in it, layer upon layer.
+function strips(rows, pieces, { wide, high }) {
+  const drawn = [];
+  for (let first = 0; first < rows.length; first += STRIP) {
+    const top = first === 0 ? 0 : rows[first].top;
+    const end = first + STRIP < rows.length ? rows[first + STRIP].top : high;
+    const own = pieces.filter(({ from, to }) => from < end && to > top);
+    const text = LAYERS.map((layer) => own.filter((piece) => piece.layer === layer).map((piece) => piece.text).join("")).join("");
+    const size = `width="${wide}" height="${end - top}" style="contain-intrinsic-size:${wide}px ${end - top}px"`;
+    drawn.push(`<svg class="strip" ${size} viewBox="0 ${top} ${wide} ${end - top}">${text}</svg>`);
+  }
+  return drawn.join("");
+}
+
+// The bands of the rows, and what shows packets, for marking.
+function found(place) {
+  const shows = new Map();
+  for (const part of place.querySelectorAll("[data-packet]")) {
+    const number = Number(part.dataset.packet);
+    if (shows.has(number)) shows.get(number).push(part);
+    else shows.set(number, [part]);
+  }
+  return { bands: [...place.querySelectorAll(".band")], shows };
+}
+
+// A row: its band, the numbers of its events, who acts, and the texts beside the parties.
+function putRow(put, row, number, layout) {
+  const { top, high } = row;
+  const piece = (layer, text) => put(layer, top, top + high, text);
+  const label = row.first === row.last ? row.first : `${row.first}-${row.last}`;
+  piece("band", `<rect class="band" data-row="${number}" x="0" y="${top}" width="${layout.wide}" height="${high}"/>`);
+  piece("band", `<path class="rule" d="M0 ${top}H${layout.wide}"/>`);
+  piece("text", `<text class="dim" data-row="${number}" x="6" y="${top + 17}">${label}</text>`);
+  const word = row.kind === "resends" ? "unfold" : row.folds === undefined ? "" : "fold";
+  if (word) piece("text", `<text class="fold" data-fold="${row.first}" x="6" y="${top + 32}">${word}</text>`);
+  const look = row.kind === "event" ? dotOf(row.events[0]) : "dim";
+  for (const who of new Set(row.events.map((event) => event.who))) {
+    piece("dot", `<circle class="dot ${look}" cx="${layout.lines[layout.parties.indexOf(who)]}" cy="${top + 13}" r="4"/>`);
+  }
+  layout.parties.forEach((_, party) => ["left", "right"].forEach((side) => putTexts(piece, row, party, side, layout)));
+}
+
+function dotOf(event) {
+  if (event.arrival !== null) return "packet";
+  return event.what === "call" ? "call" : event.what === "tick" ? "dim" : "start";
+}
+
+// The bar of a lease, of a row of the server, or of a recovery.
+function putBar(put, span, rows, layout) {
+  const party = layout.parties.indexOf(span.party);
+  const first = rows[layout.rowOfEvent.get(span.from)];
+  const end = span.to === null ? rows.at(-1) : rows[layout.rowOfEvent.get(span.to)];
+  const bottom = span.to === null ? end.top + end.high : end.top + 13;
+  const offset = 6 + span.lane * LANE;
+  const x = layout.lines[party] + (party === 0 ? -offset - 6 : offset);
+  const kind = /recovery|noncaching|reading|writing/.exec(span.words)[0];
+  const words = `${span.party}: ${span.words}, from event ${span.from}${span.to === null ? "" : ` to ${span.to}`}`;
+  const high = Math.max(6, bottom - first.top - 8);
+  put("bar", first.top, bottom, `<rect class="bar ${kind}" x="${x}" y="${first.top + 8}" width="6" height="${high}" rx="2"><title>${words}</title></rect>`);
+}
+
+// How far from the line of a party its texts begin, at a side.
+const awayFrom = (party, side, lanes) => 9 + (side === outer(party) ? lanes[party] * LANE : 0);
+
+// The texts at one side of a party, and the number of each packet that is sent there.
+function putTexts(piece, row, party, side, { lines, lanes }) {
+  const sign = side === "left" ? -1 : 1;
+  row.sides[party][side].forEach(({ text, look, packet, of }, line) => {
+    let x = lines[party] + sign * awayFrom(party, side, lanes);
+    const y = row.top + 13 + STEP * line;
+    if (packet !== undefined) {
+      const wide = widthOf(String(packet)) + 8;
+      const left = sign < 0 ? x - wide : x;
+      const frame = `<rect x="${left}" y="${y - 7}" width="${wide}" height="14" rx="4"/>`;
+      piece("tip", `<g class="chip ${look}" data-packet="${packet}">${frame}<text x="${left + wide / 2}" y="${y + 4}">${packet}</text></g>`);
+      x += sign * (wide + 5);
+    }
+    const mark = packet ?? of;
+    const data = mark === undefined ? "" : ` data-packet="${mark}"`;
+    if (text) piece("text", `<text class="${look}${sign < 0 ? " end" : ""}"${data} x="${x}" y="${y + 4}">${escaped(text)}</text>`);
   });
 }
 
-// The arrows of each packet, by its number.
-function arrowsOf(picture) {
-  const arrows = new Map();
-  for (const path of picture.querySelectorAll("path.a, path.x")) {
-    const title = path.querySelector("title");
-    if (!title) continue;
-    const number = Number.parseInt(title.textContent, 10);
-    arrows.set(number, [...(arrows.get(number) || []), path]);
-  }
-  return arrows;
+// The arrows of a packet, one for each arrival, and a place at its end by which it is dragged.
+function putArrows(put, packet, rows, layout) {
+  const from = layout.parties.indexOf(packet.from);
+  const to = layout.parties.indexOf(packet.to);
+  const start = chipOf(packet, rows, layout, from, to);
+  if (!start) return;
+  const data = `data-packet="${packet.number}"`;
+  packet.arrivals.forEach((event, count) => {
+    const { top } = rows[layout.rowOfEvent.get(event)];
+    const x = layout.lines[to];
+    const path = `M${start.x} ${start.y}L${x} ${top + 8}`;
+    const ends = [Math.min(start.y, top), Math.max(start.y, top) + 12];
+    put("arrow", ...ends, `<path class="arrow${count > 0 ? " again" : ""}" ${data} d="${path}" marker-end="url(#tip)"/>`);
+    put("arrow", ...ends, `<path class="hit" ${data} d="${path}"/>`);
+    put("tip", top, top + 18, `<circle class="tip" ${data} cx="${x}" cy="${top + 9}" r="9"/>`);
+  });
 }
 
-// Puts a wide line that nobody sees over each arrow, and listens to it and to the labels.
-function hearArrows(chart, point) {
-  for (const [number, paths] of chart.arrows) {
-    for (const path of paths) {
-      const hit = element("path", { class: "hit", d: path.getAttribute("d") });
-      hit.append(path.querySelector("title").cloneNode(true));
-      chart.picture.append(hit);
-      hear(hit, number, point);
-    }
-  }
-  for (const label of chart.picture.querySelectorAll("text.k, text.l")) {
-    const number = /^(\d+): /.exec(label.textContent);
-    if (number) hear(label, Number(number[1]), point);
-  }
-}
-
-function hear(place, number, point) {
-  place.addEventListener("pointerenter", () => point(number));
-  place.addEventListener("pointerleave", () => point(null));
-  place.addEventListener("click", () => point(number));
-}
-
-function element(name, attributes) {
-  const made = document.createElementNS("http://www.w3.org/2000/svg", name);
-  for (const [key, value] of Object.entries(attributes)) made.setAttribute(key, value);
-  return made;
-}
-
-// Marks the row of an event; the row.
-function markRow(chart, number) {
-  let found = null;
-  for (const row of chart.rows) {
-    const now = row.first <= number && number <= row.last;
-    row.band.classList.toggle("now", now);
-    if (now) found = row;
-  }
-  return found;
-}
-
-// Lights up packets, and the rows of events.
-function light(chart, packets, events) {
-  chart.picture.classList.toggle("lights", packets.size > 0);
-  for (const [number, paths] of chart.arrows) {
-    for (const path of paths) path.classList.toggle("lit", packets.has(number));
-  }
-  for (const row of chart.rows) {
-    row.band.classList.toggle("call", events.some((event) => row.first <= event && event <= row.last));
-  }
+// Where the arrows of a packet begin: at its number.
+function chipOf(packet, rows, { rowOfEvent, lines, lanes }, from, to) {
+  const row = rows[rowOfEvent.get(packet.sent)];
+  const side = toward(from, to);
+  const line = row.sides[from][side].findIndex((said) => said.packet === packet.number);
+  if (line < 0) return null;
+  const away = awayFrom(from, side, lanes) + widthOf(String(packet.number)) / 2 + 4;
+  return { x: lines[from] + (side === "left" ? -away : away), y: row.top + 20 + STEP * line };
 }

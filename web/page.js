@@ -1,173 +1,215 @@
 "use strict";
-// The page: one run of RUNS, at one of its events.
+// The page: one run at one of its events.
 
 const place = (name) => document.getElementById(name);
-const shown = { run: null, events: [], packets: [], states: [], lines: [], chart: null, now: 0 };
+const shown = { chart: null, open: new Set(), chosen: null };
 
-function begin() {
-  if (!window.RUNS) {
-    place("wanting").hidden = false;
-    return;
+async function begin() {
+  document.body.classList.toggle("stored", !(await isThere()));
+  place("wanting").hidden = !document.body.classList.contains("stored");
+  offerStarts();
+  hear();
+  beginEditor(place("schedule"), place("behind"), typed, (line) => goToLine(line));
+  hearDrags(place("chart"), () => shown.chart, (packet, event) => bendPacket({ kind: "later", packet, event }));
+  await open();
+}
+
+// Lists the schedules to begin with. Without the program these are the ones whose runs are stored.
+function offerStarts() {
+  const stored = document.body.classList.contains("stored");
+  place("schedule").readOnly = stored;
+  const groups = new Map();
+  for (const start of [...STARTS, ...EXAMPLES].filter(({ run }) => run || !stored)) {
+    if (!groups.has(start.group)) groups.set(start.group, Object.assign(made("optgroup", ""), { label: start.group }));
+    groups.get(start.group).append(new Option(start.name.replaceAll("-", " "), start.name));
   }
-  place("main").hidden = false;
-  for (const run of window.RUNS) place("example").append(new Option(run.name.replaceAll("-", " "), run.name));
-  place("example").addEventListener("change", (change) => choose(change.target.value));
-  place("slider").addEventListener("input", (input) => go(Number(input.target.value), true));
-  place("back").addEventListener("click", () => go(shown.now - 1, true));
-  place("on").addEventListener("click", () => go(shown.now + 1, true));
+  place("start").replaceChildren(new Option("a schedule of your own", ""), ...groups.values());
+}
+
+function hear() {
+  place("start").addEventListener("change", ({ target }) => target.value && begins(target.value));
+  place("undo").addEventListener("click", () => goBack(-1) && show());
+  place("redo").addEventListener("click", () => goBack(1) && show());
+  place("link").addEventListener("click", copyLink);
+  place("download").addEventListener("click", () => download(current().run.schedule));
+  place("slider").addEventListener("input", ({ target }) => go(Number(target.value), true));
+  place("back").addEventListener("click", () => go(current().event - 1, true));
+  place("on").addEventListener("click", () => go(current().event + 1, true));
+  place("journal").addEventListener("click", ({ target }) => target.closest(".of") && askWhy(Number(target.closest(".of").dataset.line)));
+  place("journal").addEventListener("pointerover", ({ target }) => target.closest(".of") && tellPromises(target.closest(".of")));
+  place("way").addEventListener("click", showWay);
+  place("chart").addEventListener("click", ({ target }) => pressed(target));
+  place("chart").addEventListener("pointerover", ({ target }) => point(target.closest("[data-packet]")));
+  document.querySelectorAll("input[name=then]").forEach((choice) => choice.addEventListener("change", thenChanged));
   window.addEventListener("hashchange", open);
-  open();
 }
 
-// Opens what the address names: `#NAME` or `#NAME/EVENT`.
-function open() {
-  const [name, event] = decodeURIComponent(location.hash.slice(1)).split("/");
-  const known = window.RUNS.some((run) => run.name === name);
-  choose(known ? name : window.RUNS[0].name);
-  if (known && event) go(Number(event), true);
+// Opens what the address names, or the first view.
+async function open() {
+  if (current() && location.hash === current().address) return;
+  const asked = location.hash.length > 1 ? await named(location.hash) : null;
+  await beginWith(asked?.schedule ?? STARTS[0].schedule, asked?.event ?? null);
 }
 
-// Shows a run, at its first event.
-function choose(name) {
-  shown.run = window.RUNS.find((run) => run.name === name);
-  place("example").value = name;
-  shown.events = eventsOf(shown.run.told);
-  shown.packets = packetsOf(shown.events);
-  shown.states = statesOf(shown.events, hostsOf(shown.run.schedule));
-  shown.lines = linesOf(shown.run.schedule, shown.events);
-  shown.chart = showChart(place("chart"), shown.run.chart, pointAt);
-  showLines("schedule", shown.lines.map(({ line, first, count }) => ({ line, event: count > 0 ? first : null })));
-  showLines("journal", journalLines());
-  const verdict = shown.run.verdict;
-  place("verdict").textContent = `The journal is ${verdict === "yes" ? "sound" : "not sound"}: nqnfs check says "${verdict}".`;
-  place("slider").max = Math.max(0, shown.events.length - 1);
-  place("chart").scrollLeft = 0;
-  window.scrollTo(0, 0);
-  go(0, false);
+async function begins(name) {
+  await beginWith([...STARTS, ...EXAMPLES].find((start) => start.name === name).schedule, null);
 }
 
-// The lines of the journal, each with the event that made it.
-function journalLines() {
-  const makers = shown.events.flatMap((event) => event.entries.map(() => event.number));
-  return shown.run.journal.split("\n").slice(0, -1).map((line, number) => ({ line, event: number > 0 && number <= makers.length ? makers[number - 1] : null }));
+// Begins with a schedule: there is no run before it.
+async function beginWith(schedule, event) {
+  const run = await runOf(schedule);
+  if (!run) return beginWith(STARTS[0].schedule, null);
+  if (run.status !== 0 && !current()) await beginWith(STARTS[0].schedule, null);
+  if (run.status !== 0) {
+    showSchedule(schedule);
+    return refuse(run);
+  }
+  keep({ run, before: null, words: "", event: Math.min(event ?? 0, run.events.length - 1), exercise: exerciseOf(schedule) });
+  show();
 }
 
-// Shows lines; a click on one goes to its event.
-function showLines(name, lines) {
-  const items = lines.map(({ line, event }) => {
-    const item = document.createElement("li");
-    item.textContent = line;
-    if (event !== null) {
-      item.className = "of";
-      item.addEventListener("click", () => go(event, true));
-    }
-    return item;
-  });
-  place(name).replaceChildren(...items);
-  place(name).scrollTop = 0;
+const exerciseOf = (schedule) => EXERCISES.find(({ name }) => STARTS.find((start) => start.name === name)?.schedule === schedule) ?? null;
+
+// Shows the entry of the history that is current.
+function show() {
+  const entry = current();
+  const { run, before } = entry;
+  entry.exercise ??= past.entries[past.now - 1]?.exercise ?? null;
+  shown.open = new Set();
+  shown.chosen = null;
+  showSchedule(run.schedule);
+  place("start").value = [...STARTS, ...EXAMPLES].find(({ schedule }) => schedule === run.schedule)?.name ?? "";
+  place("undo").disabled = past.now === 0;
+  place("redo").disabled = past.now === past.entries.length - 1;
+  place("verdict").className = run.verdict === "yes" ? "" : "bad";
+  place("verdict").textContent = run.verdict === "yes" ? "The journal is sound." : `The journal is not sound: nqnfs check says "${run.verdict}".`;
+  place("slider").max = Math.max(0, run.events.length - 1);
+  draw();
+  showJournal(run);
+  showChange(place("change"), entry);
+  showOutcome(place("outcome"), before, run, askWhy);
+  place("why").replaceChildren();
+  showTask(entry);
+  go(entry.event, true);
+}
+
+function draw() {
+  const { run } = current();
+  const rows = rowsOf(run.events, run.packets, shown.open);
+  shown.chart = drawChart(place("chart"), place("names"), rows, run.packets, run.hosts);
 }
 
 // Goes to an event, and scrolls to its row if that is wanted.
 function go(number, scroll) {
-  const event = shown.events[Math.min(Math.max(number, 0), shown.events.length - 1)];
-  if (!event) {
-    place("event").textContent = "Nothing happens in this run.";
-    place("state").replaceChildren();
-    return;
-  }
-  shown.now = event.number;
+  const entry = current();
+  const { events, states, hosts, lines } = entry.run;
+  const event = events[Math.min(Math.max(number, 0), events.length - 1)];
+  entry.event = event ? event.number : -1;
+  place("event").textContent = event ? `Event ${event.number} of ${events.length - 1}: ${sentence(event)}` : "Nothing happens in this run.";
+  showParties(place("parties"), event ? states[event.number] : fresh(hosts), event ? event.who : "", cutHosts(), act);
+  keepAddress(entry);
+  if (!event) return;
   place("slider").value = event.number;
-  place("event").textContent = `Event ${event.number} of ${shown.events.length - 1}: ${sentence(event)}`;
-  place("state").replaceChildren(...shown.states[event.number].map((party) => card(party, event.who)));
-  markLines(event);
+  markLine(lines.findIndex(({ first, count }) => first <= event.number && event.number < first + count), null);
+  markEntries(event);
   const row = markRow(shown.chart, event.number);
   if (scroll && row) bring(row);
 }
 
-// An event in one sentence.
-function sentence(event) {
-  const sent = event.sends.map(({ number, to, words }) => `sends ${number} to ${to}: ${words}`);
-  return [`${event.who}, ${event.what}`, ...event.entries, ...sent].join("; ");
+function goToLine(line) {
+  const { first, count } = current().run.lines[line] ?? { count: 0 };
+  if (count > 0) go(first, true);
 }
 
-// What a party has.
-function card(party, who) {
-  const box = document.createElement("div");
-  box.className = party.name === who ? "card now" : "card";
-  const head = document.createElement("h3");
-  const clock = document.createElement("span");
-  clock.textContent = `clock ${party.clock}`;
-  head.append(party.name, clock);
-  box.append(head);
-  for (const line of party.name === "server" ? serverLines(party) : hostLines(party)) {
-    const text = document.createElement("p");
-    text.textContent = line;
-    box.append(text);
+// Scrolls the chart so that a row is seen, and the party that acts in it.
+function bring(row) {
+  const frame = document.querySelector(".chart");
+  const head = place("names").offsetHeight;
+  if (row.top < frame.scrollTop || row.top + row.high + head + 10 > frame.scrollTop + frame.clientHeight) {
+    frame.scrollTop = row.top - (frame.clientHeight - head) / 3;
   }
-  return box;
+  const { lines, parties, wide } = shown.chart.layout;
+  const x = lines[parties.indexOf(row.events[0].who)];
+  const room = Math.min(170, frame.clientWidth / 2);
+  const [left, right] = [Math.max(0, x - room), Math.min(wide, x + room)];
+  if (left < frame.scrollLeft) frame.scrollLeft = left;
+  else if (right > frame.scrollLeft + frame.clientWidth) frame.scrollLeft = right - frame.clientWidth;
 }
 
-function serverLines(server) {
-  const phase = server.recovers ? "recovers" : "serves";
-  const rows = server.rows.length === 0 ? ["no rows"] : server.rows.map((row) => `row: ${row}`);
-  return [`boot ${server.boot}, ${phase}`, ...rows];
-}
-
-function hostLines(host) {
-  const lines = [`incarnation ${host.inc}`];
-  lines.push(...(host.leases.length === 0 ? ["no lease"] : host.leases.map((lease) => `lease: ${lease}`)));
-  if (host.delayed > 0) lines.push(`delayed blocks: ${host.delayed}`);
-  if (host.call !== null) lines.push(`waits for: ${host.call}`);
-  return lines;
-}
-
-// Marks the lines of the schedule and of the journal that are of an event.
-function markLines(event) {
-  const last = event.firstEntry + event.entries.length;
-  mark("schedule", (line) => {
-    const { first, count } = shown.lines[line];
-    return first <= event.number && event.number < first + count;
-  });
-  mark("journal", (line) => event.firstEntry < line && line <= last);
-}
-
-function mark(name, isOf) {
-  const items = [...place(name).children];
-  let first = null;
-  items.forEach((item, line) => {
-    item.classList.toggle("now", isOf(line));
-    if (first === null && isOf(line)) first = item;
-  });
-  if (first) {
-    const list = place(name);
-    const above = first.offsetTop - list.offsetTop;
-    if (above < list.scrollTop || above + 40 > list.scrollTop + list.clientHeight) list.scrollTop = above - list.clientHeight / 2;
+// What a reader pressed in the chart: a packet, a fold, or a row.
+function pressed(target) {
+  const packet = target.closest("[data-packet]");
+  const fold = target.closest("[data-fold]");
+  const row = target.closest("[data-row]");
+  if (packet) choose(Number(packet.dataset.packet));
+  else if (fold) unfold(Number(fold.dataset.fold));
+  else if (row) {
+    choose(null);
+    go(shown.chart.rows[Number(row.dataset.row)].first, false);
   }
 }
 
-// Scrolls the page so that a row stands below the panel of the moment, and the chart so that the party that acts is seen.
-function bring({ band, dot }) {
-  const panel = document.querySelector(".moment").getBoundingClientRect();
-  const row = band.getBoundingClientRect();
-  const low = window.innerHeight - 40;
-  if (row.top < panel.bottom + 8 || row.bottom > low) {
-    window.scrollBy(0, row.top - panel.bottom - Math.max(8, (low - panel.bottom) / 3));
-  }
-  const chart = place("chart");
-  const frame = chart.getBoundingClientRect();
-  const acts = dot.getBoundingClientRect();
-  const room = Math.min(180, frame.width / 2);
-  if (acts.left < frame.left + room || acts.right > frame.right - room) chart.scrollLeft += acts.left - frame.left - frame.width / 2;
+function unfold(first) {
+  if (!shown.open.delete(first)) shown.open.add(first);
+  draw();
+  go(current().event, false);
 }
 
-// Lights up the exchange of a packet, or nothing.
-function pointAt(number) {
-  if (number === null || !shown.packets[number]) {
-    light(shown.chart, new Set(), []);
-    return;
-  }
-  const { packets, call } = exchangeOf(shown.events, shown.packets, number);
-  light(shown.chart, packets, call);
+// Chooses a packet, or none.
+function choose(number) {
+  const { run } = current();
+  shown.chosen = number;
+  showPacket(place("packet"), run.packets[number], run.events.length, bendPacket);
+  light(shown.chart, number === null ? new Set() : exchangeOf(run.events, run.packets, number), number);
+}
+
+// Lights up the exchange of a packet at which a reader points.
+function point(part) {
+  const { run } = current();
+  const number = part ? Number(part.dataset.packet) : shown.chosen;
+  light(shown.chart, number === null ? new Set() : exchangeOf(run.events, run.packets, number), shown.chosen);
+}
+
+// Shows the exercise, and whether it is solved; or what the first view shows.
+function showTask({ exercise, run, before }) {
+  const isFirst = run.schedule === STARTS[0].schedule && !before;
+  place("task").hidden = !exercise && !isFirst;
+  place("way").hidden = !exercise;
+  if (isFirst) place("asks").textContent = FIRST_VIEW;
+  if (!exercise) return;
+  const solved = exercise.solved(run);
+  place("task").className = solved ? "solved" : "";
+  place("asks").textContent = `${exercise.task} ${solved ? "Solved." : "Not yet."}`;
+}
+
+// Shows a schedule that solves the exercise.
+async function showWay() {
+  const { exercise, run } = current();
+  const solved = await runOf(STARTS.find(({ name }) => name === exercise.name).solved);
+  if (solved?.status !== 0) return;
+  keep({ run: solved, before: run, words: "A way to solve the exercise", event: 0 });
+  show();
+}
+
+// Makes the last change anew, where the reader wants the run to go on, or to stop.
+function thenChanged() {
+  const { made, words } = current();
+  if (made) bendFrom({ ...made, words });
+}
+
+// Keeps the schedule and the event in the address.
+async function keepAddress(entry) {
+  const address = await addressOf(entry.run.schedule, entry.event);
+  if (entry !== current()) return;
+  entry.address = address;
+  history.replaceState(null, "", address);
+}
+
+async function copyLink() {
+  await keepAddress(current());
+  await navigator.clipboard?.writeText(location.href);
+  place("link").textContent = "Copied";
+  setTimeout(() => { place("link").textContent = "Copy link"; }, 1500);
 }
 
 begin();

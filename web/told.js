@@ -95,7 +95,7 @@ function applyEntry(party, entry) {
   else if (entry.startsWith("answer ")) party.call = null;
 }
 
-// The packets and events of one exchange: the request, what came back for it, and the call of the user which it serves.
+// The packets of one exchange: the request, and what came back for it.
 function exchangeOf(events, packets, number) {
   const packet = packets[number];
   const server = packet.to === "server" ? null : events[packet.sent];
@@ -105,71 +105,51 @@ function exchangeOf(events, packets, number) {
   for (const arrival of request.arrivals) {
     for (const answer of events[arrival].sends) if (answer.to === request.from) lit.add(answer.number);
   }
-  return { packets: lit, call: callOf(events, request) };
+  return lit;
 }
 
-// The events in which the user called, and was answered, while this packet was sent.
-function callOf(events, packet) {
-  const host = packet.from === "server" ? packet.to : packet.from;
-  let called = null;
-  for (const event of events) {
-    if (event.who !== host) continue;
-    const busy = event.entries.includes("answer busy");
-    if (event.entries.some((entry) => entry.startsWith("starts again"))) called = null;
-    if (!busy && event.entries.some((entry) => entry.startsWith("call "))) {
-      if (event.number > packet.sent) return [];
-      called = event.number;
-    }
-    if (!busy && called !== null && event.entries.some((entry) => entry.startsWith("answer "))) {
-      if (event.number >= packet.sent) return [called, event.number];
-      called = null;
-    }
-  }
-  return called === null ? [] : [called];
+// An event in one sentence.
+function sentence(event) {
+  const sent = event.sends.map(({ number, to, words }) => `sends ${number} to ${to}: ${words}`);
+  return [`${event.who}, ${event.what}`, ...event.entries, ...sent].join("; ");
 }
 
-// For each line of a schedule the number of its first event and how many it has.
+// For each line of a schedule the number of its first event, and how many it has.
 function linesOf(schedule, events) {
   const hosts = hostsOf(schedule);
+  const under = new Set();
   const spans = [];
   let next = 0;
   let begun = false;
-  for (const line of schedule.split("\n").slice(0, -1)) {
-    const count = begun ? countOf(line, hosts, events, next) : 0;
-    spans.push({ line, first: next, count });
-    next += count;
+  for (const line of schedule.replace(/\n$/, "").split("\n")) {
+    const first = next;
+    const most = begun ? countOf(line, hosts) : 0;
+    const flows = begun && line === "flow";
+    while (next < events.length && (flows ? under.size > 0 : next - first < most)) {
+      move(under, events[next]);
+      next += 1;
+    }
+    spans.push({ line, first, count: next - first });
     if (line === "begin") begun = true;
   }
   return spans;
 }
 
 function hostsOf(schedule) {
-  return Number(/^hosts (\d+)$/m.exec(schedule)[1]);
+  const found = /^hosts (\d+)$/m.exec(schedule);
+  return found ? Number(found[1]) : 1;
 }
 
-// How many events a line of a schedule is.
-function countOf(line, hosts, events, next) {
+// How many events a line of a schedule is, but for `flow`.
+function countOf(line, hosts) {
   const words = line.split(" ");
   if (words[0] === "tick") return Number(words[2]);
   if (words[0] === "round") return Number(words[1]) * (hosts + 1);
-  if (words[0] === "flow") return flowFrom(events, next);
-  return words[0] === "end" ? 0 : 1;
+  return words[0] === "end" || words[0] === "flow" ? 0 : 1;
 }
 
-// How many packets a `flow` delivers that begins with an event: until none is left that never arrived.
-function flowFrom(events, next) {
-  const left = new Set();
-  for (const event of events.slice(0, next)) move(left, event);
-  let count = 0;
-  for (const event of events.slice(next)) {
-    if (left.size === 0) return count;
-    move(left, event);
-    count += 1;
-  }
-  return count;
-}
-
-function move(left, event) {
-  if (event.arrival !== null) left.delete(event.arrival);
-  for (const { number } of event.sends) left.add(number);
+// Keeps which packets never arrived yet, over an event.
+function move(under, event) {
+  if (event.arrival !== null) under.delete(event.arrival);
+  for (const { number } of event.sends) under.add(number);
 }
