@@ -53,7 +53,7 @@ returns-in-Err-clause-never g c = λ others. absurd (none_among _ c.args.kind c.
 
 pub returns-in-None-clause-storms : goal.returns-in-None-clause-storms
 returns-in-None-clause-storms g c =
-    storms_refused c.usage.result c.args.kind c.args.start c.args.events _ _ _ _ _ _ _ _ _ c.usage.ensures.usage
+    storms_refused c.usage.result c.args.kind c.args.start c.args.events _ _ _ _ _ _ _ _ c.usage.ensures.usage
     (c.in-None.ensures.none (search rules)) c.usage.ensures.printed
 
 pub returns-in-None-clause-never : goal.returns-in-None-clause-never
