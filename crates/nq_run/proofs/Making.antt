@@ -130,7 +130,7 @@ pub loops_not : (end : Ending) (code hosts turns : ℕ) (clock : ClockTold) (lin
 loops_not end code hosts turns clock links held w before count bytes status fails = inl (starts-not end code before count held w status fails, refl, refl)
 
 -- that is no usage
-starts_usage : (end : Ending) (code before count : ℕ) → code ≡ status_of end → EmptiesNot end before count → code ≡ status_of Ending.Usage → ⊥
+pub starts_usage : (end : Ending) (code before count : ℕ) → code ≡ status_of end → EmptiesNot end before count → code ≡ status_of Ending.Usage → ⊥
 starts_usage end code before count status fails none = subst (λ e. EmptiesNot e before count) (one_end end Ending.Usage code status none) fails
 
 -- ---- usage

@@ -83,8 +83,11 @@ fn stepped(alloc: Global, schedule: &[u8]) -> Option<MemSink> {
     let script = parse(alloc, schedule).ok()?;
     let keeper = ListKeeper::new(alloc, Vec::new(alloc)).ok()?;
     let mut world = begin(alloc, &script.head, keeper).ok()?;
-    step_all(&mut world, &script)?;
-    printed(alloc, world.journal())
+    let stepped = step_all(&mut world, &script);
+    let printed = printed(alloc, world.journal());
+    let _keeper = world.into_keeper();
+    stepped?;
+    printed
 }
 
 /// Takes in the events of a schedule one by one.
