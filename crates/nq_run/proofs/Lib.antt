@@ -1,5 +1,6 @@
 pub mod Commands
 pub mod Finding
+pub mod Hiding
 pub mod Judgements
 pub mod LoopPromises
 pub mod Making

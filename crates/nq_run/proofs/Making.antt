@@ -1,8 +1,9 @@
 -- A storm and a loop over a disk, from what they do over the store of that disk.
 use Rattle.std.proofs.Common.{◌≡◌, ◌≤◌, ℕ, Bool, List, Option, inl, inr, refl, subst, sym, ◌∙◌, arith}
 use Rattle.nq_service.specs.Emptying.{EmptiesNot}
+use Rattle.nq_run.proofs.Hiding.{hides_store, hides_untouched}
 use Rattle.nq_run.proofs.LoopPromises.{loop_usage}
-use Rattle.nq_run.proofs.Playing.{kept_while, rose_by}
+use Rattle.nq_run.proofs.Playing.{kept_while}
 use Rattle.nq_run.proofs.StormPromises.{storm_usage, storms_none}
 use Rattle.nq_run.specs.Running.{LoopsOn, StartsNot, StormsOn}
 use Rattle.nq_base.proofs.Ends.{one_end}
@@ -13,7 +14,6 @@ use Rattle.nq_link.specs.Links.{LinkTold}
 use Rattle.nq_run.specs.Fates.{FateTold}
 use Rattle.nq_run.specs.Looping.{LoopsFor}
 use Rattle.nq_run.specs.Storming.{StormsFor}
-use Rattle.nq_store.proofs.Risen.{risen_over}
 use Rattle.nq_replay.specs.Lines.{usage_line}
 use Rattle.nq_io.specs.Sink.{PrintsLine}
 use Rattle.nq_storm.specs.Kinds.{LackKind}
@@ -88,7 +88,7 @@ module _ {D : Type 0} (told : D → Option (List ℕ)) (faults : D → ℕ) (fol
         first = k;
         last = k';
         does = storms-kept code kind start count rules old new held now w w' k k' served.ended (told served.disk) s;
-        failed = λ six. risen_over faults follows disk store served rises fresh same goes (rose_by s.end code k k' s.status s.counts six);
+        hides = hides_store faults follows s.end code disk store served s.status rises fresh same goes s.counts;
       }))
 
   pub loops_on : (code hosts turns : ℕ) (clock clock' : ClockTold) (links links' : List LinkTold) (held now : Option (List ℕ)) (w w' : ℕ) (disk : D)
@@ -105,7 +105,7 @@ module _ {D : Type 0} (told : D → Option (List ℕ)) (faults : D → ℕ) (fol
         first = k;
         last = k';
         does = loops-kept code hosts turns clock clock' links links' held now w w' k k' served.ended (told served.disk) s;
-        failed = λ six. risen_over faults follows disk store served rises fresh same goes (rose_by s.end code k k' s.status s.counts six);
+        hides = hides_store faults follows s.end code disk store served s.status rises fresh same goes s.counts;
       }))
 
 -- ---- where no empty store was made
@@ -130,7 +130,7 @@ pub loops_not : (end : Ending) (code hosts turns : ℕ) (clock : ClockTold) (lin
 loops_not end code hosts turns clock links held w before count bytes status fails = inl (starts-not end code before count held w status fails, refl, refl)
 
 -- that is no usage
-starts_usage : (end : Ending) (code before count : ℕ) → code ≡ status_of end → EmptiesNot end before count → code ≡ status_of Ending.Usage → ⊥
+pub starts_usage : (end : Ending) (code before count : ℕ) → code ≡ status_of end → EmptiesNot end before count → code ≡ status_of Ending.Usage → ⊥
 starts_usage end code before count status fails none = subst (λ e. EmptiesNot e before count) (one_end end Ending.Usage code status none) fails
 
 -- ---- usage
@@ -157,12 +157,12 @@ loops_usage code hosts turns clock clock' links links' held now w w' before coun
 -- ---- where no fate is of the kind
 
 pub storms_refused : (code kind start count : ℕ) (rules : List (Option Rule)) (fates : List FateTold) (held now : Option (List ℕ))
-    (w w' before faults : ℕ) (bytes : Option (List ℕ))
+    (w w' before : ℕ) (bytes : Option (List ℕ))
     → code ≡ status_of Ending.Usage → LackKind kind rules → PrintsLine usage_line held now w w' → StormsOn code kind start count rules fates fates
-    held now w w' before faults bytes
-storms_refused code kind start count rules fates held now w w' before faults bytes status lack printed = inr (record {
+    held now w w' before before bytes
+storms_refused code kind start count rules fates held now w w' before bytes status lack printed = inr (record {
   first = 0;
   last = 0;
   does = storms_none code kind start count rules fates held now w w' 0 (kept_told bytes) status lack printed;
-  failed = λ six. let no = sym status ∙ six in absurd (omega arith);
+  hides = hides_untouched code before 0 (λ six. let no = sym status ∙ six in omega arith);
 })

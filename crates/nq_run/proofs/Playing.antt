@@ -5,7 +5,6 @@ use Rattle.nq_run.specs.Running.{PlaysOn, ReplaysOn}
 use Rattle.nq_base.proofs.Ends.{one_end}
 use Rattle.nq_base.specs.Status.{status_of}
 use Rattle.nq_base.specs.declared.ending.ending.Ending.{Ending}
-use Rattle.nq_io.specs.Faults.{Rose}
 use Rattle.nq_model.specs.Kept.{Kept}
 use Rattle.nq_replay.specs.Playing.{Ended, play, ran, stopped}
 use Rattle.nq_replay.proofs.Outcomes.{memory_before}
@@ -13,12 +12,12 @@ use Rattle.nq_replay.specs.Ending.{CountsKeeper, IsFault}
 use Rattle.nq_replay.specs.Reading.{IsReadAs, RefusedUnlessFault, Refuses}
 use Rattle.nq_replay.specs.Replay.{OfInput}
 use Rattle.nq_replay.specs.Schedules.{EndsOver, KeepsPlayed}
+use Rattle.nq_run.proofs.Hiding.{hides_not, hides_store, hides_untouched}
 use Rattle.nq_run.proofs.ReplayPromises.{refused_for, replay_usage, replays_for}
 use Rattle.nq_script.specs.Schedule.{FirstBadLine, SpellsSchedule}
 use Rattle.nq_script.specs.declared.heads.Head.{Head}
 use Rattle.nq_script.specs.declared.lines.Line.{Line}
 use Rattle.nq_script.specs.declared.scripts.Script.{Script}
-use Rattle.nq_store.proofs.Risen.{risen, risen_over}
 use Rattle.nq_store.specs.Storing.{GoesOn, IsFresh, StoredStore, content_of, content_while, faults_of, kept_told}
 
 -- ---- what a store tells
@@ -32,12 +31,6 @@ keeps-on : (head : Head) (due : Ended) (ended : Bool) (bytes : Option (List ℕ)
     → KeepsPlayed head due (kept_told bytes)
 keeps-on head (ran events) ended bytes keeps = kept_while ended bytes _ keeps
 keeps-on head (stopped line answer) ended bytes keeps = absurd keeps
-
--- ---- counts
-
--- a store failed where the status says so
-pub rose_by : (end : Ending) (code k k' : ℕ) → code ≡ status_of end → CountsKeeper end k k' → code ≡ status_of Ending.KeepFault → Rose k k'
-rose_by end code k k' status counts six = subst (λ e. CountsKeeper e k k') (one_end end Ending.KeepFault code status six) counts
 
 -- ---- where no empty store was made
 
@@ -66,7 +59,7 @@ plays_not end code head due held w before count bytes status fails = record {
   first = before;
   last = count;
   counts = counts-not end before count fails;
-  failed = λ six. risen before count (rose_by end code before count status (counts-not end before count fails) six);
+  hides = hides_not end code before count status fails;
 }
 
 -- ---- over a store
@@ -85,8 +78,7 @@ module _ {D : Type 0} (told : D → Option (List ℕ)) (faults : D → ℕ) (fol
     first = faults_of faults store;
     last = faults_of faults served;
     counts = counts;
-    failed = λ six. risen_over faults follows disk store served rises fresh same goes (rose_by end code (faults_of faults store)
-        (faults_of faults served) status counts six);
+    hides = hides_store faults follows end code disk store served status rises fresh same goes counts;
   }
 
 -- ---- with the reading
@@ -109,7 +101,7 @@ replays_on script limit code left rest held now r r' w w' before count bytes dis
     first = p.first;
     last = p.last;
     does = replays_for p.end script limit code left rest held now r r' w w' p.first p.last (kept_told bytes) p.status read p.ends p.keeps p.counts;
-    failed = p.failed;
+    hides = p.hides;
   };
   over = λ text is more. absurd (over text is more);
   bad = λ text is fits number line. absurd (bad text is fits number line);
@@ -118,20 +110,21 @@ replays_on script limit code left rest held now r r' w w' before count bytes dis
 }
 
 -- none was read
-pub refused_on : {D : Type 0} (end : Ending) (limit code : ℕ) (left rest held now : Option (List ℕ)) (r r' w w' before count : ℕ)
+pub refused_on : {D : Type 0} (end : Ending) (limit code : ℕ) (left rest held now : Option (List ℕ)) (r r' w w' before : ℕ)
     (bytes : Option (List ℕ)) (disk : D) → code ≡ status_of end
     → Refuses end limit left rest held now r r' w w'
     → ((text : List ℕ) → left ≡ Some text → limit < length text → RefusedUnlessFault (Err end) Ending.Limit r r' w w')
     → ((text : List ℕ) → left ≡ Some text → length text ≤ limit → (number : ℕ) → FirstBadLine text number → RefusedUnlessFault (Err end) Ending.Script
     r r' w w')
     → ((text : List ℕ) → left ≡ Some text → length text ≤ limit → (head : Head) (lines : List Line) → SpellsSchedule head lines text → IsFault end r r' w w')
-    → ReplaysOn limit code left rest held now r r' w w' before count bytes disk disk
-refused_on end limit code left rest held now r r' w w' before count bytes disk status refuses over bad spelled = record {
+    → ReplaysOn limit code left rest held now r r' w w' before before bytes disk disk
+refused_on end limit code left rest held now r r' w w' before bytes disk status refuses over bad spelled = record {
   replays = record {
     first = 0;
     last = 0;
     does = refused_for end limit code left rest held now r r' w w' 0 (kept_told bytes) status refuses over bad spelled;
-    failed = λ six. absurd (subst (λ e. Refuses e limit left rest held now r r' w w') (one_end end Ending.KeepFault code status six) refuses);
+    hides = hides_untouched code before 0 (λ six. absurd (subst (λ e. Refuses e limit left rest held now r r' w w')
+        (one_end end Ending.KeepFault code status six) refuses));
   };
   over = λ text is more. refl;
   bad = λ text is fits number line. refl;

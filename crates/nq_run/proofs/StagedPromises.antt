@@ -1,14 +1,41 @@
 -- What a staged run prints is lawful and sound.
-use Rattle.std.proofs.Common.{◌≡◌, ℕ, List, Option, subst}
+use Rattle.std.proofs.Common.{◌≡◌, ◌≤◌, ℕ, List, [], ◌∷◌, ◌++◌, Option, length, subst, arith}
 use Rattle.nq_base.proofs.Ends.{one_end}
 use Rattle.nq_base.specs.Status.{status_of}
 use Rattle.nq_base.specs.declared.ending.ending.Ending.{Ending}
+use Rattle.nq_model.specs.Journal.{Each}
+use Rattle.nq_model.specs.Stepped.{most_events}
+use Rattle.nq_model.specs.World.{Head as Beginning}
 use Rattle.nq_replay.specs.Playing.{beginning}
 use Rattle.nq_replay.specs.Replay.{OfInput}
 use Rattle.nq_run.proofs.Promises.{faultless, holds_throughout}
 use Rattle.nq_run.specs.Staging.{EndsByInput, StagesFor, StagesLawfully}
 use Rattle.nq_staged.specs.Running.{EndsStaged, PrintsStaged, end_of}
 use Rattle.nq_stage.proofs.Inner.{runs-inside}
+use Rattle.nq_stage.proofs.Rebuilt.{rebuilds-what-was-meant}
+use Rattle.nq_stage.specs.Outside.{outside_run}
+use Rattle.nq_stage.specs.Theorem.{IsStagedSchedule, RebuildsMeant, StagedBrings}
+use Rattle.nq_stage.specs.declared.run.event.StagedEvent.{StagedEvent}
+
+-- ---- at each moment
+
+-- what each event of a schedule brings, each earlier one brings
+brings-behind : (later earlier : List StagedEvent) → Each StagedBrings (later ++ earlier) → Each StagedBrings earlier
+brings-behind [] earlier all = all
+brings-behind (event ∷ later) earlier all = brings-behind later earlier all.1
+
+few-behind : (later earlier : List StagedEvent) (most : ℕ) → length (later ++ earlier) ≤ most → length earlier ≤ most
+few-behind [] earlier most few = few
+few-behind (event ∷ later) earlier most few = few-behind later earlier most (omega arith)
+
+rebuilt-behind : (head : Beginning) (later earlier : List StagedEvent) → IsStagedSchedule head (later ++ earlier) → RebuildsMeant (outside_run head earlier)
+rebuilt-behind head later earlier s = rebuilds-what-was-meant head earlier (record {
+  hosts = s.hosts;
+  few = few-behind later earlier most_events s.few;
+  brings = brings-behind later earlier s.brings;
+})
+
+-- ---- a staged run
 
 stages_lawfully : (text : List ℕ) (held now : Option (List ℕ)) → PrintsStaged text held now → StagesLawfully text held now
 stages_lawfully text held now p =
@@ -22,6 +49,7 @@ stages_lawfully text held now p =
       are = p.are;
       printed = p.printed;
       inner = runs-inside (beginning p.head) p.events;
+      rebuilt = λ later earlier is. rebuilt-behind (beginning p.head) later earlier (subst (λ es. IsStagedSchedule (beginning p.head) es) is p.are.schedule);
       holds = holds;
       judged = faultless p.head ran holds;
     }

@@ -42,11 +42,17 @@ done_lawfully kind start count told first held now kept found keeps =
 -- ---- usage
 
 -- a storm that is run does not end with usage
+pub never_usage : (end : Ending) (status start count : ℕ) (first : Option Rule) (held now : Option (List ℕ)) (w w' : ℕ) → status ≡ status_of end
+    → StormEnds end start count first held now w w' → status ≡ status_of Ending.Usage → ⊥
+never_usage end status start count first held now w w' is ends none =
+    subst (λ e. StormEnds e start count first held now w w') (one_end end Ending.Usage status is none) ends
+
+-- words of a storm that ended with usage lack its fate
 no_fate : (end : Ending) (status kind start count : ℕ) (told : List (Option Rule)) (held now : Option (List ℕ)) (w w' : ℕ) → status ≡ status_of end
     → DoesStorm end kind start count told held now w w' → status ≡ status_of Ending.Usage
     → LackKind kind told × PrintsLine usage_line held now w w'
 no_fate end status kind start count told held now w w' is (inl ran) none =
-    absurd (subst (λ e. StormEnds e start count ran.first held now w w') (one_end end Ending.Usage status is none) ran.ends)
+    absurd (never_usage end status start count ran.first held now w w' is ran.ends none)
 no_fate end status kind start count told held now w w' is (inr usage) none = (usage.1, usage.2)
 
 -- words of a storm that ended with usage: no fate is of the kind

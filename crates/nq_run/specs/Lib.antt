@@ -9,5 +9,6 @@ pub mod Naming
 pub mod Promised
 pub mod Replaying
 pub mod Running
+pub mod Setting
 pub mod Staging
 pub mod Storming

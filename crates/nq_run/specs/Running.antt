@@ -1,6 +1,6 @@
 -- What the commands that make a run do over a disk. Below, `bytes` are what the disk tells after it, and `before` and `count` are its counts
 -- of faults before and after; all other names are those of `Replaying`, `Storming` and `Looping`.
-use Rattle.std.specs.Prelude.{◌≡◌, ◌⊎◌, ◌<◌, ◌≤◌, ℕ, List, Option, Some, length}
+use Rattle.std.specs.Prelude.{◌≡◌, ◌⊎◌, ◌<◌, ◌≤◌, ◌-◌, ◌^◌, ℕ, List, Option, Some, length}
 use Rattle.nq_service.specs.Emptying.{EmptiesNot}
 use Rattle.nq_base.specs.Status.{status_of}
 use Rattle.nq_base.specs.declared.ending.ending.Ending.{Ending}
@@ -18,12 +18,19 @@ use Rattle.nq_script.specs.declared.heads.Head.{Head}
 use Rattle.nq_storm.specs.Rules.{Rule}
 use Rattle.nq_store.specs.Storing.{HasRisen, kept_told}
 
--- a run did this over the store of a disk, by the store's counts of faults; where the status says that the store failed, the disk failed
+-- Where the status says that the store failed, the disk failed; where the disk failed, the status says so; and where it did not fail, no fault
+-- of the store is counted. A disk whose count stands at the end of its type cannot tell a further fault
+pub record HidesNoFault (code before count first last : ℕ) : Type 0 where
+  pub failed : code ≡ status_of Ending.KeepFault → HasRisen before count
+  pub said : before < count → before < 2 ^ 64 - 1 → code ≡ status_of Ending.KeepFault
+  pub still : count ≡ before → last ≡ first
+
+-- a run did this over the store of a disk, by the store's counts of faults, and hides no fault of the disk
 pub record OverStore (P : (k k' : ℕ) → Type 0) (code before count : ℕ) : Type 0 where
   pub first : ℕ
   pub last : ℕ
   pub does : P first last
-  pub failed : code ≡ status_of Ending.KeepFault → HasRisen before count
+  pub hides : HidesNoFault code before count first last
 
 -- no empty store was made of the disk: it failed, which it has counted, or memory was wanting; nothing was printed
 pub record StartsNot (code before count : ℕ) (held now : Option (List ℕ)) (w w' : ℕ) : Type 0 where
@@ -42,7 +49,7 @@ pub record PlaysOn (head : Head) (due : Ended) (code : ℕ) (held now : Option (
   pub first : ℕ
   pub last : ℕ
   pub counts : CountsKeeper end first last
-  pub failed : code ≡ status_of Ending.KeepFault → HasRisen before count
+  pub hides : HidesNoFault code before count first last
 
 -- A schedule was replayed over a disk, or it ended before. Where the input is none, or could not be read, the disk stays as it was
 pub record ReplaysOn {D : Type 0} (limit code : ℕ) (left rest held now : Option (List ℕ)) (r r' w w' before count : ℕ) (bytes : Option (List ℕ))

@@ -1,7 +1,7 @@
 -- What the command of staged runs does. Below, `left` is what was left in the source before it and `rest` is what is left after it, where
 -- the source tells them; `held` is what the sink held before and `now` is what it holds after, where the sink tells them; `r` and `r'` are
 -- the source's counts of faults before and after, and `w` and `w'` the sink's.
-use Rattle.std.specs.Prelude.{◌≡◌, ◌≤◌, ◌<◌, ℕ, List, Option, Some, None, length}
+use Rattle.std.specs.Prelude.{◌≡◌, ◌≤◌, ◌<◌, ℕ, List, ◌++◌, Option, Some, None, length}
 use Rattle.nq_base.specs.declared.SkewBroken.{SkewBroken}
 use Rattle.nq_base.specs.Status.{status_of}
 use Rattle.nq_base.specs.declared.ending.ending.Ending.{Ending}
@@ -16,10 +16,12 @@ use Rattle.nq_check.specs.Verdict.{verdict}
 use Rattle.nq_run.specs.Promised.{HoldsThroughout}
 use Rattle.nq_script.specs.declared.heads.Head.{Head}
 use Rattle.nq_staged.specs.Running.{EndsStaged, FaultyStaged, IsPrinted, PassesStaged, RunsStaged, StopsStaged, end_of}
+use Rattle.nq_stage.specs.Theorem.{RebuildsMeant}
 use Rattle.nq_stage.specs.declared.run.event.StagedEvent.{StagedEvent}
 
 -- The text is a staged schedule, and playing it printed the schedule of the inner world, the journal of its run, and what was counted.
 -- The inner world is the run of the inner events, the headline holds at each moment of that run, and nothing in its journal is at fault.
+-- At each moment of the staged run a WRITE that is rebuilt is byte for byte the inner packet for which its COMMIT stands.
 pub record StagesLawfully (text : List ℕ) (held now : Option (List ℕ)) : Type 0 where
   pub head : Head
   pub events : List StagedEvent
@@ -28,6 +30,7 @@ pub record StagesLawfully (text : List ℕ) (held now : Option (List ℕ)) : Typ
   pub are : IsPrinted head events bytes
   pub printed : now ≡ with_end held bytes
   pub inner : (end_of head events).world ≡ run (beginning head) (end_of head events).ran
+  pub rebuilt : (later earlier : List StagedEvent) → events ≡ later ++ earlier → RebuildsMeant (end_of head earlier)
   pub holds : HoldsThroughout head (end_of head events).ran
   pub judged : verdict (run (beginning head) (end_of head events).ran).journal ≡ None
 

@@ -8,6 +8,7 @@ mod judging;
 mod looping;
 mod naming;
 mod replaying;
+mod setting;
 mod staged;
 mod storming;
 mod top;
@@ -17,4 +18,7 @@ pub use judging::judge;
 pub use nq_command::{Command, NoMemory, Words};
 pub use nq_service::Ended;
 pub use nq_storm::fates::{CutFate, Fate, HostileFate, LossyFate, SteadyFate};
+pub use setting::{
+    Place, ROOM, blank_disk, exit_status, parties_of, party_of, place_of, words_of,
+};
 pub use top::run;

@@ -32,6 +32,7 @@ pub(crate) fn stormed<K: Sink, D: Disk + Drop>(
         (map (λ fate. fate_told ((Fate-box fate).told fate.value) (asks fate)) fates.old) (map (λ fate. fate_told ((Fate-box fate).told fate.value) (asks fate)) fates.new)
         (K.held out.old) (K.held out.new) (K.faults out.old) (K.faults out.new) (D.faults disk) (D.faults result.disk) (D.told result.disk) }
     ensures never { TellOthers kind (map (λ fate. (Fate-box fate).told fate.value) fates.old) → (result.status ≡ status_of Ending.Usage) × (result.disk ≡ disk) }
+    ensures alone { result.status ≡ status_of Ending.Usage → result.disk ≡ disk }
     ensures follows { D.follows disk result.disk }
 {
     match place_of(fates, kind) {

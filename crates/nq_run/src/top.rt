@@ -112,6 +112,7 @@ pub fn run<S: Source, K: Sink, D: Disk + Drop, L: Link, C: Clock>(
     ensures follows { D.follows disk result.disk }
     ensures disk { uses_disk (command_of words.now) ≡ false → result.disk ≡ disk }
     ensures untouched { NeverSays (command_of words.now) (map (λ fate. (Fate-box fate).told fate.value) fates.old) → result.disk ≡ disk }
+    ensures alone { result.status ≡ status_of Ending.Usage → result.disk ≡ disk }
     ensures input { reads_input (command_of words.now) ≡ false → input.new ≡ input.old }
     ensures link { uses_link (command_of words.now) ≡ false → link.new ≡ link.old }
     ensures hosts { uses_links (command_of words.now) ≡ false → links.new ≡ links.old }
@@ -164,6 +165,7 @@ fn run_command<S: Source, K: Sink, D: Disk + Drop, L: Link, C: Clock>(
     ensures usage { result.status ≡ status_of Ending.Usage → SaysNothing (command_of words.now) (map (λ fate. (Fate-box fate).told fate.value) fates.old)
         × (S.left input.new ≡ S.left input.old) × PrintsLine usage_line (K.held out.old) (K.held out.new) (K.faults out.old) (K.faults out.new) }
     ensures never { NeverSays (command_of words.now) (map (λ fate. (Fate-box fate).told fate.value) fates.old) → (result.status ≡ status_of Ending.Usage) × (result.disk ≡ disk) }
+    ensures alone { result.status ≡ status_of Ending.Usage → result.disk ≡ disk }
     ensures follows { D.follows disk result.disk }
     ensures keeps { Unless (uses_disk (command_of words.now)) (result.disk ≡ disk) × Unless (reads_input (command_of words.now)) (input.new ≡ input.old) × Unless (uses_link (command_of words.now)) (link.new ≡ link.old)
         × Unless (uses_links (command_of words.now)) (links.new ≡ links.old) × Unless (reads_clock (command_of words.now)) (clock.new ≡ clock.old) × Unless (uses_fates (command_of words.now)) (fates.new ≡ fates.old) }

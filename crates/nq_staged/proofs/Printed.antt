@@ -33,6 +33,7 @@ pub is-printed : {K : Type 0} (head : Head) (events : List StagedEvent) (w : Sta
     → SpellsSchedule head (map once ran) text → line ≡ count_line counts
     → IsPrinted head events (text ++ (journal_text 2 entries ++ line))
 is-printed head events w told ran entries counts text line plays are shown counted spelled said = record {
+  schedule = plays.reaches.schedule;
   lawful = lawful (beginning head) events w told plays;
   text = text;
   spelled = subst (λ es. SpellsSchedule head (map once es) text) (sym (reverse-reverse ran) ∙ ap reverse are) spelled;

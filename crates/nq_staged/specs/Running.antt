@@ -30,6 +30,7 @@ use Rattle.nq_staged.specs.Text.{FirstBadStaged, SpellsStaged, StagedLine}
 use Rattle.nq_stage.specs.declared.run.event.StagedEvent.{StagedEvent}
 use Rattle.nq_stage.specs.Outer.{Counts, Outside}
 use Rattle.nq_stage.specs.Outside.{outside_run}
+use Rattle.nq_stage.specs.Theorem.{IsStagedSchedule}
 use Rattle.nq_world.specs.Answering.{told as answer_of}
 
 -- the text is a staged schedule with this head, and playing all of its lines makes the staged run of these events, of which the newest is
@@ -73,8 +74,9 @@ abbrev pub end_of : Head → List StagedEvent → Outside
 end_of head events = outside_run (beginning head) events
 
 -- The text of the inner schedule, each of whose events has a line, the journal of its run, and what was counted. The inner schedule is
--- within skew and keeps to the bounds.
+-- within skew and keeps to the bounds; the staged one has no more hosts and events than there may be, and its calls bring blocks.
 pub record IsPrinted (head : Head) (events : List StagedEvent) (bytes : List ℕ) : Type 0 where
+  pub schedule : IsStagedSchedule (beginning head) events
   pub lawful : IsLawful (beginning head) (end_of head events).ran
   pub text : List ℕ
   pub spelled : SpellsSchedule head (map once (reverse (end_of head events).ran)) text

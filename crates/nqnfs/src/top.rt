@@ -1,4 +1,4 @@
-//! The top call with its four fates, over the machine or over what is in memory.
+//! The top call with its four fates, over what the machine has.
 
 ghost use Rattle.std.specs.Prelude.{◌≡◌, ◌+◌, ℕ, List, Some, true, length};
 ghost use Rattle.nq_command.specs.Commands.{command_of};
@@ -6,18 +6,11 @@ ghost use Rattle.nq_command.specs.declared.commands.Command.{Command};
 ghost use Rattle.nq_run.specs.Frames.{makes_a_run};
 
 use nq_clock::Clock;
-use nq_disk::{Disk, Room};
+use nq_disk::Disk;
 use nq_io::{Sink, Source};
 use nq_link::Link;
 use nq_run::{CutFate, Ended, Fate, HostileFate, LossyFate, NoMemory, SteadyFate, Words, run};
 use std::alloc::Global;
-
-/// The room of a disk in memory: the bytes of the largest image, and as many calls and written bytes as can be counted.
-pub(crate) const ROOM: Room = Room {
-    size: 68_202_496,
-    calls: u32::MAX,
-    written: u64::MAX,
-};
 
 /// Runs what the words say, with the four fates. What `run` promises is said there; no line here needs it.
 pub(crate) fn ran<S: Source, K: Sink, D: Disk + Drop, L: Link, C: Clock>(

@@ -25,5 +25,5 @@ returns-in-Ok-clause-replays g c =
 
 pub returns-in-Err-clause-replays : goal.returns-in-Err-clause-replays
 returns-in-Err-clause-replays g c =
-    refused_on c.in-Err.end c.args.limit c.status.result _ _ _ _ _ _ _ _ _ _ _ c.args.disk c.status.ensures c.in-Err.ensures.refuses
+    refused_on c.in-Err.end c.args.limit c.status.result _ _ _ _ _ _ _ _ _ _ c.args.disk c.status.ensures c.in-Err.ensures.refuses
     c.in-Err.ensures.limit c.in-Err.ensures.script c.in-Err.ensures.spelled

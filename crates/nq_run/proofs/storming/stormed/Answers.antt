@@ -1,7 +1,7 @@
 use Rattle.std.proofs.Common.{inl, refl, rules, subst, sym}
 use Rattle.nq_run.proofs.Finding.{asks_first, is_first, none_among}
-use Rattle.nq_run.proofs.Making.{storms_not, storms_on, storms_refused}
-use Rattle.nq_run.proofs.StormPromises.{storms_for}
+use Rattle.nq_run.proofs.Making.{starts_usage, storms_not, storms_on, storms_refused}
+use Rattle.nq_run.proofs.StormPromises.{never_usage, storms_for}
 use Rattle.nq_run.specs.Fates.{fate_told}
 use Rattle.nq_storm.specs.Asking.{AsksFor}
 use Rattle.nq_storm.specs.Printed.{KeepsStorm, StormEnds}
@@ -43,6 +43,10 @@ pub returns-in-Ok-clause-never : goal.returns-in-Ok-clause-never
 returns-in-Ok-clause-never g c = λ others. absurd (none_among _ c.args.kind c.in-Some.place c.args.fates.now others c.in-Some.ensures.within
     c.in-Some.ensures.found)
 
+pub returns-in-Ok-clause-alone : goal.returns-in-Ok-clause-alone
+returns-in-Ok-clause-alone g c = λ none.
+    absurd (never_usage c.run_storm-finished.result.end c.status.result _ _ _ _ _ _ _ c.status.ensures c.run_storm-finished.ensures.ends none)
+
 pub returns-in-Err-clause-storms : goal.returns-in-Err-clause-storms
 returns-in-Err-clause-storms g c = storms_not c.in-Err.left.end c.status-in-Err.result c.args.kind c.args.start c.args.events _ _ _ _ _ _ _
     c.status-in-Err.ensures c.in-Err.ensures.fails
@@ -51,9 +55,13 @@ pub returns-in-Err-clause-never : goal.returns-in-Err-clause-never
 returns-in-Err-clause-never g c = λ others. absurd (none_among _ c.args.kind c.in-Some.place c.args.fates.now others c.in-Some.ensures.within
     c.in-Some.ensures.found)
 
+pub returns-in-Err-clause-alone : goal.returns-in-Err-clause-alone
+returns-in-Err-clause-alone g c = λ none.
+    absurd (starts_usage c.in-Err.left.end c.status-in-Err.result _ _ c.status-in-Err.ensures c.in-Err.ensures.fails none)
+
 pub returns-in-None-clause-storms : goal.returns-in-None-clause-storms
 returns-in-None-clause-storms g c =
-    storms_refused c.usage.result c.args.kind c.args.start c.args.events _ _ _ _ _ _ _ _ _ c.usage.ensures.usage
+    storms_refused c.usage.result c.args.kind c.args.start c.args.events _ _ _ _ _ _ _ _ c.usage.ensures.usage
     (c.in-None.ensures.none (search rules)) c.usage.ensures.printed
 
 pub returns-in-None-clause-never : goal.returns-in-None-clause-never
@@ -61,3 +69,6 @@ returns-in-None-clause-never g c = λ others. (c.usage.ensures.usage, refl)
 
 pub returns-in-None-clause-follows : goal.returns-in-None-clause-follows
 returns-in-None-clause-follows g c = g.met.D.Disk.follows_itself c.args.disk
+
+pub returns-in-None-clause-alone : goal.returns-in-None-clause-alone
+returns-in-None-clause-alone g c = λ none. refl

@@ -52,6 +52,9 @@ returns-clause-follows g c = c.run_command.ensures.follows
 pub returns-clause-untouched : goal.returns-clause-untouched
 returns-clause-untouched g c = λ never. (c.run_command.ensures.never never).1
 
+pub returns-clause-alone : goal.returns-clause-alone
+returns-clause-alone g c = c.run_command.ensures.alone
+
 pub returns-clause-disk : goal.returns-clause-disk
 returns-clause-disk g c = λ no. left_so (uses_disk (command_of c.args.words.now)) _ no c.run_command.ensures.keeps.0
 

@@ -26,6 +26,10 @@ pub returns-in-Some-Format-clause-usage : goal.returns-in-Some-Format-clause-usa
 returns-in-Some-Format-clause-usage g c = λ none. absurd (formats_usage g.D.Disk.faults g.D.Disk.told g.D.Disk.may_leave c.format_disk.result.status
     c.args.disk c.format_disk.result.disk c.format_disk.ensures.formats none)
 
+pub returns-in-Some-Format-clause-alone : goal.returns-in-Some-Format-clause-alone
+returns-in-Some-Format-clause-alone g c = λ none. absurd (formats_usage g.D.Disk.faults g.D.Disk.told g.D.Disk.may_leave c.format_disk.result.status
+    c.args.disk c.format_disk.result.disk c.format_disk.ensures.formats none)
+
 pub returns-in-Some-Format-clause-never : goal.returns-in-Some-Format-clause-never
 returns-in-Some-Format-clause-never g c = λ never. absurd (rw (sym c.command.ensures.says ∙ c.in-Some-Format.is ∙ ap Some c.in-Some-Format.field-0-is)
     at never)
@@ -51,6 +55,11 @@ returns-in-Some-Serve-clause-usage g c = λ none. absurd (serves_usage g.D.Disk.
     g.D.Disk.leaves c.serve_disk.result.status c.in-Some-Serve.longest c.in-Some-Serve.turns c.args.disk c.serve_disk.result.disk _ _ _ _ _ _ _ _
     c.serve_disk.ensures.serves none)
 
+pub returns-in-Some-Serve-clause-alone : goal.returns-in-Some-Serve-clause-alone
+returns-in-Some-Serve-clause-alone g c = λ none. absurd (serves_usage g.D.Disk.told g.D.Disk.faults g.D.Disk.may_leave g.D.Disk.follows
+    g.D.Disk.leaves c.serve_disk.result.status c.in-Some-Serve.longest c.in-Some-Serve.turns c.args.disk c.serve_disk.result.disk _ _ _ _ _ _ _ _
+    c.serve_disk.ensures.serves none)
+
 pub returns-in-Some-Serve-clause-never : goal.returns-in-Some-Serve-clause-never
 returns-in-Some-Serve-clause-never g c = λ never. absurd (rw (sym c.command.ensures.says ∙ c.in-Some-Serve.is ∙ ap Some c.in-Some-Serve.field-0-is) at never)
 
@@ -73,6 +82,10 @@ returns-in-Some-Replay-clause-does g c = rw (sym c.command.ensures.says ∙ c.in
 
 pub returns-in-Some-Replay-clause-usage : goal.returns-in-Some-Replay-clause-usage
 returns-in-Some-Replay-clause-usage g c = λ none. absurd (replays_usage _ c.replayed.result.status _ _ _ _ _ _ _ _ _ _ _ c.args.disk
+    c.replayed.result.disk c.replayed.ensures.replays none)
+
+pub returns-in-Some-Replay-clause-alone : goal.returns-in-Some-Replay-clause-alone
+returns-in-Some-Replay-clause-alone g c = λ none. absurd (replays_usage _ c.replayed.result.status _ _ _ _ _ _ _ _ _ _ _ c.args.disk
     c.replayed.result.disk c.replayed.ensures.replays none)
 
 pub returns-in-Some-Replay-clause-never : goal.returns-in-Some-Replay-clause-never
@@ -101,6 +114,9 @@ returns-in-Some-Storm-clause-usage g c = λ none.
     c.stormed.ensures.storms none in
     (rw (sym c.command.ensures.says ∙ c.in-Some-Storm.is ∙ ap Some c.in-Some-Storm.field-0-is) u.0, refl, u.1)
 
+pub returns-in-Some-Storm-clause-alone : goal.returns-in-Some-Storm-clause-alone
+returns-in-Some-Storm-clause-alone g c = c.stormed.ensures.alone
+
 pub returns-in-Some-Storm-clause-never : goal.returns-in-Some-Storm-clause-never
 returns-in-Some-Storm-clause-never g c = λ never. c.stormed.ensures.never (rw (sym c.command.ensures.says ∙ c.in-Some-Storm.is
     ∙ ap Some c.in-Some-Storm.field-0-is) at never)
@@ -125,6 +141,10 @@ pub returns-in-Some-Loop-clause-usage : goal.returns-in-Some-Loop-clause-usage
 returns-in-Some-Loop-clause-usage g c = λ none. absurd (loops_usage c.looped.result.status c.in-Some-Loop.hosts c.in-Some-Loop.turns _ _ _ _ _ _ _ _ _
     _ _ c.looped.ensures.loops none)
 
+pub returns-in-Some-Loop-clause-alone : goal.returns-in-Some-Loop-clause-alone
+returns-in-Some-Loop-clause-alone g c = λ none. absurd (loops_usage c.looped.result.status c.in-Some-Loop.hosts c.in-Some-Loop.turns _ _ _ _ _ _ _ _ _
+    _ _ c.looped.ensures.loops none)
+
 pub returns-in-Some-Loop-clause-never : goal.returns-in-Some-Loop-clause-never
 returns-in-Some-Loop-clause-never g c = λ never. absurd (rw (sym c.command.ensures.says ∙ c.in-Some-Loop.is ∙ ap Some c.in-Some-Loop.field-0-is) at never)
 
@@ -140,6 +160,9 @@ returns-in-Some-Check-clause-does g c = rw (sym c.command.ensures.says ∙ c.in-
 
 pub returns-in-Some-Check-clause-usage : goal.returns-in-Some-Check-clause-usage
 returns-in-Some-Check-clause-usage g c = λ none. absurd (check_usage _ c.checked.result _ _ _ _ _ _ _ _ c.checked.ensures none)
+
+pub returns-in-Some-Check-clause-alone : goal.returns-in-Some-Check-clause-alone
+returns-in-Some-Check-clause-alone g c = λ none. refl
 
 pub returns-in-Some-Check-clause-never : goal.returns-in-Some-Check-clause-never
 returns-in-Some-Check-clause-never g c = λ never. absurd (rw (sym c.command.ensures.says ∙ c.in-Some-Check.is ∙ ap Some c.in-Some-Check.field-0-is) at never)
@@ -163,6 +186,9 @@ returns-in-Some-Staged-clause-does g c = rw (sym c.command.ensures.says ∙ c.in
 
 pub returns-in-Some-Staged-clause-usage : goal.returns-in-Some-Staged-clause-usage
 returns-in-Some-Staged-clause-usage g c = λ none. absurd (stages_usage _ c.staged.result _ _ _ _ _ _ _ _ c.staged.ensures none)
+
+pub returns-in-Some-Staged-clause-alone : goal.returns-in-Some-Staged-clause-alone
+returns-in-Some-Staged-clause-alone g c = λ none. refl
 
 pub returns-in-Some-Staged-clause-never : goal.returns-in-Some-Staged-clause-never
 returns-in-Some-Staged-clause-never g c = λ never. absurd (rw (sym c.command.ensures.says ∙ c.in-Some-Staged.is ∙ ap Some c.in-Some-Staged.field-0-is)
@@ -188,6 +214,9 @@ returns-in-Some-Names-clause-does g c = rw (sym c.command.ensures.says ∙ c.in-
 pub returns-in-Some-Names-clause-usage : goal.returns-in-Some-Names-clause-usage
 returns-in-Some-Names-clause-usage g c = λ none. absurd (names_usage _ c.named.result _ _ _ _ _ _ _ _ c.named.ensures none)
 
+pub returns-in-Some-Names-clause-alone : goal.returns-in-Some-Names-clause-alone
+returns-in-Some-Names-clause-alone g c = λ none. refl
+
 pub returns-in-Some-Names-clause-never : goal.returns-in-Some-Names-clause-never
 returns-in-Some-Names-clause-never g c = λ never. absurd (rw (sym c.command.ensures.says ∙ c.in-Some-Names.is ∙ ap Some c.in-Some-Names.field-0-is) at never)
 
@@ -212,6 +241,9 @@ pub returns-in-Some-Client-clause-usage : goal.returns-in-Some-Client-clause-usa
 returns-in-Some-Client-clause-usage g c = λ none. absurd (attends_usage c.in-Some-Client.turns _ _ c.attended.result _ _ _ _ _ _ _ _ _ _ _ _
     c.attended.ensures none)
 
+pub returns-in-Some-Client-clause-alone : goal.returns-in-Some-Client-clause-alone
+returns-in-Some-Client-clause-alone g c = λ none. refl
+
 pub returns-in-Some-Client-clause-never : goal.returns-in-Some-Client-clause-never
 returns-in-Some-Client-clause-never g c = λ never. absurd (rw (sym c.command.ensures.says ∙ c.in-Some-Client.is ∙ ap Some c.in-Some-Client.field-0-is)
     at never)
@@ -234,6 +266,9 @@ returns-in-None-clause-does g c = rw (sym c.command.ensures.says ∙ c.in-None.i
 
 pub returns-in-None-clause-usage : goal.returns-in-None-clause-usage
 returns-in-None-clause-usage g c = λ none. (rw (sym c.command.ensures.says ∙ c.in-None.is) tt, refl, c.usage.ensures.printed)
+
+pub returns-in-None-clause-alone : goal.returns-in-None-clause-alone
+returns-in-None-clause-alone g c = λ none. refl
 
 pub returns-in-None-clause-never : goal.returns-in-None-clause-never
 returns-in-None-clause-never g c = λ never. (c.usage.ensures.usage, refl)

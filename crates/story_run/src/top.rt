@@ -1,0 +1,46 @@
+//! The top call with its four fates, over what is in memory.
+
+ghost use Rattle.std.specs.Prelude.{◌≡◌, ◌+◌, ℕ, List, Some, true, length};
+ghost use Rattle.nq_command.specs.Commands.{command_of};
+ghost use Rattle.nq_command.specs.declared.commands.Command.{Command};
+ghost use Rattle.nq_run.specs.Frames.{makes_a_run};
+
+use nq_clock::Clock;
+use nq_disk::Disk;
+use nq_io::{Sink, Source};
+use nq_link::Link;
+use nq_run::{CutFate, Ended, Fate, HostileFate, LossyFate, NoMemory, SteadyFate, Words, run};
+use std::alloc::Global;
+
+/// Runs what the words say, with the four fates. What `run` promises is said there; no line here needs it.
+pub(crate) fn ran<S: Source, K: Sink, D: Disk + Drop, L: Link, C: Clock>(
+    alloc: Global,
+    words: &Words,
+    input: &mut S,
+    out: &mut K,
+    disk: D,
+    link: &mut L,
+    links: &mut [L],
+    clock: &mut C,
+) -> Result<Ended<D>, NoMemory>
+    requires tells { makes_a_run (command_of words.now) ≡ true → (bytes : List ℕ) × (D.told disk ≡ Some bytes) }
+    requires links { (hosts turns : ℕ) → command_of words.now ≡ Some (Command.Loop hosts turns) → length links.old ≡ hosts + 1 }
+{
+    let mut fates: Vec<Box<dyn Fate>> = Vec::new(alloc);
+    fates.push(Box::new(alloc, SteadyFate::new())?)?;
+    fates.push(Box::new(alloc, LossyFate::new())?)?;
+    fates.push(Box::new(alloc, CutFate::new())?)?;
+    fates.push(Box::new(alloc, HostileFate::new())?)?;
+    let ended = run(
+        alloc,
+        words,
+        input,
+        out,
+        disk,
+        link,
+        links,
+        clock,
+        fates.as_mut_slice(),
+    );
+    Ok(ended)
+}
