@@ -85,7 +85,7 @@ module _ {D : Type 0} (faults : D → ℕ) (follows : D → D → Type 0) where
         let first = fresh-counts store fresh in
         let differ = differs (faults disk) (faults served.disk) served.refused more below in
         let is = fault-by end (faults_of faults store) (faults_of faults served) counts
-            (λ stands. differ (stands ∙ first ∙ subst (λ (n : ℕ). counted (faults store.disk) 0 ≡ counted n 0) same refl)) in
+        (λ stands. differ (stands ∙ first ∙ subst (λ (n : ℕ). counted (faults store.disk) 0 ≡ counted n 0) same refl)) in
         subst (λ e. code ≡ status_of e) is status;
     still = λ stands.
         still-by store served fresh.none (stands ∙ sym same) (goes.cause fresh.goes_on) ∙ sym (fresh-counts store fresh);

@@ -1,5 +1,5 @@
 -- What the program hands to a run for its words, and the exit status that it makes of a run.
-use Rattle.std.specs.Prelude.{ℕ, zero, suc, List, [], ◌∷◌, ◌++◌, Option, Some, None, Result, Ok, Err}
+use Rattle.std.specs.Prelude.{ℕ, zero, suc, List, [], ◌∷◌, ◌++◌, Option, Some, Result, Ok, Err}
 use Rattle.nq_base.specs.Status.{status_of}
 use Rattle.nq_base.specs.declared.NoMemory.{NoMemory}
 use Rattle.nq_base.specs.declared.Party.{Party}

@@ -36,8 +36,18 @@ pub const ROOM: Room = Room {
 pub fn words_of(alloc: Global, args: &[String]) -> Result<Words, NoMemory>
     ensures { IfOk result (λ words. words ≡ map (λ word. string_bytes word) (drop 1 args.now)) }
 {
+    match args.split_first() {
+        Some((_name, said)) => words_among(alloc, said),
+        None => Words::new(alloc),
+    }
+}
+
+/// These words.
+fn words_among(alloc: Global, said: &[String]) -> Result<Words, NoMemory>
+    ensures { IfOk result (λ words. words ≡ map (λ word. string_bytes word) said.now) }
+{
     let mut words = Words::new(alloc)?;
-    for word in args.iter().skip(1) {
+    for word in said {
         words.push(word.as_str())?;
     }
     Ok(words)
@@ -99,13 +109,13 @@ fn parties_among(alloc: Global, hosts: u32) -> Result<Vec<Party>, NoMemory>
 /// Only want of memory.
 pub fn blank_disk(alloc: Global) -> Result<MemDisk, NoMemory>
     ensures { IfOk result (λ disk. disk ≡ record {
-        first = [];
-        events = [];
-        room = record { size = 68202496; calls = 2 ^ 32 - 1; written = 2 ^ 64 - 1 };
-        made = 0;
-        failing = [];
-        stop = None;
-        faults = 0;
+      first = [];
+      events = [];
+      room = record { size = 68202496; calls = 2 ^ 32 - 1; written = 2 ^ 64 - 1 };
+      made = 0;
+      failing = [];
+      stop = None;
+      faults = 0;
     }) }
 {
     MemDisk::new(alloc, Vec::new(alloc), ROOM, Vec::new(alloc), None)

@@ -69,10 +69,7 @@ fn tell_taken(rt: &HostRuntime, link: &UdpLink<HostRuntime>) {
 }
 
 /// The links of a loop. All are bound before the first turn, so that no early datagram is lost.
-fn links_of(
-    rt: &HostRuntime,
-    parties: &[Party],
-) -> Result<Vec<UdpLink<HostRuntime>>, NoMemory>
+fn links_of(rt: &HostRuntime, parties: &[Party]) -> Result<Vec<UdpLink<HostRuntime>>, NoMemory>
     ensures parties { IfOk result (λ links. map (λ link. link.me) links.items ≡ parties.now) }
     ensures count { IfOk result (λ links. vec_len links ≡ length parties.now) }
 {

@@ -149,12 +149,17 @@ impl<'a> Link for PostLink<'a> {
 pub(crate) struct StoryClock {
     next: u32,
     last: u32,
+    reads: u64,
 }
 
 impl StoryClock {
     /// A clock that goes on to this reading.
     pub(crate) fn to(last: u32) -> StoryClock {
-        StoryClock { next: 0, last }
+        StoryClock {
+            next: 0,
+            last,
+            reads: 0,
+        }
     }
 }
 
@@ -163,7 +168,10 @@ impl Clock for StoryClock {
 
     ghost readings = { λ _. None };
 
+    ghost reads = { λ clock. clock.reads };
+
     fn now(&mut self) -> Ticks {
+        self.reads = self.reads.saturating_add(1);
         let reading = self.next;
         if reading < self.last {
             self.next = reading + 1;
