@@ -1,7 +1,7 @@
 #!/usr/bin/env python3
 """Prints what a skeptic has to read to know what is promised: a definition, and all definitions on which it stands.
 
-    trusted.py                  of the headline, `HeadlineHolds` of nq_model
+    trusted.py                  of the headline, `AtEveryMoment` of nq_model
     trusted.py NAME             of another definition, by its name or as CRATE.MODULE.NAME
     trusted.py --clauses CRATE::FUNCTION
                                 of all clauses of a public function, as nq_run::run
@@ -146,7 +146,7 @@ def lines_of(definition):
 
 def main():
     asked = argparse.ArgumentParser(description=__doc__.splitlines()[0])
-    asked.add_argument("name", nargs="?", default="HeadlineHolds")
+    asked.add_argument("name", nargs="?", default="AtEveryMoment")
     asked.add_argument("--clauses", metavar="CRATE::FUNCTION", help="begin at the clauses of this public function")
     asked.add_argument("--count", action="store_true", help="print no definition")
     said = asked.parse_args()
