@@ -4,24 +4,17 @@
 //! schedule is told as `nqnfs replay` tells it, with the same status.
 #![tactic(auto)]
 
-mod decoding;
-mod looking;
-mod mail;
-mod memory;
-mod playing;
-mod seeing;
-mod spans;
 mod words;
 
 ghost use Rattle.std.specs.Prelude.{◌<◌, ◌^◌, length};
 
-use crate::looking::{Shown, View, look};
 use crate::words::view_of;
 use nq_base::NoMemory;
 use nq_base::ending::Ending;
 use nq_io::streams::{StdSink, StdSource};
 use nq_io::{MemSink, MemSource, Put, Sink, Source, Whole, read_all};
 use nq_keeper::ListKeeper;
+use nq_observe::{Shown, View, look};
 use nq_replay::{read_script, replay};
 use std::io::ErrorKind;
 use std::process::ExitCode;

@@ -1,5 +1,5 @@
 use Rattle.nq_replay.proofs.Outcomes.{names_bad}
-use Rattle.nqnfs_look.proofs.looking.look.Goals as goal
+use Rattle.nq_observe.proofs.looking.look.Goals as goal
 
 pub returns-in-Err-Bad-clause-shows : goal.returns-in-Err-Bad-clause-shows
 returns-in-Err-Bad-clause-shows c = λ head lines spelled.

@@ -3,8 +3,8 @@
 ghost use Rattle.std.specs.Prelude.{◌≡◌, ◌<◌, ◌^◌, List, Some, length};
 ghost use Rattle.nq_record.specs.Page.{Extends};
 ghost use Rattle.nq_keeper.specs.StoredKeeper.{empty_kept};
-ghost use Rattle.nqnfs_look.specs.Looking.{ShowsRun};
-ghost use Rattle.nqnfs_look.specs.declared.looking.View.{View};
+ghost use Rattle.nq_observe.specs.Looking.{ShowsRun};
+ghost use Rattle.nq_observe.specs.declared.looking.View.{View};
 ghost use Rattle.nq_replay.specs.Schedules.{IsReady};
 ghost use Rattle.nq_script.specs.Schedule.{SpellsSchedule};
 ghost use Rattle.nq_script.specs.declared.heads.Head.{Head};
@@ -21,7 +21,7 @@ use std::alloc::Global;
 
 /// How a run is shown.
 #[derive(Clone, Copy)]
-pub(crate) enum View {
+pub enum View {
     /// As a message sequence chart, in SVG, of the events from `from` to `to`, counted from 0.
     Picture { from: usize, to: usize },
     /// Told, a line for each event.
@@ -33,7 +33,7 @@ pub(crate) enum View {
 
 /// Whether there was something to show.
 #[derive(Clone, Copy)]
-pub(crate) enum Shown {
+pub enum Shown {
     /// What was asked for.
     All,
     /// Nothing: the text is no schedule, or the journal has no entry in the line that was asked for.
@@ -45,7 +45,7 @@ pub(crate) enum Shown {
 /// # Errors
 ///
 /// Only want of memory. Then a front of what is to be shown was appended.
-pub(crate) fn look(
+pub fn look(
     alloc: Global,
     text: &[u8],
     view: View,

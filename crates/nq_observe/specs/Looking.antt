@@ -1,7 +1,7 @@
 -- What is shown of a run.
 use Rattle.std.specs.Prelude.{Result, Ok, Err}
-use Rattle.nqnfs_look.specs.declared.looking.Shown.{Shown}
-use Rattle.nqnfs_look.specs.declared.looking.View.{View}
+use Rattle.nq_observe.specs.declared.looking.Shown.{Shown}
+use Rattle.nq_observe.specs.declared.looking.View.{View}
 
 -- the events are asked for that led to an entry of the journal
 abbrev pub AsksForEntry : View → Type 0
