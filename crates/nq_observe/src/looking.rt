@@ -10,6 +10,7 @@ ghost use Rattle.nq_script.specs.Schedule.{SpellsSchedule};
 ghost use Rattle.nq_script.specs.declared.heads.Head.{Head};
 ghost use Rattle.nq_script.specs.declared.lines.Line.{Line};
 
+use crate::patience::{Patience, Unseen};
 use crate::playing::play;
 use nq_base::{Entry, NoMemory};
 use nq_keeper::{Keeper, ListKeeper};
@@ -44,13 +45,15 @@ pub enum Shown {
 ///
 /// # Errors
 ///
-/// Only want of memory. Then a front of what is to be shown was appended.
-pub fn look(
+/// - `Memory`: memory was wanting; a front of what is to be shown was appended.
+/// - `Time`: no time was left; nothing was appended.
+pub fn look<P: Patience>(
     alloc: Global,
     text: &[u8],
     view: View,
+    patience: &mut P,
     page: &mut Vec<u8>,
-) -> Result<Shown, NoMemory>
+) -> Result<Shown, Unseen>
     requires { length text.now < 2 ^ 31 }
     ensures extends { Extends page.old.items page.new.items }
     ensures shows { (head : Head) (lines : List Line) → SpellsSchedule head lines text.now → ShowsRun result view }
@@ -58,21 +61,22 @@ pub fn look(
     match parse(alloc, text) {
         Ok(script) => {
             let keeper = ListKeeper::new(alloc, Vec::new(alloc))?;
-            look_over(alloc, &script, keeper, view, page)
+            look_over(alloc, &script, keeper, view, patience, page)
         }
         Err(ScriptFault::Bad(_number)) => Ok(Shown::Nothing),
-        Err(ScriptFault::Memory) => Err(NoMemory::Memory),
+        Err(ScriptFault::Memory) => Err(Unseen::Memory),
     }
 }
 
 /// Shows the run of a schedule over a keeper that keeps nothing yet.
-fn look_over<L: Keeper + Drop>(
+fn look_over<L: Keeper + Drop, P: Patience>(
     alloc: Global,
     script: &Script,
     keeper: L,
     view: View,
+    patience: &mut P,
     page: &mut Vec<u8>,
-) -> Result<Shown, NoMemory>
+) -> Result<Shown, Unseen>
     requires ready { IsReady script.now }
     requires empty { L.content keeper ≡ Some empty_kept }
     ensures extends { Extends page.old.items page.new.items }
@@ -80,10 +84,10 @@ fn look_over<L: Keeper + Drop>(
 {
     let mut world = match begin(alloc, &script.head, keeper) {
         Ok(world) => world,
-        Err(NewFault::Memory(_keeper)) => return Err(NoMemory::Memory),
-        Err(NewFault::Failed(_keeper)) => return Err(NoMemory::Memory),
+        Err(NewFault::Memory(_keeper)) => return Err(Unseen::Memory),
+        Err(NewFault::Failed(_keeper)) => return Err(Unseen::Memory),
     };
-    let seen = play(alloc, &mut world, script);
+    let seen = play(alloc, &mut world, script, patience);
     let shown = show(alloc, seen, world.journal().entries(), view, page);
     let _keeper = world.into_keeper();
     shown
@@ -92,7 +96,22 @@ fn look_over<L: Keeper + Drop>(
 /// Shows what was seen, where the journal has these entries.
 fn show(
     alloc: Global,
-    seen: Result<Record, NoMemory>,
+    seen: Result<Record, Unseen>,
+    entries: &[Entry],
+    view: View,
+    page: &mut Vec<u8>,
+) -> Result<Shown, Unseen>
+    ensures extends { Extends page.old.items page.new.items }
+    ensures shows { ShowsRun result view }
+{
+    let record = seen?;
+    Ok(show_record(alloc, &record, entries, view, page)?)
+}
+
+/// Shows a run, where the journal has these entries.
+fn show_record(
+    alloc: Global,
+    record: &Record,
     entries: &[Entry],
     view: View,
     page: &mut Vec<u8>,
@@ -100,16 +119,15 @@ fn show(
     ensures extends { Extends page.old.items page.new.items }
     ensures shows { ShowsRun result view }
 {
-    let record = seen?;
     match view {
         View::Tell => {
-            tell(alloc, &record, page)?;
+            tell(alloc, record, page)?;
             Ok(Shown::All)
         }
-        View::Why { line } => show_why(alloc, &record, entries, line, page),
+        View::Why { line } => show_why(alloc, record, entries, line, page),
         View::Picture { from, to } => {
             let title = String::from_str(alloc, "nqnfs: a run")?;
-            let chart = picture(alloc, &record, title, from, to)?;
+            let chart = picture(alloc, record, title, from, to)?;
             draw(alloc, &chart, page)?;
             Ok(Shown::All)
         }

@@ -2,13 +2,18 @@
 
 use crate::answers::Made;
 use crate::files::{file_of, kind_of};
-use crate::runs::{looked, replayed, tell_run};
+use crate::requests::{Bends, bends_in, number_in, text_in, then_in};
+use crate::runs::{Bending, Untold, bend_text, draw_run, tell_why};
+use crate::watch::Watch;
 use bytes::{BufMut, Bytes};
-use http::header::{CONNECTION, CONTENT_TYPE, HOST, ORIGIN};
-use http::{HeaderValue, Method, Request, StatusCode};
+use http::header::{CONTENT_TYPE, HOST, ORIGIN};
+use http::{HeaderValue, Request, StatusCode};
 use http_server::{Response, Service};
-use nq_base::NoMemory;
+use serde_json::Value;
 use std::alloc::{AllocError, Global};
+
+/// The most bytes that the page sends.
+const MOST_BYTES: usize = 1_048_576;
 
 /// Answers the requests of the page.
 #[derive(Drop)]
@@ -41,7 +46,7 @@ impl Desk<'_> {
         let path = request.uri().path();
         let body = request.body().as_slice();
         match request.method().as_str() {
-            "GET" => self.file(path),
+            "GET" | "HEAD" => self.file(path),
             "POST" => self.post(path, body),
             _ => text(alloc, 405, "GET or POST\n"),
         }
@@ -84,30 +89,100 @@ impl Desk<'_> {
     /// What is answered to what the page sends.
     fn post(&self, path: &str, body: &[u8]) -> Result<Answer, AllocError> {
         let alloc = self.rt.alloc();
+        if body.len() > MOST_BYTES {
+            return text(alloc, 413, "a schedule here has at most 1,048,576 bytes\n");
+        }
+        let mut watch = Watch::new(self.rt);
+        if path == "/run" {
+            return run(&mut watch, body);
+        }
+        let Ok(asked) = Value::from_slice(alloc, body) else {
+            return text(alloc, 400, "that is no JSON\n");
+        };
         match path {
-            "/run" => run(alloc, body),
+            "/why" => why(&mut watch, &asked),
+            "/bend" => bend(&mut watch, &asked),
             _ => text(alloc, 404, "there is no such path\n"),
         }
     }
 }
 
 /// What is told of a schedule's run.
-fn run(alloc: Global, body: &[u8]) -> Result<Answer, AllocError> {
-    if body.len() > 1_048_576 {
-        return text(alloc, 413, "a schedule here has at most 1,048,576 bytes\n");
-    }
-    match tell_run(alloc, body) {
-        Ok(told) => {
-            let mut made = Made::new(alloc);
+fn run(watch: &mut Watch<'_>, body: &[u8]) -> Result<Answer, AllocError> {
+    let alloc = watch.alloc();
+    let told = match draw_run(watch, body) {
+        Ok(told) => told,
+        Err(why) => return untold(alloc, why),
+    };
+    let mut made = Made::new(alloc);
+    made.run(told)?;
+    object(made)
+}
+
+/// The events that led to the entry in a line of a schedule's journal.
+fn why(watch: &mut Watch<'_>, asked: &Value) -> Result<Answer, AllocError> {
+    let alloc = watch.alloc();
+    let (Some(schedule), Some(line)) = (text_in(asked, "schedule"), number_in(asked, "line")) else {
+        return text(alloc, 400, "a schedule and a line are wanted\n");
+    };
+    let (status, why) = match tell_why(watch, schedule.as_bytes(), line) {
+        Ok(told) => told,
+        Err(why) => return untold(alloc, why),
+    };
+    let mut made = Made::new(alloc);
+    made.number("status", status as u64)?;
+    made.text("why", why)?;
+    object(made)
+}
+
+/// What is told of the run of a schedule that is bent.
+fn bend(watch: &mut Watch<'_>, asked: &Value) -> Result<Answer, AllocError> {
+    let alloc = watch.alloc();
+    let (Some(schedule), Some(then)) = (text_in(asked, "schedule"), then_in(asked)) else {
+        return text(
+            alloc,
+            400,
+            "a schedule, and `go on` or `stop`, are wanted\n",
+        );
+    };
+    let bends = match bends_in(alloc, asked)? {
+        Bends::All(bends) => bends,
+        Bends::Bad(place) => return untold(alloc, Untold::Bend(place)),
+    };
+    let mut made = Made::new(alloc);
+    match bend_text(watch, schedule.as_bytes(), &bends, then) {
+        Ok(Bending::Bent { bent, told }) => {
+            made.bent(bent)?;
             made.run(told)?;
-            Ok(Answer {
-                status: 200,
-                kind: "application/json",
-                body: made.into_bytes()?,
-            })
         }
-        Err(NoMemory::Memory) => text(alloc, 503, "memory is wanting\n"),
+        Ok(Bending::Faulty(told)) => {
+            made.unbent()?;
+            made.run(told)?;
+        }
+        Err(why) => return untold(alloc, why),
     }
+    object(made)
+}
+
+/// The answer that says why nothing is told.
+fn untold(alloc: Global, why: Untold) -> Result<Answer, AllocError> {
+    match why {
+        Untold::Memory => text(alloc, 503, "memory is wanting\n"),
+        Untold::Time => text(alloc, 503, "that takes longer than 5 seconds\n"),
+        Untold::Bend(place) => {
+            let words = format!(in alloc; "bend {place} says nothing that can be done\n")?;
+            text(alloc, 400, words.as_str())
+        }
+    }
+}
+
+/// An answer of an object.
+fn object(made: Made) -> Result<Answer, AllocError> {
+    Ok(Answer {
+        status: 200,
+        kind: "application/json",
+        body: made.into_bytes()?,
+    })
 }
 
 /// An answer of plain text.
@@ -134,9 +209,6 @@ impl Service for Desk<'_> {
         response
             .headers
             .push((CONTENT_TYPE, HeaderValue::from_static(kind)))?;
-        response
-            .headers
-            .push((CONNECTION, HeaderValue::from_static("close")))?;
         response.body.put_slice(&body)
     }
 }

@@ -6,11 +6,13 @@ mod answers;
 mod desk;
 mod files;
 mod peers;
+mod requests;
 mod runs;
+mod watch;
 mod words;
 
 use crate::desk::Desk;
-use crate::peers::serve_all;
+use crate::peers::{serve_all, serve_once};
 use crate::words::{Asked, Options, asked};
 use nq_base::ending::Ending;
 use std::env;
@@ -22,6 +24,7 @@ const HELP: &str = "nqnfs_lab [--port N] [--web FOLDER]
 Serves a laboratory of schedules at http://127.0.0.1:N/, to browsers on this machine alone, until it is stopped.
   --port N       1 to 65535; 8059 where nothing is said
   --web FOLDER   where the files of the page are; web where nothing is said
+  --once         answers the requests on the standard input alone, on the standard output, and uses no port
   --help         prints this
   --version      prints the version
 ";
@@ -37,6 +40,7 @@ fn obey(rt: &HostRuntime) -> Ending {
     };
     match asked(rt.alloc(), args.skip(1)) {
         Ok(Asked::Serve(options)) => serve(rt, options),
+        Ok(Asked::Once(options)) => once(rt, options),
         Ok(Asked::Help) => {
             let _told = print!(rt; "{HELP}");
             Ending::Done
@@ -65,5 +69,15 @@ fn serve(rt: &HostRuntime, options: Options) -> Ending {
     match serve_all(rt, &listener, &mut desk) {
         Ok(()) => Ending::Done,
         Err(_) => Ending::LinkFault,
+    }
+}
+
+/// Answers the requests on the standard input; how that ends.
+fn once(rt: &HostRuntime, options: Options) -> Ending {
+    let Options { port, web } = options;
+    let mut desk = Desk::new(rt, port, web);
+    match serve_once(rt, &mut desk) {
+        Ok(()) => Ending::Done,
+        Err(_) => Ending::WriteFault,
     }
 }

@@ -1,7 +1,7 @@
 //! Whoever is connected.
 
 use crate::desk::Desk;
-use http_server::{Config, Connection};
+use http_server::{Config, Connection, serve};
 use std::hash::RandomState;
 use std::io::ErrorKind;
 use std::net::{TcpListener, TcpStream};
@@ -127,4 +127,16 @@ fn note(peer: &mut Peer, read: Moved, written: Moved) -> bool {
         || written == Moved::Failed
         || peer.quiet > MOST_QUIET;
     !is_quiet
+}
+
+/// Answers the requests on the standard input, on the standard output, until one asks to close or the input ends.
+///
+/// # Errors
+///
+/// Where a stream fails.
+pub(crate) fn serve_once(rt: &HostRuntime, desk: &mut Desk<'_>) -> io::Result<()> {
+    let mut connection = Connection::new(rt.alloc(), RandomState::new(rt)?, Config::default());
+    let mut input = rt.reader();
+    let mut output = io::writer(rt);
+    serve(&mut connection, desk, &mut input, &mut output)
 }

@@ -7,6 +7,8 @@ use std::alloc::Global;
 pub(crate) enum Asked {
     /// To serve the page.
     Serve(Options),
+    /// To answer the requests that come on the standard input.
+    Once(Options),
     /// To tell the words.
     Help,
     /// To tell the version.
@@ -34,10 +36,12 @@ pub(crate) fn asked<I: Iterator<Item = String> + Drop>(
     let mut port = 8059u16;
     let mut web = copied(alloc, "web")?;
     let mut name = copied(alloc, "")?;
+    let mut once = false;
     for word in words {
         match (name.as_str(), word.as_str()) {
             ("", "--help") => return Ok(Asked::Help),
             ("", "--version") => return Ok(Asked::Version),
+            ("", "--once") => once = true,
             ("", "--port") | ("", "--web") => name = word,
             ("--port", digits) => {
                 port = port_of(alloc, digits)?;
@@ -53,7 +57,12 @@ pub(crate) fn asked<I: Iterator<Item = String> + Drop>(
     if !name.is_empty() {
         return Err(said(alloc, "a word is missing behind ", name.as_str()));
     }
-    Ok(Asked::Serve(Options { port, web }))
+    let options = Options { port, web };
+    if once {
+        Ok(Asked::Once(options))
+    } else {
+        Ok(Asked::Serve(options))
+    }
 }
 
 /// The port that a word writes.
