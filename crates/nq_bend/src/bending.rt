@@ -180,6 +180,7 @@ fn make<K: Keeper>(
 }
 
 /// Lets happen what lines tell.
+#[tactic(auto, using(nq_observe::proofs::Telling::each_at))]
 fn put<K: Keeper>(
     world: &mut World<K>,
     course: &mut Course,
@@ -239,6 +240,7 @@ fn deliver<K: Keeper>(
 }
 
 /// Lets the event at a place of the old run happen, or leaves it out.
+#[tactic(auto, using(nq_observe::proofs::Telling::each_at, crate::proofs::Coming::stands_self))]
 fn keep<K: Keeper>(
     world: &mut World<K>,
     course: &mut Course,

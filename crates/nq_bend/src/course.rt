@@ -146,6 +146,7 @@ impl Course {
 
     /// Keeps an event at the end of the new run, with its place in the old one, unless the run is over, or the event is the delivery
     /// of a packet that is lost; whether it is kept.
+    #[tactic(auto, using(crate::proofs::Coming::filled))]
     fn enter(
         &mut self,
         plan: &Plan<'_>,
@@ -212,6 +213,7 @@ impl Course {
 
 /// Lets an event happen in the new run, unless that is over, or the event is the delivery of a packet that is lost. The run is over
 /// where the world refuses the event, which then is its last.
+#[tactic(auto, using(crate::proofs::Coming::can_come, crate::proofs::Coming::settings_on))]
 pub(crate) fn happen<K: Keeper>(
     world: &mut World<K>,
     course: &mut Course,

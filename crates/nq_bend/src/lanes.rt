@@ -41,8 +41,8 @@ impl Lanes {
             olds: Vec::new(alloc),
             news: vec![in alloc; None; sent.len()]?,
         };
-        for (number, packet) in sent.iter().enumerate() {
-            lanes.add(number as u64, packet)?;
+        for number in 0..sent.len() {
+            lanes.add(number as u64, &sent[number])?;
         }
         Ok(lanes)
     }

@@ -9,10 +9,10 @@ use Rattle.nq_script.specs.declared.heads.Head.{Head}
 use Rattle.nq_script.specs.declared.lines.Line.{Line}
 
 -- what holds of all holds of the one at a place
-pub each-at : {X : Type 0} (P : X → Type 0) (xs : List X) (place : ℕ) (x : X) → AllByRecursion P xs → slice_get xs place ≡ Some x → P x
-each-at P [] place x all here = absurd (cc)
-each-at P (y ∷ xs) zero x all here = let same : y ≡ x = cc in subst P same all.0
-each-at P (y ∷ xs) (suc place) x all here = each-at P xs place x all.1 here
+pub each_at : {X : Type 0} (P : X → Type 0) (xs : List X) (place : ℕ) (x : X) → AllByRecursion P xs → slice_get xs place ≡ Some x → P x
+each_at P [] place x all here = absurd (cc)
+each_at P (y ∷ xs) zero x all here = let same : y ≡ x = cc in subst P same all.0
+each_at P (y ∷ xs) (suc place) x all here = each_at P xs place x all.1 here
 
 tells-line : (head : Head) (line : Line) (text : List ℕ) → SpellsLine head line text → TellsEvent head line
 tells-line head (Line.Events event times) text spelled = (spelled.0, spelled.1.0)
