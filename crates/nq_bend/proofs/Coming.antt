@@ -3,8 +3,7 @@ use Rattle.std.proofs.Common.{◌≡◌, ◌≤◌, ◌<◌, ◌⊎◌, inl, inr
 use Rattle.std.specs.List.{AllByRecursion}
 use Rattle.nq_base.specs.declared.Call.{Call}
 use Rattle.nq_base.specs.declared.Event.{Event}
-use Rattle.nq_bend.specs.Course.{HasHead, StandsFor}
-use Rattle.nq_bend.specs.declared.plan.Plan.{Plan}
+use Rattle.nq_bend.specs.Course.{StandsFor}
 use Rattle.nq_observe.specs.Told.{TellsEvent}
 use Rattle.nq_replay.specs.Texts.{IsTellable}
 use Rattle.nq_script.specs.Calls.{HasCall, IsFilledCall}
@@ -25,14 +24,15 @@ come head (Event.ClientTick host) told = told.0
 come head (Event.Restart host) told = told.0
 come head (Event.Crash longest) told = (least head.version longest told.1, told.0)
 
-pub can_come : {K : Type 0} (plan : Plan) (w : WorldOver K) (event : Event) → HasHead plan w → IsTellable plan.head.now event
+pub can_come : {K : Type 0} (head : Head) (w : WorldOver K) (event : Event) → HasSettings head.hosts head.longest head.term w → IsTellable head event
     → CanCome (length w.clients) w.skew.window event
-can_come plan w event has told =
+can_come head w event has told =
     subst (λ hosts. CanCome hosts w.skew.window event) (sym has.hosts_are)
-    (subst (λ longest. CanCome plan.head.now.hosts longest event) (sym has.longest_is) (come plan.head.now event told))
+    (subst (λ longest. CanCome head.hosts longest event) (sym has.longest_is) (come head event told))
 
-pub settings_on : {K : Type 0} (plan : Plan) (w v : WorldOver K) → HasHead plan w → HasSettings (length w.clients) w.skew.window w.term v → HasHead plan v
-settings_on plan w v has on = record {
+pub settings_on : {K : Type 0} (hosts longest term : ℕ) (w v : WorldOver K) → HasSettings hosts longest term w
+    → HasSettings (length w.clients) w.skew.window w.term v → HasSettings hosts longest term v
+settings_on hosts longest term w v has on = record {
   hosts_are = on.hosts_are ∙ has.hosts_are;
   longest_is = on.longest_is ∙ has.longest_is;
   term_is = on.term_is ∙ has.term_is;

@@ -9,9 +9,9 @@ use Rattle.nq_bend.specs.Bending.{IsSpared, acts, kept}
 use Rattle.nq_bend.specs.Course.{IsDelivery, StandsFor}
 use Rattle.nq_bend.specs.declared.bends.Bend.{Bend}
 
-pub all-last : {X : Type 0} (P : X → Type 0) (xs : List X) (x : X) → AllByRecursion P xs → P x → AllByRecursion P (xs ++ x ∷ [])
-all-last P [] x all is = (is, tt)
-all-last P (y ∷ xs) x all is = (all.0, all-last P xs x all.1 is)
+pub all_last : {X : Type 0} (P : X → Type 0) (xs : List X) (x : X) → AllByRecursion P xs → P x → AllByRecursion P (xs ++ x ∷ [])
+all_last P [] x all is = (is, tt)
+all_last P (y ∷ xs) x all is = (all.0, all_last P xs x all.1 is)
 
 pub all-more : {X : Type 0} (P Q : X → Type 0) (xs : List X) → ((x : X) → P x → Q x) → AllByRecursion P xs → AllByRecursion Q xs
 all-more P Q [] on all = tt

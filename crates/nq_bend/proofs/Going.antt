@@ -4,7 +4,7 @@ use Rattle.std.proofs.Common.{arith, ◌⊎◌, inl, inr}
 use Rattle.std.proofs.lemmas.List.{append-nil, length-append}
 use Rattle.std.specs.List.{AllByRecursion}
 use Rattle.nq_base.specs.declared.Event.{Event}
-use Rattle.nq_bend.proofs.Events.{acts-append, acts-delivery, acts-stand, all-last, all-more, kept-along, kept-beside, spared-more, take-next}
+use Rattle.nq_bend.proofs.Events.{acts-append, acts-delivery, acts-stand, all_last, all-more, kept-along, kept-beside, spared-more, take-next}
 use Rattle.nq_bend.specs.Bending.{IsSpared, KeepsActs, acts, kept}
 use Rattle.nq_bend.specs.Course.{IsCourse, IsDelivery, IsSameButSent, IsSameRun, IsWith, Keeps, StandsFor}
 use Rattle.nq_bend.specs.declared.bends.Bend.{Bend}
@@ -41,7 +41,7 @@ spared-last : (bends : List Bend) (event : Event) {origin : Option ℕ} (c d : C
 spared-last bends event c d w spared all =
     subst (λ es. AllByRecursion (IsSpared bends d.lanes.olds.items) es) (sym w.ran)
     (subst (λ ms. AllByRecursion (IsSpared bends ms) (c.ran ++ event ∷ [])) (sym w.sent)
-    (all-last (IsSpared bends c.lanes.olds.items) c.ran event all spared))
+    (all_last (IsSpared bends c.lanes.olds.items) c.ran event all spared))
 
 skip-keeps : (old : List Event) (count : ℕ) (was : Event) (c : Course) → slice_get old count ≡ Some was → acts (was ∷ []) ≡ []
     → (over : Bool) → c.is_over ≡ over → Keeps old count c.is_over c → Keeps old (count + 1) c.is_over c
@@ -62,7 +62,7 @@ skip-keeps old count was c here none false is k = record {
 pub beside-with : (head : Head) (old : List Event) (bends : List Bend) (count : ℕ) (event : Event) (c d : Course) → IsTellable head event
     → IsSpared bends c.lanes.olds.items event → IsWith event None c d → IsCourse head old bends count c → IsCourse head old bends count d
 beside-with head old bends count event c d told spared w is = record {
-  told = subst (AllByRecursion (IsTellable head)) (sym w.ran) (all-last (IsTellable head) c.ran event is.told told);
+  told = subst (AllByRecursion (IsTellable head)) (sym w.ran) (all_last (IsTellable head) c.ran event is.told told);
   many = many-last c.ran c.origins.items d.ran d.origins.items event None w.ran w.origins is.many;
   keeps = record {
     reached = is.keeps.reached;
@@ -79,7 +79,7 @@ pub along-with : (head : Head) (old : List Event) (bends : List Bend) (count : �
     → IsSpared bends c.lanes.olds.items event → c.is_over ≡ false → slice_get old count ≡ Some was → StandsFor was event
     → IsWith event (Some count) c d → IsCourse head old bends count c → IsCourse head old bends (count + 1) d
 along-with head old bends count was event c d told spared going here stands w is = record {
-  told = subst (AllByRecursion (IsTellable head)) (sym w.ran) (all-last (IsTellable head) c.ran event is.told told);
+  told = subst (AllByRecursion (IsTellable head)) (sym w.ran) (all_last (IsTellable head) c.ran event is.told told);
   many = many-last c.ran c.origins.items d.ran d.origins.items event (Some count) w.ran w.origins is.many;
   keeps = record {
     reached = count + 1;

@@ -116,12 +116,30 @@ fn play<K: Keeper>(
         change(alloc, world, &mut course, plan, place)?;
         keep(world, &mut course, plan, place)?;
     }
-    let end = plan.old.events.len();
-    change(alloc, world, &mut course, plan, end)?;
-    if then == Then::GoOn {
-        drain(world, &mut course, plan)?;
-    }
+    finish(alloc, world, &mut course, plan, then)?;
     Ok(course)
+}
+
+/// What happens behind the last event of the old run.
+fn finish<K: Keeper>(
+    alloc: Global,
+    world: &mut World<K>,
+    course: &mut Course,
+    plan: &Plan<'_>,
+    then: Then,
+) -> Result<(), BendFault>
+    requires fits { FitsHead plan.now.head.now }
+    requires settings { HasHead plan.now world.old }
+    ensures goes { (count : ℕ) → IsOn plan.now count course.old → OnOk result (IsOn plan.now count course.new) }
+{
+    change(alloc, world, course, plan, plan.old.events.len())?;
+    match then {
+        Then::Stop => Ok(()),
+        Then::GoOn => {
+            drain(world, course, plan)?;
+            Ok(())
+        }
+    }
 }
 
 /// What happens before the event at a place of the old run: where a flow ended there, all that is under way arrives, and then the
@@ -138,11 +156,26 @@ fn change<K: Keeper>(
     ensures settings { HasHead plan.now world.new }
     ensures goes { (count : ℕ) → IsOn plan.now count course.old → OnOk result (IsOn plan.now count course.new) }
 {
-    if plan.old.is_behind_flow(place) {
-        drain(world, course, plan)?;
-    }
+    drain_behind_flow(world, course, plan, place)?;
     for number in 0..plan.bends.len() {
         make(alloc, world, course, plan, place, number)?;
+    }
+    Ok(())
+}
+
+/// All that is under way arrives, if a flow ended before the event at a place of the old run.
+fn drain_behind_flow<K: Keeper>(
+    world: &mut World<K>,
+    course: &mut Course,
+    plan: &Plan<'_>,
+    place: usize,
+) -> Result<(), NoMemory>
+    requires settings { HasHead plan.now world.old }
+    ensures settings { HasHead plan.now world.new }
+    ensures goes { (count : ℕ) → IsOn plan.now count course.old → OnOk result (IsOn plan.now count course.new) }
+{
+    if plan.old.is_behind_flow(place) {
+        return drain(world, course, plan);
     }
     Ok(())
 }
@@ -180,7 +213,6 @@ fn make<K: Keeper>(
 }
 
 /// Lets happen what lines tell.
-#[tactic(auto, using(nq_observe::proofs::Telling::each_at))]
 fn put<K: Keeper>(
     world: &mut World<K>,
     course: &mut Course,
@@ -193,11 +225,29 @@ fn put<K: Keeper>(
     ensures goes { (count : ℕ) → IsOn plan.now count course.old → OnOk result (IsOn plan.now count course.new) }
 {
     for place in 0..lines.len() {
-        if let Some(Line::Events { event, times }) = lines.get(place) {
-            repeat(world, course, plan, &event, times)?;
-        }
+        put_line(world, course, plan, lines, place)?;
     }
     Ok(())
+}
+
+/// Lets happen what the line at a place tells.
+#[tactic(auto, using(nq_observe::proofs::Telling::each_at))]
+fn put_line<K: Keeper>(
+    world: &mut World<K>,
+    course: &mut Course,
+    plan: &Plan<'_>,
+    lines: &Lines,
+    place: usize,
+) -> Result<(), NoMemory>
+    requires told { AllByRecursion (TellsEvent plan.now.head.now) lines.now }
+    requires settings { HasHead plan.now world.old }
+    ensures settings { HasHead plan.now world.new }
+    ensures goes { (count : ℕ) → IsOn plan.now count course.old → OnOk result (IsOn plan.now count course.new) }
+{
+    match lines.get(place) {
+        Some(Line::Events { event, times }) => repeat(world, course, plan, &event, times),
+        _ => Ok(()),
+    }
 }
 
 /// Lets an event happen so many times that was not in the old run.

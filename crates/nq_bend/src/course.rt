@@ -5,7 +5,6 @@ ghost use Rattle.nq_base.specs.declared.Event.{Event};
 ghost use Rattle.nq_bend.specs.Bending.{IsSpared};
 ghost use Rattle.nq_bend.specs.Course.{HasHead, IsCourse, IsDelivery, IsOn, IsWith, StandsFor};
 ghost use Rattle.nq_bend.specs.declared.bends.Bend.{Bend};
-ghost use Rattle.nq_bend.specs.declared.plan.Plan.{Plan};
 ghost use Rattle.nq_replay.specs.Texts.{IsTellable};
 ghost use Rattle.nq_script.specs.Lines.{IsFilledEvent};
 ghost use Rattle.nq_script.specs.declared.heads.Head.{Head};
@@ -61,8 +60,8 @@ impl Course {
 
     /// Leaves the delivery of a packet out.
     pub(crate) fn leave(&mut self, event: usize, packet: u64, why: Why) -> Result<(), NoMemory>
-        ensures { (plan : Plan) → slice_get plan.old.now.events event ≡ Some (Event.Deliver packet) → IsOn plan event self.old
-            → OnOk result (IsOn plan (event + 1) self.new) }
+        ensures { (head : Head) (old : List Event) (bends : List Bend) → slice_get old event ≡ Some (Event.Deliver packet)
+            → IsCourse head old bends event self.old → OnOk result (IsCourse head old bends (event + 1) self.new) }
     {
         self.left.push(LeftOut { event, packet, why })?;
         Ok(())
@@ -82,7 +81,8 @@ impl Course {
 
     /// Cuts a host off, or joins it again.
     pub(crate) fn set_cut(&mut self, host: Host, is_cut: bool)
-        ensures { (plan : Plan) (count : ℕ) → IsOn plan count self.old → IsOn plan count self.new }
+        ensures { (head : Head) (old : List Event) (bends : List Bend) (count : ℕ) → IsCourse head old bends count self.old
+            → IsCourse head old bends count self.new }
     {
         if let Some(cut) = self.cut.get_mut(host.0 as usize) {
             *cut = is_cut;
@@ -178,9 +178,30 @@ impl Course {
         Ok(())
     }
 
+    /// Notes how a world answered to an event that was kept.
+    fn close<K: Keeper>(
+        &mut self,
+        world: &World<K>,
+        plan: &Plan<'_>,
+        event: &Event,
+        stepped: Stepped,
+    ) -> Result<(), NoMemory>
+        ensures { (count : ℕ) → IsOn plan.now count self.old → OnOk result (IsOn plan.now count self.new) }
+    {
+        match stepped {
+            Stepped::Done => self.see(world, event, plan),
+            Stepped::Memory | Stepped::Fault => Err(NoMemory::Memory),
+            Stepped::NoPacket | Stepped::SkewBroken(_) | Stepped::Limit(_) => {
+                self.end();
+                Ok(())
+            }
+        }
+    }
+
     /// The run is over.
     fn end(&mut self)
-        ensures { (plan : Plan) (count : ℕ) → IsOn plan count self.old → IsOn plan count self.new }
+        ensures { (head : Head) (old : List Event) (bends : List Bend) (count : ℕ) → IsCourse head old bends count self.old
+            → IsCourse head old bends count self.new }
     {
         self.is_over = true;
     }
@@ -233,14 +254,8 @@ pub(crate) fn happen<K: Keeper>(
     if !course.enter(plan, event, origin)? {
         return Ok(());
     }
-    match world.step(event) {
-        Stepped::Done => course.see(world, event, plan),
-        Stepped::Memory | Stepped::Fault => Err(NoMemory::Memory),
-        Stepped::NoPacket | Stepped::SkewBroken(_) | Stepped::Limit(_) => {
-            course.end();
-            Ok(())
-        }
-    }
+    let stepped = world.step(event);
+    course.close(world, plan, event, stepped)
 }
 
 /// All that is under way arrives, until nothing is.

@@ -112,6 +112,7 @@ pub(crate) fn run_of(alloc: Global, script: &Script) -> Result<Old, NoMemory>
 }
 
 /// Plays a schedule over a world.
+#[tactic(auto, using(crate::proofs::Coming::can_come, crate::proofs::Coming::settings_on, crate::proofs::Events::all_last, nq_observe::proofs::Telling::tells_all))]
 fn play<K: Keeper>(alloc: Global, world: &mut World<K>, script: &Script) -> Result<Old, NoMemory>
     requires ready { IsReady script.now }
     requires settings { HasSettings script.now.head.hosts script.now.head.longest script.now.head.term world.old }

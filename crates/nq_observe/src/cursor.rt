@@ -36,18 +36,37 @@ impl Cursor {
     {
         self.is_behind_flow = false;
         for place in self.line..lines.len() {
-            if let Some(line) = lines.get(place) {
-                let is_flow = matches!(&line, Line::Flow);
-                if let Some(event) = event_of(line, self.events, hosts, least) {
-                    self.events = self.events.saturating_add(1);
-                    return Some(event);
-                }
-                self.is_behind_flow = self.is_behind_flow || is_flow;
+            if let Some(event) = event_at(lines, place, self.events, hosts, least) {
+                self.events = self.events.saturating_add(1);
+                return Some(event);
             }
+            self.is_behind_flow = self.is_behind_flow || is_flow(lines, place);
             self.line = place + 1;
             self.events = 0;
         }
         None
+    }
+}
+
+/// Whether the line at a place is a flow.
+fn is_flow(lines: &Lines, place: usize) -> bool {
+    matches!(lines.get(place), Some(Line::Flow))
+}
+
+/// The event of the line at a place behind so many of its events.
+#[tactic(auto, using(crate::proofs::Telling::each_at))]
+fn event_at(
+    lines: &Lines,
+    place: usize,
+    events: u64,
+    hosts: u32,
+    least: Option<usize>,
+) -> Option<Event>
+    ensures { (head : Head) → head.hosts ≡ hosts → AllByRecursion (TellsEvent head) lines.now → IfSome result (IsTellable head) }
+{
+    match lines.get(place) {
+        Some(line) => event_of(line, events, hosts, least),
+        None => None,
     }
 }
 

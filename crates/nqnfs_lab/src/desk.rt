@@ -1,13 +1,15 @@
 //! What is answered to a request.
 
+ghost use Rattle.std.specs.Prelude.{◌<◌, ◌^◌, length};
+
 use crate::answers::Made;
-use crate::files::{file_of, kind_of};
+use crate::files::{Kind, file_of};
 use crate::requests::{Bends, bends_in, number_in, text_in, then_in};
 use crate::runs::{Bending, Untold, bend_text, draw_run, tell_why};
 use crate::watch::Watch;
 use bytes::{BufMut, Bytes};
 use http::header::{CONTENT_TYPE, HOST, ORIGIN};
-use http::{HeaderValue, Request, StatusCode};
+use http::{Request, StatusCode};
 use http_server::{Response, Service};
 use serde_json::Value;
 use std::alloc::{AllocError, Global};
@@ -27,7 +29,7 @@ pub(crate) struct Desk<'a> {
 #[derive(Drop)]
 struct Answer {
     status: u16,
-    kind: &'static str,
+    kind: Kind,
     body: Vec<u8>,
 }
 
@@ -71,7 +73,7 @@ impl Desk<'_> {
             },
             None => true,
         };
-        Ok(is_host && is_origin)
+        Ok(is_host && is_origin && request.uri().host().is_none())
     }
 
     /// A file of the page.
@@ -79,7 +81,7 @@ impl Desk<'_> {
         match file_of(self.rt, self.web.as_str(), path) {
             Some(body) => Ok(Answer {
                 status: 200,
-                kind: kind_of(path),
+                kind: Kind::of(path),
                 body,
             }),
             None => text(self.rt.alloc(), 404, "there is no such file\n"),
@@ -90,7 +92,7 @@ impl Desk<'_> {
     fn post(&self, path: &str, body: &[u8]) -> Result<Answer, AllocError> {
         let alloc = self.rt.alloc();
         if body.len() > MOST_BYTES {
-            return text(alloc, 413, "a schedule here has at most 1,048,576 bytes\n");
+            return too_long(alloc);
         }
         let mut watch = Watch::new(self.rt);
         if path == "/run" {
@@ -108,7 +110,9 @@ impl Desk<'_> {
 }
 
 /// What is told of a schedule's run.
-fn run(watch: &mut Watch<'_>, body: &[u8]) -> Result<Answer, AllocError> {
+fn run(watch: &mut Watch<'_>, body: &[u8]) -> Result<Answer, AllocError>
+    requires { length body.now < 2 ^ 31 }
+{
     let alloc = watch.alloc();
     let told = match draw_run(watch, body) {
         Ok(told) => told,
@@ -125,6 +129,9 @@ fn why(watch: &mut Watch<'_>, asked: &Value) -> Result<Answer, AllocError> {
     let (Some(schedule), Some(line)) = (text_in(asked, "schedule"), number_in(asked, "line")) else {
         return text(alloc, 400, "a schedule and a line are wanted\n");
     };
+    if schedule.len() > MOST_BYTES {
+        return too_long(alloc);
+    }
     let (status, why) = match tell_why(watch, schedule.as_bytes(), line) {
         Ok(told) => told,
         Err(why) => return untold(alloc, why),
@@ -145,6 +152,9 @@ fn bend(watch: &mut Watch<'_>, asked: &Value) -> Result<Answer, AllocError> {
             "a schedule, and `go on` or `stop`, are wanted\n",
         );
     };
+    if schedule.len() > MOST_BYTES {
+        return too_long(alloc);
+    }
     let bends = match bends_in(alloc, asked)? {
         Bends::All(bends) => bends,
         Bends::Bad(place) => return untold(alloc, Untold::Bend(place)),
@@ -164,6 +174,11 @@ fn bend(watch: &mut Watch<'_>, asked: &Value) -> Result<Answer, AllocError> {
     object(made)
 }
 
+/// The answer to a request that is too long.
+fn too_long(alloc: Global) -> Result<Answer, AllocError> {
+    text(alloc, 413, "a schedule here has at most 1,048,576 bytes\n")
+}
+
 /// The answer that says why nothing is told.
 fn untold(alloc: Global, why: Untold) -> Result<Answer, AllocError> {
     match why {
@@ -180,7 +195,7 @@ fn untold(alloc: Global, why: Untold) -> Result<Answer, AllocError> {
 fn object(made: Made) -> Result<Answer, AllocError> {
     Ok(Answer {
         status: 200,
-        kind: "application/json",
+        kind: Kind::Object,
         body: made.into_bytes()?,
     })
 }
@@ -189,7 +204,7 @@ fn object(made: Made) -> Result<Answer, AllocError> {
 fn text(alloc: Global, status: u16, words: &str) -> Result<Answer, AllocError> {
     Ok(Answer {
         status,
-        kind: "text/plain; charset=utf-8",
+        kind: Kind::Plain,
         body: words.as_bytes().to_vec(alloc)?,
     })
 }
@@ -206,9 +221,7 @@ impl Service for Desk<'_> {
         if let Ok(status) = StatusCode::from_u16(status) {
             response.status = status;
         }
-        response
-            .headers
-            .push((CONTENT_TYPE, HeaderValue::from_static(kind)))?;
+        response.headers.push((CONTENT_TYPE, kind.header()))?;
         response.body.put_slice(&body)
     }
 }

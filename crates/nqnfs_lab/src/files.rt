@@ -1,6 +1,6 @@
 //! The files of the page.
 
-use std::alloc::AllocError;
+use http::HeaderValue;
 use std::fs;
 
 /// The bytes of a file below a folder, for a path that a browser asks for; None where it names none.
@@ -34,17 +34,42 @@ fn is_plain(name: &str) -> bool {
     }
 }
 
-/// What a browser takes a file of this name for.
-pub(crate) fn kind_of(path: &str) -> &'static str {
-    if path == "/" || path.ends_with(".html") {
-        "text/html; charset=utf-8"
-    } else if path.ends_with(".css") {
-        "text/css; charset=utf-8"
-    } else if path.ends_with(".js") {
-        "text/javascript; charset=utf-8"
-    } else if path.ends_with(".svg") {
-        "image/svg+xml"
-    } else {
-        "text/plain; charset=utf-8"
+/// What a browser takes an answer for.
+#[derive(Clone, Copy)]
+pub(crate) enum Kind {
+    Html,
+    Css,
+    Script,
+    Picture,
+    Plain,
+    Object,
+}
+
+impl Kind {
+    /// The kind of a file, by the end of its path.
+    pub(crate) fn of(path: &str) -> Kind {
+        if path == "/" || path.ends_with(".html") {
+            Kind::Html
+        } else if path.ends_with(".css") {
+            Kind::Css
+        } else if path.ends_with(".js") {
+            Kind::Script
+        } else if path.ends_with(".svg") {
+            Kind::Picture
+        } else {
+            Kind::Plain
+        }
+    }
+
+    /// As a header tells it.
+    pub(crate) fn header(self) -> HeaderValue {
+        match self {
+            Kind::Html => HeaderValue::from_static("text/html; charset=utf-8"),
+            Kind::Css => HeaderValue::from_static("text/css; charset=utf-8"),
+            Kind::Script => HeaderValue::from_static("text/javascript; charset=utf-8"),
+            Kind::Picture => HeaderValue::from_static("image/svg+xml"),
+            Kind::Plain => HeaderValue::from_static("text/plain; charset=utf-8"),
+            Kind::Object => HeaderValue::from_static("application/json"),
+        }
     }
 }

@@ -5,7 +5,7 @@ use std::alloc::Global;
 use std::time::Instant;
 
 /// After so many seconds nothing more is begun, so that an answer takes at most five.
-const MOST_SECONDS: u64 = 4;
+const MOST_SECONDS: u64 = 2;
 
 /// The time since a request was read.
 #[derive(Drop)]

@@ -4,6 +4,6 @@ use Rattle.nq_bend.proofs.Going.{same-on, skips}
 use Rattle.nq_bend.proofs.course.Course.leave.Goals as goal
 
 pub returns : goal.returns
-returns c = λ plan here is.
-    same-on plan.head.now plan.old.now.events plan.bends.now _ c.args.self.now _ (record { ran = refl; origins = refl; over = refl; sent = refl })
-    (skips plan.head.now plan.old.now.events plan.bends.now c.args.event (Event.Deliver c.args.packet) c.args.self.now here (inr refl) is)
+returns c = λ head old bends here is.
+    same-on head old bends _ c.args.self.now _ (record { ran = refl; origins = refl; over = refl; sent = refl })
+    (skips head old bends c.args.event (Event.Deliver c.args.packet) c.args.self.now here (inr refl) is)
