@@ -4,24 +4,17 @@
 //! schedule is told as `nqnfs replay` tells it, with the same status.
 #![tactic(auto)]
 
-mod decoding;
-mod looking;
-mod mail;
-mod memory;
-mod playing;
-mod seeing;
-mod spans;
 mod words;
 
 ghost use Rattle.std.specs.Prelude.{◌<◌, ◌^◌, length};
 
-use crate::looking::{Shown, View, look};
 use crate::words::view_of;
 use nq_base::NoMemory;
 use nq_base::ending::Ending;
 use nq_io::streams::{StdSink, StdSource};
 use nq_io::{MemSink, MemSource, Put, Sink, Source, Whole, read_all};
 use nq_keeper::ListKeeper;
+use nq_observe::{Endless, Shown, Unseen, View, look};
 use nq_replay::{read_script, replay};
 use std::io::ErrorKind;
 use std::process::ExitCode;
@@ -68,10 +61,12 @@ fn show_text(rt: &HostRuntime, text: &[u8], view: View) -> Ending
         return ending;
     }
     let mut page = Vec::new(rt.alloc());
-    match look(rt.alloc(), text, view, &mut page) {
+    match look(rt.alloc(), text, view, &mut Endless, &mut page) {
         Ok(Shown::All) => put(rt, &page, Ending::Done),
         Ok(Shown::Nothing) => put(rt, b"no entry\n", Ending::Usage),
-        Err(NoMemory::Memory) => Ending::Memory,
+        Err(Unseen::Memory) => Ending::Memory,
+        // There is always time.
+        Err(Unseen::Time) => Ending::Limit,
     }
 }
 

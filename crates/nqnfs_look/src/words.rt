@@ -1,6 +1,6 @@
 //! What the words say.
 
-use crate::looking::View;
+use nq_observe::View;
 
 /// How a run is shown, if the words say it: `picture`, with `--from N` and `--to N` behind it where only some events are to be
 /// shown, `tell`, or `why LINE`.

@@ -1,0 +1,9 @@
+use Rattle.std.proofs.Common.{ℕ}
+use Rattle.nq_bend.specs.Course.{HasHead, IsOn}
+use Rattle.nq_bend.proofs.course.drain.Given as goal
+
+abbrev pub invariant-loop-turn : goal.invariant-loop-turn
+invariant-loop-turn g l = record {
+  settings : HasHead l.plan l.world;
+  goes : (count : ℕ) → IsOn l.plan count l.fn.course → IsOn l.plan count l.course;
+}

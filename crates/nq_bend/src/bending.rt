@@ -1,0 +1,337 @@
+//! Bending a schedule.
+
+ghost use Rattle.std.specs.List.{AllByRecursion};
+ghost use Rattle.std.specs.Prelude.{◌≡◌, ◌≤◌, ◌<◌, ◌+◌, ℕ, IfOk, OnOk, Some, length, map, slice_get};
+ghost use Rattle.nq_base.specs.declared.Event.{Event};
+ghost use Rattle.nq_bend.specs.Bending.{IsSpared, KeepsActs};
+ghost use Rattle.nq_bend.specs.Course.{HasHead, IsCourse, IsOn};
+ghost use Rattle.nq_observe.specs.Told.{TellsEvent};
+ghost use Rattle.nq_replay.specs.Schedules.{IsReady};
+ghost use Rattle.nq_replay.specs.Texts.{IsTellable};
+ghost use Rattle.nq_script.specs.Heads.{FitsHead};
+ghost use Rattle.nq_script.specs.Lines.{once};
+ghost use Rattle.nq_script.specs.Schedule.{SpellsSchedule};
+
+use crate::bends::{Bend, BendFault, Bent, Then};
+use crate::course::{Course, drain, happen};
+use crate::old::{Old, run_of};
+use crate::plan::Plan;
+use crate::puts::read_put;
+use nq_base::{Event, NoMemory};
+use nq_keeper::{Keeper, ListKeeper};
+use nq_replay::schedule_text;
+use nq_script::{Head, Line, Lines, Script};
+use nq_world::{NewFault, World, begin};
+use std::alloc::Global;
+
+/// Bends a schedule: its run with these changes, as a schedule. Where the schedule has a fault, its run ends before it.
+///
+/// # Errors
+///
+/// - `Bad`: with the place of the first change that says nothing that can be done.
+/// - `Memory`: memory was wanting.
+pub fn bend(alloc: Global, script: &Script, bends: &[Bend], then: Then) -> Result<Bent, BendFault>
+    requires { IsReady script.now }
+    ensures spells { IfOk result (λ bent. SpellsSchedule script.now.head (map once bent.ran) bent.text.items) }
+    ensures keeps { IfOk result (λ bent. (length bent.origins.items ≡ length bent.ran)
+        × ((count : ℕ) × (count ≤ length bent.old) × KeepsActs bent.old count bent.ran bent.origins.items)) }
+    ensures spares { IfOk result (λ bent. AllByRecursion (IsSpared bends.now bent.matches.items) bent.ran) }
+{
+    let old = run_of(alloc, script)?;
+    let course = run_bent(alloc, &script.head, &old, bends, then)?;
+    let text = schedule_text(alloc, &script.head, &course.ran)?;
+    Ok(whole(text, old, course))
+}
+
+/// A run that was bent, with the text of its schedule.
+fn whole(text: Vec<u8>, old: Old, course: Course) -> Bent
+    ensures { result ≡ record {
+      text = text;
+      old = old.events;
+      ran = course.ran;
+      origins = course.origins;
+      matches = course.lanes.olds;
+      left = course.left;
+    } }
+{
+    let Old { events, .. } = old;
+    let Course {
+        ran,
+        origins,
+        left,
+        lanes,
+        ..
+    } = course;
+    Bent {
+        text,
+        old: events,
+        ran,
+        origins,
+        matches: lanes.into_olds(),
+        left,
+    }
+}
+
+/// The run of a schedule with these changes.
+fn run_bent(
+    alloc: Global,
+    head: &Head,
+    old: &Old,
+    bends: &[Bend],
+    then: Then,
+) -> Result<Course, BendFault>
+    requires fits { FitsHead head.now }
+    requires told { AllByRecursion (IsTellable head.now) old.now.events }
+    ensures { IfOk result (IsCourse head.now old.now.events bends.now (length old.now.events)) }
+{
+    let plan = Plan { head, old, bends };
+    if let Some(place) = plan.first_bad() {
+        return Err(BendFault::Bad(place));
+    }
+    let keeper = ListKeeper::new(alloc, Vec::new(alloc))?;
+    let mut world = match begin(alloc, head, keeper) {
+        Ok(world) => world,
+        Err(NewFault::Memory(_keeper)) => return Err(BendFault::Memory),
+        Err(NewFault::Failed(_keeper)) => return Err(BendFault::Memory),
+    };
+    let played = play(alloc, &mut world, &plan, then);
+    let _keeper = world.into_keeper();
+    played
+}
+
+/// Plays the run of a schedule with these changes over a world.
+fn play<K: Keeper>(
+    alloc: Global,
+    world: &mut World<K>,
+    plan: &Plan<'_>,
+    then: Then,
+) -> Result<Course, BendFault>
+    requires fits { FitsHead plan.now.head.now }
+    requires told { AllByRecursion (IsTellable plan.now.head.now) plan.now.old.now.events }
+    requires settings { HasHead plan.now world.old }
+    ensures { IfOk result (IsOn plan.now (length plan.now.old.now.events)) }
+{
+    let mut course = Course::new(alloc, plan.head.hosts, plan.old)?;
+    for place in 0..plan.old.events.len() {
+        change(alloc, world, &mut course, plan, place)?;
+        keep(world, &mut course, plan, place)?;
+    }
+    finish(alloc, world, &mut course, plan, then)?;
+    Ok(course)
+}
+
+/// What happens behind the last event of the old run.
+fn finish<K: Keeper>(
+    alloc: Global,
+    world: &mut World<K>,
+    course: &mut Course,
+    plan: &Plan<'_>,
+    then: Then,
+) -> Result<(), BendFault>
+    requires fits { FitsHead plan.now.head.now }
+    requires settings { HasHead plan.now world.old }
+    ensures goes { (count : ℕ) → IsOn plan.now count course.old → OnOk result (IsOn plan.now count course.new) }
+{
+    change(alloc, world, course, plan, plan.old.events.len())?;
+    match then {
+        Then::Stop => Ok(()),
+        Then::GoOn => {
+            drain(world, course, plan)?;
+            Ok(())
+        }
+    }
+}
+
+/// What happens before the event at a place of the old run: where a flow ended there, all that is under way arrives, and then the
+/// changes are made.
+fn change<K: Keeper>(
+    alloc: Global,
+    world: &mut World<K>,
+    course: &mut Course,
+    plan: &Plan<'_>,
+    place: usize,
+) -> Result<(), BendFault>
+    requires fits { FitsHead plan.now.head.now }
+    requires settings { HasHead plan.now world.old }
+    ensures settings { HasHead plan.now world.new }
+    ensures goes { (count : ℕ) → IsOn plan.now count course.old → OnOk result (IsOn plan.now count course.new) }
+{
+    drain_behind_flow(world, course, plan, place)?;
+    for number in 0..plan.bends.len() {
+        make(alloc, world, course, plan, place, number)?;
+    }
+    Ok(())
+}
+
+/// All that is under way arrives, if a flow ended before the event at a place of the old run.
+fn drain_behind_flow<K: Keeper>(
+    world: &mut World<K>,
+    course: &mut Course,
+    plan: &Plan<'_>,
+    place: usize,
+) -> Result<(), NoMemory>
+    requires settings { HasHead plan.now world.old }
+    ensures settings { HasHead plan.now world.new }
+    ensures goes { (count : ℕ) → IsOn plan.now count course.old → OnOk result (IsOn plan.now count course.new) }
+{
+    if plan.old.is_behind_flow(place) {
+        return drain(world, course, plan);
+    }
+    Ok(())
+}
+
+/// Makes the change of a number, if it is one before the event at a place.
+fn make<K: Keeper>(
+    alloc: Global,
+    world: &mut World<K>,
+    course: &mut Course,
+    plan: &Plan<'_>,
+    place: usize,
+    number: usize,
+) -> Result<(), BendFault>
+    requires fits { FitsHead plan.now.head.now }
+    requires settings { HasHead plan.now world.old }
+    ensures settings { HasHead plan.now world.new }
+    ensures goes { (count : ℕ) → IsOn plan.now count course.old → OnOk result (IsOn plan.now count course.new) }
+{
+    let Some(bend) = plan.bends.get(number) else {
+        return Ok(());
+    };
+    match bend {
+        Bend::Put { at, line } if *at == place => {
+            let Some(lines) = read_put(alloc, plan.head, line)? else {
+                return Err(BendFault::Bad(number));
+            };
+            put(world, course, plan, &lines)?;
+        }
+        Bend::Later { packet, event } if *event == place => deliver(world, course, plan, *packet)?,
+        Bend::Cut { host, at } if *at == place => course.set_cut(*host, true),
+        Bend::Join { host, at } if *at == place => course.set_cut(*host, false),
+        _ => {}
+    }
+    Ok(())
+}
+
+/// Lets happen what lines tell.
+fn put<K: Keeper>(
+    world: &mut World<K>,
+    course: &mut Course,
+    plan: &Plan<'_>,
+    lines: &Lines,
+) -> Result<(), NoMemory>
+    requires told { AllByRecursion (TellsEvent plan.now.head.now) lines.now }
+    requires settings { HasHead plan.now world.old }
+    ensures settings { HasHead plan.now world.new }
+    ensures goes { (count : ℕ) → IsOn plan.now count course.old → OnOk result (IsOn plan.now count course.new) }
+{
+    for place in 0..lines.len() {
+        put_line(world, course, plan, lines, place)?;
+    }
+    Ok(())
+}
+
+/// Lets happen what the line at a place tells.
+#[tactic(auto, using(nq_observe::proofs::Telling::each_at))]
+fn put_line<K: Keeper>(
+    world: &mut World<K>,
+    course: &mut Course,
+    plan: &Plan<'_>,
+    lines: &Lines,
+    place: usize,
+) -> Result<(), NoMemory>
+    requires told { AllByRecursion (TellsEvent plan.now.head.now) lines.now }
+    requires settings { HasHead plan.now world.old }
+    ensures settings { HasHead plan.now world.new }
+    ensures goes { (count : ℕ) → IsOn plan.now count course.old → OnOk result (IsOn plan.now count course.new) }
+{
+    match lines.get(place) {
+        Some(Line::Events { event, times }) => repeat(world, course, plan, &event, times),
+        _ => Ok(()),
+    }
+}
+
+/// Lets an event happen so many times that was not in the old run.
+fn repeat<K: Keeper>(
+    world: &mut World<K>,
+    course: &mut Course,
+    plan: &Plan<'_>,
+    event: &Event,
+    times: u32,
+) -> Result<(), NoMemory>
+    requires told { IsTellable plan.now.head.now event.now }
+    requires settings { HasHead plan.now world.old }
+    ensures settings { HasHead plan.now world.new }
+    ensures goes { (count : ℕ) → IsOn plan.now count course.old → OnOk result (IsOn plan.now count course.new) }
+{
+    for turn in 0..times {
+        happen(world, course, plan, event, None)?;
+    }
+    Ok(())
+}
+
+/// A packet of the old run arrives, if one of the new run is this one, and it is not cut off.
+fn deliver<K: Keeper>(
+    world: &mut World<K>,
+    course: &mut Course,
+    plan: &Plan<'_>,
+    packet: u64,
+) -> Result<(), NoMemory>
+    requires settings { HasHead plan.now world.old }
+    ensures settings { HasHead plan.now world.new }
+    ensures goes { (count : ℕ) → IsOn plan.now count course.old → OnOk result (IsOn plan.now count course.new) }
+{
+    let Some(new) = course.lanes.new_of(packet) else {
+        return Ok(());
+    };
+    if course.is_cut(new) {
+        return Ok(());
+    }
+    happen(world, course, plan, &Event::Deliver(new), None)
+}
+
+/// Lets the event at a place of the old run happen, or leaves it out.
+#[tactic(auto, using(nq_observe::proofs::Telling::each_at, crate::proofs::Coming::stands_self))]
+fn keep<K: Keeper>(
+    world: &mut World<K>,
+    course: &mut Course,
+    plan: &Plan<'_>,
+    place: usize,
+) -> Result<(), NoMemory>
+    requires there { place < length plan.now.old.now.events }
+    requires told { AllByRecursion (IsTellable plan.now.head.now) plan.now.old.now.events }
+    requires settings { HasHead plan.now world.old }
+    ensures settings { HasHead plan.now world.new }
+    ensures goes { IsOn plan.now place course.old → OnOk result (IsOn plan.now (place + 1) course.new) }
+{
+    match plan.old.events.get(place) {
+        Some(Event::Deliver(packet)) => keep_delivery(world, course, plan, place, *packet),
+        Some(event) => happen(world, course, plan, event, Some(place)),
+        None => Ok(()),
+    }
+}
+
+/// Lets the delivery of a packet of the old run happen, or leaves it out.
+fn keep_delivery<K: Keeper>(
+    world: &mut World<K>,
+    course: &mut Course,
+    plan: &Plan<'_>,
+    place: usize,
+    packet: u64,
+) -> Result<(), NoMemory>
+    requires there { slice_get plan.now.old.now.events place ≡ Some (Event.Deliver packet) }
+    requires settings { HasHead plan.now world.old }
+    ensures settings { HasHead plan.now world.new }
+    ensures goes { IsOn plan.now place course.old → OnOk result (IsOn plan.now (place + 1) course.new) }
+{
+    match course.fate_of(plan, packet, place) {
+        Ok(new) => {
+            let event = Event::Deliver(new);
+            happen(world, course, plan, &event, Some(place))?;
+            if plan.is_doubled(packet) && plan.old.arrives_first(packet, place) {
+                happen(world, course, plan, &event, None)?;
+            }
+            Ok(())
+        }
+        Err(why) => course.leave(place, packet, why),
+    }
+}

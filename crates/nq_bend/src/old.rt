@@ -1,0 +1,146 @@
+//! The run that is bent.
+
+ghost use Rattle.std.specs.List.{AllByRecursion};
+ghost use Rattle.std.specs.Prelude.{◌≡◌, [], IfOk};
+ghost use Rattle.nq_replay.specs.Schedules.{IsReady};
+ghost use Rattle.nq_replay.specs.Texts.{IsTellable};
+ghost use Rattle.nq_world.specs.Playing.{HasSettings};
+
+use nq_base::{Event, NoMemory};
+use nq_keeper::{Keeper, ListKeeper};
+use nq_observe::{Cursor, Post};
+use nq_replay::play::{Delivered, note};
+use nq_script::{Schedule, Script};
+use nq_world::{MOST_EVENTS, NewFault, Stepped, World, begin};
+use std::alloc::Global;
+
+/// The run that is bent.
+#[derive(Drop)]
+pub(crate) struct Old {
+    /// Its events.
+    pub(crate) events: Schedule,
+    /// The places of the events before which a flow ended; the number of events where one ended behind the last.
+    flows: Vec<usize>,
+    /// Its packets.
+    pub(crate) post: Post,
+    /// Of each packet the place of the event in which it first arrives.
+    arrivals: Vec<Option<usize>>,
+    /// Each packet from this one on was sent behind all that arrive.
+    newest: usize,
+}
+
+impl Old {
+    /// No event.
+    fn new(alloc: Global) -> Result<Old, NoMemory>
+        ensures { IfOk result (λ old. old.events ≡ []) }
+    {
+        Ok(Old {
+            events: Schedule::new(alloc)?,
+            flows: Vec::new(alloc),
+            post: Post::new(alloc),
+            arrivals: Vec::new(alloc),
+            newest: 0,
+        })
+    }
+
+    /// How many packets there are.
+    pub(crate) fn packets(&self) -> usize {
+        self.arrivals.len()
+    }
+
+    /// Whether a flow ended before the event at a place.
+    pub(crate) fn is_behind_flow(&self, place: usize) -> bool {
+        self.flows.iter().any(|end: &usize| *end == place)
+    }
+
+    /// Whether a packet first arrives in the event at a place.
+    pub(crate) fn arrives_first(&self, packet: u64, place: usize) -> bool {
+        match self.arrivals.get(packet as usize) {
+            Some(Some(first)) => *first == place,
+            _ => false,
+        }
+    }
+
+    /// Whether a packet never arrives, though one that was sent later does.
+    pub(crate) fn is_overtaken(&self, packet: u64) -> bool {
+        match self.arrivals.get(packet as usize) {
+            Some(None) => (packet as usize) < self.newest,
+            _ => false,
+        }
+    }
+
+    /// Notes an event that a world took in.
+    fn see<K: Keeper>(&mut self, world: &World<K>, event: &Event) -> Result<(), NoMemory>
+        ensures { self.new.events ≡ self.old.events }
+    {
+        let place = self.events.len();
+        if let Event::Deliver(packet) = event {
+            self.arrive(*packet as usize, place);
+        }
+        self.post.see(world.packets(), event)?;
+        self.arrivals.resize(self.post.sent().len(), None)?;
+        Ok(())
+    }
+
+    /// Notes that a packet arrives in the event at a place.
+    fn arrive(&mut self, packet: usize, place: usize)
+        ensures { self.new.events ≡ self.old.events }
+    {
+        if let Some(first) = self.arrivals.get_mut(packet) {
+            if first.is_none() {
+                *first = Some(place);
+            }
+        }
+        self.newest = self.newest.max(packet);
+    }
+}
+
+/// The run of a schedule, up to the first event that a world refuses.
+pub(crate) fn run_of(alloc: Global, script: &Script) -> Result<Old, NoMemory>
+    requires ready { IsReady script.now }
+    ensures told { IfOk result (λ old. AllByRecursion (IsTellable script.now.head) old.events) }
+{
+    let keeper = ListKeeper::new(alloc, Vec::new(alloc))?;
+    let mut world = match begin(alloc, &script.head, keeper) {
+        Ok(world) => world,
+        Err(NewFault::Memory(_keeper)) => return Err(NoMemory::Memory),
+        Err(NewFault::Failed(_keeper)) => return Err(NoMemory::Memory),
+    };
+    let played = play(alloc, &mut world, script);
+    let _keeper = world.into_keeper();
+    played
+}
+
+/// Plays a schedule over a world.
+#[tactic(auto, using(crate::proofs::Coming::can_come, crate::proofs::Coming::settings_on, crate::proofs::Events::all_last, nq_observe::proofs::Telling::tells_all))]
+fn play<K: Keeper>(alloc: Global, world: &mut World<K>, script: &Script) -> Result<Old, NoMemory>
+    requires ready { IsReady script.now }
+    requires settings { HasSettings script.now.head.hosts script.now.head.longest script.now.head.term world.old }
+    ensures told { IfOk result (λ old. AllByRecursion (IsTellable script.now.head) old.events) }
+{
+    let mut old = Old::new(alloc)?;
+    let mut delivered = Delivered::new(alloc);
+    let mut cursor = Cursor::new();
+    for turn in 0..MOST_EVENTS {
+        let sent = world.packets().len() as usize;
+        let least = delivered.next(sent);
+        let next = cursor.next(&script.lines, script.head.hosts, least);
+        if cursor.is_behind_flow {
+            old.flows.push(old.events.len())?;
+        }
+        let Some(event) = next else {
+            break;
+        };
+        delivered.reach(sent)?;
+        match world.step(&event) {
+            Stepped::Done => {
+                note(&mut delivered, &event);
+                old.see(world, &event)?;
+                old.events.push(event)?;
+            }
+            Stepped::Memory => return Err(NoMemory::Memory),
+            _ => break,
+        }
+    }
+    Ok(old)
+}

@@ -1,0 +1,83 @@
+//! The program `nqnfs_lab`: a laboratory of schedules for a browser on this machine. It gives the files of a page, runs the
+//! schedules that the page sends, and bends them.
+#![tactic(auto)]
+
+mod answers;
+mod desk;
+mod files;
+mod peers;
+mod requests;
+mod runs;
+mod watch;
+mod words;
+
+use crate::desk::Desk;
+use crate::peers::{serve_all, serve_once};
+use crate::words::{Asked, Options, asked};
+use nq_base::ending::Ending;
+use std::env;
+use std::net::TcpListener;
+use std::process::ExitCode;
+
+const HELP: &str = "nqnfs_lab [--port N] [--web FOLDER]
+
+Serves a laboratory of schedules at http://127.0.0.1:N/, to browsers on this machine alone, until it is stopped.
+  --port N       1 to 65535; 8059 where nothing is said
+  --web FOLDER   where the files of the page are; web where nothing is said
+  --once         answers the requests on the standard input alone, on the standard output, and uses no port
+  --help         prints this
+  --version      prints the version
+";
+
+fn main(rt: HostRuntime) -> ExitCode {
+    ExitCode::from(obey(&rt).status())
+}
+
+/// Does what the words behind the program's name say; how that ends.
+fn obey(rt: &HostRuntime) -> Ending {
+    let Ok(args) = env::args(rt) else {
+        return Ending::Memory;
+    };
+    match asked(rt.alloc(), args.skip(1)) {
+        Ok(Asked::Serve(options)) => serve(rt, options),
+        Ok(Asked::Once(options)) => once(rt, options),
+        Ok(Asked::Help) => {
+            let _told = print!(rt; "{HELP}");
+            Ending::Done
+        }
+        Ok(Asked::Version) => {
+            let _told = println!(rt; "nqnfs_lab 1");
+            Ending::Done
+        }
+        Err(Some(wrong)) => {
+            let _told = eprintln!(rt; "nqnfs_lab: {wrong}; --help tells the words");
+            Ending::Usage
+        }
+        Err(None) => Ending::Memory,
+    }
+}
+
+/// Serves the page until the process is stopped.
+fn serve(rt: &HostRuntime, options: Options) -> Ending {
+    let Options { port, web } = options;
+    let Ok(listener) = TcpListener::bind(rt, ("127.0.0.1", port)) else {
+        let _told = eprintln!(rt; "nqnfs_lab: port {port} is taken or cannot be bound");
+        return Ending::LinkFault;
+    };
+    let _told = println!(rt; "http://127.0.0.1:{port}/");
+    let mut desk = Desk::new(rt, port, web);
+    match serve_all(rt, &listener, &mut desk) {
+        Ok(()) => Ending::Done,
+        Err(_) => Ending::LinkFault,
+    }
+}
+
+/// Answers the requests on the standard input; how that ends.
+fn once(rt: &HostRuntime, options: Options) -> Ending {
+    let Options { port, web } = options;
+    let mut desk = Desk::new(rt, port, web);
+    match serve_once(rt, &mut desk) {
+        Ok(()) => Ending::Done,
+        Err(_) => Ending::WriteFault,
+    }
+}
