@@ -6,8 +6,8 @@
 It starts `nqnfs_lab`, or takes one that listens at an address. At 1280 pixels and at a phone's width, light and dark, it opens each example,
 goes to each of its events, and lets each of its packets be lost, come twice and come late. It asks that what is shown is what
 `nqnfs replay` and `nqnfs check` print for the schedule that is shown, that no text of a chart stands on another one, and that the page is no
-wider than the window. It drags a packet, goes back and forth, opens its own address, solves the exercises, takes the time of a change in a run of 500
-events, and opens the page without the program. The status is 1 where something is otherwise.
+wider than the window. It drags a packet, undoes that, opens its own address, types, solves the exercises, takes the time of a change in a run of
+500 events, and opens the page without the program. The status is 1 where something is otherwise.
 """
 
 import argparse
@@ -73,6 +73,18 @@ ADDRESS = """(async () => {
   await bendPacket({ kind: "lose", packet: 0 });
   await keepAddress(current());
   return [location.href, current().run.schedule];
+})()"""
+
+TYPED = """(async () => {
+  await begins("put-then-fetch");
+  const faults = [];
+  const type = async (text) => { editor.field.value = text; await typed(text); };
+  await type(editor.field.value.replace("put 1 0 7", "put 1 0 9"));
+  if (!current().run.journal.includes("put 1 0 9")) faults.push("a typed schedule is not run");
+  await type(editor.field.value.replace("deliver 1", "deliver 99"));
+  if (!document.getElementById("verdict").textContent.includes("line 8")) faults.push("a typed fault is not told");
+  if (!current().run.journal.includes("put 1 0 9")) faults.push("the run before a typed fault is gone");
+  return faults;
 })()"""
 
 SOLVED = """(async () => {
@@ -154,6 +166,7 @@ def deed_faults(browser, address):
     if browser.value("current().run.schedule") != schedule:
         yield "an address opens another schedule"
     browser.open(address)
+    yield from browser.value(TYPED)
     yield from browser.value(SOLVED)
 
 

@@ -47,11 +47,14 @@ function answerPromises(words, call) {
   return [6];
 }
 
-// Each write with its fate, in words; `missing` where it is lost or forgotten.
+// Each write with its fate, in words; `missing` where it is lost or forgotten. Equal writes of a host are counted.
 function writesOf(entries) {
+  const counts = new Map();
   return entries.filter(({ kind }) => kind === "W").map((write) => {
-    const [, host, inc, file, block, number, value] = write.words;
-    const key = `host ${host}${inc === "1" ? "" : `, start ${inc}`}: ${file}:${block} = ${value} (write ${number})`;
+    const [, host, inc, file, block, , value] = write.words;
+    const says = `host ${host}${inc === "1" ? "" : `, start ${inc}`}: ${file}:${block} = ${value}`;
+    counts.set(says, (counts.get(says) ?? 0) + 1);
+    const key = counts.get(says) === 1 ? says : `${says}, time ${counts.get(says)}`;
     return { key, ...fateOf(entries, write) };
   });
 }

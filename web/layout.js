@@ -91,7 +91,7 @@ function resendTexts(row, place, known) {
   tickTexts(row, place, known);
   for (const { who, words, count, first, last } of resendWords(row)) {
     const party = known.parties.indexOf(who);
-    const inner = party === 1 ? "right" : party === 0 ? "right" : "left";
+    const inner = party > 1 ? "left" : "right";
     say(row, party, inner, `${first} to ${last}: again ${count} times ${words}, lost`, "loss");
   }
 }
