@@ -16,6 +16,7 @@ use nq_script::{Head, Line, Script, parse};
 use nq_world::{Stepped, World, begin};
 use std::alloc::Global;
 use std::cell::RefCell;
+use std::rc::Rc;
 
 /// How a schedule and a journal end.
 const END: &str = "\nend\n";
@@ -58,8 +59,8 @@ fn replayed(alloc: Global, schedule: Vec<u8>) -> Option<MemSink> {
     let words = words_of(alloc, "replay");
     let mut source = MemSource::new(schedule, Vec::new(alloc));
     let mut out = MemSink::new(alloc, MOST_BYTES, Vec::new(alloc)).ok()?;
-    let post = RefCell::new(Post::new(alloc, false));
-    let mut link = PostLink::new(&post, Party::Server, false);
+    let post = Rc::new(alloc, RefCell::new(Post::new(alloc, false))).ok()?;
+    let mut link = PostLink::new(post, Party::Server, false);
     let mut links = Vec::new(alloc);
     ran(
         alloc,

@@ -8,6 +8,7 @@ use nq_disk::MemDisk;
 use nq_run::{NoMemory, ROOM, Words};
 use std::alloc::Global;
 use std::cell::RefCell;
+use std::rc::Rc;
 
 /// Words that stand behind one another, with a blank between two.
 pub(crate) fn words_of(alloc: Global, said: &str) -> Words {
@@ -52,7 +53,7 @@ pub(crate) fn post_of(alloc: Global, scene: &str) -> Result<Post, NoMemory> {
     }
     if scene.starts_with("answered") {
         for number in 2..21 {
-            let none = [number, 1, 0, 0, 0, 0, 2];
+            let none = [number, 1, 0, 0, 0, 0, 1, 2];
             bring(&mut post, Party::Server, Party::Client(Host(0)), &none)?;
         }
     }
@@ -76,17 +77,17 @@ fn bring(post: &mut Post, from: Party, to: Party, words: &[u32]) -> Result<(), N
 }
 
 /// The links of these parties.
-pub(crate) fn links_of<'a>(
+pub(crate) fn links_of(
     alloc: Global,
-    post: &'a RefCell<Post>,
+    post: &Rc<RefCell<Post>>,
     parties: &[Party],
     fails: bool,
-) -> Result<Vec<PostLink<'a>>, NoMemory>
+) -> Result<Vec<PostLink>, NoMemory>
     ensures { IfOk result (λ links. vec_len links ≡ length parties.now) }
 {
     let mut links = Vec::new(alloc);
     for party in parties {
-        links.push(PostLink::new(post, *party, fails))?;
+        links.push(PostLink::new(post.clone()?, *party, fails))?;
     }
     Ok(links)
 }

@@ -8,6 +8,7 @@ use nq_link::{Came, Link, Sent};
 use nq_run::NoMemory;
 use std::alloc::Global;
 use std::cell::RefCell;
+use std::rc::Rc;
 
 /// A datagram under way.
 #[derive(Drop)]
@@ -66,17 +67,17 @@ impl Post {
 
 /// A party's link over the post. It tells nothing of its datagrams, and its first call fails where that is wanted.
 #[derive(Drop)]
-pub(crate) struct PostLink<'a> {
-    post: &'a RefCell<Post>,
+pub(crate) struct PostLink {
+    post: Rc<RefCell<Post>>,
     me: Party,
     fails: bool,
     faults: u64,
     receives: u64,
 }
 
-impl<'a> PostLink<'a> {
+impl PostLink {
     /// The link of a party.
-    pub(crate) fn new(post: &'a RefCell<Post>, me: Party, fails: bool) -> PostLink<'a> {
+    pub(crate) fn new(post: Rc<RefCell<Post>>, me: Party, fails: bool) -> PostLink {
         PostLink {
             post,
             me,
@@ -103,7 +104,7 @@ fn first_for(post: &RefCell<Post>, to: Party) -> Option<Letter> {
     }
 }
 
-impl<'a> Link for PostLink<'a> {
+impl Link for PostLink {
     ghost sent = { λ _. None };
 
     ghost waiting = { λ _. None };
@@ -115,7 +116,7 @@ impl<'a> Link for PostLink<'a> {
     fn send(&mut self, to: Party, bytes: &[u8]) -> Sent {
         let fails = self.fails;
         self.fails = false;
-        if fails || !was_put(self.post, self.me, to, bytes) {
+        if fails || !was_put(&self.post, self.me, to, bytes) {
             self.faults = self.faults.saturating_add(1);
             return Sent::Failed;
         }
@@ -130,7 +131,7 @@ impl<'a> Link for PostLink<'a> {
             self.faults = self.faults.saturating_add(1);
             return Came::Failed;
         }
-        match first_for(self.post, self.me) {
+        match first_for(&self.post, self.me) {
             Some(letter) => {
                 let length = letter.bytes.len().min(into.len());
                 into[..length].copy_from_slice(&letter.bytes[..length]);

@@ -24,6 +24,7 @@ use nq_run::{Ended, NoMemory, Words, parties_of, party_of};
 use sha2::{Digest, Sha256};
 use std::alloc::Global;
 use std::cell::RefCell;
+use std::rc::Rc;
 use std::str;
 
 /// The most bytes that a scene prints.
@@ -129,11 +130,11 @@ fn play(
     out: &mut MemSink,
     left: Vec<u8>,
 ) -> Result<Played, NoMemory> {
-    let post = RefCell::new(post_of(alloc, scene)?);
+    let post = Rc::new(alloc, RefCell::new(post_of(alloc, scene)?))?;
     let fails = scene.ends_with("unsent");
     let parties = parties_of(alloc, words)?;
     let mut links = links_of(alloc, &post, parties.as_slice(), fails)?;
-    let mut link = PostLink::new(&post, party_of(words), fails);
+    let mut link = PostLink::new(post.clone()?, party_of(words), fails);
     let last = if scene.starts_with("replayed") {
         LAST
     } else {
