@@ -88,7 +88,12 @@ function showChange(place, { words, run, before }) {
   const parts = [made("h2", "", "The change"), made("p", "", words === "typed" ? "The schedule was typed." : `${words}.`)];
   const left = (run.left ?? []).filter(({ why }) => why === "no match" || why === "cut off");
   const count = left.length === 1 ? "is one event" : `are ${left.length} events`;
-  if (left.length > 0) parts.push(made("p", "bad", `Left out ${count} of the run before:`), leftList(left, before));
+  if (left.length > 0) {
+    const folded = made("details", "");
+    folded.open = left.length <= 5;
+    folded.append(made("summary", "bad", `Left out ${count} of the run before`), leftList(left, before));
+    parts.push(folded);
+  }
   place.replaceChildren(...parts);
 }
 

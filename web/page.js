@@ -74,7 +74,7 @@ const exerciseOf = (schedule) => EXERCISES.find(({ name }) => STARTS.find((start
 function show() {
   const entry = current();
   const { run, before } = entry;
-  entry.exercise ??= past.entries[past.now - 1]?.exercise ?? null;
+  if (before) entry.exercise ??= past.entries[past.now - 1]?.exercise;
   shown.open = new Set();
   shown.chosen = null;
   showSchedule(run.schedule);
