@@ -1,22 +1,9 @@
-//! A run that was printed, once more: by the command `replay`, and event by event over a world.
-
-ghost use Rattle.std.specs.Prelude.{◌≡◌, ◌<◌, ◌^◌, length, IsTrue, Some};
-ghost use Rattle.nq_keeper.specs.StoredKeeper.{empty_kept};
-ghost use Rattle.nq_world.specs.Playing.{CanCome};
+//! A run that was printed, once more, by the command `replay`.
 
 use crate::parts::words_of;
-use crate::post::{Post, PostLink, StoryClock};
-use crate::top::ran;
-use nq_base::{Event, Journal, Party};
+use crate::scenes::play;
 use nq_io::{MemSink, MemSource};
-use nq_journal::{is_in, print};
-use nq_keeper::{Keeper, ListKeeper};
-use nq_run::blank_disk;
-use nq_script::{Head, Line, Script, parse};
-use nq_world::{Stepped, World, begin};
 use std::alloc::Global;
-use std::cell::RefCell;
-use std::rc::Rc;
 
 /// How a schedule and a journal end.
 const END: &str = "\nend\n";
@@ -32,10 +19,8 @@ pub(crate) fn tell_again(rt: &HostRuntime, text: &str) -> Option<()> {
     let (journal, counts) = behind.split_once(END)?;
     let schedule = ended(alloc, schedule)?;
     let journal = ended(alloc, journal)?;
-    let stepped = stepped(alloc, &schedule)?;
     let replayed = replayed(alloc, schedule)?;
     println!(rt; "replayed {}", word(replayed.bytes() == journal.as_slice())).ok()?;
-    println!(rt; "stepped {}", word(stepped.bytes() == journal.as_slice())).ok()?;
     let (first, _rest) = counts
         .split_once(" packets ")
         .unwrap_or((counts.trim(), ""));
@@ -59,80 +44,14 @@ fn replayed(alloc: Global, schedule: Vec<u8>) -> Option<MemSink> {
     let words = words_of(alloc, "replay");
     let mut source = MemSource::new(schedule, Vec::new(alloc));
     let mut out = MemSink::new(alloc, MOST_BYTES, Vec::new(alloc)).ok()?;
-    let post = Rc::new(alloc, RefCell::new(Post::new(alloc, false))).ok()?;
-    let mut link = PostLink::new(post, Party::Server, false);
-    let mut links = Vec::new(alloc);
-    ran(
+    let _played = play(
         alloc,
+        "plain",
         &words,
         &mut source,
         &mut out,
-        blank_disk(alloc).ok()?,
-        &mut link,
-        links.as_mut_slice(),
-        &mut StoryClock::to(0),
+        Vec::new(alloc),
     )
     .ok()?;
-    Some(out)
-}
-
-/// The journal of a world that takes in a schedule event by event; None where the schedule has a line of many events, or is refused.
-fn stepped(alloc: Global, schedule: &[u8]) -> Option<MemSink> {
-    if schedule.len() > MOST_BYTES {
-        return None;
-    }
-    let script = parse(alloc, schedule).ok()?;
-    let keeper = ListKeeper::new(alloc, Vec::new(alloc)).ok()?;
-    let mut world = begin(alloc, &script.head, keeper).ok()?;
-    let stepped = step_all(&mut world, &script);
-    let printed = printed(alloc, world.journal());
-    let _keeper = world.into_keeper();
-    stepped?;
-    printed
-}
-
-/// Takes in the events of a schedule one by one.
-fn step_all<K: Keeper>(world: &mut World<K>, script: &Script) -> Option<()>
-    requires hosts { script.now.head.hosts ≡ length world.old.clients }
-    requires longest { script.now.head.longest ≡ world.old.skew.window }
-{
-    for place in 0..script.lines.len() {
-        match script.lines.get(place)? {
-            Line::Events { event, times: 1 } => {
-                if !can_come(&script.head, &event) {
-                    return None;
-                }
-                match world.step(&event) {
-                    Stepped::Done => {}
-                    _ => return None,
-                }
-            }
-            Line::End => {}
-            _ => return None,
-        }
-    }
-    Some(())
-}
-
-/// Whether an event can come in the run of a schedule with this head.
-fn can_come(head: &Head, event: &Event) -> bool
-    ensures { IsTrue result → CanCome head.now.hosts head.now.longest event.now }
-{
-    match event {
-        Event::Call { host, .. } => host.0 < head.hosts,
-        Event::ClientTick(host) => host.0 < head.hosts,
-        Event::Restart(host) => host.0 < head.hosts,
-        Event::Crash { longest } => 5 <= *longest && *longest <= head.longest,
-        Event::Deliver(_) => true,
-        Event::ServerTick => true,
-    }
-}
-
-/// A journal of version 1 as it is printed.
-fn printed(alloc: Global, journal: &Journal) -> Option<MemSink> {
-    let mut out = MemSink::new(alloc, MOST_BYTES, Vec::new(alloc)).ok()?;
-    if is_in(journal, 1) {
-        print(alloc, journal, 1, &mut out);
-    }
     Some(out)
 }

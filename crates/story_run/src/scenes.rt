@@ -35,7 +35,7 @@ const LAST: u32 = 4_000;
 
 /// What came of a scene: how it ended, and how many datagrams were sent.
 #[derive(Drop)]
-struct Played {
+pub(crate) struct Played {
     ended: Ended<MemDisk>,
     sent: u32,
 }
@@ -122,7 +122,7 @@ fn push_line(text: &mut Vec<u8>, line: &str) {
 }
 
 /// Runs what words say in a scene, over a disk on which these bytes were left, if it goes on with them.
-fn play(
+pub(crate) fn play(
     alloc: Global,
     scene: &str,
     words: &Words,
