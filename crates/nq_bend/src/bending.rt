@@ -327,11 +327,28 @@ fn keep_delivery<K: Keeper>(
         Ok(new) => {
             let event = Event::Deliver(new);
             happen(world, course, plan, &event, Some(place))?;
-            if plan.is_doubled(packet) && plan.old.arrives_first(packet, place) {
-                happen(world, course, plan, &event, None)?;
-            }
-            Ok(())
+            double(world, course, plan, place, packet, &event)
         }
         Err(why) => course.leave(place, packet, why),
     }
+}
+
+/// Lets the delivery of a packet happen once more, if the packet arrives twice, and first arrived in the event at this place.
+fn double<K: Keeper>(
+    world: &mut World<K>,
+    course: &mut Course,
+    plan: &Plan<'_>,
+    place: usize,
+    packet: u64,
+    event: &Event,
+) -> Result<(), NoMemory>
+    requires told { IsTellable plan.now.head.now event.now }
+    requires settings { HasHead plan.now world.old }
+    ensures settings { HasHead plan.now world.new }
+    ensures goes { (count : ℕ) → IsOn plan.now count course.old → OnOk result (IsOn plan.now count course.new) }
+{
+    if plan.is_doubled(packet) && plan.old.arrives_first(packet, place) {
+        return happen(world, course, plan, event, None);
+    }
+    Ok(())
 }

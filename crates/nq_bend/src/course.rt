@@ -221,13 +221,23 @@ impl Course {
         }
         self.post.see(world.packets(), event)?;
         for number in self.lanes.sent()..self.post.sent().len() {
-            if let Some(sent) = self.post.sent().get(number) {
-                let old = self.lanes.note(sent)?;
-                if !plan.bars(old) {
-                    self.waiting.push(number as u64)?;
-                }
-            }
+            self.note_sent(plan, number)?;
         }
+        Ok(())
+    }
+
+    /// Notes a packet that was sent. It is under way, if it is not barred.
+    fn note_sent(&mut self, plan: &Plan<'_>, number: usize) -> Result<(), NoMemory>
+        ensures { (count : ℕ) → IsOn plan.now count self.old → OnOk result (IsOn plan.now count self.new) }
+    {
+        let Some(sent) = self.post.sent().get(number) else {
+            return Ok(());
+        };
+        let old = self.lanes.note(sent)?;
+        if plan.bars(old) {
+            return Ok(());
+        }
+        self.waiting.push(number as u64)?;
         Ok(())
     }
 }

@@ -1,7 +1,7 @@
 //! The run that is bent.
 
 ghost use Rattle.std.specs.List.{AllByRecursion};
-ghost use Rattle.std.specs.Prelude.{◌≡◌, [], IfOk};
+ghost use Rattle.std.specs.Prelude.{◌≡◌, [], IfOk, OnOk};
 ghost use Rattle.nq_replay.specs.Schedules.{IsReady};
 ghost use Rattle.nq_replay.specs.Texts.{IsTellable};
 ghost use Rattle.nq_world.specs.Playing.{HasSettings};
@@ -10,7 +10,7 @@ use nq_base::{Event, NoMemory};
 use nq_keeper::{Keeper, ListKeeper};
 use nq_observe::{Cursor, Post};
 use nq_replay::play::{Delivered, note};
-use nq_script::{Schedule, Script};
+use nq_script::{Head, Schedule, Script};
 use nq_world::{MOST_EVENTS, NewFault, Stepped, World, begin};
 use std::alloc::Global;
 
@@ -69,6 +69,17 @@ impl Old {
         }
     }
 
+    /// Notes that a flow ended before the next event, if one did.
+    fn end_flow(&mut self, is_behind_flow: bool) -> Result<(), NoMemory>
+        ensures { self.new.events ≡ self.old.events }
+    {
+        if is_behind_flow {
+            let place = self.events.len();
+            self.flows.push(place)?;
+        }
+        Ok(())
+    }
+
     /// Notes an event that a world took in.
     fn see<K: Keeper>(&mut self, world: &World<K>, event: &Event) -> Result<(), NoMemory>
         ensures { self.new.events ≡ self.old.events }
@@ -112,35 +123,51 @@ pub(crate) fn run_of(alloc: Global, script: &Script) -> Result<Old, NoMemory>
 }
 
 /// Plays a schedule over a world.
-#[tactic(auto, using(crate::proofs::Coming::can_come, crate::proofs::Coming::settings_on, crate::proofs::Events::all_last, nq_observe::proofs::Telling::tells_all))]
 fn play<K: Keeper>(alloc: Global, world: &mut World<K>, script: &Script) -> Result<Old, NoMemory>
     requires ready { IsReady script.now }
     requires settings { HasSettings script.now.head.hosts script.now.head.longest script.now.head.term world.old }
     ensures told { IfOk result (λ old. AllByRecursion (IsTellable script.now.head) old.events) }
 {
-    let mut old = Old::new(alloc)?;
+    let mut run = Old::new(alloc)?;
     let mut delivered = Delivered::new(alloc);
     let mut cursor = Cursor::new();
     for turn in 0..MOST_EVENTS {
-        let sent = world.packets().len() as usize;
-        let least = delivered.next(sent);
+        let least = delivered.next(world.packets().len() as usize);
         let next = cursor.next(&script.lines, script.head.hosts, least);
-        if cursor.is_behind_flow {
-            old.flows.push(old.events.len())?;
-        }
+        run.end_flow(cursor.is_behind_flow)?;
         let Some(event) = next else {
             break;
         };
-        delivered.reach(sent)?;
-        match world.step(&event) {
-            Stepped::Done => {
-                note(&mut delivered, &event);
-                old.see(world, &event)?;
-                old.events.push(event)?;
-            }
-            Stepped::Memory => return Err(NoMemory::Memory),
-            _ => break,
+        if !take(world, &mut run, &mut delivered, &script.head, event)? {
+            break;
         }
     }
-    Ok(old)
+    Ok(run)
+}
+
+/// Gives an event to a world, and notes it if the world takes it in; whether it does.
+#[tactic(auto, using(crate::proofs::Coming::can_come, crate::proofs::Coming::settings_on, crate::proofs::Events::all_last))]
+fn take<K: Keeper>(
+    world: &mut World<K>,
+    run: &mut Old,
+    delivered: &mut Delivered,
+    head: &Head,
+    event: Event,
+) -> Result<bool, NoMemory>
+    requires told { IsTellable head.now event }
+    requires settings { HasSettings head.now.hosts head.now.longest head.now.term world.old }
+    ensures settings { HasSettings head.now.hosts head.now.longest head.now.term world.new }
+    ensures told { AllByRecursion (IsTellable head.now) run.old.events → OnOk result (AllByRecursion (IsTellable head.now) run.new.events) }
+{
+    delivered.reach(world.packets().len() as usize)?;
+    match world.step(&event) {
+        Stepped::Done => {
+            note(delivered, &event);
+            run.see(world, &event)?;
+            run.events.push(event)?;
+            Ok(true)
+        }
+        Stepped::Memory => Err(NoMemory::Memory),
+        _ => Ok(false),
+    }
 }

@@ -40,7 +40,6 @@ pub(crate) fn read_put(alloc: Global, head: &Head, text: &[u8]) -> Result<Option
 }
 
 /// The lines of a schedule that begins with this head, where all tell calls, ticks, restarts and crashes.
-#[tactic(auto, using(crate::proofs::Coming::alike, nq_observe::proofs::Telling::tells_all))]
 fn acts_of(head: &Head, script: Script) -> Option<Lines>
     requires { IsReady script }
     ensures { IfSome result (λ lines. AllByRecursion (TellsEvent head.now) lines) }

@@ -3,4 +3,4 @@ use Rattle.nq_bend.specs.Course.{IsOn}
 use Rattle.nq_bend.proofs.course.Course.see.Given as goal
 
 abbrev pub invariant-loop-number : goal.invariant-loop-number
-invariant-loop-number l = (count : ℕ) → IsOn l.plan count l.fn.self → IsOn l.plan count l.self
+invariant-loop-number g l = (count : ℕ) → IsOn l.plan count l.fn.self → IsOn l.plan count l.self
