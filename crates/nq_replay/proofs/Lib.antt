@@ -21,6 +21,9 @@ pub mod Overs
 pub mod Printings
 pub mod Readied
 pub mod Reversing
+pub mod RulesKeeping
+pub mod RulesOnward
+pub mod RulesSteps
 pub mod Skewing
 pub mod Spelling
 pub mod Steps

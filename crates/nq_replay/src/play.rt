@@ -8,6 +8,7 @@ mod delivered;
 mod events;
 mod laws;
 mod lines;
+pub mod outer;
 mod played;
 
 pub use delivered::Delivered;

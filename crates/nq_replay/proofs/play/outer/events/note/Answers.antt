@@ -1,0 +1,16 @@
+use Rattle.std.proofs.Common.{◌≡◌, ◌<◌, length, Some, subst, sym, ◌∙◌}
+use Rattle.nq_replay.proofs.RulesSteps.{marks-none, marks-some}
+use Rattle.nq_replay.specs.Rules.{of_schedules}
+use Rattle.nq_replay.specs.RulesGoing.{IsFlagged}
+use Rattle.nq_replay.proofs.play.outer.events.note.Goals as goal
+
+pub returns-in-Some : goal.returns-in-Some
+returns-in-Some g c = λ flag events marks.
+    let rules = g.W.OuterWorld.rules in
+    let is = sym c.packet_of.ensures ∙ c.in-Some.is in
+    let below = subst (IsFlagged (length c.args.delivered.now)) is flag in
+    marks-some rules c.mark.new.self c.args.event.now c.in-Some.packet events is (c.mark.ensures below (of_schedules rules events) marks)
+
+pub returns-in-None : goal.returns-in-None
+returns-in-None g c = λ flag events marks.
+    marks-none g.W.OuterWorld.rules c.args.delivered.now c.args.event.now events (sym c.packet_of.ensures ∙ c.in-None.is) marks

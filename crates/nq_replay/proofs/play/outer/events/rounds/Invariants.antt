@@ -1,0 +1,17 @@
+use Rattle.std.proofs.Common.{◌≡◌, ◌-◌, List}
+use Rattle.nq_model.specs.World.{Head}
+use Rattle.nq_replay.proofs.AsidesOnward.{IsOn}
+use Rattle.nq_replay.specs.RulesGoing.{IsAt}
+use Rattle.nq_replay.specs.AsidesPlaying.{repeated}
+use Rattle.nq_replay.specs.Rules.{play_round}
+use Rattle.nq_world.specs.declared.stepped.Stepped.{Stepped}
+use Rattle.nq_replay.proofs.play.outer.events.rounds.Given as goal
+
+abbrev pub invariant-loop-turn : goal.invariant-loop-turn
+invariant-loop-turn g l = record {
+  on : (head : Head) (events : List g.row.W-Event.Denot) → head.hosts ≡ l.hosts
+      → IsAt g.W.OuterWorld.rules g.W.OuterWorld.plays head events l.fn.world l.fn.delivered
+      → IsOn (λ es. IsAt g.W.OuterWorld.rules g.W.OuterWorld.plays head es l.world l.delivered) (repeated (l.times - l.turn) (play_round g.W.OuterWorld.rules head))
+      (repeated l.times (play_round g.W.OuterWorld.rules head) events);
+  keeps : g.W.OuterWorld.goes_on Stepped.Done l.fn.world l.world;
+}

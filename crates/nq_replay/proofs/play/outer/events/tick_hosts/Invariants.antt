@@ -1,0 +1,15 @@
+use Rattle.std.proofs.Common.{◌-◌, List}
+use Rattle.nq_model.specs.World.{Head}
+use Rattle.nq_replay.proofs.AsidesOnward.{IsOn}
+use Rattle.nq_replay.specs.RulesGoing.{IsAt}
+use Rattle.nq_replay.specs.Rules.{play_ticks}
+use Rattle.nq_world.specs.declared.stepped.Stepped.{Stepped}
+use Rattle.nq_replay.proofs.play.outer.events.tick_hosts.Given as goal
+
+abbrev pub invariant-loop-host : goal.invariant-loop-host
+invariant-loop-host g l = record {
+  on : (head : Head) (events : List g.row.W-Event.Denot) → IsAt g.W.OuterWorld.rules g.W.OuterWorld.plays head events l.fn.world l.fn.delivered
+      → IsOn (λ es. IsAt g.W.OuterWorld.rules g.W.OuterWorld.plays head es l.world l.delivered) (play_ticks g.W.OuterWorld.rules head l.host (l.hosts - l.host))
+      (play_ticks g.W.OuterWorld.rules head 0 l.hosts events);
+  keeps : g.W.OuterWorld.goes_on Stepped.Done l.fn.world l.world;
+}
