@@ -1,8 +1,8 @@
 -- The rules of a world in which a schedule is played, and how its lines are played by them, event by event. Below, `E` is an event of
 -- the world, and `A` is what a line says that is none of a schedule. The events of a run are told with the newest first.
-use Rattle.std.specs.Prelude.{◌≡◌, ◌<◌, ℕ, ◌+◌, List, [], ◌∷◌, Option, Some, None, zero, suc}
+use Rattle.std.specs.Prelude.{ℕ, ◌+◌, List, [], ◌∷◌, Option, Some, None, zero, suc}
 use Rattle.nq_base.specs.declared.Event.{Event}
-use Rattle.nq_model.specs.Stepped.{Stepped, done, too_many_events}
+use Rattle.nq_model.specs.Stepped.{Stepped, too_many_events}
 use Rattle.nq_model.specs.World.{Head}
 use Rattle.nq_replay.specs.AsidesPlaying.{Ended, Played, and_then, answered, play_each, refused, repeated, took, with_packet}
 use Rattle.nq_replay.specs.Delivering.{least_undelivered}

@@ -1,5 +1,5 @@
 -- What holds behind each event that was taken holds at the end: so all events of a staged schedule can be told in one.
-use Rattle.std.proofs.Common.{◌≡◌, ◌<◌, ◌≤◌, ℕ, ◌+◌, List, [], ◌∷◌, arith, length, zero, suc, Option, Some, None, refl, subst}
+use Rattle.std.proofs.Common.{◌≡◌, ℕ, ◌+◌, List, [], length, Option, refl}
 use Rattle.std.specs.List.{AllByRecursion}
 use Rattle.nq_replay.proofs.Keeping.{Keeps, ends-answered}
 use Rattle.nq_replay.specs.Text.{mixed}
@@ -9,8 +9,7 @@ use Rattle.nq_replay.specs.Playing.{beginning}
 use Rattle.nq_replay.specs.declared.play.played.Played.{Played as Went}
 use Rattle.nq_replay.specs.Texts.{IsTellable}
 use Rattle.nq_script.specs.Heads.{head_lines}
-use Rattle.nq_script.specs.Lines.{SpellsLine}
-use Rattle.nq_script.specs.Schedule.{SpellsLines, SpellsSchedule}
+use Rattle.nq_script.specs.Schedule.{SpellsSchedule}
 use Rattle.nq_script.specs.declared.heads.Head.{Head}
 use Rattle.nq_script.specs.declared.lines.Line.{Line}
 use Rattle.nq_staged.proofs.Tellable.{IsPlainly, run-all}
@@ -20,8 +19,7 @@ use Rattle.nq_staged.specs.declared.offer.Offer.{Offer}
 use Rattle.nq_base.specs.declared.Event.{Event}
 use Rattle.nq_stage.specs.declared.run.event.StagedEvent.{StagedEvent}
 use Rattle.nq_model.specs.Stepped.{done, most_events}
-use Rattle.nq_model.specs.World.{Head as Beginning}
-use Rattle.nq_replay.specs.AsidesPlaying.{Ended, Played, took, refused, at_line, ran, stopped}
+use Rattle.nq_replay.specs.AsidesPlaying.{Ended, ran, stopped}
 use Rattle.nq_replay.proofs.RulesKeeping.{keeps-lines}
 use Rattle.nq_replay.specs.Rules.{play_event, play_plainly}
 use Rattle.nq_staged.specs.Playing.{play, staged_rules}

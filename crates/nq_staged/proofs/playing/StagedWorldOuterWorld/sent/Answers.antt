@@ -1,4 +1,4 @@
-use Rattle.std.proofs.Common.{refl, subst, sym}
+use Rattle.std.proofs.Common.{subst, sym}
 use Rattle.nq_replay.specs.RulesLaws.{goes-nowhere}
 use Rattle.nq_staged.specs.Worlds.{PlaysOutside}
 use Rattle.nq_world.specs.Playing.{GoesOn, WorldOver}

@@ -1,4 +1,4 @@
-use Rattle.std.proofs.Common.{◌+◌, ◌-◌, subst, sym}
+use Rattle.std.proofs.Common.{◌+◌, ◌-◌}
 use Rattle.nq_base.specs.declared.Event.{Event}
 use Rattle.nq_replay.proofs.AsidesOnward.{done-here, goes-on, stops-here}
 use Rattle.nq_replay.proofs.RulesOnward.{flow-none, flow-some}

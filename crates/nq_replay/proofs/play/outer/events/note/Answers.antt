@@ -1,4 +1,4 @@
-use Rattle.std.proofs.Common.{◌≡◌, ◌<◌, length, Some, subst, sym, ◌∙◌}
+use Rattle.std.proofs.Common.{length, subst, sym, ◌∙◌}
 use Rattle.nq_replay.proofs.RulesSteps.{marks-none, marks-some}
 use Rattle.nq_replay.specs.Rules.{of_schedules}
 use Rattle.nq_replay.specs.RulesGoing.{IsFlagged}

@@ -1,7 +1,6 @@
-use Rattle.std.proofs.Common.{◌≡◌, ◌≤◌, length, subst, sym}
+use Rattle.std.proofs.Common.{◌≡◌, ◌≤◌, length, subst}
 use Rattle.nq_replay.proofs.RulesSteps.{has-flag, not-taken, taken}
 use Rattle.nq_replay.specs.Rules.{of_schedules, packet_of}
-use Rattle.nq_world.specs.declared.stepped.Stepped.{Stepped}
 use Rattle.nq_replay.proofs.play.outer.events.take.Goals as goal
 
 pub returns-in-Done-clause-goes : goal.returns-in-Done-clause-goes
