@@ -1,6 +1,7 @@
 -- The exit statuses.
 use Rattle.std.specs.Prelude.{◌≡◌, ℕ}
 use Rattle.nq_base.specs.declared.ending.ending.Ending.{Ending}
+use Rattle.nq_base.specs.declared.ending.fault.Fault.{Fault}
 
 -- the exit status of an end
 abbrev pub status_of : Ending → ℕ
@@ -17,6 +18,14 @@ status_of Ending.Limit = 9
 status_of Ending.Spent = 10
 status_of Ending.NoAnswer = 11
 status_of Ending.NotSound = 12
+
+-- the end of a command whose turns ended by a fault
+abbrev pub ending_of : Fault → Ending
+ending_of Fault.Link = Ending.LinkFault
+ending_of Fault.Store = Ending.KeepFault
+ending_of Fault.Memory = Ending.Memory
+ending_of Fault.Spent = Ending.Spent
+ending_of Fault.NoAnswer = Ending.NoAnswer
 
 -- the exit status is that of an end of which this holds
 abbrev pub WithStatus : (status : ℕ) → (P : Ending → Type 0) → Type 0

@@ -2,7 +2,7 @@
 use Rattle.std.proofs.Common.{◌≡◌, ◌⊎◌, ◌≤◌, ℕ, List, Option, Some, Result, Ok, Err, IfOk, OnOk, inl, inr, refl, sym, ap, subst, ◌∙◌}
 use Rattle.std.specs.Option.{ForSome}
 use Rattle.nq_base.specs.declared.ending.ending.Ending.{Ending}
-use Rattle.nq_base.specs.declared.ending.halt.Halt.{Halt}
+use Rattle.nq_base.specs.declared.ending.fault.Fault.{Fault}
 use Rattle.nq_serving.specs.ServerLeaving.{IsLeftInRuns, LeavesServing}
 use Rattle.nq_serving.specs.Serving.{Runs, Tells}
 use Rattle.nq_model.specs.Kept.{Kept}
@@ -27,7 +27,7 @@ stays_same told before leaves stays like = λ bytes is kept same image left. lef
 
 -- what is kept at first is left by the boot
 left-first : {K : Type 0} (content : K → Option Kept) (faults : K → ℕ) (follows : K → K → Type 0) (longest turns time : ℕ) (keeper : K)
-    (ended : Result Unit Halt) (left : K) (clock clock' : ClockTold) (link link' : LinkTold)
+    (ended : Result Unit Fault) (left : K) (clock clock' : ClockTold) (link link' : LinkTold)
     (runs : Runs content faults follows longest turns time keeper ended left clock clock' link link') (kept : Kept) (found : Option Kept)
     → found ≡ Some kept → IsLeftInRuns content faults follows longest turns time keeper ended left clock clock' link link' runs kept found
 left-first content faults follows longest turns time keeper (Ok done) left clock clock' link link' runs kept found e = inl (inl e)
@@ -40,7 +40,7 @@ left-either P f g (inr b) = g b
 
 module _ {D : Type 0} (told : D → Option (List ℕ)) (faults : D → ℕ) (may_leave : D → List ℕ → Type 0) (follows : D → D → Type 0)
     (leaves : D → D → List ℕ → Type 0) where
-  survives : (longest turns : ℕ) (disk : D) (store : StoredStore D) (ended : Result Unit Halt) (left : StoredStore D)
+  survives : (longest turns : ℕ) (disk : D) (store : StoredStore D) (ended : Result Unit Fault) (left : StoredStore D)
       (clock clock' : ClockTold) (link link' : LinkTold)
       → ((bytes : List ℕ) → told disk ≡ Some bytes → may_leave disk bytes)
       → ((image : List ℕ) → leaves disk left.disk image → leaves disk store.disk image ⊎ leaves store.disk left.disk image)
@@ -61,15 +61,15 @@ module _ {D : Type 0} (told : D → Option (List ℕ)) (faults : D → ℕ) (may
         (parts image l);
   }
 
-  tells-on : (end : Ending) (turns : ℕ) (P Q : Result Unit Halt → Type 0) (held now : Option (List ℕ)) (w w' : ℕ)
-      → ((ended : Result Unit Halt) → P ended → Q ended) → Tells end turns P held now w w' → Tells end turns Q held now w w'
+  tells-on : (end : Ending) (turns : ℕ) (P Q : Result Unit Fault → Type 0) (held now : Option (List ℕ)) (w w' : ℕ)
+      → ((ended : Result Unit Fault) → P ended → Q ended) → Tells end turns P held now w w' → Tells end turns Q held now w w'
   tells-on Ending.Done turns P Q held now w w' on t = (on (Ok tt) t.0, t.1, t.2)
   tells-on Ending.WriteFault turns P Q held now w w' on t = (on (Ok tt) t.0, t.1, t.2)
-  tells-on Ending.KeepFault turns P Q held now w w' on t = (on (Err Halt.Keep) t.0, t.1, t.2)
-  tells-on Ending.Memory turns P Q held now w w' on t = (on (Err Halt.Memory) t.0, t.1, t.2)
-  tells-on Ending.LinkFault turns P Q held now w w' on t = (on (Err Halt.Link) t.0, t.1, t.2)
-  tells-on Ending.Spent turns P Q held now w w' on t = (on (Err Halt.Spent) t.0, t.1, t.2)
-  tells-on Ending.NoAnswer turns P Q held now w w' on t = (on (Err Halt.NoAnswer) t.0, t.1, t.2)
+  tells-on Ending.KeepFault turns P Q held now w w' on t = (on (Err Fault.Store) t.0, t.1, t.2)
+  tells-on Ending.Memory turns P Q held now w w' on t = (on (Err Fault.Memory) t.0, t.1, t.2)
+  tells-on Ending.LinkFault turns P Q held now w w' on t = (on (Err Fault.Link) t.0, t.1, t.2)
+  tells-on Ending.Spent turns P Q held now w w' on t = (on (Err Fault.Spent) t.0, t.1, t.2)
+  tells-on Ending.NoAnswer turns P Q held now w w' on t = (on (Err Fault.NoAnswer) t.0, t.1, t.2)
   tells-on Ending.Usage turns P Q held now w w' on t = t
   tells-on Ending.Script turns P Q held now w w' on t = t
   tells-on Ending.Skew turns P Q held now w w' on t = t

@@ -5,7 +5,7 @@ use Rattle.std.specs.Option.{ForSome}
 use Rattle.std.specs.Prelude.{◌≡◌, ◌<◌, ℕ, List, [], Option, Some, None, Result, Err, length}
 use Rattle.nq_serving.specs.DaemonLeaving.{IsLeftInRuns, LeavesServing}
 use Rattle.nq_serving.specs.DaemonServing.{EndsBy}
-use Rattle.nq_base.specs.declared.ending.halt.Halt.{Halt}
+use Rattle.nq_base.specs.declared.ending.fault.Fault.{Fault}
 use Rattle.nq_plan.specs.Standing.{stands_as}
 use Rattle.nq_image.specs.Nothing.{nothing_kept}
 use Rattle.nq_io.specs.Faults.{Rose}
@@ -45,7 +45,7 @@ pub record ServesNot {D : Type 0} (told : D → Option (List ℕ)) (faults : D �
 
 -- a store was served from, and ended so; this disk is left, which is the store's
 pub record EndsServing {D : Type 0} (told : D → Option (List ℕ)) (faults : D → ℕ) (follows : D → D → Type 0) (leaves : D → D → List ℕ → Type 0)
-    (longest turns : ℕ) (store : StoredStore D) (ended : Result Unit Halt) (left : D) (clock clock' : ClockTold) (link link' : LinkTold) : Type 0 where
+    (longest turns : ℕ) (store : StoredStore D) (ended : Result Unit Fault) (left : D) (clock clock' : ClockTold) (link link' : LinkTold) : Type 0 where
   pub served : StoredStore D
   pub handed : left ≡ served.disk
   pub same : GoesOn faults follows store served
@@ -56,7 +56,7 @@ pub record EndsServing {D : Type 0} (told : D → Option (List ℕ)) (faults : D
 -- this image, which a stop left, opens, and stands for what was kept at first, or after some of the steps: the boot, and the ticks and datagrams of
 -- the turns
 abbrev pub IsFoundAmong : {D : Type 0} → (told : D → Option (List ℕ)) → (faults : D → ℕ) → (follows : D → D → Type 0) → (leaves : D → D → List ℕ
-    → Type 0) → (longest turns : ℕ) → (store : StoredStore D) → (ended : Result Unit Halt) → (left : D) → (clock clock' : ClockTold)
+    → Type 0) → (longest turns : ℕ) → (store : StoredStore D) → (ended : Result Unit Fault) → (left : D) → (clock clock' : ClockTold)
     → (link link' : LinkTold) → EndsServing told faults follows leaves longest turns store ended left clock clock' link link' → (kept : Kept)
     → (image : List ℕ) → Type 0
 IsFoundAmong told faults follows leaves longest turns store ended left clock clock' link link' ends kept image =
@@ -67,7 +67,7 @@ IsFoundAmong told faults follows leaves longest turns store ended left clock clo
 -- stood for one kept state, whatever a stop at any moment of the call leaves opens, and stands for that or for what was kept after some of the
 -- steps. Where it had none, the same is so of a stop at any moment from then on that the image was made, for the state in which nothing is kept
 pub record ServesImage {D : Type 0} (told : D → Option (List ℕ)) (faults : D → ℕ) (may_leave : D → List ℕ → Type 0) (follows : D → D → Type 0)
-    (leaves : D → D → List ℕ → Type 0) (longest turns : ℕ) (disk : D) (ended : Result Unit Halt) (left : D) (clock clock' : ClockTold)
+    (leaves : D → D → List ℕ → Type 0) (longest turns : ℕ) (disk : D) (ended : Result Unit Fault) (left : D) (clock clock' : ClockTold)
     (link link' : LinkTold) : Type 0 where
   pub ready : D
   pub is_ready : IsReady told faults may_leave follows leaves disk ready
@@ -76,7 +76,7 @@ pub record ServesImage {D : Type 0} (told : D → Option (List ℕ)) (faults : D
   pub keeps : content_of told store ≡ kept_told (told ready)
   pub fresh : IsFresh store
   pub ends : EndsServing told faults follows leaves longest turns store ended left clock clock' link link'
-  pub failed : ended ≡ Err Halt.Keep → HasRisen (faults disk) (faults left)
+  pub failed : ended ≡ Err Fault.Store → HasRisen (faults disk) (faults left)
   pub survives : ForSome (told disk) (λ bytes. 0 < length bytes → (kept : Kept) → AllStandFor (may_leave disk) kept
       → Each (leaves disk left) (IsFoundAmong told faults follows leaves longest turns store ended left clock clock' link link' ends kept))
   pub survives_made : told disk ≡ Some []

@@ -1,7 +1,7 @@
 -- Why serving ends as it does.
 use Rattle.std.proofs.Common.{◌≡◌, ◌∙◌, ◌+◌, ◌*◌, ◌<◌, ◌≤◌, ℕ, zero, suc, List, Result, Ok, Err, Option, Some, inl, inr, refl, sym, ap, subst, arith}
 use Rattle.nq_base.specs.declared.ending.ending.Ending.{Ending}
-use Rattle.nq_base.specs.declared.ending.halt.Halt.{Halt}
+use Rattle.nq_base.specs.declared.ending.fault.Fault.{Fault}
 use Rattle.nq_serving.specs.Serving.{Between, EndsBy, Goes, GoesOn, HaltsBy, RanBooted, Runs, StopsEarly, Tells, TellsTurns, Turns, between, turns_line}
 use Rattle.nq_io.specs.Faults.{Rose}
 use Rattle.nq_model.specs.Kept.{Kept}
@@ -15,28 +15,28 @@ use Rattle.nq_serving.proofs.ServerCounts.{turn_few, turn_keep, turn_link, turn_
 -- ---- telling
 
 -- an end that is told has the cause of its turns, or the sink failed
-pub ends_by : (ended : Result Unit Halt) (line : List ℕ) (result : Ending) (held now : Option (List ℕ)) (told : Option Kept) (keep keep' link link' w w' : ℕ)
+pub ends_by : (ended : Result Unit Fault) (line : List ℕ) (result : Ending) (held now : Option (List ℕ)) (told : Option Kept) (keep keep' link link' w w' : ℕ)
     → TellsTurns ended line result held now w w' → HaltsBy ended told keep keep' link link' → EndsBy result told keep keep' link link' w w'
 ends_by (Ok tt) line Ending.Done held now told keep keep' link link' w w' t h = (h.0, h.1, h.2, t.1)
 ends_by (Ok tt) line Ending.WriteFault held now told keep keep' link link' w w' t h = t.1
 ends_by (Ok tt) line other held now told keep keep' link link' w w' t h = absurd t
-ends_by (Err Halt.Link) line result held now told keep keep' link link' w w' t h = rw t.0 h
-ends_by (Err Halt.Keep) line result held now told keep keep' link link' w w' t h = rw t.0 h
-ends_by (Err Halt.Memory) line result held now told keep keep' link link' w w' t h = rw t.0 tt
-ends_by (Err Halt.Spent) line result held now told keep keep' link link' w w' t h = rw t.0 h
-ends_by (Err Halt.NoAnswer) line result held now told keep keep' link link' w w' t h = absurd h
+ends_by (Err Fault.Link) line result held now told keep keep' link link' w w' t h = rw t.0 h
+ends_by (Err Fault.Store) line result held now told keep keep' link link' w w' t h = rw t.0 h
+ends_by (Err Fault.Memory) line result held now told keep keep' link link' w w' t h = rw t.0 tt
+ends_by (Err Fault.Spent) line result held now told keep keep' link link' w w' t h = rw t.0 h
+ends_by (Err Fault.NoAnswer) line result held now told keep keep' link link' w w' t h = absurd h
 
 -- what is told of turns that ended so
-pub tells : (P : Result Unit Halt → Type 0) (ended : Result Unit Halt) (turns : ℕ) (result : Ending) (held now : Option (List ℕ)) (w w' : ℕ)
+pub tells : (P : Result Unit Fault → Type 0) (ended : Result Unit Fault) (turns : ℕ) (result : Ending) (held now : Option (List ℕ)) (w w' : ℕ)
     → P ended → TellsTurns ended (turns_line turns) result held now w w' → Tells result turns P held now w w'
 tells P (Ok tt) turns Ending.Done held now w w' so t = (so, t.0, t.1)
 tells P (Ok tt) turns Ending.WriteFault held now w w' so t = (so, t.0, t.1)
 tells P (Ok tt) turns other held now w w' so t = absurd t
-tells P (Err Halt.Link) turns result held now w w' so t = rw t.0 (so, t.1, t.2)
-tells P (Err Halt.Keep) turns result held now w w' so t = rw t.0 (so, t.1, t.2)
-tells P (Err Halt.Memory) turns result held now w w' so t = rw t.0 (so, t.1, t.2)
-tells P (Err Halt.Spent) turns result held now w w' so t = rw t.0 (so, t.1, t.2)
-tells P (Err Halt.NoAnswer) turns result held now w w' so t = rw t.0 (so, t.1, t.2)
+tells P (Err Fault.Link) turns result held now w w' so t = rw t.0 (so, t.1, t.2)
+tells P (Err Fault.Store) turns result held now w w' so t = rw t.0 (so, t.1, t.2)
+tells P (Err Fault.Memory) turns result held now w w' so t = rw t.0 (so, t.1, t.2)
+tells P (Err Fault.Spent) turns result held now w w' so t = rw t.0 (so, t.1, t.2)
+tells P (Err Fault.NoAnswer) turns result held now w w' so t = rw t.0 (so, t.1, t.2)
 
 -- the counts of faults are as they were, and so much was taken in at most
 abbrev Counts : {K : Type 0} → (faults : K → ℕ) → (more : ℕ) → (at after : Between K) → Type 0
@@ -72,18 +72,18 @@ module _ {K : Type 0} (content : K → Option Kept) (faults : K → ℕ) where
       let few = first.2 in
       let more = last.2 in (last.0 ∙ first.0, last.1 ∙ first.1, omega arith)
 
-  stop-link : (turns : ℕ) (at after : Between K) → StopsEarly content faults turns Halt.Link at after → Rose at.link.faults after.link.faults
+  stop-link : (turns : ℕ) (at after : Between K) → StopsEarly content faults turns Fault.Link at after → Rose at.link.faults after.link.faults
   stop-link turns at after s =
       subst (λ n. Rose n after.link.faults) (go-counts s.count at s.between s.before).1 (link-of Turn.Link s.between after s.last)
 
-  stop-keep : (turns : ℕ) (at after : Between K) → StopsEarly content faults turns Halt.Keep at after → Rose (faults at.server.keeper)
+  stop-keep : (turns : ℕ) (at after : Between K) → StopsEarly content faults turns Fault.Store at after → Rose (faults at.server.keeper)
       (faults after.server.keeper)
   stop-keep turns at after s =
       subst (λ n. Rose n (faults after.server.keeper)) (go-counts s.count at s.between s.before).0 (keep-of Turn.Keep s.between after s.last)
 
   -- turns that are too few to take in all never stop for that
   stop-spent : (most turns : ℕ) (at after : Between K) → most ≡ most_taken_by_server → 2 * turns < most → at.server.taken ≡ 0
-      → StopsEarly content faults turns Halt.Spent at after → ⊥
+      → StopsEarly content faults turns Fault.Spent at after → ⊥
   stop-spent most turns at after is few none s =
       let taken = (go-counts s.count at s.between s.before).2 in
       let fewer = s.fewer in
@@ -97,13 +97,13 @@ module _ {K : Type 0} (content : K → Option Kept) (faults : K → ℕ) (follow
 
   none-left : (most longest turns time : ℕ) (keeper left : K) (clock clock' : ClockTold) (link link' : LinkTold) → most ≡ most_taken_by_server
       → 2 * turns < most
-      → (kept : Kept) → content keeper ≡ Some kept → RanBooted content faults follows longest turns time keeper (Err Halt.Spent) left clock clock'
+      → (kept : Kept) → content keeper ≡ Some kept → RanBooted content faults follows longest turns time keeper (Err Fault.Spent) left clock clock'
       link link' → ⊥
   none-left most longest turns time keeper left clock clock' link link' is few kept told r =
       stop-spent content faults most turns (between r.server r.ran.log 0 clock link) r.ran.last is few (r.booted.0 kept told).1.taken r.ran.taken
 
   -- what was to be done ended by its cause
-  pub halts_by : (most longest turns time : ℕ) (keeper : K) (ended : Result Unit Halt) (left : K) (clock clock' : ClockTold) (link link' : LinkTold)
+  pub halts_by : (most longest turns time : ℕ) (keeper : K) (ended : Result Unit Fault) (left : K) (clock clock' : ClockTold) (link link' : LinkTold)
       → most ≡ most_taken_by_server → 2 * turns < most → Runs content faults follows longest turns time keeper ended left clock clock' link link'
       → HaltsBy ended (content keeper) (faults keeper) (faults left) link.faults link'.faults
   halts_by most longest turns time keeper (Ok tt) left clock clock' link link' is few r =
@@ -112,18 +112,18 @@ module _ {K : Type 0} (content : K → Option Kept) (faults : K → ℕ) (follow
         ap faults r.ran.keeper ∙ counts.0 ∙ r.booted.1,
         ap (λ (l : LinkTold). l.faults) r.ran.links ∙ counts.1,
       )
-  halts_by most longest turns time keeper (Err Halt.Link) left clock clock' link link' is few (inl r) =
+  halts_by most longest turns time keeper (Err Fault.Link) left clock clock' link link' is few (inl r) =
       subst (λ n. Rose link.faults n) (sym (ap (λ (l : LinkTold). l.faults) r.ran.links))
       (stop-link content faults turns (between r.server r.ran.log 0 clock link) r.ran.last r.ran.taken)
-  halts_by most longest turns time keeper (Err Halt.Link) left clock clock' link link' is few (inr n) = absurd n.none
-  halts_by most longest turns time keeper (Err Halt.Keep) left clock clock' link link' is few (inl r) =
+  halts_by most longest turns time keeper (Err Fault.Link) left clock clock' link link' is few (inr n) = absurd n.none
+  halts_by most longest turns time keeper (Err Fault.Store) left clock clock' link link' is few (inl r) =
       subst (λ n. Rose n (faults left)) r.booted.1
       (subst (λ k. Rose (faults r.server.keeper) (faults k)) (sym r.ran.keeper)
       (stop-keep content faults turns (between r.server r.ran.log 0 clock link) r.ran.last r.ran.taken))
-  halts_by most longest turns time keeper (Err Halt.Keep) left clock clock' link link' is few (inr n) = n.none.1
-  halts_by most longest turns time keeper (Err Halt.Memory) left clock clock' link link' is few r = tt
-  halts_by most longest turns time keeper (Err Halt.Spent) left clock clock' link link' is few (inl r) =
+  halts_by most longest turns time keeper (Err Fault.Store) left clock clock' link link' is few (inr n) = n.none.1
+  halts_by most longest turns time keeper (Err Fault.Memory) left clock clock' link link' is few r = tt
+  halts_by most longest turns time keeper (Err Fault.Spent) left clock clock' link link' is few (inl r) =
       λ kept told. absurd (none-left most longest turns time keeper left clock clock' link link' is few kept told r)
-  halts_by most longest turns time keeper (Err Halt.Spent) left clock clock' link link' is few (inr n) = n.none.0
-  halts_by most longest turns time keeper (Err Halt.NoAnswer) left clock clock' link link' is few (inl r) = absurd r.ran.taken.last
-  halts_by most longest turns time keeper (Err Halt.NoAnswer) left clock clock' link link' is few (inr n) = absurd n.none
+  halts_by most longest turns time keeper (Err Fault.Spent) left clock clock' link link' is few (inr n) = n.none.0
+  halts_by most longest turns time keeper (Err Fault.NoAnswer) left clock clock' link link' is few (inl r) = absurd r.ran.taken.last
+  halts_by most longest turns time keeper (Err Fault.NoAnswer) left clock clock' link link' is few (inr n) = absurd n.none

@@ -2,7 +2,7 @@
 use Rattle.std.proofs.Common.{◌≡◌, ◌∙◌, ◌+◌, ◌*◌, ◌<◌, ◌≤◌, ℕ, zero, suc, Result, Ok, Err, Option, Some, inl, inr, refl, sym, ap, subst, arith}
 use Rattle.nq_serving.specs.DaemonServing.{EndsBy, RanBooted, Runs}
 use Rattle.nq_serving.specs.Turning.{Goes, Standing, StopsEarly, TakesTurn, borne, standing, with_log}
-use Rattle.nq_base.specs.declared.ending.halt.Halt.{Halt}
+use Rattle.nq_base.specs.declared.ending.fault.Fault.{Fault}
 use Rattle.nq_serving.specs.Serving.{Between, Turns}
 use Rattle.nq_io.specs.Faults.{Rose}
 use Rattle.nq_model.specs.Kept.{Kept}
@@ -52,7 +52,7 @@ module _ {K : Type 0} (content : K → Option Kept) (faults : K → ℕ) where
       let few = first.1 in
       let more = last.1 in (last.0 ∙ first.0, omega arith)
 
-  stop-turn : (why : Halt) (turn : Turn) → Err why ≡ borne turn → (before now : ℕ) → TurnKeep turn before now → why ≡ Halt.Keep → Rose before now
+  stop-turn : (why : Fault) (turn : Turn) → Err why ≡ borne turn → (before now : ℕ) → TurnKeep turn before now → why ≡ Fault.Store → Rose before now
   stop-turn why Turn.Keep so before now k is = k
   stop-turn why Turn.Took so before now k is = absurd (cc)
   stop-turn why Turn.Quiet so before now k is = absurd (cc)
@@ -60,15 +60,15 @@ module _ {K : Type 0} (content : K → Option Kept) (faults : K → ℕ) where
   stop-turn why Turn.Memory so before now k is = absurd (cc)
   stop-turn why Turn.Spent so before now k is = absurd (cc)
 
-  stop-keep : (turns : ℕ) (at after : Standing K) → StopsEarly content faults turns Halt.Keep at after
+  stop-keep : (turns : ℕ) (at after : Standing K) → StopsEarly content faults turns Fault.Store at after
       → Rose (faults at.server.keeper) (faults after.server.keeper)
   stop-keep turns at after s =
       subst (λ n. Rose n (faults after.server.keeper)) (go-counts s.count at s.middle s.before).0
-      (stop-turn Halt.Keep s.last.turn s.last.so (faults s.middle.server.keeper) (faults after.server.keeper)
+      (stop-turn Fault.Store s.last.turn s.last.so (faults s.middle.server.keeper) (faults after.server.keeper)
       (keep-of s.last.turn (with_log s.middle s.last.log) (with_log after s.last.entered) s.last.took) refl)
 
   -- no link stops it
-  stop-link : (turn : Turn) → Err Halt.Link ≡ borne turn → ⊥
+  stop-link : (turn : Turn) → Err Fault.Link ≡ borne turn → ⊥
   stop-link Turn.Took so = cc
   stop-link Turn.Quiet so = cc
   stop-link Turn.Link so = cc
@@ -76,7 +76,7 @@ module _ {K : Type 0} (content : K → Option Kept) (faults : K → ℕ) where
   stop-link Turn.Memory so = cc
   stop-link Turn.Spent so = cc
 
-  stop-answer : (turn : Turn) → Err Halt.NoAnswer ≡ borne turn → ⊥
+  stop-answer : (turn : Turn) → Err Fault.NoAnswer ≡ borne turn → ⊥
   stop-answer Turn.Took so = cc
   stop-answer Turn.Quiet so = cc
   stop-answer Turn.Link so = cc
@@ -84,7 +84,7 @@ module _ {K : Type 0} (content : K → Option Kept) (faults : K → ℕ) where
   stop-answer Turn.Memory so = cc
   stop-answer Turn.Spent so = cc
 
-  spent-turn : (turn : Turn) → Err Halt.Spent ≡ borne turn → turn ≡ Turn.Spent
+  spent-turn : (turn : Turn) → Err Fault.Spent ≡ borne turn → turn ≡ Turn.Spent
   spent-turn Turn.Took so = absurd (cc)
   spent-turn Turn.Quiet so = absurd (cc)
   spent-turn Turn.Link so = absurd (cc)
@@ -94,7 +94,7 @@ module _ {K : Type 0} (content : K → Option Kept) (faults : K → ℕ) where
 
   -- turns that are too few to take in all never stop for that
   stop-spent : (most turns : ℕ) (at after : Standing K) → most ≡ most_taken_by_server → 2 * turns < most → at.server.taken ≡ 0
-      → StopsEarly content faults turns Halt.Spent at after → ⊥
+      → StopsEarly content faults turns Fault.Spent at after → ⊥
   stop-spent most turns at after is few none s =
       let taken = (go-counts s.count at s.middle s.before).1 in
       let fewer = s.fewer in
@@ -108,13 +108,13 @@ module _ {K : Type 0} (content : K → Option Kept) (faults : K → ℕ) where
 module _ {K : Type 0} (content : K → Option Kept) (faults : K → ℕ) (follows : K → K → Type 0) where
   none-left : (most longest turns time : ℕ) (keeper left : K) (clock clock' : ClockTold) (link link' : LinkTold) → most ≡ most_taken_by_server
       → 2 * turns < most
-      → (kept : Kept) → content keeper ≡ Some kept → RanBooted content faults follows longest turns time keeper (Err Halt.Spent) left clock clock'
+      → (kept : Kept) → content keeper ≡ Some kept → RanBooted content faults follows longest turns time keeper (Err Fault.Spent) left clock clock'
       link link' → ⊥
   none-left most longest turns time keeper left clock clock' link link' is few kept told r =
       stop-spent content faults most turns (standing r.server 0 clock link) r.ran.last is few (r.booted.0 kept told).1.taken r.ran.taken
 
   -- what was to be done ended by its cause
-  pub ends_by : (most longest turns time : ℕ) (keeper : K) (ended : Result Unit Halt) (left : K) (clock clock' : ClockTold) (link link' : LinkTold)
+  pub ends_by : (most longest turns time : ℕ) (keeper : K) (ended : Result Unit Fault) (left : K) (clock clock' : ClockTold) (link link' : LinkTold)
       → most ≡ most_taken_by_server → 2 * turns < most → Runs content faults follows longest turns time keeper ended left clock clock' link link'
       → EndsBy ended (content keeper) (faults keeper) (faults left)
   ends_by most longest turns time keeper (Ok tt) left clock clock' link link' is few r =
@@ -122,18 +122,18 @@ module _ {K : Type 0} (content : K → Option Kept) (faults : K → ℕ) (follow
         λ kept told. (r.booted.0 kept told).0,
         ap faults r.ran.keeper ∙ counts.0 ∙ r.booted.1,
       )
-  ends_by most longest turns time keeper (Err Halt.Link) left clock clock' link link' is few (inl r) =
+  ends_by most longest turns time keeper (Err Fault.Link) left clock clock' link link' is few (inl r) =
       stop-link content faults r.ran.taken.last.turn r.ran.taken.last.so
-  ends_by most longest turns time keeper (Err Halt.Link) left clock clock' link link' is few (inr n) = n.none
-  ends_by most longest turns time keeper (Err Halt.Keep) left clock clock' link link' is few (inl r) =
+  ends_by most longest turns time keeper (Err Fault.Link) left clock clock' link link' is few (inr n) = n.none
+  ends_by most longest turns time keeper (Err Fault.Store) left clock clock' link link' is few (inl r) =
       subst (λ n. Rose n (faults left)) r.booted.1
       (subst (λ k. Rose (faults r.server.keeper) (faults k)) (sym r.ran.keeper)
       (stop-keep content faults turns (standing r.server 0 clock link) r.ran.last r.ran.taken))
-  ends_by most longest turns time keeper (Err Halt.Keep) left clock clock' link link' is few (inr n) = n.none.1
-  ends_by most longest turns time keeper (Err Halt.Memory) left clock clock' link link' is few r = tt
-  ends_by most longest turns time keeper (Err Halt.Spent) left clock clock' link link' is few (inl r) =
+  ends_by most longest turns time keeper (Err Fault.Store) left clock clock' link link' is few (inr n) = n.none.1
+  ends_by most longest turns time keeper (Err Fault.Memory) left clock clock' link link' is few r = tt
+  ends_by most longest turns time keeper (Err Fault.Spent) left clock clock' link link' is few (inl r) =
       λ kept told. absurd (none-left most longest turns time keeper left clock clock' link link' is few kept told r)
-  ends_by most longest turns time keeper (Err Halt.Spent) left clock clock' link link' is few (inr n) = n.none.0
-  ends_by most longest turns time keeper (Err Halt.NoAnswer) left clock clock' link link' is few (inl r) =
+  ends_by most longest turns time keeper (Err Fault.Spent) left clock clock' link link' is few (inr n) = n.none.0
+  ends_by most longest turns time keeper (Err Fault.NoAnswer) left clock clock' link link' is few (inl r) =
       stop-answer content faults r.ran.taken.last.turn r.ran.taken.last.so
-  ends_by most longest turns time keeper (Err Halt.NoAnswer) left clock clock' link link' is few (inr n) = n.none
+  ends_by most longest turns time keeper (Err Fault.NoAnswer) left clock clock' link link' is few (inr n) = n.none

@@ -6,7 +6,7 @@ use Rattle.nq_keeper.specs.Booting.{LeavesThen}
 use Rattle.nq_serving.specs.DaemonLeaving.{AreInOrder, IsLeftInGoes, IsLeftInTurns, IsLeftTaking, LeavesRunning, LeavesRuns, LeavesTaking, LeavesTurns}
 use Rattle.nq_serving.specs.Turning.{Goes, Standing, borne, standing}
 use Rattle.nq_serving.proofs.Telling.{goes_tells}
-use Rattle.nq_base.specs.declared.ending.halt.Halt.{Halt}
+use Rattle.nq_base.specs.declared.ending.fault.Fault.{Fault}
 use Rattle.nq_serving.specs.Serving.{Booted, NoBoot, halt_of}
 use Rattle.nq_serving.proofs.Joining.{besides, by_boot, further, gone, join}
 use Rattle.nq_serving.proofs.Runs.{none}
@@ -30,7 +30,7 @@ pub record GoneOn {K : Type 0} (content : K → Option Kept) (faults : K → ℕ
 
 module _ {K : Type 0} (content : K → Option Kept) (faults : K → ℕ) (follows : K → K → Type 0) (leaves : K → K → Option Kept → Type 0) where
   -- one turn
-  pub taking : (turn : Turn) (ended : Result Unit Halt) (log entered : EntryList) (at after : Standing K) → ended ≡ borne turn → log.entries ≡ []
+  pub taking : (turn : Turn) (ended : Result Unit Fault) (log entered : EntryList) (at after : Standing K) → ended ≡ borne turn → log.entries ≡ []
       → LeavesTurn content faults follows leaves turn at.next after.next at.clock after.clock at.link after.link at.server after.server log entered
       → LeavesTaking content faults follows leaves ended at after
   taking turn ended log entered at after so silent t = record {
@@ -54,7 +54,7 @@ module _ {K : Type 0} (content : K → Option Kept) (faults : K → ℕ) (follow
   -- ---- the boot
 
   -- where a server booted
-  pub leaves_booted : (longest turns time : ℕ) (keeper : K) (ended : Result Unit Halt) (left : K) (clock clock' : ClockTold) (link link' : LinkTold)
+  pub leaves_booted : (longest turns time : ℕ) (keeper : K) (ended : Result Unit Fault) (left : K) (clock clock' : ClockTold) (link link' : LinkTold)
       (server : Holding K)
       → Booted content faults follows longest time keeper server
       → LeavesThen (λ kept. booted kept longest) (content keeper) (leaves keeper server.keeper)
@@ -79,7 +79,7 @@ module _ {K : Type 0} (content : K → Option Kept) (faults : K → ℕ) (follow
     order = λ kept told. r.order (boot kept longest time None).kept (b.0 kept told).1.keeps;
   }
 
-  pub ran_booted : (longest turns time : ℕ) (keeper : K) (ended : Result Unit Halt) (left : K) (clock clock' : ClockTold) (link link' : LinkTold)
+  pub ran_booted : (longest turns time : ℕ) (keeper : K) (ended : Result Unit Fault) (left : K) (clock clock' : ClockTold) (link link' : LinkTold)
       (server : Holding K)
       (result : Result (Holding K) (BootFault K)) → result ≡ Ok server
       → Boots longest time result (content keeper) (content (keeper_in result)) (faults keeper) (faults (keeper_in result)) → follows keeper (keeper_in result)
@@ -92,7 +92,7 @@ module _ {K : Type 0} (content : K → Option Kept) (faults : K → ℕ) (follow
       (subst (λ r. LeavesThen (λ kept. booted kept longest) (content keeper) (leaves keeper (keeper_in r))) is stops) took
 
   -- where none booted, the keeper is left, and no turn was taken
-  not-booted : (longest turns time : ℕ) (keeper : K) (why : Halt) (left : K) (clock : ClockTold) (link : LinkTold)
+  not-booted : (longest turns time : ℕ) (keeper : K) (why : Fault) (left : K) (clock : ClockTold) (link : LinkTold)
       → NoBoot content faults keeper left why → follows keeper left
       → LeavesThen (λ kept. booted kept longest) (content keeper) (leaves keeper left)
       → LeavesRuns content faults follows leaves longest turns time keeper (Err why) left clock clock link link
@@ -102,7 +102,7 @@ module _ {K : Type 0} (content : K → Option Kept) (faults : K → ℕ) (follow
     order = λ kept told. tt;
   }
 
-  pub ran_none : (longest turns time : ℕ) (keeper : K) (ended : Result Unit Halt) (left : K) (clock : ClockTold) (link : LinkTold) (why : BootFault K)
+  pub ran_none : (longest turns time : ℕ) (keeper : K) (ended : Result Unit Fault) (left : K) (clock : ClockTold) (link : LinkTold) (why : BootFault K)
       (result : Result (Holding K) (BootFault K)) → result ≡ Err why
       → Boots longest time result (content keeper) (content (keeper_in result)) (faults keeper) (faults (keeper_in result)) → follows keeper (keeper_in result)
       → LeavesThen (λ kept. booted kept longest) (content keeper) (leaves keeper (keeper_in result))
@@ -153,7 +153,7 @@ module _ {K : Type 0} (content : K → Option Kept) (faults : K → ℕ) (follow
     tells = λ kept told. let tells = g.tells kept told in goes_tells content faults middle after t.taken tells.0 tells.1;
   }
 
-  pub gone_stopped : (count turns : ℕ) (why : Halt) (at middle after : Standing K) → count < turns → follows at.server.keeper middle.server.keeper
+  pub gone_stopped : (count turns : ℕ) (why : Fault) (at middle after : Standing K) → count < turns → follows at.server.keeper middle.server.keeper
       → follows middle.server.keeper after.server.keeper
       → GoneOn content faults follows leaves count at middle → LeavesTaking content faults follows leaves (Err why) middle after
       → LeavesTurns content faults follows leaves turns (Err why) at after

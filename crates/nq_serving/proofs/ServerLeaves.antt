@@ -2,7 +2,7 @@
 use Rattle.std.proofs.Common.{◌≡◌, ◌⊎◌, ◌<◌, ℕ, zero, suc, Option, Some, None, Result, Ok, Err, inl, inr, refl, sym, subst}
 use Rattle.std.specs.Option.{ForSome}
 use Rattle.nq_keeper.specs.Booting.{LeavesThen}
-use Rattle.nq_base.specs.declared.ending.halt.Halt.{Halt}
+use Rattle.nq_base.specs.declared.ending.fault.Fault.{Fault}
 use Rattle.nq_serving.specs.ServerLeaving.{AreInOrder, IsLeftGoing, IsLeftInGoes, IsLeftInTurns, IsLeftStopping, LeavesTaking, LeavesTurns}
 use Rattle.nq_serving.specs.ServerLeaving.{LeavesRunning, LeavesRuns, ended_of}
 use Rattle.nq_serving.specs.Serving.{Between, Booted, Goes, GoesOn, NoBoot, between, halt_of}
@@ -63,7 +63,7 @@ module _ {K : Type 0} (content : K → Option Kept) (faults : K → ℕ) (follow
   -- ---- the boot
 
   -- where a server booted
-  pub leaves_booted : (longest turns time : ℕ) (keeper : K) (ended : Result Unit Halt) (left : K) (clock clock' : ClockTold) (link link' : LinkTold)
+  pub leaves_booted : (longest turns time : ℕ) (keeper : K) (ended : Result Unit Fault) (left : K) (clock clock' : ClockTold) (link link' : LinkTold)
       (server : Holding K)
       → Booted content faults follows longest time keeper server
       → LeavesThen (λ kept. booted kept longest) (content keeper) (leaves keeper server.keeper)
@@ -88,7 +88,7 @@ module _ {K : Type 0} (content : K → Option Kept) (faults : K → ℕ) (follow
     order = λ kept told. r.order (boot kept longest time None).kept (b.0 kept told).1.keeps;
   }
 
-  pub ran_booted : (longest turns time : ℕ) (keeper : K) (ended : Result Unit Halt) (left : K) (clock clock' : ClockTold) (link link' : LinkTold)
+  pub ran_booted : (longest turns time : ℕ) (keeper : K) (ended : Result Unit Fault) (left : K) (clock clock' : ClockTold) (link link' : LinkTold)
       (server : Holding K)
       (result : Result (Holding K) (BootFault K)) → result ≡ Ok server
       → Boots longest time result (content keeper) (content (keeper_in result)) (faults keeper) (faults (keeper_in result)) → follows keeper (keeper_in result)
@@ -101,7 +101,7 @@ module _ {K : Type 0} (content : K → Option Kept) (faults : K → ℕ) (follow
       (subst (λ r. LeavesThen (λ kept. booted kept longest) (content keeper) (leaves keeper (keeper_in r))) is stops) took
 
   -- where none booted, the keeper is left, and no turn was taken
-  not-booted : (longest turns time : ℕ) (keeper : K) (why : Halt) (left : K) (clock : ClockTold) (link : LinkTold)
+  not-booted : (longest turns time : ℕ) (keeper : K) (why : Fault) (left : K) (clock : ClockTold) (link : LinkTold)
       → NoBoot content faults keeper left why → follows keeper left
       → LeavesThen (λ kept. booted kept longest) (content keeper) (leaves keeper left)
       → LeavesRuns content faults follows leaves longest turns time keeper (Err why) left clock clock link link
@@ -111,7 +111,7 @@ module _ {K : Type 0} (content : K → Option Kept) (faults : K → ℕ) (follow
     order = λ kept told. tt;
   }
 
-  pub ran_none : (longest turns time : ℕ) (keeper : K) (ended : Result Unit Halt) (left : K) (clock : ClockTold) (link : LinkTold) (why : BootFault K)
+  pub ran_none : (longest turns time : ℕ) (keeper : K) (ended : Result Unit Fault) (left : K) (clock : ClockTold) (link : LinkTold) (why : BootFault K)
       (result : Result (Holding K) (BootFault K)) → result ≡ Err why
       → Boots longest time result (content keeper) (content (keeper_in result)) (faults keeper) (faults (keeper_in result)) → follows keeper (keeper_in result)
       → LeavesThen (λ kept. booted kept longest) (content keeper) (leaves keeper (keeper_in result))
@@ -161,7 +161,7 @@ module _ {K : Type 0} (content : K → Option Kept) (faults : K → ℕ) (follow
     tells = λ kept told. let tells = g.tells kept told in goes-tells content faults middle after t.taken tells.0 tells.1;
   }
 
-  pub gone_stopped : (count turns : ℕ) (why : Halt) (at middle after : Between K) → count < turns → follows at.server.keeper middle.server.keeper
+  pub gone_stopped : (count turns : ℕ) (why : Fault) (at middle after : Between K) → count < turns → follows at.server.keeper middle.server.keeper
       → follows middle.server.keeper after.server.keeper
       → GoneOn content faults follows leaves count at middle → LeavesTaking content faults follows leaves (Err why) middle after
       → LeavesTurns content faults follows leaves turns (Err why) at after

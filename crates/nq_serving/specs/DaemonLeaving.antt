@@ -5,7 +5,7 @@ use Rattle.std.specs.Option.{ForSome}
 use Rattle.std.specs.Prelude.{◌⊎◌, ℕ, zero, suc, Option, Result, Ok, Err, ⊤}
 use Rattle.nq_serving.specs.DaemonServing.{Ran, Runs, Serves}
 use Rattle.nq_serving.specs.Turning.{Goes, Standing, TakesTurn, TakesTurns, standing, with_log}
-use Rattle.nq_base.specs.declared.ending.halt.Halt.{Halt}
+use Rattle.nq_base.specs.declared.ending.fault.Fault.{Fault}
 use Rattle.nq_serving.specs.ServerLeaving.{IsBeforeEnd, IsLeftByBoot, IsLeftInOne}
 use Rattle.nq_model.specs.Kept.{Kept}
 use Rattle.nq_clock.specs.Clocks.{ClockTold}
@@ -16,7 +16,7 @@ use Rattle.nq_server.specs.Holding.{Holding}
 -- ---- what is found as at a moment of the turns
 
 -- this is found as at a moment of a turn: before it, after its tick or after its datagram; a step that failed in it may have been kept
-abbrev pub IsLeftTaking : {K : Type 0} → (content : K → Option Kept) → (faults : K → ℕ) → (ended : Result Unit Halt) → (at after : Standing K)
+abbrev pub IsLeftTaking : {K : Type 0} → (content : K → Option Kept) → (faults : K → ℕ) → (ended : Result Unit Fault) → (at after : Standing K)
     → TakesTurn content faults ended at after → (found : Option Kept) → Type 0
 IsLeftTaking content faults ended at after taken found =
     IsLeftInOne content faults taken.turn (with_log at taken.log) (with_log after taken.entered) taken.took found
@@ -29,7 +29,7 @@ IsLeftInGoes content faults (suc count) at after goes found =
     IsLeftInGoes content faults count at goes.0 goes.1 found ⊎ IsLeftTaking content faults (Ok tt) goes.0 after goes.2 found
 
 -- the same of turns up to the first that stopped the server
-abbrev pub IsLeftInTurns : {K : Type 0} → (content : K → Option Kept) → (faults : K → ℕ) → (turns : ℕ) → (ended : Result Unit Halt)
+abbrev pub IsLeftInTurns : {K : Type 0} → (content : K → Option Kept) → (faults : K → ℕ) → (turns : ℕ) → (ended : Result Unit Fault)
     → (at after : Standing K) → TakesTurns content faults turns ended at after → (found : Option Kept) → Type 0
 IsLeftInTurns content faults turns (Ok done) at after taken found = IsLeftInGoes content faults turns at after taken found
 IsLeftInTurns content faults turns (Err why) at after taken found =
@@ -39,7 +39,7 @@ IsLeftInTurns content faults turns (Err why) at after taken found =
 -- This is found as what was kept when the keeper was handed in, as the boot makes it, or as at a moment of the turns. Each of these moments
 -- stands behind a prefix of the steps by which the server came to what it keeps: the boot, and each tick and each datagram of the turns before it
 abbrev pub IsLeftInRuns : {K : Type 0} → (content : K → Option Kept) → (faults : K → ℕ) → (follows : K → K → Type 0) → (longest turns time : ℕ)
-    → (keeper : K) → (ended : Result Unit Halt) → (left : K) → (clock clock' : ClockTold) → (link link' : LinkTold) → Runs content faults follows
+    → (keeper : K) → (ended : Result Unit Fault) → (left : K) → (clock clock' : ClockTold) → (link link' : LinkTold) → Runs content faults follows
     longest turns time keeper ended left clock clock' link link' → (kept : Kept) → (found : Option Kept) → Type 0
 IsLeftInRuns content faults follows longest turns time keeper (Ok done) left clock clock' link link' runs kept found =
     IsLeftByBoot longest kept found
@@ -64,7 +64,7 @@ AreInOrder content faults follows leaves last Later (suc count) at after goes =
 
 -- the same of turns up to the first that stopped the server
 abbrev pub TurnsAreInOrder : {K : Type 0} → (content : K → Option Kept) → (faults : K → ℕ) → (follows : K → K → Type 0)
-    → (leaves : K → K → Option Kept → Type 0) → (turns : ℕ) → (ended : Result Unit Halt) → (at after : Standing K) → TakesTurns content faults turns
+    → (leaves : K → K → Option Kept → Type 0) → (turns : ℕ) → (ended : Result Unit Fault) → (at after : Standing K) → TakesTurns content faults turns
     ended at after → Type 0
 TurnsAreInOrder content faults follows leaves turns (Ok done) at after taken =
     AreInOrder content faults follows leaves after.server.keeper (λ found. ⊥) turns at after taken
@@ -74,7 +74,7 @@ TurnsAreInOrder content faults follows leaves turns (Err why) at after taken =
 
 -- the same of the turns of a server that booted, if one did
 abbrev pub RunsAreInOrder : {K : Type 0} → (content : K → Option Kept) → (faults : K → ℕ) → (follows : K → K → Type 0) → (leaves : K → K → Option Kept
-    → Type 0) → (longest turns time : ℕ) → (keeper : K) → (ended : Result Unit Halt) → (left : K) → (clock clock' : ClockTold)
+    → Type 0) → (longest turns time : ℕ) → (keeper : K) → (ended : Result Unit Fault) → (left : K) → (clock clock' : ClockTold)
     → (link link' : LinkTold) → Runs content faults follows longest turns time keeper ended left clock clock' link link' → Type 0
 RunsAreInOrder content faults follows leaves longest turns time keeper (Ok done) left clock clock' link link' runs =
     TurnsAreInOrder content faults follows leaves turns (Ok done) (standing runs.server 0 clock link) runs.ran.last runs.ran.taken
@@ -86,20 +86,20 @@ RunsAreInOrder content faults follows leaves longest turns time keeper (Err why)
 
 -- one turn, and what a stop within it leaves
 pub record LeavesTaking {K : Type 0} (content : K → Option Kept) (faults : K → ℕ) (follows : K → K → Type 0) (leaves : K → K → Option Kept → Type 0)
-    (ended : Result Unit Halt) (at after : Standing K) : Type 0 where
+    (ended : Result Unit Fault) (at after : Standing K) : Type 0 where
   pub taken : TakesTurn content faults ended at after
   pub only : LeavesOnly content follows leaves at.server.keeper after.server.keeper (IsLeftTaking content faults ended at after taken)
 
 -- turns up to the first that stopped the server, and what a stop within them leaves
 pub record LeavesTurns {K : Type 0} (content : K → Option Kept) (faults : K → ℕ) (follows : K → K → Type 0) (leaves : K → K → Option Kept → Type 0)
-    (turns : ℕ) (ended : Result Unit Halt) (at after : Standing K) : Type 0 where
+    (turns : ℕ) (ended : Result Unit Fault) (at after : Standing K) : Type 0 where
   pub taken : TakesTurns content faults turns ended at after
   pub only : LeavesOnly content follows leaves at.server.keeper after.server.keeper (IsLeftInTurns content faults turns ended at after taken)
   pub order : ForSome (content at.server.keeper) (λ kept. TurnsAreInOrder content faults follows leaves turns ended at after taken)
 
 -- the turns of a server that has booted, and what a stop within them leaves
 pub record LeavesRunning {K : Type 0} (content : K → Option Kept) (faults : K → ℕ) (follows : K → K → Type 0) (leaves : K → K → Option Kept → Type 0)
-    (turns : ℕ) (server : Holding K) (ended : Result Unit Halt) (left : K) (clock clock' : ClockTold) (link link' : LinkTold) : Type 0 where
+    (turns : ℕ) (server : Holding K) (ended : Result Unit Fault) (left : K) (clock clock' : ClockTold) (link link' : LinkTold) : Type 0 where
   pub ran : Ran content faults follows turns server ended left clock clock' link link'
   pub only : LeavesOnly content follows leaves server.keeper left (IsLeftInTurns content faults turns ended (standing server 0 clock link) ran.last ran.taken)
   pub order : ForSome (content server.keeper) (λ kept. TurnsAreInOrder content faults follows leaves turns ended (standing server 0 clock link)
@@ -107,7 +107,7 @@ pub record LeavesRunning {K : Type 0} (content : K → Option Kept) (faults : K 
 
 -- the boot and the turns, and what a stop within them leaves
 pub record LeavesRuns {K : Type 0} (content : K → Option Kept) (faults : K → ℕ) (follows : K → K → Type 0) (leaves : K → K → Option Kept → Type 0)
-    (longest turns time : ℕ) (keeper : K) (ended : Result Unit Halt) (left : K) (clock clock' : ClockTold) (link link' : LinkTold) : Type 0 where
+    (longest turns time : ℕ) (keeper : K) (ended : Result Unit Fault) (left : K) (clock clock' : ClockTold) (link link' : LinkTold) : Type 0 where
   pub runs : Runs content faults follows longest turns time keeper ended left clock clock' link link'
   pub only : ForSome (content keeper) (λ kept. (found : Option Kept) → leaves keeper left found → IsLeftInRuns content faults follows longest turns
       time keeper ended left clock clock' link link' runs kept found)
@@ -116,7 +116,7 @@ pub record LeavesRuns {K : Type 0} (content : K → Option Kept) (faults : K →
 -- What was done when serving ended so. Where the keeper told what it kept when it was handed in, a stop at any moment until it was handed back
 -- leaves that, or what was kept at a moment of the boot and the turns. A stop behind a turn loses nothing that was kept before it
 pub record LeavesServing {K : Type 0} (content : K → Option Kept) (faults : K → ℕ) (follows : K → K → Type 0) (leaves : K → K → Option Kept → Type 0)
-    (longest turns : ℕ) (keeper : K) (ended : Result Unit Halt) (left : K) (clock clock' : ClockTold) (link link' : LinkTold) : Type 0 where
+    (longest turns : ℕ) (keeper : K) (ended : Result Unit Fault) (left : K) (clock clock' : ClockTold) (link link' : LinkTold) : Type 0 where
   pub serves : Serves content faults follows longest turns keeper ended left clock clock' link link'
   pub only : ForSome (content keeper) (λ kept. (found : Option Kept) → leaves keeper left found → IsLeftInRuns content faults follows longest turns
       serves.time keeper ended left serves.between clock' link link' serves.runs kept found)

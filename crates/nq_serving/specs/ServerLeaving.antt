@@ -3,7 +3,7 @@
 use Rattle.std.proofs.Common.{inl, inr}
 use Rattle.std.specs.Option.{ForSome}
 use Rattle.std.specs.Prelude.{◌≡◌, ◌⊎◌, ℕ, zero, suc, Option, Some, Result, Ok, Err, ⊤}
-use Rattle.nq_base.specs.declared.ending.halt.Halt.{Halt}
+use Rattle.nq_base.specs.declared.ending.fault.Fault.{Fault}
 use Rattle.nq_serving.specs.Serving.{Between, Goes, GoesOn, Ran, Runs, Serves, StopsTurn, TakesTurn, TakesTurns, Turns, between}
 use Rattle.nq_model.specs.Kept.{Kept}
 use Rattle.nq_model.specs.ServerStep.{booted}
@@ -28,16 +28,16 @@ IsLeftGoing content faults at after (inl took) found = IsLeftInOne content fault
 IsLeftGoing content faults at after (inr quiet) found = IsLeftInOne content faults Turn.Quiet at after quiet found
 
 -- the same of a turn that stopped; a step that failed in it may have been kept
-abbrev pub IsLeftStopping : {K : Type 0} → (content : K → Option Kept) → (faults : K → ℕ) → (why : Halt) → (at after : Between K)
+abbrev pub IsLeftStopping : {K : Type 0} → (content : K → Option Kept) → (faults : K → ℕ) → (why : Fault) → (at after : Between K)
     → StopsTurn content faults why at after → (found : Option Kept) → Type 0
-IsLeftStopping content faults Halt.Link at after taken found = IsLeftInOne content faults Turn.Link at after taken found
-IsLeftStopping content faults Halt.Keep at after taken found = IsLeftInOne content faults Turn.Keep at after taken found
-IsLeftStopping content faults Halt.Memory at after taken found = IsLeftInOne content faults Turn.Memory at after taken found
-IsLeftStopping content faults Halt.Spent at after taken found = IsLeftInOne content faults Turn.Spent at after taken found
-IsLeftStopping content faults Halt.NoAnswer at after taken found = ⊥
+IsLeftStopping content faults Fault.Link at after taken found = IsLeftInOne content faults Turn.Link at after taken found
+IsLeftStopping content faults Fault.Store at after taken found = IsLeftInOne content faults Turn.Keep at after taken found
+IsLeftStopping content faults Fault.Memory at after taken found = IsLeftInOne content faults Turn.Memory at after taken found
+IsLeftStopping content faults Fault.Spent at after taken found = IsLeftInOne content faults Turn.Spent at after taken found
+IsLeftStopping content faults Fault.NoAnswer at after taken found = ⊥
 
 -- the same of either
-abbrev pub IsLeftTaking : {K : Type 0} → (content : K → Option Kept) → (faults : K → ℕ) → (ended : Result Unit Halt) → (at after : Between K)
+abbrev pub IsLeftTaking : {K : Type 0} → (content : K → Option Kept) → (faults : K → ℕ) → (ended : Result Unit Fault) → (at after : Between K)
     → TakesTurn content faults ended at after → (found : Option Kept) → Type 0
 IsLeftTaking content faults (Ok done) at after taken found = IsLeftGoing content faults at after taken found
 IsLeftTaking content faults (Err why) at after taken found = IsLeftStopping content faults why at after taken found
@@ -50,7 +50,7 @@ IsLeftInGoes content faults (suc count) at after goes found =
     IsLeftInGoes content faults count at goes.0 goes.1 found ⊎ IsLeftGoing content faults goes.0 after goes.2 found
 
 -- the same of turns up to the first that stopped
-abbrev pub IsLeftInTurns : {K : Type 0} → (content : K → Option Kept) → (faults : K → ℕ) → (turns : ℕ) → (ended : Result Unit Halt)
+abbrev pub IsLeftInTurns : {K : Type 0} → (content : K → Option Kept) → (faults : K → ℕ) → (turns : ℕ) → (ended : Result Unit Fault)
     → (at after : Between K) → TakesTurns content faults turns ended at after → (found : Option Kept) → Type 0
 IsLeftInTurns content faults turns (Ok done) at after taken found = IsLeftInGoes content faults turns at after taken found
 IsLeftInTurns content faults turns (Err why) at after taken found =
@@ -65,7 +65,7 @@ IsLeftByBoot longest kept found = (found ≡ Some kept) ⊎ (found ≡ Some (boo
 -- this is found so, or as at a moment of the turns. Each of these moments stands behind a prefix of the steps by which the server came to
 -- what it keeps: the boot, and each tick and each datagram of the turns before it
 abbrev pub IsLeftInRuns : {K : Type 0} → (content : K → Option Kept) → (faults : K → ℕ) → (follows : K → K → Type 0) → (longest turns time : ℕ)
-    → (keeper : K) → (ended : Result Unit Halt) → (left : K) → (clock clock' : ClockTold) → (link link' : LinkTold) → Runs content faults follows
+    → (keeper : K) → (ended : Result Unit Fault) → (left : K) → (clock clock' : ClockTold) → (link link' : LinkTold) → Runs content faults follows
     longest turns time keeper ended left clock clock' link link' → (kept : Kept) → (found : Option Kept) → Type 0
 IsLeftInRuns content faults follows longest turns time keeper (Ok done) left clock clock' link link' runs kept found =
     IsLeftByBoot longest kept found
@@ -96,7 +96,7 @@ AreInOrder content faults follows leaves last Later (suc count) at after goes =
 
 -- the same of turns up to the first that stopped
 abbrev pub TurnsAreInOrder : {K : Type 0} → (content : K → Option Kept) → (faults : K → ℕ) → (follows : K → K → Type 0)
-    → (leaves : K → K → Option Kept → Type 0) → (turns : ℕ) → (ended : Result Unit Halt) → (at after : Between K) → TakesTurns content faults turns
+    → (leaves : K → K → Option Kept → Type 0) → (turns : ℕ) → (ended : Result Unit Fault) → (at after : Between K) → TakesTurns content faults turns
     ended at after → Type 0
 TurnsAreInOrder content faults follows leaves turns (Ok done) at after taken =
     AreInOrder content faults follows leaves after.server.keeper (λ found. ⊥) turns at after taken
@@ -106,7 +106,7 @@ TurnsAreInOrder content faults follows leaves turns (Err why) at after taken =
 
 -- the same of the turns of a server that booted, if one did
 abbrev pub RunsAreInOrder : {K : Type 0} → (content : K → Option Kept) → (faults : K → ℕ) → (follows : K → K → Type 0) → (leaves : K → K → Option Kept
-    → Type 0) → (longest turns time : ℕ) → (keeper : K) → (ended : Result Unit Halt) → (left : K) → (clock clock' : ClockTold)
+    → Type 0) → (longest turns time : ℕ) → (keeper : K) → (ended : Result Unit Fault) → (left : K) → (clock clock' : ClockTold)
     → (link link' : LinkTold) → Runs content faults follows longest turns time keeper ended left clock clock' link link' → Type 0
 RunsAreInOrder content faults follows leaves longest turns time keeper (Ok done) left clock clock' link link' runs =
     TurnsAreInOrder content faults follows leaves turns (Ok done) (between runs.server runs.ran.log 0 clock link) runs.ran.last runs.ran.taken
@@ -118,20 +118,20 @@ RunsAreInOrder content faults follows leaves longest turns time keeper (Err why)
 
 -- one turn, and what a stop within it leaves
 pub record LeavesTaking {K : Type 0} (content : K → Option Kept) (faults : K → ℕ) (follows : K → K → Type 0) (leaves : K → K → Option Kept → Type 0)
-    (ended : Result Unit Halt) (at after : Between K) : Type 0 where
+    (ended : Result Unit Fault) (at after : Between K) : Type 0 where
   pub taken : TakesTurn content faults ended at after
   pub only : LeavesOnly content follows leaves at.server.keeper after.server.keeper (IsLeftTaking content faults ended at after taken)
 
 -- turns up to the first that stopped, and what a stop within them leaves
 pub record LeavesTurns {K : Type 0} (content : K → Option Kept) (faults : K → ℕ) (follows : K → K → Type 0) (leaves : K → K → Option Kept → Type 0)
-    (turns : ℕ) (ended : Result Unit Halt) (at after : Between K) : Type 0 where
+    (turns : ℕ) (ended : Result Unit Fault) (at after : Between K) : Type 0 where
   pub taken : TakesTurns content faults turns ended at after
   pub only : LeavesOnly content follows leaves at.server.keeper after.server.keeper (IsLeftInTurns content faults turns ended at after taken)
   pub order : ForSome (content at.server.keeper) (λ kept. TurnsAreInOrder content faults follows leaves turns ended at after taken)
 
 -- the turns of a server that has booted, and what a stop within them leaves
 pub record LeavesRunning {K : Type 0} (content : K → Option Kept) (faults : K → ℕ) (follows : K → K → Type 0) (leaves : K → K → Option Kept → Type 0)
-    (turns : ℕ) (server : Holding K) (ended : Result Unit Halt) (left : K) (clock clock' : ClockTold) (link link' : LinkTold) : Type 0 where
+    (turns : ℕ) (server : Holding K) (ended : Result Unit Fault) (left : K) (clock clock' : ClockTold) (link link' : LinkTold) : Type 0 where
   pub ran : Ran content faults follows turns server ended left clock clock' link link'
   pub only : LeavesOnly content follows leaves server.keeper left (IsLeftInTurns content faults turns ended (between server ran.log 0 clock link)
       ran.last ran.taken)
@@ -140,7 +140,7 @@ pub record LeavesRunning {K : Type 0} (content : K → Option Kept) (faults : K 
 
 -- the boot and the turns, and what a stop within them leaves
 pub record LeavesRuns {K : Type 0} (content : K → Option Kept) (faults : K → ℕ) (follows : K → K → Type 0) (leaves : K → K → Option Kept → Type 0)
-    (longest turns time : ℕ) (keeper : K) (ended : Result Unit Halt) (left : K) (clock clock' : ClockTold) (link link' : LinkTold) : Type 0 where
+    (longest turns time : ℕ) (keeper : K) (ended : Result Unit Fault) (left : K) (clock clock' : ClockTold) (link link' : LinkTold) : Type 0 where
   pub runs : Runs content faults follows longest turns time keeper ended left clock clock' link link'
   pub only : ForSome (content keeper) (λ kept. (found : Option Kept) → leaves keeper left found → IsLeftInRuns content faults follows longest turns
       time keeper ended left clock clock' link link' runs kept found)
@@ -149,7 +149,7 @@ pub record LeavesRuns {K : Type 0} (content : K → Option Kept) (faults : K →
 -- What was done when serving ended so. Where the keeper told what it kept when it was handed in, a stop at any moment until it was handed back
 -- leaves that, or what was kept at a moment of the boot and the turns. A stop behind a turn loses nothing that was kept before it
 pub record LeavesServing {K : Type 0} (content : K → Option Kept) (faults : K → ℕ) (follows : K → K → Type 0) (leaves : K → K → Option Kept → Type 0)
-    (longest turns : ℕ) (keeper : K) (ended : Result Unit Halt) (left : K) (clock clock' : ClockTold) (link link' : LinkTold) : Type 0 where
+    (longest turns : ℕ) (keeper : K) (ended : Result Unit Fault) (left : K) (clock clock' : ClockTold) (link link' : LinkTold) : Type 0 where
   pub serves : Serves content faults follows longest turns keeper ended left clock clock' link link'
   pub only : ForSome (content keeper) (λ kept. (found : Option Kept) → leaves keeper left found → IsLeftInRuns content faults follows longest turns
       serves.time keeper ended left serves.between clock' link link' serves.runs kept found)
@@ -157,10 +157,10 @@ pub record LeavesServing {K : Type 0} (content : K → Option Kept) (faults : K 
       serves.between clock' link link' serves.runs)
 
 -- whether a turn stopped, and why
-abbrev pub ended_of : Turn → Result Unit Halt
+abbrev pub ended_of : Turn → Result Unit Fault
 ended_of Turn.Took = Ok tt
 ended_of Turn.Quiet = Ok tt
-ended_of Turn.Link = Err Halt.Link
-ended_of Turn.Keep = Err Halt.Keep
-ended_of Turn.Memory = Err Halt.Memory
-ended_of Turn.Spent = Err Halt.Spent
+ended_of Turn.Link = Err Fault.Link
+ended_of Turn.Keep = Err Fault.Store
+ended_of Turn.Memory = Err Fault.Memory
+ended_of Turn.Spent = Err Fault.Spent

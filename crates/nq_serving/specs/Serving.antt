@@ -5,7 +5,7 @@ use Rattle.std.specs.Option.{ForSome}
 use Rattle.std.specs.Prelude.{◌≡◌, ◌⊎◌, ⊤, ◌<◌, ℕ, zero, suc, List, [], ◌++◌, Option, None, Result, Ok, Err, codes}
 use Rattle.nq_keeper.specs.Booting.{last_boot}
 use Rattle.nq_base.specs.declared.ending.ending.Ending.{Ending}
-use Rattle.nq_base.specs.declared.ending.halt.Halt.{Halt}
+use Rattle.nq_base.specs.declared.ending.fault.Fault.{Fault}
 use Rattle.nq_io.specs.Faults.{Rose}
 use Rattle.nq_io.specs.Sink.{AppendsFront}
 use Rattle.nq_io.specs.Told.{with_end}
@@ -45,15 +45,15 @@ abbrev pub GoesOn : {K : Type 0} → (content : K → Option Kept) → (faults :
 GoesOn content faults at after = Turns content faults Turn.Took at after ⊎ Turns content faults Turn.Quiet at after
 
 -- one turn that stopped so
-abbrev pub StopsTurn : {K : Type 0} → (content : K → Option Kept) → (faults : K → ℕ) → Halt → (at after : Between K) → Type 0
-StopsTurn content faults Halt.Link at after = Turns content faults Turn.Link at after
-StopsTurn content faults Halt.Keep at after = Turns content faults Turn.Keep at after
-StopsTurn content faults Halt.Memory at after = Turns content faults Turn.Memory at after
-StopsTurn content faults Halt.Spent at after = Turns content faults Turn.Spent at after
-StopsTurn content faults Halt.NoAnswer at after = ⊥
+abbrev pub StopsTurn : {K : Type 0} → (content : K → Option Kept) → (faults : K → ℕ) → Fault → (at after : Between K) → Type 0
+StopsTurn content faults Fault.Link at after = Turns content faults Turn.Link at after
+StopsTurn content faults Fault.Store at after = Turns content faults Turn.Keep at after
+StopsTurn content faults Fault.Memory at after = Turns content faults Turn.Memory at after
+StopsTurn content faults Fault.Spent at after = Turns content faults Turn.Spent at after
+StopsTurn content faults Fault.NoAnswer at after = ⊥
 
 -- one turn: it did not stop, or it stopped so
-abbrev pub TakesTurn : {K : Type 0} → (content : K → Option Kept) → (faults : K → ℕ) → Result Unit Halt → (at after : Between K) → Type 0
+abbrev pub TakesTurn : {K : Type 0} → (content : K → Option Kept) → (faults : K → ℕ) → Result Unit Fault → (at after : Between K) → Type 0
 TakesTurn content faults (Ok done) at after = GoesOn content faults at after
 TakesTurn content faults (Err why) at after = StopsTurn content faults why at after
 
@@ -63,7 +63,7 @@ Goes {K = K} content faults zero at after = after ≡ at
 Goes {K = K} content faults (suc count) at after = (between : Between K) × Goes content faults count at between × GoesOn content faults between after
 
 -- fewer turns than so many, none of which stopped, and one more, which stopped so
-pub record StopsEarly {K : Type 0} (content : K → Option Kept) (faults : K → ℕ) (turns : ℕ) (why : Halt) (at after : Between K) : Type 0 where
+pub record StopsEarly {K : Type 0} (content : K → Option Kept) (faults : K → ℕ) (turns : ℕ) (why : Fault) (at after : Between K) : Type 0 where
   pub count : ℕ
   pub fewer : count < turns
   pub between : Between K
@@ -71,7 +71,7 @@ pub record StopsEarly {K : Type 0} (content : K → Option Kept) (faults : K →
   pub last : StopsTurn content faults why between after
 
 -- so many turns one after another, up to the first that stopped
-abbrev pub TakesTurns : {K : Type 0} → (content : K → Option Kept) → (faults : K → ℕ) → (turns : ℕ) → Result Unit Halt → (at after : Between K) → Type 0
+abbrev pub TakesTurns : {K : Type 0} → (content : K → Option Kept) → (faults : K → ℕ) → (turns : ℕ) → Result Unit Fault → (at after : Between K) → Type 0
 TakesTurns content faults turns (Ok done) at after = Goes content faults turns at after
 TakesTurns content faults turns (Err why) at after = StopsEarly content faults turns why at after
 
@@ -84,7 +84,7 @@ turns_line turns = codes "turns " ++ decimal turns ++ codes "\n"
 -- Turns of this server over this link, with a journal that is empty at first and datagrams that are numbered from 0; they ended so. The
 -- server has its keeper still, after the calls that the turns made of it, and this is the keeper that is left.
 pub record Ran {K : Type 0} (content : K → Option Kept) (faults : K → ℕ) (follows : K → K → Type 0) (turns : ℕ) (server : Holding K)
-    (ended : Result Unit Halt) (left : K) (clock clock' : ClockTold) (link link' : LinkTold) : Type 0 where
+    (ended : Result Unit Fault) (left : K) (clock clock' : ClockTold) (link link' : LinkTold) : Type 0 where
   pub log : EntryList
   pub silent : log.entries ≡ []
   pub last : Between K
@@ -107,29 +107,29 @@ LeavesAlone content faults keeper left = (content left ≡ content keeper) × (f
 
 -- Why no server booted over this keeper, which is left so: it failed, and counted that; memory was wanting; or no number is left for a
 -- boot. In the last two cases it keeps what it kept.
-abbrev pub NoBoot : {K : Type 0} → (content : K → Option Kept) → (faults : K → ℕ) → (keeper left : K) → Halt → Type 0
-NoBoot content faults keeper left Halt.Link = ⊥
-NoBoot content faults keeper left Halt.NoAnswer = ⊥
-NoBoot content faults keeper left Halt.Keep = StaysOrEnds (content keeper) (content left) × Rose (faults keeper) (faults left)
-NoBoot content faults keeper left Halt.Memory = LeavesAlone content faults keeper left
-NoBoot content faults keeper left Halt.Spent =
+abbrev pub NoBoot : {K : Type 0} → (content : K → Option Kept) → (faults : K → ℕ) → (keeper left : K) → Fault → Type 0
+NoBoot content faults keeper left Fault.Link = ⊥
+NoBoot content faults keeper left Fault.NoAnswer = ⊥
+NoBoot content faults keeper left Fault.Store = StaysOrEnds (content keeper) (content left) × Rose (faults keeper) (faults left)
+NoBoot content faults keeper left Fault.Memory = LeavesAlone content faults keeper left
+NoBoot content faults keeper left Fault.Spent =
     ForSome (content keeper) (λ kept. kept.boot ≡ last_boot) × LeavesAlone content faults keeper left
 
 -- why nothing is served where no server booted
-abbrev pub halt_of : {K : Type 0} → BootFault K → Halt
-halt_of (fault.Failed keeper) = Halt.Keep
-halt_of (fault.Memory keeper) = Halt.Memory
-halt_of (fault.Spent keeper) = Halt.Spent
+abbrev pub halt_of : {K : Type 0} → BootFault K → Fault
+halt_of (fault.Failed keeper) = Fault.Store
+halt_of (fault.Memory keeper) = Fault.Memory
+halt_of (fault.Spent keeper) = Fault.Spent
 
 -- a server booted over this keeper at this time, and turns of it ended so
 pub record RanBooted {K : Type 0} (content : K → Option Kept) (faults : K → ℕ) (follows : K → K → Type 0) (longest turns time : ℕ) (keeper : K)
-    (ended : Result Unit Halt) (left : K) (clock clock' : ClockTold) (link link' : LinkTold) : Type 0 where
+    (ended : Result Unit Fault) (left : K) (clock clock' : ClockTold) (link link' : LinkTold) : Type 0 where
   pub server : Holding K
   pub booted : Booted content faults follows longest time keeper server
   pub ran : Ran content faults follows turns server ended left clock clock' link link'
 
 -- no server booted over this keeper, which is left so, and no turn was taken
-pub record RanNone {K : Type 0} (content : K → Option Kept) (faults : K → ℕ) (follows : K → K → Type 0) (keeper left : K) (why : Halt)
+pub record RanNone {K : Type 0} (content : K → Option Kept) (faults : K → ℕ) (follows : K → K → Type 0) (keeper left : K) (why : Fault)
     (clock clock' : ClockTold) (link link' : LinkTold) : Type 0 where
   pub none : NoBoot content faults keeper left why
   pub same : follows keeper left
@@ -138,7 +138,7 @@ pub record RanNone {K : Type 0} (content : K → Option Kept) (faults : K → �
 
 -- one of the two
 abbrev pub Runs : {K : Type 0} → (content : K → Option Kept) → (faults : K → ℕ) → (follows : K → K → Type 0) → (longest turns time : ℕ) → (keeper : K)
-    → Result Unit Halt → (left : K) → (clock clock' : ClockTold) → (link link' : LinkTold) → Type 0
+    → Result Unit Fault → (left : K) → (clock clock' : ClockTold) → (link link' : LinkTold) → Type 0
 Runs content faults follows longest turns time keeper (Ok done) left clock clock' link link' =
     RanBooted content faults follows longest turns time keeper (Ok done) left clock clock' link link'
 Runs content faults follows longest turns time keeper (Err why) left clock clock' link link' =
@@ -148,20 +148,20 @@ Runs content faults follows longest turns time keeper (Err why) left clock clock
 -- The clock was read once, and what was to be done from that time on ended so. This keeper is left: it is the one that was handed in, and
 -- keeps what the boot and the steps of the turns made of what it kept.
 pub record Serves {K : Type 0} (content : K → Option Kept) (faults : K → ℕ) (follows : K → K → Type 0) (longest turns : ℕ) (keeper : K)
-    (ended : Result Unit Halt) (left : K) (clock clock' : ClockTold) (link link' : LinkTold) : Type 0 where
+    (ended : Result Unit Fault) (left : K) (clock clock' : ClockTold) (link link' : LinkTold) : Type 0 where
   pub time : ℕ
   pub between : ClockTold
   pub read : ReadsOnce time clock between
   pub runs : Runs content faults follows longest turns time keeper ended left between clock' link link'
 
 -- why what was to be done ended so: nothing failed and nothing was wanting, or what it says
-abbrev pub HaltsBy : Result Unit Halt → (told : Option Kept) → (keep keep' link link' : ℕ) → Type 0
+abbrev pub HaltsBy : Result Unit Fault → (told : Option Kept) → (keep keep' link link' : ℕ) → Type 0
 HaltsBy (Ok done) told keep keep' link link' = ForSome told (λ kept. kept.boot < last_boot) × (keep' ≡ keep) × (link' ≡ link)
-HaltsBy (Err Halt.Link) told keep keep' link link' = Rose link link'
-HaltsBy (Err Halt.Keep) told keep keep' link link' = Rose keep keep'
-HaltsBy (Err Halt.Memory) told keep keep' link link' = ⊤
-HaltsBy (Err Halt.Spent) told keep keep' link link' = ForSome told (λ kept. kept.boot ≡ last_boot)
-HaltsBy (Err Halt.NoAnswer) told keep keep' link link' = ⊥
+HaltsBy (Err Fault.Link) told keep keep' link link' = Rose link link'
+HaltsBy (Err Fault.Store) told keep keep' link link' = Rose keep keep'
+HaltsBy (Err Fault.Memory) told keep keep' link link' = ⊤
+HaltsBy (Err Fault.Spent) told keep keep' link link' = ForSome told (λ kept. kept.boot ≡ last_boot)
+HaltsBy (Err Fault.NoAnswer) told keep keep' link link' = ⊥
 
 -- Why serving ended so. Where no count of faults rose and memory was not wanting, all turns were taken; or the keeper keeps the last number
 -- that a boot can have, and none was.
@@ -176,14 +176,14 @@ EndsBy Ending.WriteFault told keep keep' link link' w w' = Rose w w'
 EndsBy other told keep keep' link link' w w' = ⊥
 
 -- what was printed, by the end of serving: the line only behind all turns. `P` says what was done when turns ended so
-abbrev pub Tells : Ending → (turns : ℕ) → (P : Result Unit Halt → Type 0) → (held now : Option (List ℕ)) → (w w' : ℕ) → Type 0
+abbrev pub Tells : Ending → (turns : ℕ) → (P : Result Unit Fault → Type 0) → (held now : Option (List ℕ)) → (w w' : ℕ) → Type 0
 Tells Ending.Done turns P held now w w' = P (Ok tt) × (now ≡ with_end held (turns_line turns)) × (w' ≡ w)
 Tells Ending.WriteFault turns P held now w w' = P (Ok tt) × AppendsFront (turns_line turns) held now × Rose w w'
-Tells Ending.KeepFault turns P held now w w' = P (Err Halt.Keep) × (now ≡ held) × (w' ≡ w)
-Tells Ending.Memory turns P held now w w' = P (Err Halt.Memory) × (now ≡ held) × (w' ≡ w)
-Tells Ending.LinkFault turns P held now w w' = P (Err Halt.Link) × (now ≡ held) × (w' ≡ w)
-Tells Ending.Spent turns P held now w w' = P (Err Halt.Spent) × (now ≡ held) × (w' ≡ w)
-Tells Ending.NoAnswer turns P held now w w' = P (Err Halt.NoAnswer) × (now ≡ held) × (w' ≡ w)
+Tells Ending.KeepFault turns P held now w w' = P (Err Fault.Store) × (now ≡ held) × (w' ≡ w)
+Tells Ending.Memory turns P held now w w' = P (Err Fault.Memory) × (now ≡ held) × (w' ≡ w)
+Tells Ending.LinkFault turns P held now w w' = P (Err Fault.Link) × (now ≡ held) × (w' ≡ w)
+Tells Ending.Spent turns P held now w w' = P (Err Fault.Spent) × (now ≡ held) × (w' ≡ w)
+Tells Ending.NoAnswer turns P held now w w' = P (Err Fault.NoAnswer) × (now ≡ held) × (w' ≡ w)
 Tells other turns P held now w w' = ⊥
 
 -- what printing a line behind all turns did, by the end
@@ -193,14 +193,14 @@ PrintsTurns Ending.WriteFault line held now w w' = AppendsFront line held now ×
 PrintsTurns other line held now w w' = ⊥
 
 -- the end where turns stopped so
-abbrev pub end_of : Halt → Ending
-end_of Halt.Link = Ending.LinkFault
-end_of Halt.Keep = Ending.KeepFault
-end_of Halt.Memory = Ending.Memory
-end_of Halt.Spent = Ending.Spent
-end_of Halt.NoAnswer = Ending.NoAnswer
+abbrev pub end_of : Fault → Ending
+end_of Fault.Link = Ending.LinkFault
+end_of Fault.Store = Ending.KeepFault
+end_of Fault.Memory = Ending.Memory
+end_of Fault.Spent = Ending.Spent
+end_of Fault.NoAnswer = Ending.NoAnswer
 
 -- what telling how turns ended did, by the end: the line was printed, or nothing where they stopped
-abbrev pub TellsTurns : Result Unit Halt → (line : List ℕ) → Ending → (held now : Option (List ℕ)) → (w w' : ℕ) → Type 0
+abbrev pub TellsTurns : Result Unit Fault → (line : List ℕ) → Ending → (held now : Option (List ℕ)) → (w w' : ℕ) → Type 0
 TellsTurns (Ok done) line result held now w w' = PrintsTurns result line held now w w'
 TellsTurns (Err why) line result held now w w' = (result ≡ end_of why) × (now ≡ held) × (w' ≡ w)

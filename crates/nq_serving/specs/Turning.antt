@@ -2,7 +2,7 @@
 -- count of faults.
 use Rattle.std.specs.Prelude.{◌≡◌, ◌<◌, ℕ, zero, suc, [], Option, Result, Ok, Err}
 use Rattle.nq_base.specs.Entries.{EntryList}
-use Rattle.nq_base.specs.declared.ending.halt.Halt.{Halt}
+use Rattle.nq_base.specs.declared.ending.fault.Fault.{Fault}
 use Rattle.nq_serving.specs.Serving.{Between, Turns}
 use Rattle.nq_model.specs.Kept.{Kept}
 use Rattle.nq_clock.specs.Clocks.{ClockTold}
@@ -26,16 +26,16 @@ abbrev pub with_log : {K : Type 0} → Standing K → EntryList → Between K
 with_log at log = record { server = at.server; log = log; next = at.next; clock = at.clock; link = at.link }
 
 -- Whether a turn with this answer stops the server, and why. One that the link stopped is borne.
-abbrev pub borne : Turn → Result Unit Halt
+abbrev pub borne : Turn → Result Unit Fault
 borne Turn.Took = Ok tt
 borne Turn.Quiet = Ok tt
 borne Turn.Link = Ok tt
-borne Turn.Keep = Err Halt.Keep
-borne Turn.Memory = Err Halt.Memory
-borne Turn.Spent = Err Halt.Spent
+borne Turn.Keep = Err Fault.Store
+borne Turn.Memory = Err Fault.Memory
+borne Turn.Spent = Err Fault.Spent
 
 -- one turn, whose journal is empty at first; the server serves on, or stops so
-pub record TakesTurn {K : Type 0} (content : K → Option Kept) (faults : K → ℕ) (ended : Result Unit Halt) (at after : Standing K) : Type 0 where
+pub record TakesTurn {K : Type 0} (content : K → Option Kept) (faults : K → ℕ) (ended : Result Unit Fault) (at after : Standing K) : Type 0 where
   pub turn : Turn
   pub so : ended ≡ borne turn
   pub log : EntryList
@@ -50,7 +50,7 @@ Goes {K = K} content faults (suc count) at after =
     (middle : Standing K) × Goes content faults count at middle × TakesTurn content faults (Ok tt) middle after
 
 -- fewer turns than so many, and one more, which stopped the server so
-pub record StopsEarly {K : Type 0} (content : K → Option Kept) (faults : K → ℕ) (turns : ℕ) (why : Halt) (at after : Standing K) : Type 0 where
+pub record StopsEarly {K : Type 0} (content : K → Option Kept) (faults : K → ℕ) (turns : ℕ) (why : Fault) (at after : Standing K) : Type 0 where
   pub count : ℕ
   pub fewer : count < turns
   pub middle : Standing K
@@ -58,6 +58,6 @@ pub record StopsEarly {K : Type 0} (content : K → Option Kept) (faults : K →
   pub last : TakesTurn content faults (Err why) middle after
 
 -- so many turns one after another, up to the first that stopped the server
-abbrev pub TakesTurns : {K : Type 0} → (content : K → Option Kept) → (faults : K → ℕ) → (turns : ℕ) → Result Unit Halt → (at after : Standing K) → Type 0
+abbrev pub TakesTurns : {K : Type 0} → (content : K → Option Kept) → (faults : K → ℕ) → (turns : ℕ) → Result Unit Fault → (at after : Standing K) → Type 0
 TakesTurns content faults turns (Ok done) at after = Goes content faults turns at after
 TakesTurns content faults turns (Err why) at after = StopsEarly content faults turns why at after

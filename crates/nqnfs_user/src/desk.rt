@@ -1,6 +1,6 @@
 //! A client at work, call by call.
 
-use nq_base::ending::Halt;
+use nq_base::ending::Fault;
 use nq_base::{Answer, Call, Inc, Journal, Value, Who};
 use nq_client::Client;
 use nq_clock::{Clock, StdClock};
@@ -49,7 +49,7 @@ pub(crate) struct UserDesk {
     clock: StdClock<HostRuntime>,
     /// Why no more can be asked: `NoAnswer` where a call was not answered in time and goes on, `Memory` where memory was wanting, and
     /// `Spent` where the client takes in no more.
-    pub(crate) halt: Option<Halt>,
+    pub(crate) halt: Option<Fault>,
     /// The answer that refused a step, until it is taken out.
     pub(crate) refusal: Option<Answer>,
 }
@@ -83,8 +83,8 @@ impl UserDesk {
     pub(crate) fn ask(&mut self, call: Call) -> Option<Answer> {
         match self.make(call) {
             Answer::Pending => self.wait_for_answer(),
-            Answer::Memory => self.stop(Halt::Memory),
-            Answer::Spent => self.stop(Halt::Spent),
+            Answer::Memory => self.stop(Fault::Memory),
+            Answer::Spent => self.stop(Fault::Spent),
             answer => Some(answer),
         }
     }
@@ -117,12 +117,12 @@ impl UserDesk {
     /// Notes that memory was wanting, where nothing stopped the steps before.
     pub(crate) fn lack_memory(&mut self) {
         if !self.is_stopped() {
-            self.halt = Some(Halt::Memory);
+            self.halt = Some(Fault::Memory);
         }
     }
 
     /// Notes why no more can be asked. No answer.
-    fn stop(&mut self, why: Halt) -> Option<Answer> {
+    fn stop(&mut self, why: Fault) -> Option<Answer> {
         self.halt = Some(why);
         None
     }
@@ -140,7 +140,7 @@ impl UserDesk {
     fn wait_for_answer(&mut self) -> Option<Answer> {
         let answer = self.wait(PATIENCE);
         if answer.is_none() && self.halt.is_none() {
-            return self.stop(Halt::NoAnswer);
+            return self.stop(Fault::NoAnswer);
         }
         answer
     }
@@ -152,8 +152,8 @@ impl UserDesk {
             match self.turn() {
                 ClientTurn::Quiet | ClientTurn::Link => {}
                 ClientTurn::Answered(answer) => return Some(answer),
-                ClientTurn::Memory => return self.stop(Halt::Memory),
-                ClientTurn::Spent => return self.stop(Halt::Spent),
+                ClientTurn::Memory => return self.stop(Fault::Memory),
+                ClientTurn::Spent => return self.stop(Fault::Spent),
             }
             if self.client.is_attached() && self.client.call_under_way().is_none() {
                 return None;
@@ -162,7 +162,7 @@ impl UserDesk {
                 break;
             }
         }
-        self.stop(Halt::NoAnswer)
+        self.stop(Fault::NoAnswer)
     }
 
     /// Takes a turn, with a journal that is dropped behind it.

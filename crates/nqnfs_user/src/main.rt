@@ -9,7 +9,7 @@ mod starts;
 use crate::desk::UserDesk;
 use crate::prompting::serve_lines;
 use crate::starts::next_inc;
-use nq_base::ending::{Ending, Halt};
+use nq_base::ending::{Ending, Fault};
 use nq_base::{Host, Party, Who};
 use nq_clock::StdClock;
 use nq_link::{Came, Link, UdpLink};
@@ -85,7 +85,7 @@ fn be_host(rt: &HostRuntime, host: Host) -> Ending {
     };
     match UserDesk::open(rt.alloc(), Who { host, inc }, link, StdClock::new(watch)) {
         Some(desk) => sit(rt, host, desk),
-        None => told(rt, Halt::Memory),
+        None => told(rt, Fault::Memory),
     }
 }
 
@@ -118,18 +118,18 @@ fn give_back(rt: &HostRuntime, host: Host, desk: &mut UserDesk) -> Ending {
 }
 
 /// Tells why a run has ended before its input; how it ends.
-fn told(rt: &HostRuntime, why: Halt) -> Ending {
+fn told(rt: &HostRuntime, why: Fault) -> Ending {
     let (words, ending) = match why {
-        Halt::NoAnswer => (
+        Fault::NoAnswer => (
             "no answer: no server runs, it recovers, somebody else has a lease on the file, or the server knows a later start of this host",
             Ending::NoAnswer,
         ),
-        Halt::Memory => ("memory was wanting", Ending::Memory),
-        Halt::Spent => (
+        Fault::Memory => ("memory was wanting", Ending::Memory),
+        Fault::Spent => (
             "this start takes in no more calls; start again",
             Ending::Limit,
         ),
-        Halt::Link | Halt::Keep => ("the link failed", Ending::LinkFault),
+        Fault::Link | Fault::Store => ("the link failed", Ending::LinkFault),
     };
     let _told = eprintln!(rt; "nqnfs_user: {words}");
     ending

@@ -3,7 +3,7 @@
 ghost use Rattle.std.specs.Prelude.{◌≤◌};
 
 use crate::memory::Resident;
-use nq_base::ending::{Ending, Halt};
+use nq_base::ending::{Ending, Fault};
 use nq_base::{Journal, Party, Ticks};
 use nq_clock::StdClock;
 use nq_disk::FileDisk;
@@ -159,19 +159,19 @@ fn tell_start(rt: &HostRuntime, image: &str, found: &Survey) {
 }
 
 /// Says why serving ended.
-fn tell_end(rt: &HostRuntime, image: &str, ended: Result<(), Halt>) -> Ending {
+fn tell_end(rt: &HostRuntime, image: &str, ended: Result<(), Fault>) -> Ending {
     match ended {
         Ok(()) => Ending::Done,
-        Err(Halt::Keep) => {
+        Err(Fault::Store) => {
             complain(rt, image, "the file cannot be read or written");
             Ending::KeepFault
         }
-        Err(Halt::Spent) => {
+        Err(Fault::Spent) => {
             complain(rt, image, "no number is left for a boot, at byte 8");
             Ending::Spent
         }
-        Err(Halt::Link | Halt::NoAnswer) => Ending::LinkFault,
-        Err(Halt::Memory) => {
+        Err(Fault::Link | Fault::NoAnswer) => Ending::LinkFault,
+        Err(Fault::Memory) => {
             let _told = eprintln!(rt; "nqnfsd: memory was wanting");
             Ending::Memory
         }

@@ -9,7 +9,7 @@ ghost use Rattle.nq_store.specs.Storing.{IsFresh};
 use crate::mount::opening::open_or_make;
 use crate::mount::survey::{Survey, surveyed};
 use crate::recent::RecentKeeper;
-use nq_base::ending::Halt;
+use nq_base::ending::Fault;
 use nq_clock::Clock;
 use nq_disk::Disk;
 use nq_link::Link;
@@ -27,7 +27,7 @@ pub trait Greeter {
 #[derive(Drop)]
 pub struct Left<D> {
     /// Why it ended; `Ok` where all turns were taken.
-    pub ended: Result<(), Halt>,
+    pub ended: Result<(), Fault>,
     /// The disk that was handed in.
     pub disk: D,
 }

@@ -11,7 +11,7 @@ ghost use Rattle.nq_server.specs.Holding.{keeper_in};
 use crate::daemon::turning::take_turns;
 use crate::daemon::watching::Watcher;
 use nq_base::Ticks;
-use nq_base::ending::Halt;
+use nq_base::ending::Fault;
 use nq_clock::Clock;
 use nq_keeper::Keeper;
 use nq_link::Link;
@@ -25,7 +25,7 @@ pub const MOST_TURNS: u64 = (1 << 60) - 1;
 #[derive(Drop)]
 pub struct Served<K> {
     /// Why it ended; `Ok` where all turns were taken.
-    pub ended: Result<(), Halt>,
+    pub ended: Result<(), Fault>,
     /// The keeper that was handed in, with what is kept now.
     pub keeper: K,
 }
@@ -104,15 +104,15 @@ pub(crate) fn not_booted<K>(fault: BootFault<K>) -> Served<K>
 {
     match fault {
         BootFault::Failed(keeper) => Served {
-            ended: Err(Halt::Keep),
+            ended: Err(Fault::Store),
             keeper,
         },
         BootFault::Memory(keeper) => Served {
-            ended: Err(Halt::Memory),
+            ended: Err(Fault::Memory),
             keeper,
         },
         BootFault::Spent(keeper) => Served {
-            ended: Err(Halt::Spent),
+            ended: Err(Fault::Spent),
             keeper,
         },
     }

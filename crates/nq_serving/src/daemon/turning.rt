@@ -9,7 +9,7 @@ ghost use Rattle.nq_link.specs.Links.{link_told};
 use crate::daemon::watching::Watcher;
 use crate::node::{Turn, serve_turn};
 use nq_base::Journal;
-use nq_base::ending::Halt;
+use nq_base::ending::Fault;
 use nq_clock::Clock;
 use nq_keeper::Keeper;
 use nq_link::Link;
@@ -25,7 +25,7 @@ pub(crate) fn take_turns<K: Keeper, L: Link, C: Clock, W: Watcher<L>>(
     next: &mut u64,
     watcher: &mut W,
     turns: u64,
-) -> Result<(), Halt>
+) -> Result<(), Fault>
     ensures turns { LeavesTurns K.content K.faults K.follows K.leaves turns result
         (standing server.old next.old (clock_told C.floor C.readings clock.old)
         (link_told L.sent L.waiting L.faults L.receives link.old))
@@ -50,7 +50,7 @@ fn take_turn<K: Keeper, L: Link, C: Clock, W: Watcher<L>>(
     clock: &mut C,
     next: &mut u64,
     watcher: &mut W,
-) -> Result<(), Halt>
+) -> Result<(), Fault>
     ensures turn { LeavesTaking K.content K.faults K.follows K.leaves result
         (standing server.old next.old (clock_told C.floor C.readings clock.old)
         (link_told L.sent L.waiting L.faults L.receives link.old))
@@ -65,13 +65,13 @@ fn take_turn<K: Keeper, L: Link, C: Clock, W: Watcher<L>>(
 }
 
 /// Whether a turn with this answer stops the server, and why.
-fn ended_by(turn: Turn) -> Result<(), Halt>
+fn ended_by(turn: Turn) -> Result<(), Fault>
     ensures { result ≡ borne turn }
 {
     match turn {
         Turn::Took | Turn::Quiet | Turn::Link => Ok(()),
-        Turn::Keep => Err(Halt::Keep),
-        Turn::Memory => Err(Halt::Memory),
-        Turn::Spent => Err(Halt::Spent),
+        Turn::Keep => Err(Fault::Store),
+        Turn::Memory => Err(Fault::Memory),
+        Turn::Spent => Err(Fault::Spent),
     }
 }

@@ -9,7 +9,7 @@ ghost use Rattle.nq_link.specs.Links.{link_told};
 use crate::daemon::{Served as Turned, not_booted};
 use crate::server::served::Served;
 use crate::server::turning::take_turns;
-use nq_base::ending::{Ending, Halt};
+use nq_base::ending::{Ending, Fault};
 use nq_base::{Journal, NoMemory, Ticks};
 use nq_clock::Clock;
 use nq_io::{Put, Sink};
@@ -70,7 +70,7 @@ fn turns_text(alloc: Global, turns: u32) -> Result<String, NoMemory>
 }
 
 /// Tells how turns ended, with this line where all were taken.
-fn tell<S: Sink>(out: &mut S, ended: Result<(), Halt>, line: &[u8]) -> Ending
+fn tell<S: Sink>(out: &mut S, ended: Result<(), Fault>, line: &[u8]) -> Ending
     ensures { TellsTurns ended line.now result (S.held out.old) (S.held out.new) (S.faults out.old) (S.faults out.new) }
 {
     match ended {
@@ -83,15 +83,15 @@ fn tell<S: Sink>(out: &mut S, ended: Result<(), Halt>, line: &[u8]) -> Ending
 }
 
 /// The end where turns stopped so.
-fn end_of(why: Halt) -> Ending
+fn end_of(why: Fault) -> Ending
     ensures { result ≡ end_of why }
 {
     match why {
-        Halt::Link => Ending::LinkFault,
-        Halt::Keep => Ending::KeepFault,
-        Halt::Memory => Ending::Memory,
-        Halt::Spent => Ending::Spent,
-        Halt::NoAnswer => Ending::NoAnswer,
+        Fault::Link => Ending::LinkFault,
+        Fault::Store => Ending::KeepFault,
+        Fault::Memory => Ending::Memory,
+        Fault::Spent => Ending::Spent,
+        Fault::NoAnswer => Ending::NoAnswer,
     }
 }
 

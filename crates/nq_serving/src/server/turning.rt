@@ -8,7 +8,7 @@ ghost use Rattle.nq_link.specs.Links.{link_told};
 
 use crate::node::{Turn, serve_turn};
 use nq_base::Journal;
-use nq_base::ending::Halt;
+use nq_base::ending::Fault;
 use nq_clock::Clock;
 use nq_keeper::Keeper;
 use nq_link::Link;
@@ -24,7 +24,7 @@ pub(crate) fn take_turns<K: Keeper, L: Link, C: Clock>(
     next: &mut u64,
     log: &mut Journal,
     turns: u32,
-) -> Result<(), Halt>
+) -> Result<(), Fault>
     ensures turns { LeavesTurns K.content K.faults K.follows K.leaves turns result
         (between server.old log.old next.old (clock_told C.floor C.readings clock.old)
         (link_told L.sent L.waiting L.faults L.receives link.old))
@@ -49,7 +49,7 @@ fn take_turn<K: Keeper, L: Link, C: Clock>(
     clock: &mut C,
     next: &mut u64,
     log: &mut Journal,
-) -> Result<(), Halt>
+) -> Result<(), Fault>
     ensures turn { LeavesTaking K.content K.faults K.follows K.leaves result
         (between server.old log.old next.old (clock_told C.floor C.readings clock.old)
         (link_told L.sent L.waiting L.faults L.receives link.old))
@@ -61,14 +61,14 @@ fn take_turn<K: Keeper, L: Link, C: Clock>(
 }
 
 /// Whether a turn with this answer stopped, and why.
-fn ended_by(turn: Turn) -> Result<(), Halt>
+fn ended_by(turn: Turn) -> Result<(), Fault>
     ensures { result ≡ ended_of turn }
 {
     match turn {
         Turn::Took | Turn::Quiet => Ok(()),
-        Turn::Link => Err(Halt::Link),
-        Turn::Keep => Err(Halt::Keep),
-        Turn::Memory => Err(Halt::Memory),
-        Turn::Spent => Err(Halt::Spent),
+        Turn::Link => Err(Fault::Link),
+        Turn::Keep => Err(Fault::Store),
+        Turn::Memory => Err(Fault::Memory),
+        Turn::Spent => Err(Fault::Spent),
     }
 }
