@@ -3,6 +3,7 @@ use Rattle.std.proofs.Common.{◌≡◌, ◌⊎◌, ◌<◌, ◌≤◌, ℕ, Lis
 use Rattle.std.specs.Option.{ForSome}
 use Rattle.nq_serving.specs.DaemonLeaving.{IsLeftInRuns}
 use Rattle.nq_serving.specs.DaemonServing.{Runs}
+use Rattle.nq_serving.specs.Leaving.{IsSettled}
 use Rattle.nq_base.specs.declared.ending.halt.Halt.{Halt}
 use Rattle.nq_plan.specs.Formatted.{StandsForNothing, TellsNothing}
 use Rattle.nq_plan.specs.Standing.{stands_as}
@@ -10,14 +11,14 @@ use Rattle.nq_image.specs.Nothing.{nothing_kept}
 use Rattle.nq_io.specs.Faults.{Rose}
 use Rattle.nq_model.specs.Kept.{Kept}
 use Rattle.nq_store.proofs.Emptied.{nothing_on}
-use Rattle.nq_service.proofs.MountFailing.{failed_by}
+use Rattle.nq_service.proofs.MountFailing.{failed_by, stood_still}
 use Rattle.nq_service.specs.Opening.{FailsEarly, IsOpenedAs, IsReady, OpensOrMakes, OpensReady}
-use Rattle.nq_service.specs.MountServing.{EndsServing, IsFoundAmong, IsWhyNot, ServesImage, ServesNot}
+use Rattle.nq_service.specs.MountServing.{EndsServing, IsFoundAmong, IsWhyNot, ServesImage, ServesNot, StoodStill}
 use Rattle.nq_clock.specs.Clocks.{ClockTold}
 use Rattle.nq_link.specs.Links.{LinkTold}
 use Rattle.nq_disk.specs.Saying.{Each}
 use Rattle.nq_store.specs.Opening.{FollowsOpen, LeavesLike, back_of}
-use Rattle.nq_store.specs.Storing.{AllStandFor, GoesOn, HasRisen, StoredStore, content_of, faults_of, kept_on, kept_told}
+use Rattle.nq_store.specs.Storing.{AllStandFor, GoesOn, HasRisen, LeavesKept, StoredStore, content_of, faults_of, kept_on, kept_told}
 use Rattle.nq_store.specs.declared.fault.OpenFault.{OpenFault}
 use Rattle.nq_store.specs.declared.fault.OpenFault.TheVariants as opening
 
@@ -38,6 +39,14 @@ left-first content faults follows longest turns time keeper (Err why) left clock
 left-either : {A B : Type 0} (P : Type 0) → (A → P) → (B → P) → A ⊎ B → P
 left-either P f g (inl a) = f a
 left-either P f g (inr b) = g b
+
+-- the disk of a store of which a stop leaves exactly what is kept
+pub all_settled : {D : Type 0} (told : D → Option (List ℕ)) (leaves : D → D → List ℕ → Type 0) (store : StoredStore D) (left : D) → left ≡ store.disk
+    → IsSettled (content_of told) (λ first last. LeavesKept (leaves first.disk last.disk)) store
+    → ForSome (content_of told store) (λ kept. AllStandFor (leaves left left) kept)
+all_settled {D = D} told leaves store left is settled =
+    subst (λ (d : D). ForSome (content_of told store) (λ kept. AllStandFor (leaves d d) kept)) (sym is)
+    (λ kept has image l. settled kept has (kept_on image) (image, l, refl))
 
 module _ {D : Type 0} (told : D → Option (List ℕ)) (faults : D → ℕ) (may_leave : D → List ℕ → Type 0) (follows : D → D → Type 0)
     (leaves : D → D → List ℕ → Type 0) (longest turns : ℕ) where
@@ -122,6 +131,9 @@ module _ {D : Type 0} (told : D → Option (List ℕ)) (faults : D → ℕ) (may
         failed = λ keep. subst (λ (d : D). HasRisen (faults disk) (faults d)) (sym ends.handed)
             (failed_by faults follows ended disk store ends.served (content_of told store) rises opened.fresh (opened.counts ∙ is_ready.counts) ends.same
             ends.cause keep);
+        done = λ all. subst (λ (d : D). StoodStill (faults disk) (faults d)) (sym ends.handed)
+            (stood_still faults follows ended disk store ends.served (content_of told store) rises opened.fresh (opened.counts ∙ is_ready.counts)
+            ends.same ends.cause all);
         survives = λ bytes is some kept same.
             let still = is_ready.stays bytes is some in
             found-first disk ready store ended left clock clock' link link' ends stays outer parts is_ready.same opened.same on still.0 still.1

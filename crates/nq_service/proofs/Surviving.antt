@@ -59,6 +59,7 @@ module _ {D : Type 0} (told : D → Option (List ℕ)) (faults : D → ℕ) (may
         (left-same kept bytes image (may_leave disk) (stays bytes is) same (like bytes is image first)))
         (λ later. s.only kept (keeps ∙ ap kept_told is ∙ same bytes (stays bytes is)) (kept_on image) (image, later, refl))
         (parts image l);
+    settled = λ kept is image l. s.settled kept is (kept_on image) (image, l, refl);
   }
 
   tells-on : (end : Ending) (turns : ℕ) (P Q : Result Unit Halt → Type 0) (held now : Option (List ℕ)) (w w' : ℕ)

@@ -47,7 +47,8 @@ StaysSame before leaves = (kept : Kept) → AllStandFor before kept → AllStand
 
 -- What was done over a store when serving ended so. Where all that a stop might have left of the disk at first stood for one kept state,
 -- whatever a stop at any moment may leave opens, and stands for that, or for what was kept after some of the steps: the boot, and the ticks
--- and datagrams of the turns
+-- and datagrams of the turns. Between two turns, which `serving` tells, and at the end it stands for exactly what the server keeps then. This
+-- refuses a server that answers `ok` once the gate byte is written and before it is synced
 pub record Survives {D : Type 0} (told : D → Option (List ℕ)) (faults : D → ℕ) (may_leave : D → List ℕ → Type 0) (follows : D → D → Type 0)
     (leaves : D → D → List ℕ → Type 0) (longest turns : ℕ) (disk : D) (store : StoredStore D) (ended : Result Unit Halt) (left : StoredStore D)
     (clock clock' : ClockTold) (link link' : LinkTold) : Type 0 where
@@ -56,6 +57,7 @@ pub record Survives {D : Type 0} (told : D → Option (List ℕ)) (faults : D �
   pub survives : ForSome (told disk) (λ bytes. (kept : Kept) → AllStandFor (may_leave disk) kept
       → Each (leaves disk left.disk) (λ image. IsLeftInRuns (content_of told) (faults_of faults) (GoesOn faults follows) longest turns
       serving.serves.time store ended left serving.serves.between clock' link link' serving.serves.runs kept (kept_on image)))
+  pub settled : ForSome (content_of told left) (λ kept. AllStandFor (leaves left.disk left.disk) kept)
 
 -- ---- where the disk is not served from
 

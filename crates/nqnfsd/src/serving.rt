@@ -1,6 +1,7 @@
 //! Serving over an image.
 
-ghost use Rattle.std.specs.Prelude.{◌≤◌};
+ghost use Rattle.nqnfsd.specs.Statuses.{end_of, end_unopened};
+ghost use Rattle.std.specs.Prelude.{◌≡◌, ◌≤◌};
 
 use crate::memory::Resident;
 use nq_base::ending::{Ending, Halt};
@@ -82,7 +83,9 @@ fn complain(rt: &HostRuntime, image: &str, words: &str) {
 }
 
 /// Says why an image was not opened.
-fn tell_fault(rt: &HostRuntime, image: &str, fault: &OpenFault<FileDisk>) -> Ending {
+fn tell_fault(rt: &HostRuntime, image: &str, fault: &OpenFault<FileDisk>) -> Ending
+    ensures { result ≡ end_unopened fault.now }
+{
     match fault {
         OpenFault::NotAnImage(_) => {
             complain(rt, image, "the file is no image");
@@ -159,7 +162,9 @@ fn tell_start(rt: &HostRuntime, image: &str, found: &Survey) {
 }
 
 /// Says why serving ended.
-fn tell_end(rt: &HostRuntime, image: &str, ended: Result<(), Halt>) -> Ending {
+fn tell_end(rt: &HostRuntime, image: &str, ended: Result<(), Halt>) -> Ending
+    ensures { result ≡ end_of ended }
+{
     match ended {
         Ok(()) => Ending::Done,
         Err(Halt::Keep) => {
