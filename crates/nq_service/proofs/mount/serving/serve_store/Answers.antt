@@ -7,7 +7,7 @@ use Rattle.nq_service.proofs.mount.serving.serve_store.Goals as goal
 
 pub returns : goal.returns
 returns g c =
-    let clock_of = clock_told g.C.Clock.floor g.C.Clock.readings in
+    let clock_of = clock_told g.C.Clock.floor g.C.Clock.readings g.C.Clock.reads in
     let link_of = link_told g.L.Link.sent g.L.Link.waiting g.L.Link.faults g.L.Link.receives in
     let ran = c.keep_serving-ended in
     subst (λ (store : StoredStore g.row.D.Denot). EndsServing g.D.Disk.told g.D.Disk.faults g.D.Disk.follows g.D.Disk.leaves c.args.longest c.args.turns
