@@ -23,7 +23,8 @@ const QUIETLY: u64 = 3;
 const FAREWELL: u64 = 10;
 
 // What is said once an answer is waited for.
-const WAITING: &str = "waiting for an answer: no server runs, it recovers, somebody else has a lease on the file, \
+const WAITING: &str =
+    "waiting for an answer: no server runs, it recovers, somebody else has a lease on the file, \
     or the server knows a later start of this host; Ctrl-C ends this program";
 
 /// A client that begins an incarnation now, if there is memory for it. It asks the server to attach it.
