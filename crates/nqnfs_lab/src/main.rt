@@ -13,7 +13,7 @@ mod words;
 
 use crate::desk::Desk;
 use crate::peers::{serve_all, serve_once};
-use crate::words::{Asked, Options, asked};
+use crate::words::{Asked, Options, read_words};
 use nq_base::ending::Ending;
 use std::env;
 use std::net::TcpListener;
@@ -38,7 +38,7 @@ fn obey(rt: &HostRuntime) -> Ending {
     let Ok(args) = env::args(rt) else {
         return Ending::Memory;
     };
-    match asked(rt.alloc(), args.skip(1)) {
+    match read_words(rt.alloc(), args.skip(1)) {
         Ok(Asked::Serve(options)) => serve(rt, options),
         Ok(Asked::Once(options)) => once(rt, options),
         Ok(Asked::Help) => {

@@ -78,13 +78,13 @@ fn accepted(rt: &HostRuntime, listener: &TcpListener) -> io::Result<Option<Peer>
 /// Reads from a peer, answers and writes, once each; whether something moved.
 fn take_turn(peer: &mut Peer, desk: &mut Desk<'_>) -> bool {
     let read = if peer.connection.wants_read() {
-        moved(peer.connection.read_from(&mut peer.stream))
+        what_moved(peer.connection.read_from(&mut peer.stream))
     } else {
         Moved::Nothing
     };
     peer.connection.advance(desk);
     let written = if peer.connection.wants_write() {
-        moved(peer.connection.write_to(&mut peer.stream))
+        what_moved(peer.connection.write_to(&mut peer.stream))
     } else {
         Moved::Nothing
     };
@@ -104,7 +104,7 @@ enum Moved {
 }
 
 /// What a call on a stream did.
-fn moved(call: io::Result<usize>) -> Moved {
+fn what_moved(call: io::Result<usize>) -> Moved {
     match call {
         Ok(_) => Moved::Bytes,
         Err(error) => match error.kind() {

@@ -29,7 +29,7 @@ pub(crate) struct Options {
 /// # Errors
 ///
 /// What is wrong, with the word; None for want of memory.
-pub(crate) fn asked<I: Iterator<Item = String> + Drop>(
+pub(crate) fn read_words<I: Iterator<Item = String> + Drop>(
     alloc: Global,
     words: I,
 ) -> Result<Asked, Option<String>> {
