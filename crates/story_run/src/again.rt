@@ -1,22 +1,19 @@
 //! A run that was printed, once more: by the command `replay`, and event by event over a world.
 
-ghost use Rattle.std.specs.Prelude.{◌≡◌, ◌<◌, ◌^◌, length, IsTrue, Some};
+ghost use Rattle.std.specs.Prelude.{◌≡◌, length, IsTrue, Some};
 ghost use Rattle.nq_keeper.specs.StoredKeeper.{empty_kept};
+ghost use Rattle.nq_replay.specs.Schedules.{IsReady};
 ghost use Rattle.nq_world.specs.Playing.{CanCome};
 
 use crate::parts::words_of;
-use crate::post::{Post, PostLink, StoryClock};
-use crate::top::ran;
-use nq_base::{Event, Journal, Party};
+use crate::scenes::play;
+use nq_base::{Event, Journal};
 use nq_io::{MemSink, MemSource};
 use nq_journal::{is_in, print};
 use nq_keeper::{Keeper, ListKeeper};
-use nq_run::blank_disk;
 use nq_script::{Head, Line, Script, parse};
-use nq_world::{Stepped, World, begin};
+use nq_world::{NewFault, Stepped, World, begin};
 use std::alloc::Global;
-use std::cell::RefCell;
-use std::rc::Rc;
 
 /// How a schedule and a journal end.
 const END: &str = "\nend\n";
@@ -59,20 +56,8 @@ fn replayed(alloc: Global, schedule: Vec<u8>) -> Option<MemSink> {
     let words = words_of(alloc, "replay");
     let mut source = MemSource::new(schedule, Vec::new(alloc));
     let mut out = MemSink::new(alloc, MOST_BYTES, Vec::new(alloc)).ok()?;
-    let post = Rc::new(alloc, RefCell::new(Post::new(alloc, false))).ok()?;
-    let mut link = PostLink::new(post, Party::Server, false);
-    let mut links = Vec::new(alloc);
-    ran(
-        alloc,
-        &words,
-        &mut source,
-        &mut out,
-        blank_disk(alloc).ok()?,
-        &mut link,
-        links.as_mut_slice(),
-        &mut StoryClock::to(0),
-    )
-    .ok()?;
+    let left = Vec::new(alloc);
+    let _played = play(alloc, "plain", &words, &mut source, &mut out, left).ok()?;
     Some(out)
 }
 
@@ -81,10 +66,26 @@ fn stepped(alloc: Global, schedule: &[u8]) -> Option<MemSink> {
     if schedule.len() > MOST_BYTES {
         return None;
     }
-    let script = parse(alloc, schedule).ok()?;
-    let keeper = ListKeeper::new(alloc, Vec::new(alloc)).ok()?;
-    let mut world = begin(alloc, &script.head, keeper).ok()?;
-    let stepped = step_all(&mut world, &script);
+    match parse(alloc, schedule) {
+        Ok(script) => match ListKeeper::new(alloc, Vec::new(alloc)) {
+            Ok(keeper) => stepped_over(alloc, &script, keeper),
+            Err(_) => None,
+        },
+        Err(_) => None,
+    }
+}
+
+/// The same over a keeper that keeps nothing yet.
+fn stepped_over<K: Keeper + Drop>(alloc: Global, script: &Script, keeper: K) -> Option<MemSink>
+    requires ready { IsReady script.now }
+    requires empty { K.content keeper ≡ Some empty_kept }
+{
+    let mut world = match begin(alloc, &script.head, keeper) {
+        Ok(world) => world,
+        Err(NewFault::Memory(_keeper)) => return None,
+        Err(NewFault::Failed(_keeper)) => return None,
+    };
+    let stepped = step_all(&mut world, script);
     let printed = printed(alloc, world.journal());
     let _keeper = world.into_keeper();
     stepped?;

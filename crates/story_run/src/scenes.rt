@@ -35,9 +35,9 @@ const LAST: u32 = 4_000;
 
 /// What came of a scene: how it ended, and how many datagrams were sent.
 #[derive(Drop)]
-struct Played {
-    ended: Ended<MemDisk>,
-    sent: u32,
+pub(crate) struct Played {
+    pub(crate) ended: Ended<MemDisk>,
+    pub(crate) sent: u32,
 }
 
 /// Plays the scenes of the standard input to its end, or until a line cannot be read or printed.
@@ -122,7 +122,7 @@ fn push_line(text: &mut Vec<u8>, line: &str) {
 }
 
 /// Runs what words say in a scene, over a disk on which these bytes were left, if it goes on with them.
-fn play(
+pub(crate) fn play(
     alloc: Global,
     scene: &str,
     words: &Words,
