@@ -38,7 +38,7 @@ fn obey(rt: &HostRuntime) -> Ending {
     let Ok(args) = env::args(rt) else {
         return Ending::Memory;
     };
-    match read_words(rt.alloc(), args.skip(1)) {
+    match read_words(rt.alloc(), args) {
         Ok(Asked::Serve(options)) => serve(rt, options),
         Ok(Asked::Once(options)) => once(rt, options),
         Ok(Asked::Help) => {

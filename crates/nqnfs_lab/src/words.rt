@@ -1,6 +1,7 @@
 //! The words of the command line.
 
 use std::alloc::Global;
+use std::env::Args;
 
 /// What the words ask for.
 #[derive(Drop)]
@@ -24,20 +25,17 @@ pub(crate) struct Options {
     pub(crate) web: String,
 }
 
-/// What the words ask for.
+/// What the words behind the program's name ask for.
 ///
 /// # Errors
 ///
 /// What is wrong, with the word; None for want of memory.
-pub(crate) fn read_words<I: Iterator<Item = String> + Drop>(
-    alloc: Global,
-    words: I,
-) -> Result<Asked, Option<String>> {
+pub(crate) fn read_words(alloc: Global, args: Args) -> Result<Asked, Option<String>> {
     let mut port = 8059u16;
     let mut web = copied(alloc, "web")?;
     let mut name = copied(alloc, "")?;
     let mut once = false;
-    for word in words {
+    for word in args.skip(1) {
         match (name.as_str(), word.as_str()) {
             ("", "--help") => return Ok(Asked::Help),
             ("", "--version") => return Ok(Asked::Version),
