@@ -101,6 +101,10 @@ torn-at-every-moment most head later earlier bounds within =
     (subst (λ z. KeepsBounds most head z) s.is bounds) (subst (λ z. IsWithinSkew head.hosts most z) s.is within) in
     record {
       holds = headline-like (torn_run head earlier) (run head (schedule head earlier)) (torn-is-run head earlier) h.holds;
+      same = (torn-is-run head earlier).journal;
+      told = h.told;
+      caused = h.caused;
+      full = h.full;
       more = h.more;
       grows =
           (torn-is-run head (later ++ earlier)).journal

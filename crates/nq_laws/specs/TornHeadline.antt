@@ -5,14 +5,22 @@ use Rattle.nq_base.specs.declared.Event.{Event}
 use Rattle.nq_model.specs.Kept.{Kept}
 use Rattle.nq_model.specs.ServerStep.{boot}
 use Rattle.nq_model.specs.Skew.{IsWithinSkew}
-use Rattle.nq_model.specs.World.{Head, first_kept, start, step}
+use Rattle.nq_model.specs.World.{Head, first_kept, start, step, run}
 use Rattle.nq_model.specs.Bounds.{KeepsBounds}
+use Rattle.nq_model.specs.AnswersHaveCauses.{HaveCauses}
+use Rattle.nq_model.specs.AnswersTellWhatWas.{TellWhatWas}
+use Rattle.nq_model.specs.FullHasItsCause.{FullHaveCauses}
 use Rattle.nq_model.specs.Headline.{HeadlineHolds}
 use Rattle.nq_laws.specs.TornRuns.{Happening, whole, torn_before, torn_after, TornWorld, brings_unsent, torn_step, torn_run, schedule, without_last}
 
--- at a moment of a torn run the headline holds of its own world, and from there on its journal only grows
+-- at a moment of a torn run the headline holds of its own world; what answers say was so between each call and its answer in the run of
+-- its schedule, which has the same journal; and from there on its journal only grows
 pub record TornHoldsAt (head : Head) (later earlier : List Happening) : Type 0 where
   pub holds : HeadlineHolds (torn_run head earlier).world
+  pub same : (torn_run head earlier).world.journal ≡ (run head (schedule head earlier)).journal
+  pub told : TellWhatWas head (schedule head earlier)
+  pub caused : HaveCauses head (schedule head earlier)
+  pub full : FullHaveCauses head (schedule head earlier)
   pub more : List Entry
   pub grows : (torn_run head (later ++ earlier)).world.journal ≡ more ++ (torn_run head earlier).world.journal
 

@@ -17,7 +17,8 @@ pub fn torn_runs()
     ensures runs { TornRunsAreRuns }
 {}
 
-/// The headline holds at every moment of a torn run whose schedule keeps to the bounds and is within skew.
+/// The headline holds at every moment of a torn run whose schedule keeps to the bounds and is within skew. What its answers say was so
+/// between each call and its answer, in the run of its schedule, whose journal is the same.
 pub fn torn_headline()
     ensures { TornAtEveryMoment }
 {}
