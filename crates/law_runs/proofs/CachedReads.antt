@@ -59,7 +59,7 @@ use Rattle.nq_model.specs.Undisturbed.{IsUndisturbed}
 
 -- ---- the row of a lease that runs
 
-covered-chained : (s : Server) (phase : Phase) (who : Who) (file : ℕ) (mode : Mode) (tag : Tag) (until : ℕ)
+pub covered-chained : (s : Server) (phase : Phase) (who : Who) (file : ℕ) (mode : Mode) (tag : Tag) (until : ℕ)
     → IsCovered s phase (claim_of who file mode tag until) → (row : Row) × IsChained (standing_in phase s.table) who file tag row
 covered-chained s serving who file mode tag until k = (k.row, record { own = record { stands = k.stands; holder = k.fits.holder }; began = k.fits.began })
 covered-chained s (recovering end heard last) who file mode tag until k =

@@ -152,12 +152,12 @@ calls-none = record {
 
 tick-calls-none : (c : Client) (now : ℕ) → NoCalls (client_tick c now).entries
 tick-calls-none c now =
-    (keeping.tick-keeps AnyCall AnyLength NoCalls calls-none c now (λ who q h. h) (any-going c.who c.call) (any-lent c.leases)).0
+    (keeping.tick-keeps AnyCall AnyLength NoCalls calls-none c now (λ who q h. h) (any-going c.who c.call) (any-lent _ c.leases)).0
 
 hear-calls-none : (c : Client) (k : ℕ) (m : Message) (t : ClientStep) → Alone c → hear c k m ≡ Some t → NoCalls t.entries
 hear-calls-none c k m t alone hears =
     (keeping.hear-keeps AnyCall AnyLength NoCalls calls-none c k m t hears (λ ticket has. (alone.asking.ticketed ticket has).fits) (λ who q h. h)
-    (any-going c.who c.call) (any-lent c.leases) (λ xid r ticket file g is has same inc by. tt)
+    (any-going c.who c.call) (any-lent _ c.leases) (λ xid r ticket file g is has same inc by. tt)
     (λ xid r ticket u answer is has same inc call job telling. one-more (Entry.A c.who u.q (said answer None)) [] (λ w n bad. bad) (λ who q h. h))).0
 
 -- the call under way was under way before
@@ -197,16 +197,6 @@ pub meanwhile-map : (P Q : World → Type 0) (who : Who) (q : ℕ) (head : Head)
 meanwhile-map P Q who q head [] f bad = bad
 meanwhile-map P Q who q head (event ∷ earlier) f (inl now) = inl (f (run head earlier) now.0, now.1, now.2)
 meanwhile-map P Q who q head (event ∷ earlier) f (inr before) = inr (meanwhile-map P Q who q head earlier f before)
-
--- between a call and its answer is at some moment of the run
-pub at-some-moment : (P : World → Type 0) (who : Who) (q : ℕ) (head : Head) (events : List Event) → Meanwhile P who q head events → Once P head events
-at-some-moment P who q head [] bad = absurd bad
-at-some-moment P who q head (event ∷ earlier) (inl now) = inr (latest earlier now.0)
-  where
-    latest : (es : List Event) → P (run head es) → Once P head es
-    latest [] p = p
-    latest (e ∷ es) p = inl p
-at-some-moment P who q head (event ∷ earlier) (inr before) = inr (at-some-moment P who q head earlier before)
 
 -- what stands in a journal stays, and so does what was sent
 stays : (F : Entry → Type 0) (w v : World) → Changes w v → Exists F w.journal → Exists F v.journal

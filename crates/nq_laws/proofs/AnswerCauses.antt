@@ -23,7 +23,7 @@ use Rattle.nq_model.specs.AnswersTellWhatWas.{Meanwhile, HasNamed, HasLength, To
 use Rattle.nq_model.specs.RepliesTellWhatWas.{KeepsNamed}
 use Rattle.law_rounds.specs.RequestsAreMeant.{IsWriteTo}
 use Rattle.law_runs.proofs.OkFacts.{IsFor}
-use Rattle.nq_laws.proofs.Anchors.{meanwhile-map, at-some-moment}
+use Rattle.nq_laws.proofs.Anchors.{meanwhile-map}
 use Rattle.nq_laws.proofs.RunTells.{HadSo}
 use Rattle.walk_steps.proofs.RepliedCases.{IsNamed, looked_up, created, attributes}
 use Rattle.walk_steps.proofs.SettleCases.{IsRead}
@@ -69,19 +69,19 @@ later-says head event earlier who q Said.Range (Some (Told.WriteSync file block 
 later-says head event earlier who q Said.Range other so = absurd so
 later-says head event earlier who q answer o so = tt
 
-same-block : (head : Head) (events : List Event) (file block f b : ℕ) → (f ≡ file) × (b ≡ block) → HadNoBlock head events file block
-    → HadNoBlock head events f b
-same-block head events file block f b same had =
-    subst (λ n. HadNoBlock head events n b) (sym same.0) (subst (λ n. HadNoBlock head events file n) (sym same.1) had)
+same-block : (head : Head) (events : List Event) (who : Who) (q file block f b : ℕ) → (f ≡ file) × (b ≡ block)
+    → HadNoBlock head events who q file block → HadNoBlock head events who q f b
+same-block head events who q file block f b same had =
+    subst (λ n. HadNoBlock head events who q n b) (sym same.0) (subst (λ n. HadNoBlock head events who q file n) (sym same.1) had)
 
 -- `range` is said to a call that reads or writes a block which its file had not
 pub range-of-block : (head : Head) (events : List Event) (who : Who) (q file block : ℕ) (op : Call) → IsOfBlock file block op
-    → HadNoBlock head events file block
+    → HadNoBlock head events who q file block
     → Says head events who q Said.Range (Some (told op))
-range-of-block head events who q file block (Call.Read f b) of_block had = same-block head events file block f b of_block had
-range-of-block head events who q file block (Call.Fetch f b) of_block had = same-block head events file block f b of_block had
-range-of-block head events who q file block (Call.Write f b body) of_block had = same-block head events file block f b of_block had
-range-of-block head events who q file block (Call.WriteSync f b body) of_block had = same-block head events file block f b of_block had
+range-of-block head events who q file block (Call.Read f b) of_block had = same-block head events who q file block f b of_block had
+range-of-block head events who q file block (Call.Fetch f b) of_block had = same-block head events who q file block f b of_block had
+range-of-block head events who q file block (Call.Write f b body) of_block had = same-block head events who q file block f b of_block had
+range-of-block head events who q file block (Call.WriteSync f b body) of_block had = same-block head events who q file block f b of_block had
 range-of-block head events who q file block other of_block had = absurd of_block
 
 -- ---- the refusal that is answered with
@@ -148,8 +148,7 @@ module _ (head : Head) (events : List Event) (by : Who) (n : ℕ) (host xid inc 
       → Answered Refusal.Inval
   of-block r file block op is of_block lacks had =
       range-of-block head events by n file block u.call (subst (IsOfBlock file block) (sym is) of_block)
-      (at-some-moment (λ w. LacksBlock w.server.kept.files file block) by n head events
-      (mapped (HadSo host xid (Reply.Refused inc Refusal.Inval) r) (λ w. LacksBlock w.server.kept.files file block) lacks had))
+      (mapped (HadSo host xid (Reply.Refused inc Refusal.Inval) r) (λ w. LacksBlock w.server.kept.files file block) lacks had)
 
   out-of-range : (r : Request) → IsFor u dirty push r → Had Refusal.Inval r → Answered Refusal.Inval
   out-of-range (Request.Create who seq name blocks) is had =

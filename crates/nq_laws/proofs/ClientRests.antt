@@ -1,6 +1,6 @@
 -- What the answers of a client's step rest on, where they bring a value or say what stands at the server: a cached read that stands right
 -- before, or the reply.
-use Rattle.std.proofs.Common.{◌≡◌, ◌⊎◌, ℕ, ◌+◌, true, false, List, [], ◌∷◌, ◌++◌, Option, Some, None, refl, inl, inr, arith}
+use Rattle.std.proofs.Common.{◌≡◌, ◌⊎◌, ◌≤◌, ℕ, ◌+◌, true, false, List, [], ◌∷◌, ◌++◌, Option, Some, None, refl, inl, inr, arith}
 use Rattle.std.specs.Prelude.{⊤}
 use Rattle.nq_base.specs.Calls.{told}
 use Rattle.nq_base.specs.declared.Answer.{Answer}
@@ -19,8 +19,9 @@ use Rattle.nq_model.specs.Settle.{said}
 use Rattle.walk_files.proofs.CallFacts.{CallsAt, called-below, asks-told}
 use Rattle.walk_files.proofs.Placed.{call-told}
 use Rattle.walk_steps.proofs.ClientFacts.{fits_job}
-use Rattle.walk_steps.proofs.ClientEntries.{needs_reply, IsPastEnd, Lent, IsGranting, IsTelling, Going, OfClient, call-keeps, tick-keeps, hear-keeps}
+use Rattle.walk_steps.proofs.ClientEntries.{needs_reply, IsPastEnd, IsLending, IsTelling, Going, OfClient, call-keeps, tick-keeps, hear-keeps}
 use Rattle.walk_steps.proofs.ClientEntries.{restart-keeps}
+use Rattle.walk_steps.proofs.RunningLeases.{Lent, lent-later}
 
 -- the next entry before is a cached read of this call
 abbrev pub IsCachedNext : (who : Who) (q : ℕ) → List Entry → Type 0
@@ -85,7 +86,7 @@ module _ (Had : (file blocks : ℕ) → Type 0) (Cause : (who : Who) (q : ℕ) �
   }
 
 module _ (Had : (file blocks : ℕ) → Type 0) (Cause : (who : Who) (q : ℕ) → Said → Type 0) (c : Client) (journal : List Entry)
-    (known : CallsAt c.who c.calls c.number c.call journal) (lent : Lent Had c.leases) where
+    (known : CallsAt c.who c.calls c.number c.call journal) (lent : Lent Had c.now c.leases) where
   going : (under : Option UnderWay) → c.call ≡ under → Going (λ who q op. IsToldBy journal who q op) c.who under
   going None is = tt
   going (Some u) is = (known.under_way u is).tells
@@ -107,16 +108,16 @@ module _ (Had : (file blocks : ℕ) → Type 0) (Cause : (who : Who) (q : ℕ) �
       ((tt, tt), λ who q other is. is) (called op c.call refl) (new-call op)
       lent).0.0
 
-  pub tick-rests : (now : ℕ) → AllRest Had Cause journal (client_tick c now).entries
-  tick-rests now =
+  pub tick-rests : (now : ℕ) → c.now ≤ now → AllRest Had Cause journal (client_tick c now).entries
+  tick-rests now past =
       (tick-keeps (λ who q op. IsToldBy journal who q op) Had (Both Had Cause journal journal) (client-rests Had Cause journal journal) c now
       (tt, λ who q op is. is) (going c.call refl)
-      lent).0.0
+      (lent-later Had c.now now c.leases past lent)).0.0
 
   pub hear-rests : (number : ℕ) (m : Message) (t : ClientStep) → hear c number m ≡ Some t
       → ((ticket : Ticket) → c.ticket ≡ Some ticket → fits_job ticket.job ticket.request ≡ true)
       → ((xid : ℕ) (r : Reply) (ticket : Ticket) (file : ℕ) (g : Grant) → m ≡ reply xid r → c.ticket ≡ Some ticket → xid ≡ ticket.xid
-      → inc_of r ≡ c.who.inc → IsGranting ticket.request r file g → Had file g.blocks)
+      → inc_of r ≡ c.who.inc → IsLending c.now ticket.first ticket.request r file g → Had file g.blocks)
       → ((xid : ℕ) (r : Reply) (ticket : Ticket) (u : UnderWay) (answer : Answer) → m ≡ reply xid r → c.ticket ≡ Some ticket → xid ≡ ticket.xid
       → inc_of r ≡ c.who.inc → c.call ≡ Some u → ticket.job ≡ for_call → IsTelling ticket.request r answer → Cause c.who u.q (said answer None))
       → AllRest Had Cause journal t.entries

@@ -1,45 +1,41 @@
--- In every run each lease of a client tells a length that its file had at the server.
-use Rattle.std.proofs.Common.{◌≡◌, ℕ, ◌+◌, List, [], ◌∷◌, Option, Some, None, length, refl, sym, subst, ap, ◌∙◌, inr}
-use Rattle.std.specs.Prelude.{slice_get, ⊤}
+-- In every run a lease that runs tells the length that its file has at the server, and so does a grant of which the lease would run.
+use Rattle.std.proofs.Common.{◌≡◌, ◌<◌, ℕ, ◌+◌, ◌==◌, true, Some, refl, sym, subst, ap, ◌∙◌}
+use Rattle.std.proofs.lemmas.Bool.{and_parts, and_from}
+use Rattle.std.specs.Prelude.{◌-◌, ◌&&◌, Bool, List, nat_lt}
 use Rattle.nq_base.specs.declared.Event.{Event}
 use Rattle.nq_base.specs.declared.Grant.{Grant}
-use Rattle.nq_base.specs.declared.Party.{Party}
+use Rattle.nq_base.specs.declared.HostRow.{HostRow}
+use Rattle.nq_base.specs.declared.Mode.{Mode}
 use Rattle.nq_base.specs.declared.Reply.{Reply}
 use Rattle.nq_base.specs.declared.Request.{Request}
-use Rattle.nq_model.specs.Client.{Client, ClientStep, Ticket, lease_on}
-use Rattle.nq_model.specs.ClientStep.{attached_client, client_call, client_tick, fresh_client, restart}
-use Rattle.nq_model.specs.Hear.{hear, inc_of}
-use Rattle.nq_model.specs.Message.{Packet, reply, datagram_of}
-use Rattle.nq_model.specs.Server.{ServerStep}
-use Rattle.nq_model.specs.ServerStep.{receive, tick, crash}
-use Rattle.nq_model.specs.World.{Head, World, after_server, after_client, at_client, after_hearing, sending_host, deliver_to_client, deliver_to}
-use Rattle.nq_model.specs.World.{deliver, start, run}
+use Rattle.nq_base.specs.declared.Row.{Row}
+use Rattle.nq_base.specs.declared.Tag.{Tag}
+use Rattle.nq_base.specs.declared.Who.{Who}
+use Rattle.law_runs.proofs.ChainWorlds.{chains-know}
+use Rattle.law_runs.proofs.CachedReads.{covered-chained}
+use Rattle.nq_laws.proofs.RunTells.{HadSo, IsTrue, all-true}
 use Rattle.nq_model.specs.AnswersTellWhatWas.{HasLength}
-use Rattle.nq_model.specs.RepliesTellWhatWas.{Once}
-use Rattle.walk_steps.proofs.ClientMoves.{none-some}
-use Rattle.walk_steps.proofs.ClientEntries.{AnyCall, OfClient, IsGranting, by_read, by_lease, Lent, any-going, call-keeps, tick-keeps, hear-keeps}
-use Rattle.walk_steps.proofs.ClientEntries.{restart-keeps}
-use Rattle.walk_steps.proofs.Packets.{In, in-get, Asked, Told as ToldTo}
-use Rattle.walk_steps.proofs.RunCases.{OfClients, client_at, clients-after}
-use Rattle.walk_steps.proofs.Worlds.{Holds, IsAt, first-client, to-told, run-holds}
-use Rattle.nq_laws.proofs.RunTells.{once-map, HadSo, IsTrue, all-true}
-
--- at some moment the file had this length
-abbrev pub HadLength : Head → List Event → (file blocks : ℕ) → Type 0
-HadLength head events file blocks = Once (HasLength file blocks) head events
-
-abbrev LentAt : Head → List Event → ℕ → Client → World → Type 0
-LentAt head events host c w = Lent (HadLength head events) c.leases
-
--- nothing is asked of entries
-any-entries : (Had : (file blocks : ℕ) → Type 0) → OfClient AnyCall Had (λ entries. ⊤)
-any-entries Had = record {
-  answered = λ who q answer before plain h. tt;
-  outside = λ who q op before past goes h. tt;
-  read = λ who q file block value before h. tt;
-  delayed = λ who file block number value before h. tt;
-  lost = λ who file block first last before h. tt;
-}
+use Rattle.nq_model.specs.Bounds.{KeepsBounds}
+use Rattle.nq_model.specs.Chained.{IsChained, KnowsFile}
+use Rattle.nq_model.specs.ChainedLeasesKnow.{ChainsKnow}
+use Rattle.nq_model.specs.Client.{Client, Ticket, lease_on, lets_read, is_live}
+use Rattle.nq_model.specs.Hear.{granted_lease, inc_of, is_of_procedure, is_reply_to, reply_counts}
+use Rattle.nq_model.specs.LeaseInterval.{CanTake, IsCovered, KeepsLeaseInterval, claim_of, cover_end, grant_in, requested_file}
+use Rattle.nq_model.specs.Message.{reply}
+use Rattle.nq_model.specs.RepliesTellWhatWas.{Once, KeepsAt}
+use Rattle.nq_model.specs.Server.{standing, to_host}
+use Rattle.nq_model.specs.Skew.{IsWithinSkew}
+use Rattle.nq_model.specs.Table.{caches}
+use Rattle.nq_model.specs.World.{Head, World, run}
+use Rattle.walk_steps.proofs.ClientEntries.{IsGranting, by_read, by_lease, IsLending}
+use Rattle.walk_steps.proofs.LeaseIntervals.{kept-in-every-run}
+use Rattle.walk_steps.proofs.Packets.{Asked, Told as ToldTo}
+use Rattle.walk_steps.proofs.Places.{in-place}
+use Rattle.walk_steps.proofs.Rows.{same-number, number-same, find-passes}
+use Rattle.walk_steps.proofs.RunCases.{client_at}
+use Rattle.walk_steps.proofs.RunningLeases.{Lent}
+use Rattle.walk_steps.proofs.Tests.{is-below}
+use Rattle.walk_steps.proofs.Worlds.{IsAt, run-holds}
 
 -- the reply to a client's request
 pub own-reply : (head : Head) (events : List Event) (host xid : ℕ) (c : Client) (r : Reply) (ticket : Ticket) → client_at head events host ≡ Some c
@@ -59,105 +55,85 @@ own-reply head events host xid c r ticket is sent has same inc =
         (at.mail.asked xid true_reply.asks true_reply.who (subst (λ h. Asked (run head events).packets h xid true_reply.asks) (sym at.here)
         true_reply.sent) true_reply.by).same (sym true_reply.inc ∙ inc) ticket has (sym same)
 
--- a grant tells a length that its file had
-pub granted-length : (head : Head) (events : List Event) (host xid file : ℕ) (r : Reply) (asks : Request) (g : Grant) → IsGranting asks r file g
-    → Once (HadSo host xid r asks) head events → HadLength head events file g.blocks
-granted-length head events host xid file r asks g (by_read who q block want inc rev body is e) had =
-    once-map (HadSo host xid (Reply.Read inc rev body (Some g)) (Request.Read who q file block want)) (HasLength file g.blocks) head events
-    (λ w so. (g.rev, so.1.1))
-    (subst (λ b. Once (HadSo host xid b (Request.Read who q file block want)) head events) e (subst (λ q. Once (HadSo host xid r q) head events) is had))
-granted-length head events host xid file r asks g (by_lease who want inc is e) had =
-    once-map (HadSo host xid (Reply.GetLease inc (Some g)) (Request.GetLease who file want)) (HasLength file g.blocks) head events
-    (λ w so. (g.rev, so.1.1))
-    (subst (λ b. Once (HadSo host xid b (Request.GetLease who file want)) head events) e (subst (λ q. Once (HadSo host xid r q) head events) is had))
+-- the length of a file that somebody knows is kept
+length-kept : (w : World) (line : HostRow) (held mode : Mode) (file rev blocks : ℕ) (done : Bool)
+    → KnowsFile w.server.kept line held mode file rev blocks done → HasLength file blocks w
+length-kept w line held mode file rev blocks done k =
+    (k.f.rev, record { file = k.f; found = k.found; has_length = k.length; has_rev = refl })
 
-module _ (head : Head) (event : Event) (earlier : List Event) (lent : OfClients (LentAt head earlier) (run head earlier)) where
+-- a reply that brings a grant counts
+granting-counts : (ticket : Ticket) (r : Reply) (file : ℕ) (g : Grant) → IsGranting ticket.request r file g → reply_counts r ticket ≡ true
+granting-counts ticket r file g (by_read who q block want inc rev body is e) =
+    subst (λ b. reply_counts b ticket ≡ true) (sym e) (ap (is_of_procedure (Reply.Read inc rev body (Some g))) is)
+granting-counts ticket r file g (by_lease who want inc is e) =
+    subst (λ b. reply_counts b ticket ≡ true) (sym e) (ap (is_of_procedure (Reply.GetLease inc (Some g))) is)
+
+granting-brings : (asks : Request) (r : Reply) (file : ℕ) (g : Grant) → IsGranting asks r file g
+    → (grant_in r ≡ Some g) × (requested_file asks ≡ Some file)
+granting-brings asks r file g (by_read who q block want inc rev body is e) = (ap grant_in e, ap requested_file is)
+granting-brings asks r file g (by_lease who want inc is e) = (ap grant_in e, ap requested_file is)
+
+counts-to : (c : Client) (xid : ℕ) (r : Reply) (ticket : Ticket) → xid ≡ ticket.xid → inc_of r ≡ c.who.inc → reply_counts r ticket ≡ true
+    → is_reply_to c xid r ticket ≡ true
+counts-to c xid r ticket same inc counts =
+    let a : (xid == ticket.xid) ≡ true = number-same xid ticket.xid same in
+    let b : (inc_of r == c.who.inc) ≡ true = number-same (inc_of r) c.who.inc inc in
+    and_from ((xid == ticket.xid) && (inc_of r == c.who.inc)) (reply_counts r ticket) (and_from (xid == ticket.xid) (inc_of r == c.who.inc) a b) counts
+
+-- a lease that would run
+lending-runs : (now sent file : ℕ) (g : Grant) → lets_read now (granted_lease file g sent) ≡ true → (caches g.mode ≡ true) × (now < sent + g.term)
+unfolding granted_lease
+lending-runs now sent file g lets =
+    let both = and_parts (caches g.mode) (nat_lt now (sent + g.term)) lets in (both.0, is-below now (sent + g.term) both.1)
+
+module _ (most : ℕ) (head : Head) (events : List Event) (bounds : KeepsBounds most head events) (within : IsWithinSkew head.hosts most events) where
   abbrev w : World
-  w = run head earlier
+  w = run head events
 
-  abbrev After : World → Type 0
-  After v = OfClients (LentAt head (event ∷ earlier)) v
+  -- what a client's lease or grant claims stands in a row
+  chained : (who : Who) (file : ℕ) (mode : Mode) (tag : Tag) (until : ℕ) → IsCovered w.server w.server.phase (claim_of who file mode tag until)
+      → (row : Row) × IsChained (standing w.server) who file tag row
+  chained who file mode tag until covers = covered-chained w.server w.server.phase who file mode tag until covers
 
-  abbrev Had : (file blocks : ℕ) → Type 0
-  Had = HadLength head (event ∷ earlier)
+  -- a lease that runs tells the length of its file
+  pub leases-lent : (host : ℕ) (c : Client) → client_at head events host ≡ Some c → Lent (λ file blocks. HasLength file blocks w) c.now c.leases
+  leases-lent host c is file l found lets =
+      let of : l.file ≡ file = same-number l.file file (find-passes (λ z. z.file == file) l c.leases found) in
+      let own : lease_on l.file c.leases ≡ Some l = ap (λ n. lease_on n c.leases) of ∙ found in
+      let both = and_parts (caches l.mode) (is_live c.now l) lets in
+      let row = chained c.who l.file l.mode l.tag (cover_end host (l.expiry - l.term) l.term events)
+      ((kept-in-every-run most head events bounds within).held host c l is own both.0 (is-below c.now l.expiry both.1)) in
+      let k = ((chains-know most head events bounds within).held host c l row.0 is own both.0 row.1).knows in
+      subst (λ n. HasLength n l.blocks w) of (length-kept w _ _ _ l.file _ l.blocks _ k)
 
-  later : (host : ℕ) (c : Client) → slice_get w.clients host ≡ Some c → Lent Had c.leases
-  later host c is = λ file l e. inr (lent host c is file l e)
+  -- the reply to the request under way, which brings a grant, can be taken
+  takes : (host xid : ℕ) (c : Client) (r : Reply) (ticket : Ticket) (file : ℕ) (g : Grant) → ToldTo w.packets host (reply xid r)
+      → c.ticket ≡ Some ticket → xid ≡ ticket.xid → inc_of r ≡ c.who.inc → IsGranting ticket.request r file g → CanTake w host c ticket file g
+  takes host xid c r ticket file g sent has same inc by =
+      let at = in-place w.packets (to_host host (reply xid r)) sent in
+      let brings = granting-brings ticket.request r file g by in
+      record {
+        k = at.0;
+        packet = to_host host (reply xid r);
+        xid = xid;
+        answer = r;
+        sent = at.2;
+        for_host = refl;
+        brings = refl;
+        asked = has;
+        counts = counts-to c xid r ticket same inc (granting-counts ticket r file g by);
+        grants = brings.0;
+        on_file = brings.1;
+      }
 
-  unmoved : run head (event ∷ earlier) ≡ w → After (run head (event ∷ earlier))
-  unmoved is = subst After (sym is) later
-
-  stepped : (host : ℕ) (t : ClientStep) → run head (event ∷ earlier) ≡ after_client w host t → Lent Had t.client.leases
-      → After (run head (event ∷ earlier))
-  stepped host t is own =
-      subst After (sym is) (clients-after (LentAt head (event ∷ earlier)) w host t own (λ other d apart there. later other d there))
-
-  served : (t : ServerStep) → run head (event ∷ earlier) ≡ after_server w t → After (run head (event ∷ earlier))
-  unfolding after_server
-  served t is = subst After (sym is) later
-
-  at-host : (host : ℕ) (f : Client → ClientStep) → ((c : Client) → Lent Had c.leases → Lent Had (f c).client.leases) → (o : Option Client)
-      → client_at head earlier host ≡ o → run head (event ∷ earlier) ≡ at_client w host f o → After (run head (event ∷ earlier))
-  at-host host f keeps None there is = unmoved is
-  at-host host f keeps (Some c) there is = stepped host (f c) is (keeps c (later host c there))
-
-  hearing : (k : ℕ) (p : Packet) (host : ℕ) (c : Client) → In w.packets p → p.to ≡ Party.Client host → client_at head earlier host ≡ Some c
-      → (o : Option ClientStep) → hear c k p.message ≡ o → run head (event ∷ earlier) ≡ after_hearing w host o → After (run head (event ∷ earlier))
-  hearing k p host c i to there None hears is = unmoved is
-  hearing k p host c i to there (Some t) hears is =
-      let held : Holds w = run-holds head earlier in
-      let sent : ToldTo w.packets host p.message = to-told w.packets p host (held.sent p i) to i in
-      stepped host t is
-      (hear-keeps AnyCall Had (λ entries. ⊤) (any-entries Had) c k p.message t hears
-      (λ ticket has. ((held.clients host c there).alone.asking.ticketed ticket has).fits) tt (any-going c.who c.call) (later host c there)
-      (λ xid r ticket file g m has same inc by.
-      inr (granted-length head earlier host xid file r ticket.request g by
-      (own-reply head earlier host xid c r ticket there (subst (ToldTo w.packets host) m sent) has same inc)))
-      (λ xid r ticket u answer m has same inc call job telling. tt)).1
-
-  to-client : (k : ℕ) (p : Packet) (host : ℕ) → In w.packets p → p.to ≡ Party.Client host → (o : Option Client) → client_at head earlier host ≡ o
-      → run head (event ∷ earlier) ≡ deliver_to_client w k host p.message o → After (run head (event ∷ earlier))
-  to-client k p host i to None there is = unmoved is
-  to-client k p host i to (Some c) there is = hearing k p host c i to there (hear c k p.message) refl is
-
-  to-party : (k : ℕ) (p : Packet) (party : Party) → In w.packets p → p.to ≡ party → run head (event ∷ earlier) ≡ deliver_to w k p party
-      → After (run head (event ∷ earlier))
-  to-party k p Party.Server i to is = served (receive w.server (sending_host p.sender) (length w.packets) (datagram_of p.message)) is
-  to-party k p (Party.Client host) i to is = to-client k p host i to (client_at head earlier host) refl is
-
-  delivered : (k : ℕ) (o : Option Packet) → slice_get w.packets k ≡ o → run head (event ∷ earlier) ≡ deliver w k o → After (run head (event ∷ earlier))
-  delivered k None there is = unmoved is
-  delivered k (Some p) there is = to-party k p p.to (in-get w.packets k p there) refl is
-
-by-event : (head : Head) (event : Event) (earlier : List Event) → OfClients (LentAt head earlier) (run head earlier)
-    → OfClients (LentAt head (event ∷ earlier)) (run head (event ∷ earlier))
-by-event head (Event.Call host op) earlier lent =
-    let had = HadLength head (Event.Call host op ∷ earlier) in
-    at-host head (Event.Call host op) earlier lent host (λ c. client_call c op)
-    (λ c own. (call-keeps AnyCall had (λ entries. ⊤) (any-entries had) c op tt (any-going c.who c.call) tt own).1)
-    (slice_get (run head earlier).clients host) refl refl
-by-event head (Event.Deliver k) earlier lent =
-    delivered head (Event.Deliver k) earlier lent k (slice_get (run head earlier).packets k) refl refl
-by-event head Event.ServerTick earlier lent =
-    served head Event.ServerTick earlier lent (tick (run head earlier).server ((run head earlier).server.now + 1)) refl
-by-event head (Event.ClientTick host) earlier lent =
-    let had = HadLength head (Event.ClientTick host ∷ earlier) in
-    at-host head (Event.ClientTick host) earlier lent host (λ c. client_tick c (c.now + 1))
-    (λ c own. (tick-keeps AnyCall had (λ entries. ⊤) (any-entries had) c (c.now + 1) tt (any-going c.who c.call) own).1)
-    (slice_get (run head earlier).clients host) refl refl
-by-event head (Event.Restart host) earlier lent =
-    let had = HadLength head (Event.Restart host ∷ earlier) in
-    at-host head (Event.Restart host) earlier lent host restart
-    (λ c own. (restart-keeps AnyCall had (λ entries. ⊤) (any-entries had) c tt).1)
-    (slice_get (run head earlier).clients host) refl refl
-by-event head (Event.Crash longest) earlier lent =
-    served head (Event.Crash longest) earlier lent (crash (run head earlier).server longest) refl
-
-starts-lent : (head : Head) → OfClients (LentAt head []) (start head)
-unfolding start attached_client fresh_client
-starts-lent head host c is file l e =
-    none-some l (ap (λ z. lease_on file z.leases) (sym (first-client head.term 0 head.hosts host c is)) ∙ e)
-
-pub leases-lent : (head : Head) (events : List Event) → OfClients (LentAt head events) (run head events)
-leases-lent head [] = starts-lent head
-leases-lent head (event ∷ earlier) = by-event head event earlier (leases-lent head earlier)
+  -- where the lease would run, the grant tells the length of its file
+  pub grant-lent : (host xid : ℕ) (c : Client) (r : Reply) (ticket : Ticket) (file : ℕ) (g : Grant) → client_at head events host ≡ Some c
+      → ToldTo w.packets host (reply xid r) → c.ticket ≡ Some ticket → xid ≡ ticket.xid → inc_of r ≡ c.who.inc
+      → IsLending c.now ticket.first ticket.request r file g → HasLength file g.blocks w
+  grant-lent host xid c r ticket file g is sent has same inc lends =
+      let can : CanTake w host c ticket file g = takes host xid c r ticket file g sent has same inc lends.0 in
+      let runs = lending-runs c.now ticket.first file g lends.1 in
+      let row = chained c.who file g.mode g.tag (cover_end host ticket.first g.term events)
+      ((kept-in-every-run most head events bounds within).takeable host c ticket file g is can runs.0 runs.1) in
+      let k = (chains-know most head events bounds within).takeable host c ticket file g row.0 is can runs.0 row.1 in
+      length-kept w _ _ _ file _ g.blocks _ k

@@ -11,11 +11,12 @@ use Rattle.nq_base.specs.declared.Request.{Request}
 use Rattle.nq_base.specs.declared.Said.{Said}
 use Rattle.nq_base.specs.declared.Told.{Told}
 use Rattle.nq_base.specs.declared.Who.{Who}
+use Rattle.nq_model.proofs.Lists.{exists-right}
 use Rattle.nq_model.specs.Client.{Client, ClientStep, for_call, Ticket, UnderWay}
 use Rattle.nq_model.specs.ClientStep.{client_call, client_tick, restart}
 use Rattle.nq_base.specs.Calls.{told}
 use Rattle.nq_model.specs.Hear.{hear, inc_of}
-use Rattle.nq_model.specs.Journal.{Throughout, call_of}
+use Rattle.nq_model.specs.Journal.{Exists, Throughout, IsCall, IsAnswer, call_of}
 use Rattle.nq_model.specs.Kept.{host_row}
 use Rattle.nq_model.specs.Message.{Packet, reply, datagram_of}
 use Rattle.nq_model.specs.OfTheirCall.{Reads}
@@ -25,28 +26,30 @@ use Rattle.nq_model.specs.Settle.{said}
 use Rattle.nq_model.specs.Skew.{IsWithinSkew}
 use Rattle.nq_model.specs.World.{Head, World, after_server, after_client, at_client, after_hearing, sending_host, deliver_to_client, deliver_to}
 use Rattle.nq_model.specs.World.{deliver, start, run}
-use Rattle.nq_model.specs.AnswersHaveCauses.{LacksBlock, HadNoBlock, IsAnsweredSo, HasCauseAt, AnswersHaveCauses}
+use Rattle.nq_model.specs.AnswersHaveCauses.{LacksBlock, IsAnsweredSo, HasCauseAt, AnswersHaveCauses}
+use Rattle.nq_model.specs.AnswersAreOfTheirCalls.{IsAnswerOfCall}
 use Rattle.nq_model.specs.AnswersTellWhatWas.{HasLength, ToldSo, TellsSoAt, AnswersTellWhatWas}
 use Rattle.nq_model.specs.Bounds.{KeepsBounds, InEveryRun}
 use Rattle.nq_model.specs.RefusalsAreOfTheirCalls.{IsRefusalOf, IsRefusalAt, RefusalsAreOfTheirCallsInEveryRun}
 use Rattle.nq_model.specs.RepliesTellWhatWas.{Once}
 use Rattle.walk_files.proofs.CallFacts.{CallsAt}
 use Rattle.walk_files.proofs.Placed.{Placed, call-told, call-later}
-use Rattle.walk_steps.proofs.ClientEntries.{IsTelling, Lent}
+use Rattle.walk_steps.proofs.ClientEntries.{IsTelling}
 use Rattle.walk_steps.proofs.Clocks.{within-before}
 use Rattle.walk_steps.proofs.NoCrash.{bounds-before}
 use Rattle.walk_steps.proofs.Packets.{In, in-get, Asked, Told as ToldTo}
 use Rattle.walk_steps.proofs.RunCases.{client_at}
+use Rattle.walk_steps.proofs.RunningLeases.{Lent}
 use Rattle.walk_steps.proofs.Worlds.{Holds, to-told, run-holds}
 use Rattle.law_rounds.proofs.Meant.{requests-are-meant}
 use Rattle.law_runs.proofs.RunCalls.{calls-known}
 use Rattle.law_runs.proofs.OkFacts.{KeepsOf}
-use Rattle.law_runs.proofs.Standings.{oks-in-every-run}
+use Rattle.law_runs.proofs.Standings.{answers-in-every-run, oks-in-every-run}
 use Rattle.nq_laws.proofs.Anchors.{asked-while-open, then-meanwhile}
 use Rattle.nq_laws.proofs.AnswerCauses.{Says, SaysAt, Leases, later-says, range-of-block, telling-says}
 use Rattle.nq_laws.proofs.ClientRests.{IsCachedNext, IsOutside, Rests, AllRest, call-rests, tick-rests, hear-rests, restart-rests}
-use Rattle.nq_laws.proofs.LeaseLengths.{HadLength, granted-length, leases-lent, own-reply}
-use Rattle.nq_laws.proofs.RunTells.{once-map, HadSo}
+use Rattle.nq_laws.proofs.LeaseLengths.{grant-lent, leases-lent, own-reply}
+use Rattle.nq_laws.proofs.RunTells.{HadSo}
 use Rattle.nq_laws.proofs.ServerEntries.{IsNoAnswer, NoneAnswers, receive-answers-none, tick-answers-none, crash-answers-none}
 
 -- ---- facts of later schedules
@@ -109,44 +112,66 @@ caused-so : (head : Head) (events : List Event) (who : Who) (q : ℕ) (answer : 
 caused-so head events who q answer entries journal cause =
     subst (Says head events who q answer) (sym (call-later entries journal who q cause.asks cause.call)) cause.so
 
--- a file of so many blocks has none behind them
-had-no-block : (head : Head) (events : List Event) (file blocks block : ℕ) → blocks ≤ block → HadLength head events file blocks
-    → HadNoBlock head events file block
-had-no-block head events file blocks block beyond had =
-    once-map (HasLength file blocks) (λ w. LacksBlock w.server.kept.files file block) head events
-    (λ w has. let same = has.1.has_length in record { file = has.1.file; found = has.1.found; beyond = omega arith }) had
+-- ---- entries of a client's step, before which this is the journal of the run
 
-outside-so : (head : Head) (events : List Event) (who : Who) (q : ℕ) (journal : List Entry) → IsOutside (HadLength head events) who q journal
-    → Says head events who q Said.Range (call_of journal who q)
-outside-so head events who q journal out =
-    let p = out.past in
-    subst (Says head events who q Said.Range) (sym out.tells)
-    (range-of-block head events who q p.file p.block out.op p.of_block (had-no-block head events p.file p.blocks p.block p.beyond p.had))
+module _ (head : Head) (event : Event) (earlier : List Event) where
+  abbrev journal : List Entry
+  journal = (run head earlier).journal
 
-rests-so : (head : Head) (events : List Event) (e : Entry) (entries journal : List Entry) → Rests (HadLength head events)
-    (TellsOf head events journal) journal e entries
-    → Throughout Placed (entries ++ journal) → SaysAt head events e (entries ++ journal)
-rests-so head events (Entry.A who q (Said.OkValue value)) entries journal (inl next) placed = cached-so head events who q value entries journal next placed
-rests-so head events (Entry.A who q (Said.OkValue value)) entries journal (inr cause) placed = caused-so head events who q (Said.OkValue value)
-    entries journal cause
-rests-so head events (Entry.A who q Said.NoEntry) entries journal rests placed = caused-so head events who q Said.NoEntry entries journal (rests refl)
-rests-so head events (Entry.A who q Said.Stale) entries journal rests placed = caused-so head events who q Said.Stale entries journal (rests refl)
-rests-so head events (Entry.A who q Said.Exists) entries journal rests placed = caused-so head events who q Said.Exists entries journal (rests refl)
-rests-so head events (Entry.A who q Said.NoSpace) entries journal rests placed = caused-so head events who q Said.NoSpace entries journal (rests refl)
-rests-so head events (Entry.A who q Said.Range) entries journal (inl out) placed = outside-so head events who q (entries ++ journal) out
-rests-so head events (Entry.A who q Said.Range) entries journal (inr cause) placed = caused-so head events who q Said.Range entries journal cause
-rests-so head events other entries journal rests placed = tt
+  abbrev later : List Event
+  later = event ∷ earlier
 
-client-so : (head : Head) (events : List Event) (entries journal : List Entry) → AllRest (HadLength head events) (TellsOf head events journal) journal entries
-    → Throughout Placed (entries ++ journal) → Throughout (SaysAt head events) journal → Throughout (SaysAt head events) (entries ++ journal)
-client-so head events [] journal rest placed all = all
-client-so head events (e ∷ entries) journal rest placed all =
-    (rests-so head events e entries journal rest.0 placed.1, client-so head events entries journal rest.1 placed.1 all)
+  -- a file has this length before the step
+  abbrev Has : (file blocks : ℕ) → Type 0
+  Has file blocks = HasLength file blocks (run head earlier)
+
+  -- the calls that stand in a journal stand in that after the step
+  abbrev StandAfter : List Entry → Type 0
+  StandAfter entries = (who : Who) (q : ℕ) → Exists (IsCall who q) entries → Exists (IsCall who q) (run head (event ∷ earlier)).journal
+
+  -- the file of a call that is past the end on its client's lease had no such block before the step, and the call was made and had no answer
+  outside-so : (who : Who) (q : ℕ) (entries : List Entry) → IsOutside Has who q (entries ++ journal)
+      → IsAnswerOfCall (Entry.A who q Said.Range) (entries ++ journal) → StandAfter (entries ++ journal)
+      → Says head later who q Said.Range (call_of (entries ++ journal) who q)
+  outside-so who q entries out answered after =
+      let p = out.past in
+      let same = p.had.1.has_length in
+      let beyond = p.beyond in
+      let lacks : LacksBlock (run head earlier).server.kept.files p.file p.block = record {
+        file = p.had.1.file;
+        found = p.had.1.found;
+        beyond = omega arith;
+      } in
+      subst (Says head later who q Said.Range) (sym out.tells)
+      (range-of-block head later who q p.file p.block out.op p.of_block
+      (inl (lacks, after who q answered.0.0, λ a. answered.0.1 (exists-right (IsAnswer who q) entries journal a))))
+
+  rests-so : (e : Entry) (entries : List Entry) → Rests Has (TellsOf head later journal) journal e entries → Throughout Placed (entries ++ journal)
+      → IsAnswerOfCall e (entries ++ journal) → StandAfter (entries ++ journal) → SaysAt head later e (entries ++ journal)
+  rests-so (Entry.A who q (Said.OkValue value)) entries (inl next) placed of after = cached-so head later who q value entries journal next placed
+  rests-so (Entry.A who q (Said.OkValue value)) entries (inr cause) placed of after = caused-so head later who q (Said.OkValue value) entries journal cause
+  rests-so (Entry.A who q Said.NoEntry) entries rests placed of after = caused-so head later who q Said.NoEntry entries journal (rests refl)
+  rests-so (Entry.A who q Said.Stale) entries rests placed of after = caused-so head later who q Said.Stale entries journal (rests refl)
+  rests-so (Entry.A who q Said.Exists) entries rests placed of after = caused-so head later who q Said.Exists entries journal (rests refl)
+  rests-so (Entry.A who q Said.NoSpace) entries rests placed of after = caused-so head later who q Said.NoSpace entries journal (rests refl)
+  rests-so (Entry.A who q Said.Range) entries (inl out) placed of after = outside-so who q entries out of after
+  rests-so (Entry.A who q Said.Range) entries (inr cause) placed of after = caused-so head later who q Said.Range entries journal cause
+  rests-so other entries rests placed of after = tt
+
+  client-so : (entries : List Entry) → AllRest Has (TellsOf head later journal) journal entries → Throughout Placed (entries ++ journal)
+      → Throughout IsAnswerOfCall (entries ++ journal) → StandAfter (entries ++ journal) → Throughout (SaysAt head later) journal
+      → Throughout (SaysAt head later) (entries ++ journal)
+  client-so [] rest placed of after all = all
+  client-so (e ∷ entries) rest placed of after all = (
+    rests-so e entries rest.0 placed.1 of.0 (λ who q h. after who q (inr h)),
+    client-so entries rest.1 placed.1 of.1 (λ who q h. after who q (inr h)) all,
+  )
 
 -- ---- the reply that is answered with
 
 module _ (most : ℕ) (head : Head) (event : Event) (earlier : List Event) (bounds : KeepsBounds most head earlier)
     (within : IsWithinSkew head.hosts most earlier) (placed : Throughout Placed (run head (event ∷ earlier)).journal)
+    (of_calls : Throughout IsAnswerOfCall (run head (event ∷ earlier)).journal)
     (all : Throughout (SaysAt head earlier) (run head earlier).journal) where
   abbrev w : World
   w = run head earlier
@@ -159,12 +184,13 @@ module _ (most : ℕ) (head : Head) (event : Event) (earlier : List Event) (boun
 
   -- a step of a client
   stepped : (host : ℕ) (t : ClientStep) → run head (event ∷ earlier) ≡ after_client w host t
-      → AllRest (HadLength head (event ∷ earlier)) (TellsOf head (event ∷ earlier) w.journal) w.journal t.entries
+      → AllRest (Has head event earlier) (TellsOf head (event ∷ earlier) w.journal) w.journal t.entries
       → Throughout (SaysAt head (event ∷ earlier)) (run head (event ∷ earlier)).journal
   unfolding after_client
   stepped host t is rest =
       subst (λ v. Throughout (SaysAt head (event ∷ earlier)) v.journal) (sym is)
-      (client-so head (event ∷ earlier) t.entries w.journal rest (subst (λ v. Throughout Placed v.journal) is placed) before)
+      (client-so head event earlier t.entries rest (subst (λ v. Throughout Placed v.journal) is placed)
+      (subst (λ v. Throughout IsAnswerOfCall v.journal) is of_calls) (λ who q h. subst (λ v. Exists (IsCall who q) v.journal) (sym is) h) before)
 
   -- a step of the server
   served : (t : ServerStep) → run head (event ∷ earlier) ≡ after_server w t → NoneAnswers t.entries
@@ -204,14 +230,14 @@ module _ (most : ℕ) (head : Head) (event : Event) (earlier : List Event) (boun
   called-at : (host : ℕ) (c : Client) → client_at head earlier host ≡ Some c → CallsAt c.who c.calls c.number c.call w.journal
   called-at host c there = ((calls-known most head earlier bounds within).clients host c there).calls_fit
 
-  lent-at : (host : ℕ) (c : Client) → client_at head earlier host ≡ Some c → Lent (HadLength head (event ∷ earlier)) c.leases
-  lent-at host c there = λ file l e. inr (leases-lent head earlier host c there file l e)
+  lent-at : (host : ℕ) (c : Client) → client_at head earlier host ≡ Some c → Lent (Has head event earlier) c.now c.leases
+  lent-at host c there = leases-lent most head earlier bounds within host c there
 
   abbrev Resting : List Entry → Type 0
-  Resting entries = AllRest (HadLength head (event ∷ earlier)) (TellsOf head (event ∷ earlier) w.journal) w.journal entries
+  Resting entries = AllRest (Has head event earlier) (TellsOf head (event ∷ earlier) w.journal) w.journal entries
 
   at-host : (host : ℕ) (f : Client → ClientStep)
-      → ((c : Client) → CallsAt c.who c.calls c.number c.call w.journal → Lent (HadLength head (event ∷ earlier)) c.leases → Resting (f c).entries)
+      → ((c : Client) → CallsAt c.who c.calls c.number c.call w.journal → Lent (Has head event earlier) c.now c.leases → Resting (f c).entries)
       → (o : Option Client) → client_at head earlier host ≡ o → run head (event ∷ earlier) ≡ at_client w host f o
       → Throughout (SaysAt head (event ∷ earlier)) (run head (event ∷ earlier)).journal
   at-host host f rest None there is = unmoved is
@@ -225,12 +251,11 @@ module _ (most : ℕ) (head : Head) (event : Event) (earlier : List Event) (boun
       let held : Holds w = run-holds head earlier in
       let sent : ToldTo w.packets host p.message = to-told w.packets p host (held.sent p i) to i in
       stepped host t is
-      (hear-rests (HadLength head (event ∷ earlier)) (TellsOf head (event ∷ earlier) w.journal) c w.journal (called-at host c there)
+      (hear-rests (Has head event earlier) (TellsOf head (event ∷ earlier) w.journal) c w.journal (called-at host c there)
       (lent-at host c there) k p.message t hears
       (λ ticket has. ((held.clients host c there).alone.asking.ticketed ticket has).fits)
-      (λ xid r ticket file g m has same inc by.
-      inr (granted-length head earlier host xid file r ticket.request g by
-      (own-reply head earlier host xid c r ticket there (subst (ToldTo w.packets host) m sent) has same inc)))
+      (λ xid r ticket file g m has same inc lends.
+      grant-lent most head earlier bounds within host xid c r ticket file g there (subst (ToldTo w.packets host) m sent) has same inc lends)
       (λ xid r ticket u answer m has same inc call job telling. told-so host c there xid r ticket u answer
       (subst (ToldTo w.packets host) m sent) has same inc call job telling))
 
@@ -253,30 +278,30 @@ module _ (most : ℕ) (head : Head) (event : Event) (earlier : List Event) (boun
   delivered k (Some p) there is = to-party k p p.to (in-get w.packets k p there) refl is
 
 by-event : (most : ℕ) (head : Head) (event : Event) (earlier : List Event) → KeepsBounds most head earlier → IsWithinSkew head.hosts most earlier
-    → Throughout Placed (run head (event ∷ earlier)).journal → Throughout (SaysAt head earlier) (run head earlier).journal
-    → Throughout (SaysAt head (event ∷ earlier)) (run head (event ∷ earlier)).journal
-by-event most head (Event.Call host op) earlier bounds within placed all =
-    at-host most head (Event.Call host op) earlier bounds within placed all host (λ c. client_call c op)
-    (λ c known lent. call-rests (HadLength head (Event.Call host op ∷ earlier))
+    → Throughout Placed (run head (event ∷ earlier)).journal → Throughout IsAnswerOfCall (run head (event ∷ earlier)).journal
+    → Throughout (SaysAt head earlier) (run head earlier).journal → Throughout (SaysAt head (event ∷ earlier)) (run head (event ∷ earlier)).journal
+by-event most head (Event.Call host op) earlier bounds within placed of all =
+    at-host most head (Event.Call host op) earlier bounds within placed of all host (λ c. client_call c op)
+    (λ c known lent. call-rests (Has head (Event.Call host op) earlier)
     (TellsOf head (Event.Call host op ∷ earlier) (run head earlier).journal) c (run head earlier).journal known lent op)
     (slice_get (run head earlier).clients host) refl refl
-by-event most head (Event.Deliver k) earlier bounds within placed all =
-    delivered most head (Event.Deliver k) earlier bounds within placed all k (slice_get (run head earlier).packets k) refl refl
-by-event most head Event.ServerTick earlier bounds within placed all =
-    served most head Event.ServerTick earlier bounds within placed all (tick (run head earlier).server ((run head earlier).server.now + 1)) refl
+by-event most head (Event.Deliver k) earlier bounds within placed of all =
+    delivered most head (Event.Deliver k) earlier bounds within placed of all k (slice_get (run head earlier).packets k) refl refl
+by-event most head Event.ServerTick earlier bounds within placed of all =
+    served most head Event.ServerTick earlier bounds within placed of all (tick (run head earlier).server ((run head earlier).server.now + 1)) refl
     (tick-answers-none (run head earlier).server ((run head earlier).server.now + 1))
-by-event most head (Event.ClientTick host) earlier bounds within placed all =
-    at-host most head (Event.ClientTick host) earlier bounds within placed all host (λ c. client_tick c (c.now + 1))
-    (λ c known lent. tick-rests (HadLength head (Event.ClientTick host ∷ earlier))
-    (TellsOf head (Event.ClientTick host ∷ earlier) (run head earlier).journal) c (run head earlier).journal known lent (c.now + 1))
+by-event most head (Event.ClientTick host) earlier bounds within placed of all =
+    at-host most head (Event.ClientTick host) earlier bounds within placed of all host (λ c. client_tick c (c.now + 1))
+    (λ c known lent. tick-rests (Has head (Event.ClientTick host) earlier)
+    (TellsOf head (Event.ClientTick host ∷ earlier) (run head earlier).journal) c (run head earlier).journal known lent (c.now + 1) (omega arith))
     (slice_get (run head earlier).clients host) refl refl
-by-event most head (Event.Restart host) earlier bounds within placed all =
-    at-host most head (Event.Restart host) earlier bounds within placed all host restart
-    (λ c known lent. restart-rests (HadLength head (Event.Restart host ∷ earlier))
+by-event most head (Event.Restart host) earlier bounds within placed of all =
+    at-host most head (Event.Restart host) earlier bounds within placed of all host restart
+    (λ c known lent. restart-rests (Has head (Event.Restart host) earlier)
     (TellsOf head (Event.Restart host ∷ earlier) (run head earlier).journal) c (run head earlier).journal)
     (slice_get (run head earlier).clients host) refl refl
-by-event most head (Event.Crash longest) earlier bounds within placed all =
-    served most head (Event.Crash longest) earlier bounds within placed all (crash (run head earlier).server longest) refl
+by-event most head (Event.Crash longest) earlier bounds within placed of all =
+    served most head (Event.Crash longest) earlier bounds within placed of all (crash (run head earlier).server longest) refl
     (crash-answers-none (run head earlier).server longest)
 
 starts-so : (head : Head) → Throughout (SaysAt head []) (start head).journal
@@ -289,7 +314,7 @@ answers-say-what-was most head (event ∷ earlier) bounds within =
     let bounded : KeepsBounds most head earlier = bounds-before most head event earlier bounds in
     let skewed : IsWithinSkew head.hosts most earlier = within-before head.hosts most event earlier within in
     by-event most head event earlier bounded skewed
-    (calls-known most head (event ∷ earlier) bounds within).journal.placed
+    (calls-known most head (event ∷ earlier) bounds within).journal.placed (answers-in-every-run most head (event ∷ earlier) bounds within)
     (answers-say-what-was most head earlier bounded skewed)
 
 -- ---- the laws

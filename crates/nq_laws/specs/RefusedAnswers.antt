@@ -1,5 +1,5 @@
 -- Journals that only the laws on what answers say refuse: each passes the tests of all other laws.
-use Rattle.std.specs.Prelude.{◌≡◌, ℕ, List, [], ◌∷◌, IsTrue}
+use Rattle.std.specs.Prelude.{◌≡◌, ℕ, List, [], ◌∷◌, Some, IsTrue}
 use Rattle.law_runs.specs.Refused.{passes}
 use Rattle.nq_base.specs.declared.Call.{Call}
 use Rattle.nq_base.specs.declared.Entry.{Entry}
@@ -7,7 +7,7 @@ use Rattle.nq_base.specs.declared.Event.{Event}
 use Rattle.nq_base.specs.declared.Said.{Said}
 use Rattle.nq_base.specs.declared.Told.{Told}
 use Rattle.nq_model.specs.AnswersAreOfTheirCalls.{AnswersAreOfTheirCalls}
-use Rattle.nq_model.specs.AnswersHaveCauses.{LacksName, HasCauseAt}
+use Rattle.nq_model.specs.AnswersHaveCauses.{LacksName, LacksBlock, HasCauseAt}
 use Rattle.nq_model.specs.BusyIsSaidAtOnce.{BusyIsSaidAtOnce}
 use Rattle.nq_model.specs.Journal.{Throughout}
 use Rattle.nq_model.specs.LossesAreNamed.{LossesAreNamed}
@@ -48,6 +48,40 @@ pub record OnlyMomentsRefuse : Type 0 where
   pub forms : RefusalsAreOfTheirCalls a_late_no_entry
   pub at_first : Once (λ w. LacksName w.server.kept.files (98 ∷ [])) no_file_head made_and_found
   pub refused : ¬ Throughout (HasCauseAt no_file_head made_and_found) a_late_no_entry
+
+-- one host, and a file of one block
+abbrev pub one_block_head : Head
+one_block_head = record { hosts = 1; term = 30; longest = 60; files = (98 ∷ [], 1) ∷ [] }
+
+-- the file gets a second block, which is then fetched; the newest event first
+abbrev pub grown_and_fetched : List Event
+grown_and_fetched =
+    Event.Deliver 3 ∷ Event.Deliver 2 ∷ Event.Call 0 (Call.Fetch 1 1) ∷ Event.Deliver 1 ∷ Event.Deliver 0 ∷ Event.Call 0 (Call.Resize 1 2) ∷ []
+
+-- the journal of that run
+abbrev pub a_fetched_block : List Entry
+a_fetched_block =
+    Entry.A (record { host = 0; inc = 1 }) 2 (Said.OkBy 0 3) ∷ Entry.R (record { host = 0; inc = 1 }) 2 1 1 0 (Some 3) ∷
+    Entry.C (record { host = 0; inc = 1 }) 2 (Told.Fetch 1 1) ∷ Entry.A (record { host = 0; inc = 1 }) 1 Said.Ok ∷
+    Entry.Z (record { host = 0; inc = 1 }) 1 1 1 2 ∷ Entry.C (record { host = 0; inc = 1 }) 1 (Told.Resize 1 2) ∷ []
+
+-- the same, but the fetch is told that there is no such block
+abbrev pub a_late_range : List Entry
+a_late_range =
+    Entry.A (record { host = 0; inc = 1 }) 2 Said.Range ∷ Entry.C (record { host = 0; inc = 1 }) 2 (Told.Fetch 1 1) ∷
+    Entry.A (record { host = 0; inc = 1 }) 1 Said.Ok ∷ Entry.Z (record { host = 0; inc = 1 }) 1 1 1 2 ∷
+    Entry.C (record { host = 0; inc = 1 }) 1 (Told.Resize 1 2) ∷ []
+
+-- the late `range` is refused since the file had that block from the call to the answer, though it had not at first
+pub record OnlyRangesRefuse : Type 0 where
+  pub ran : (run one_block_head grown_and_fetched).journal ≡ a_fetched_block
+  pub others : IsTrue (passes a_late_range)
+  pub answered : AnswersAreOfTheirCalls a_late_range
+  pub done : OksHaveTheirDeeds a_late_range
+  pub busy : BusyIsSaidAtOnce a_late_range
+  pub forms : RefusalsAreOfTheirCalls a_late_range
+  pub at_first : Once (λ w. LacksBlock w.server.kept.files 1 1) one_block_head grown_and_fetched
+  pub refused : ¬ Throughout (HasCauseAt one_block_head grown_and_fetched) a_late_range
 
 -- a sync is told that something is lost, and not what
 abbrev pub a_loss_of_nothing : List Entry

@@ -24,6 +24,6 @@ pub use shared::{
 pub use terms::{answered_in_terms, long_terms_answered, terms_are_met};
 pub use told::{
     answers_have_causes, answers_tell_what_was, full_has_its_cause, losses_are_named,
-    no_room_is_met, only_moments_refuse, only_names_refuse, refusals_are_met,
+    no_room_is_met, only_moments_refuse, only_names_refuse, only_ranges_refuse, refusals_are_met,
     refusals_are_of_their_calls, refusals_have_causes, replies_tell_what_was, tellings_are_met,
 };

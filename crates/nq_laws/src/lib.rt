@@ -23,6 +23,7 @@ pub use crate::answered::no_tag_is_later;
 pub use crate::answered::notices_are_heard;
 pub use crate::answered::only_moments_refuse;
 pub use crate::answered::only_names_refuse;
+pub use crate::answered::only_ranges_refuse;
 pub use crate::answered::open_calls_are_met;
 pub use crate::answered::put_off_for_rows;
 pub use crate::answered::refusals_are_met;

@@ -78,7 +78,7 @@ module _ (w : World) (g : Good w) where
   to-client h k host m None is = g
   to-client h k host m (Some c) is =
       heard host (hear c k m) (λ t hears. (hear-keeps AnyCall AnyLength AllTell client-tells c k m t hears (fits h host c is) tt (any-going c.who c.call)
-      (any-lent c.leases) (λ xid r ticket file g is_reply asked same inc by. tt)
+      (any-lent _ c.leases) (λ xid r ticket file g is_reply asked same inc by. tt)
       (λ xid r ticket u answer is_reply asked same inc called job named. (tt, tt))).0)
 
   to-server : (sender next : ℕ) (d : Datagram) → Good (after_server w (receive w.server sender next d))
@@ -121,12 +121,12 @@ starts head is = record { journal = tt; kept = is; longest = is }
 stepped : (w : World) (e : Event) → Holds w → IsOfFirst e → Good w → Good (step w e)
 stepped w (Event.Call host op) h first g =
     at-client-good w g host (λ c. client_call c op) (slice_get w.clients host) (λ c. (call-keeps AnyCall AnyLength AllTell client-tells c op
-    (first, tt) (any-going c.who c.call) tt (any-lent c.leases)).0)
+    (first, tt) (any-going c.who c.call) tt (any-lent _ c.leases)).0)
 stepped w (Event.Deliver k) h first g = delivered w g h k (slice_get w.packets k)
 stepped w Event.ServerTick h first g = ticked w g (w.server.now + 1)
 stepped w (Event.ClientTick host) h first g =
     at-client-good w g host (λ c. client_tick c (c.now + 1)) (slice_get w.clients host)
-    (λ c. (client-tick-keeps AnyCall AnyLength AllTell client-tells c (c.now + 1) tt (any-going c.who c.call) (any-lent c.leases)).0)
+    (λ c. (client-tick-keeps AnyCall AnyLength AllTell client-tells c (c.now + 1) tt (any-going c.who c.call) (any-lent _ c.leases)).0)
 stepped w (Event.Restart host) h first g = at-client-good w g host restart (slice_get w.clients host)
     (λ c. (restart-keeps AnyCall AnyLength AllTell client-tells c (tt, tt)).0)
 stepped w (Event.Crash longest) h first g = crashed w g longest first

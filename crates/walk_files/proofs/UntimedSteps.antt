@@ -23,15 +23,15 @@ untimed = record {
 }
 
 pub call-untimed : (c : Client) (op : Call) → AreUntimed (client_call c op).entries
-call-untimed c op = (call-keeps AnyCall AnyLength AreUntimed untimed c op refl (any-going c.who c.call) tt (any-lent c.leases)).0
+call-untimed c op = (call-keeps AnyCall AnyLength AreUntimed untimed c op refl (any-going c.who c.call) tt (any-lent _ c.leases)).0
 
 pub tick-untimed : (c : Client) (now : ℕ) → AreUntimed (client_tick c now).entries
-tick-untimed c now = (tick-keeps AnyCall AnyLength AreUntimed untimed c now refl (any-going c.who c.call) (any-lent c.leases)).0
+tick-untimed c now = (tick-keeps AnyCall AnyLength AreUntimed untimed c now refl (any-going c.who c.call) (any-lent _ c.leases)).0
 
 pub hear-untimed : (c : Client) (number : ℕ) (m : Message) (t : ClientStep) → hear c number m ≡ Some t
     → ((ticket : Ticket) → c.ticket ≡ Some ticket → fits_job ticket.job ticket.request ≡ true) → AreUntimed t.entries
 hear-untimed c number m t hears fits =
-    (hear-keeps AnyCall AnyLength AreUntimed untimed c number m t hears fits refl (any-going c.who c.call) (any-lent c.leases)
+    (hear-keeps AnyCall AnyLength AreUntimed untimed c number m t hears fits refl (any-going c.who c.call) (any-lent _ c.leases)
     (λ xid r ticket file g is asked same inc by. tt) (λ xid r ticket u answer is asked same inc called job named. refl)).0
 
 pub restart-untimed : (c : Client) → AreUntimed (restart c).entries

@@ -16,8 +16,8 @@ use Rattle.nq_base.specs.declared.Tag.{Tag}
 use Rattle.nq_base.specs.declared.Value.{Value}
 use Rattle.nq_base.specs.declared.Want.{Want}
 use Rattle.nq_base.specs.declared.Who.{Who}
-use Rattle.nq_model.specs.Client.{Client, ClientStep, Job, for_call, Lease, Notice, Ticket, UnderWay, begun, lease_on, drop_lease, put_lease}
-use Rattle.nq_model.specs.Client.{marked_used, used_lease, losses_of, loss_list, notice_on}
+use Rattle.nq_model.specs.Client.{Client, ClientStep, Job, for_call, Lease, Notice, Ticket, UnderWay, begun, lease_on}
+use Rattle.nq_model.specs.Client.{losses_of, loss_list, notice_on, lets_read}
 use Rattle.nq_model.specs.ClientStep.{begins_call, is_called, says_busy, client_call, at_time, sends_again, client_tick, starts, fresh_client}
 use Rattle.nq_model.specs.ClientStep.{next_incarnation, restart}
 use Rattle.nq_base.specs.Calls.{told}
@@ -29,7 +29,6 @@ use Rattle.nq_model.specs.Hear.{all_dirty}
 use Rattle.nq_model.specs.Message.{Message, reply}
 use Rattle.nq_model.specs.Send.{sends_request, after_seq, after_number, takes_push, sends_write, gives_up, send_next}
 use Rattle.nq_model.specs.Settle.{said, answers, reads_cached, after_read, after_write, delays, marks_written, names_losses, settle}
-use Rattle.nq_model.proofs.ClientLists.{lease-before-drop, lease-after-put, marked-before}
 use Rattle.walk_steps.proofs.ClientFacts.{fits_job}
 use Rattle.walk_steps.proofs.PartCases.{answers-call-cases, vacates-noticed-cases, reports-cases, if-broken-cases, takes-optional-cases}
 use Rattle.walk_steps.proofs.PartCases.{lease-done-cases, then-caches-cases, caches-write-cases, caches-push-cases, vacates-if-clean-cases}
@@ -38,6 +37,7 @@ use Rattle.walk_steps.proofs.SendCases.{send-moves, pushed}
 use Rattle.walk_steps.proofs.SettleCases.{IsRead, IsWrite, settle-cases}
 use Rattle.walk_steps.proofs.StepCases.{call-cases, unless-cached-cases, tick-cases, evicted-cases, heard-cases}
 use Rattle.walk_steps.proofs.Losses.{fold-losses}
+use Rattle.walk_steps.proofs.RunningLeases.{Lent, lent-used, lent-dropped, lent-put, write-reads, broken-now}
 
 -- whether an answer rests on a reply that the journal does not name: it brings a value and names no packet, or says what stands at the
 -- server
@@ -80,40 +80,12 @@ pub record IsPastEnd (Had : (file blocks : ℕ) → Type 0) (op : Call) : Type 0
   pub had : Had file blocks
   pub beyond : blocks ≤ block
 
--- ---- leases
-
--- each lease is of a length that its file had
-abbrev pub Lent : (Had : (file blocks : ℕ) → Type 0) → List Lease → Type 0
-Lent Had leases = (file : ℕ) (l : Lease) → lease_on file leases ≡ Some l → Had file l.blocks
-
-marked-blocks : (f : ℕ) (l : Lease) → (marked_used f l).blocks ≡ l.blocks
-marked-blocks f l = case (l.file == f)
-  where
-    case : (b : Bool) → (if b then record l { used = true } else l).blocks ≡ l.blocks
-    case true = refl
-    case false = refl
-
-pub lent-used : (Had : (file blocks : ℕ) → Type 0) (f : ℕ) (leases : List Lease) → Lent Had leases → Lent Had (used_lease f leases)
-lent-used Had f leases h file l e =
-    let m = marked-before file f leases l e in
-    subst (Had file) (sym (ap (λ z. z.blocks) m.same ∙ marked-blocks f m.before)) (h file m.before m.found)
-
-pub lent-dropped : (Had : (file blocks : ℕ) → Type 0) (f : ℕ) (leases : List Lease) → Lent Had leases → Lent Had (drop_lease f leases)
-lent-dropped Had f leases h file l e = h file l (lease-before-drop f file leases l e).1
-
-pub lent-put : (Had : (file blocks : ℕ) → Type 0) (m : Lease) (leases : List Lease) → Had m.file m.blocks → Lent Had leases → Lent Had (put_lease m leases)
-lent-put Had m leases had h file l e = case (lease-after-put m file leases l e)
-  where
-    case : ((file ≡ m.file) × (l ≡ m)) ⊎ ((file ≢ m.file) × (lease_on file leases ≡ Some l)) → Had file l.blocks
-    case (inl p) = subst (λ z. Had file z.blocks) (sym p.1) (subst (λ f. Had f m.blocks) (sym p.0) had)
-    case (inr p) = h file l p.1
-
 -- of no length more is asked
 abbrev pub AnyLength : (file blocks : ℕ) → Type 0
 AnyLength file blocks = ⊤
 
-pub any-lent : (leases : List Lease) → Lent AnyLength leases
-any-lent leases = λ file l is. tt
+pub any-lent : (now : ℕ) (leases : List Lease) → Lent AnyLength now leases
+any-lent now leases = λ file l is lets. tt
 
 -- ---- calls
 
@@ -141,8 +113,12 @@ pub data IsGranting (request : Request) (r : Reply) (file : ℕ) (g : Grant) : T
       → r ≡ Reply.Read inc rev body (Some g) → IsGranting request r file g
   by_lease : (who : Who) (want : Want) (inc : ℕ) → request ≡ Request.GetLease who file want → r ≡ Reply.GetLease inc (Some g) → IsGranting request r file g
 
--- what a list of entries keeps behind each entry that a client makes in a step, where the calls under way are so, and leases are of lengths
--- that files had
+-- the reply brings this grant, and the lease would run at this time, where the request was first sent at that one
+abbrev pub IsLending : (now sent : ℕ) (request : Request) (r : Reply) (file : ℕ) (g : Grant) → Type 0
+IsLending now sent request r file g = IsGranting request r file g × (lets_read now (granted_lease file g sent) ≡ true)
+
+-- what a list of entries keeps behind each entry that a client makes in a step, where the calls under way are so, and leases that run are
+-- of lengths that files had
 pub record OfClient (Goes : Who → ℕ → Call → Type 0) (Had : (file blocks : ℕ) → Type 0) (P : List Entry → Type 0) : Type 0 where
   pub answered : (who : Who) (q : ℕ) (answer : Said) (before : List Entry) → needs_reply answer ≡ false → P before → P (Entry.A who q answer ∷ before)
   -- a read or a write past the end of its file
@@ -156,7 +132,7 @@ pub record OfClient (Goes : Who → ℕ → Call → Type 0) (Had : (file blocks
 module _ (Goes : Who → ℕ → Call → Type 0) (Had : (file blocks : ℕ) → Type 0) (P : List Entry → Type 0) (o : OfClient Goes Had P) where
   -- in the middle of a step
   abbrev Keeps : ClientStep → Type 0
-  Keeps t = P t.entries × Going Goes t.client.who t.client.call × Lent Had t.client.leases
+  Keeps t = P t.entries × Going Goes t.client.who t.client.call × Lent Had t.client.now t.client.leases
 
   -- ---- settling
 
@@ -165,15 +141,16 @@ module _ (Goes : Who → ℕ → Call → Type 0) (Had : (file blocks : ℕ) →
   answered t q a by plain h = (o.answered t.client.who q (said a by) t.entries plain h.0, tt, h.2)
 
   past-end : (t : ClientStep) (u : UnderWay) (file block : ℕ) (lease : Lease) → t.client.call ≡ Some u → IsOfBlock file block u.call
-      → lease_on file t.client.leases ≡ Some lease → lease.blocks ≤ block → Keeps t → Keeps (answers t u.q Answer.Range None)
+      → lease_on file t.client.leases ≡ Some lease → lets_read t.client.now lease ≡ true → lease.blocks ≤ block → Keeps t
+      → Keeps (answers t u.q Answer.Range None)
   unfolding answers
-  past-end t u file block lease is of_block held beyond h =
+  past-end t u file block lease is of_block held lets beyond h =
       let past : IsPastEnd Had u.call = record {
         file = file;
         block = block;
         of_block = of_block;
         blocks = lease.blocks;
-        had = h.2 file lease held;
+        had = h.2 file lease held lets;
         beyond = beyond;
       } in
       (o.outside t.client.who u.q u.call t.entries past (subst (Going Goes t.client.who) is h.1) h.0, tt, h.2)
@@ -185,12 +162,12 @@ module _ (Goes : Who → ℕ → Call → Type 0) (Had : (file blocks : ℕ) →
 
   cached : (t : ClientStep) (u : UnderWay) (file block : ℕ) (body : List ℕ) → Keeps t → Keeps (reads_cached t u file block body)
   unfolding reads_cached answers after_read
-  cached t u file block body h = (o.read t.client.who u.q file block (value_of body) t.entries h.0, tt, lent-used Had file t.client.leases h.2)
+  cached t u file block body h = (o.read t.client.who u.q file block (value_of body) t.entries h.0, tt, lent-used Had t.client.now file t.client.leases h.2)
 
   delayed : (t : ClientStep) (file block : ℕ) (body : List ℕ) → Keeps t → Keeps (delays t file block body)
   unfolding after_write
   delayed t file block body h =
-      (o.delayed t.client.who file block t.client.number (value_of body) t.entries h.0, h.1, lent-used Had file t.client.leases h.2)
+      (o.delayed t.client.who file block t.client.number (value_of body) t.entries h.0, h.1, lent-used Had t.client.now file t.client.leases h.2)
 
   delayed-call : (t : ClientStep) (file block : ℕ) (body : List ℕ) → (delays t file block body).client.call ≡ t.client.call
   unfolding after_write
@@ -204,11 +181,12 @@ module _ (Goes : Who → ℕ → Call → Type 0) (Had : (file blocks : ℕ) →
   settled t h = settle-cases t Keeps (record {
     idle = λ none. h;
     asking = λ u is own. h;
-    read_out = λ u file block lease is read can out. past-end t u file block lease is.called (read-of-block u.call file block read) can.held out h;
+    read_out = λ u file block lease is read can out. past-end t u file block lease is.called (read-of-block u.call file block read) can.held
+        can.lets out h;
     reading = λ u file block lease body is read can within has. cached t u file block body h;
     read_waits = λ u file block is read waits. h;
     write_out = λ u sync file block body lease is write can out. past-end t u file block lease is.called
-        (write-of-block u sync file block body write) can.held out h;
+        (write-of-block u sync file block body write) can.held (write-reads t.client.now lease can.lets) out h;
     write_full = λ u sync file block body lease is write can within full. answered t u.q Answer.DirtyFull None refl h;
     writing =
         λ u file block body lease is write can within room. answered (delays t file block body) u.q (Answer.Ok Value.Nothing) None refl
@@ -241,7 +219,7 @@ module _ (Goes : Who → ℕ → Call → Type 0) (Had : (file blocks : ℕ) →
 
   given-up : (t : ClientStep) (file : ℕ) → Keeps t → Keeps (gives_up t file)
   unfolding gives_up
-  given-up t file h = (h.0, h.1, lent-dropped Had file t.client.leases h.2)
+  given-up t file h = (h.0, h.1, lent-dropped Had t.client.now file t.client.leases h.2)
 
   sent-next : (in_tick : Bool) (t : ClientStep) → Keeps t → Keeps (send_next in_tick t)
   sent-next in_tick t h = send-moves in_tick t Keeps (record {
@@ -263,7 +241,7 @@ module _ (Goes : Who → ℕ → Call → Type 0) (Had : (file blocks : ℕ) →
 
   vacated : (t : ClientStep) (file : ℕ) (tag : Tag) → Keeps t → Keeps (vacates_lease t file tag)
   unfolding vacates_lease
-  vacated t file tag h = (h.0, h.1, lent-dropped Had file t.client.leases h.2)
+  vacated t file tag h = (h.0, h.1, lent-dropped Had t.client.now file t.client.leases h.2)
 
   noticed-vacated : (t : ClientStep) (file : ℕ) (n : Option Notice) → Keeps t → Keeps (vacates_noticed t file n)
   noticed-vacated t file n h = vacates-noticed-cases t file n Keeps (λ no. h) (λ notice is. vacated t file notice.tag h)
@@ -306,7 +284,7 @@ module _ (Goes : Who → ℕ → Call → Type 0) (Had : (file blocks : ℕ) →
 
   without : (t : ClientStep) (file : ℕ) → Keeps t → Keeps (without_lease t file)
   unfolding without_lease
-  without t file h = (h.0, h.1, lent-dropped Had file t.client.leases h.2)
+  without t file h = (h.0, h.1, lent-dropped Had t.client.now file t.client.leases h.2)
 
   refused : (t : ClientStep) (file : ℕ) → Keeps t → Keeps (push_refused t file)
   refused t file h =
@@ -319,27 +297,39 @@ module _ (Goes : Who → ℕ → Call → Type 0) (Had : (file blocks : ℕ) →
       let u : ClientStep = loses t file in
       reported (vacates_noticed u file (notice_on file t.client.notices)) file (noticed-vacated u file (notice_on file t.client.notices) (lost t file h))
 
-  held : (t : ClientStep) (file : ℕ) (g : Grant) (sent : ℕ) → Had file g.blocks → Keeps t → Keeps (holds t file g sent)
+  -- where the lease would run, the grant is of a length that its file had
+  abbrev Grants : (now file : ℕ) (g : Grant) (sent : ℕ) → Type 0
+  Grants now file g sent = lets_read now (granted_lease file g sent) ≡ true → Had file g.blocks
+
+  held : (t : ClientStep) (file : ℕ) (g : Grant) (sent : ℕ) → Grants t.client.now file g sent → Keeps t → Keeps (holds t file g sent)
   unfolding holds granted_lease
-  held t file g sent had h = (h.0, h.1, lent-put Had (granted_lease file g sent) t.client.leases had h.2)
+  held t file g sent had h = (h.0, h.1, lent-put Had t.client.now (granted_lease file g sent) t.client.leases had h.2)
 
-  taken : (t : ClientStep) (file : ℕ) (g : Grant) (sent : ℕ) → Had file g.blocks → Keeps t → Keeps (takes_grant t file g sent)
-  taken t file g sent had h =
-      held (if_broken t file g) file g sent had (if-broken-cases t file g Keeps (λ whole. h) (λ l is below dirty. broken t file h))
+  taken : (t : ClientStep) (file : ℕ) (g : Grant) (sent now : ℕ) → t.client.now ≡ now → Grants now file g sent → Keeps t
+      → Keeps (takes_grant t file g sent)
+  taken t file g sent now same had h =
+      held (if_broken t file g) file g sent (subst (λ n. Grants n file g sent) (sym (broken-now t file g ∙ same)) had)
+      (if-broken-cases t file g Keeps (λ whole. h) (λ l is below dirty. broken t file h))
 
-  optional : (t : ClientStep) (file : ℕ) (g : Option Grant) (sent : ℕ) → ((x : Grant) → g ≡ Some x → Had file x.blocks) → Keeps t
-      → Keeps (takes_optional t file g sent)
-  optional t file g sent had h = takes-optional-cases t file g sent Keeps (λ none. h) (λ given is. taken t file given sent (had given is) h)
+  optional : (t : ClientStep) (file : ℕ) (g : Option Grant) (sent now : ℕ) → t.client.now ≡ now → ((x : Grant) → g ≡ Some x → Grants now file x sent)
+      → Keeps t → Keeps (takes_optional t file g sent)
+  optional t file g sent now same had h =
+      takes-optional-cases t file g sent Keeps (λ none. h) (λ given is. taken t file given sent now same (had given is) h)
 
-  module _ (c : Client) (number : ℕ) (ticket : Ticket) (r : Reply) (nothing : P []) (going : Going Goes c.who c.call) (lent : Lent Had c.leases)
+  module _ (c : Client) (number : ℕ) (ticket : Ticket) (r : Reply) (nothing : P []) (going : Going Goes c.who c.call)
+      (lent : Lent Had c.now c.leases)
       -- the grant that it brings
-      (granted : (file : ℕ) (g : Grant) → IsGranting ticket.request r file g → Had file g.blocks)
+      (granted : (file : ℕ) (g : Grant) → IsLending c.now ticket.first ticket.request r file g → Had file g.blocks)
       -- the answer that the reply to the call's request gives
       (told-answer : (u : UnderWay) (answer : Answer) → c.call ≡ Some u → ticket.job ≡ for_call → IsTelling ticket.request r answer
       → P (Entry.A c.who u.q (said answer None) ∷ [])) where
     spent : Keeps (spends (begun c))
     unfolding spends
     spent = (nothing, going, lent)
+
+    spent-now : (spends (begun c)).client.now ≡ c.now
+    unfolding spends
+    spent-now = refl
 
     spent-call : (spends (begun c)).client.call ≡ c.call
     unfolding spends
@@ -354,17 +344,18 @@ module _ (Goes : Who → ℕ → Call → Type 0) (Had : (file blocks : ℕ) →
     by-reply answer job is = answers-call-cases (spends (begun c)) answer None Keeps (λ none. spent) (λ u here. by-call u answer (sym spent-call
         ∙ here) job is)
 
-    read : (file block : ℕ) (body : List ℕ) (g : Option Grant) → ((x : Grant) → g ≡ Some x → Had file x.blocks)
+    read : (file block : ℕ) (body : List ℕ) (g : Option Grant) → ((x : Grant) → g ≡ Some x → Grants c.now file x ticket.first)
         → Keeps (read_done (spends (begun c)) file block body g ticket.first number)
     read file block body g had =
         let t : ClientStep = takes_optional (spends (begun c)) file g ticket.first in
-        let h : Keeps t = optional (spends (begun c)) file g ticket.first had spent in
+        let h : Keeps t = optional (spends (begun c)) file g ticket.first c.now spent-now had spent in
         call-answered (then_caches t file block body g) (Answer.Ok (Value.Body body)) (Some number) refl
         (then-caches-cases t file block body g Keeps (λ caching. cached-block t file block body h) (λ other. h))
 
-    leased : (file : ℕ) (g : Option Grant) → ((x : Grant) → g ≡ Some x → Had file x.blocks) → Keeps (lease_done (spends (begun c)) file g ticket.first)
+    leased : (file : ℕ) (g : Option Grant) → ((x : Grant) → g ≡ Some x → Grants c.now file x ticket.first)
+        → Keeps (lease_done (spends (begun c)) file g ticket.first)
     leased file g had =
-        let h : Keeps (takes_optional (spends (begun c)) file g ticket.first) = optional (spends (begun c)) file g ticket.first had spent in
+        let h : Keeps (takes_optional (spends (begun c)) file g ticket.first) = optional (spends (begun c)) file g ticket.first c.now spent-now had spent in
         lease-done-cases (spends (begun c)) file g ticket.first Keeps (λ caching. h)
         (λ other. marked-through true (takes_optional (spends (begun c)) file g ticket.first) h)
 
@@ -388,17 +379,17 @@ module _ (Goes : Who → ℕ → Call → Type 0) (Had : (file blocks : ℕ) →
       named = λ answer job is. by-reply answer job (names answer is);
       reading =
           λ who q file block want inc rev body grant of_call is. read file block body grant
-          (λ x e. granted file x (by_read who q block want inc rev body of_call.asks (is ∙ ap (λ o. Reply.Read inc rev body o) e)));
+          (λ x e lets. granted file x (by_read who q block want inc rev body of_call.asks (is ∙ ap (λ o. Reply.Read inc rev body o) e), lets));
       leasing =
           λ who file want inc grant of_call is. leased file grant
-          (λ x e. granted file x (by_lease who want inc of_call.asks (is ∙ ap (λ o. Reply.GetLease inc o) e)));
+          (λ x e lets. granted file x (by_lease who want inc of_call.asks (is ∙ ap (λ o. Reply.GetLease inc o) e), lets));
       writing = λ who seq file block first last body inc rev of_call is. wrote file block body rev;
       resizing =
           λ who seq q file blocks inc rev of_call is. call-answered (knows_revision (spends (begun c)) file rev) (Answer.Ok Value.Nothing) None refl
           (known (spends (begun c)) file rev spent);
       removing = λ who seq q file inc of_call is. call-answered (spends (begun c)) (Answer.Ok Value.Nothing) None refl spent;
-      renewing = λ who file want inc grant job asks is. optional (spends (begun c)) file grant ticket.first
-          (λ x e. granted file x (by_lease who want inc asks (is ∙ ap (λ o. Reply.GetLease inc o) e))) spent;
+      renewing = λ who file want inc grant job asks is. optional (spends (begun c)) file grant ticket.first c.now spent-now
+          (λ x e lets. granted file x (by_lease who want inc asks (is ∙ ap (λ o. Reply.GetLease inc o) e), lets)) spent;
       pushed = λ who seq file block first last base body inc rev job asks is. stored file block body rev;
       putting_off = λ inc status job is off. paused (spends (begun c)) spent;
       refusing = λ inc status job is counts off. by-reply (answer_of status) job (refuses inc status is counts);
@@ -409,7 +400,7 @@ module _ (Goes : Who → ℕ → Call → Type 0) (Had : (file blocks : ℕ) →
     reply-keeps : fits_job ticket.job ticket.request ≡ true → reply_counts r ticket ≡ true → Keeps (replied (begun c) number ticket r)
     reply-keeps fits counts = replied-cases c number ticket r Keeps fits counts cases
 
-  cancelled-none : (c : Client) (file : ℕ) → P [] → Going Goes c.who c.call → Lent Had c.leases → Keeps (cancels (begun c) file)
+  cancelled-none : (c : Client) (file : ℕ) → P [] → Going Goes c.who c.call → Lent Had c.now c.leases → Keeps (cancels (begun c) file)
   unfolding cancels
   cancelled-none c file nothing going lent = (nothing, going, lent)
 
@@ -417,7 +408,8 @@ module _ (Goes : Who → ℕ → Call → Type 0) (Had : (file blocks : ℕ) →
   unfolding notes_notice
   noted t file tag h = h
 
-  notice-keeps : (c : Client) (file : ℕ) (tag : Tag) → P [] → Going Goes c.who c.call → Lent Had c.leases → Keeps (evicted (cancels (begun c) file) file tag)
+  notice-keeps : (c : Client) (file : ℕ) (tag : Tag) → P [] → Going Goes c.who c.call → Lent Had c.now c.leases
+      → Keeps (evicted (cancels (begun c) file) file tag)
   notice-keeps c file tag nothing going lent = evicted-cases (cancels (begun c) file) file tag Keeps (record {
     clean = λ clean. vacated (cancels (begun c) file) file tag (cancelled-none c file nothing going lent);
     waiting = λ dirty. noted (cancels (begun c) file) file tag (cancelled-none c file nothing going lent);
@@ -425,12 +417,12 @@ module _ (Goes : Who → ℕ → Call → Type 0) (Had : (file blocks : ℕ) →
 
   -- ---- each step
 
-  begins : (c : Client) (op : Call) → P (Entry.C c.who (c.calls + 1) (told op) ∷ []) → Going Goes c.who c.call → Lent Had c.leases
+  begins : (c : Client) (op : Call) → P (Entry.C c.who (c.calls + 1) (told op) ∷ []) → Going Goes c.who c.call → Lent Had c.now c.leases
       → Keeps (begins_call c op)
   unfolding begins_call
   begins c op call going lent = (call, going, lent)
 
-  called : (c : Client) (op : Call) → P (Entry.C c.who (c.calls + 1) (told op) ∷ []) → Goes c.who (c.calls + 1) op → Lent Had c.leases
+  called : (c : Client) (op : Call) → P (Entry.C c.who (c.calls + 1) (told op) ∷ []) → Goes c.who (c.calls + 1) op → Lent Had c.now c.leases
       → Keeps (is_called (begins_call c op) op)
   unfolding is_called begins_call
   called c op call goes lent = (call, goes, lent)
@@ -440,7 +432,7 @@ module _ (Goes : Who → ℕ → Call → Type 0) (Had : (file blocks : ℕ) →
   busy t h = (o.answered t.client.who t.client.calls Said.Busy t.entries refl h.0, h.1, h.2)
 
   call-does : (c : Client) (op : Call) → P (Entry.C c.who (c.calls + 1) (told op) ∷ []) → Going Goes c.who c.call → Goes c.who (c.calls + 1) op
-      → Lent Had c.leases → Keeps (client_call c op)
+      → Lent Had c.now c.leases → Keeps (client_call c op)
   call-does c op call going goes lent = call-cases c op Keeps (record {
     busy = λ why. busy (begins_call c op) (begins c op call going lent);
     telling = λ file loss losses none on changes has. named (begins_call c op) (begins_call c op).client.calls file (begins c op call going lent);
@@ -452,25 +444,25 @@ module _ (Goes : Who → ℕ → Call → Type 0) (Had : (file blocks : ℕ) →
 
   -- what is kept of a step: its entries, and the leases behind it
   abbrev pub Leaves : ClientStep → Type 0
-  Leaves t = P t.entries × Lent Had t.client.leases
+  Leaves t = P t.entries × Lent Had t.client.now t.client.leases
 
   left : (t : ClientStep) → Keeps t → Leaves t
   left t h = (h.0, h.2)
 
   -- where the call under way is so, and the one that is made
   pub call-keeps : (c : Client) (op : Call) → P (Entry.C c.who (c.calls + 1) (told op) ∷ []) → Going Goes c.who c.call → Goes c.who (c.calls + 1) op
-      → Lent Had c.leases → Leaves (client_call c op)
+      → Lent Had c.now c.leases → Leaves (client_call c op)
   call-keeps c op call going goes lent = left (client_call c op) (call-does c op call going goes lent)
 
   again : (t : ClientStep) (ticket : Ticket) → Keeps t → Keeps (sends_again t ticket)
   unfolding sends_again
   again t ticket h = h
 
-  timed : (c : Client) (now : ℕ) → P [] → Going Goes c.who c.call → Lent Had c.leases → Keeps (begun (at_time c now))
+  timed : (c : Client) (now : ℕ) → P [] → Going Goes c.who c.call → Lent Had now c.leases → Keeps (begun (at_time c now))
   unfolding at_time
   timed c now nothing going lent = (nothing, going, lent)
 
-  pub tick-keeps : (c : Client) (now : ℕ) → P [] → Going Goes c.who c.call → Lent Had c.leases → Leaves (client_tick c now)
+  pub tick-keeps : (c : Client) (now : ℕ) → P [] → Going Goes c.who c.call → Lent Had now c.leases → Leaves (client_tick c now)
   tick-keeps c now nothing going lent =
       let begins : Keeps (begun (at_time c now)) = timed c now nothing going lent in
       left (client_tick c now) (tick-cases c now Keeps (record {
@@ -483,9 +475,10 @@ module _ (Goes : Who → ℕ → Call → Type 0) (Had : (file blocks : ℕ) →
   went-on t h = sent-next false (settle t) (settled t h)
 
   pub hear-keeps : (c : Client) (number : ℕ) (m : Message) (t : ClientStep) → hear c number m ≡ Some t
-      → ((ticket : Ticket) → c.ticket ≡ Some ticket → fits_job ticket.job ticket.request ≡ true) → P [] → Going Goes c.who c.call → Lent Had c.leases
+      → ((ticket : Ticket) → c.ticket ≡ Some ticket → fits_job ticket.job ticket.request ≡ true) → P [] → Going Goes c.who c.call
+      → Lent Had c.now c.leases
       → ((xid : ℕ) (r : Reply) (ticket : Ticket) (file : ℕ) (g : Grant) → m ≡ reply xid r → c.ticket ≡ Some ticket → xid ≡ ticket.xid
-      → inc_of r ≡ c.who.inc → IsGranting ticket.request r file g → Had file g.blocks)
+      → inc_of r ≡ c.who.inc → IsLending c.now ticket.first ticket.request r file g → Had file g.blocks)
       → ((xid : ℕ) (r : Reply) (ticket : Ticket) (u : UnderWay) (answer : Answer) → m ≡ reply xid r → c.ticket ≡ Some ticket → xid ≡ ticket.xid
       → inc_of r ≡ c.who.inc → c.call ≡ Some u → ticket.job ≡ for_call → IsTelling ticket.request r answer
       → P (Entry.A c.who u.q (said answer None) ∷ [])) → Leaves t
@@ -501,4 +494,4 @@ module _ (Goes : Who → ℕ → Call → Type 0) (Had : (file blocks : ℕ) →
 
   pub restart-keeps : (c : Client) → P (Entry.B (next_incarnation c.who) ∷ []) → Leaves (restart c)
   unfolding starts fresh_client
-  restart-keeps c started = (started, λ file l none. absurd (cc))
+  restart-keeps c started = (started, λ file l none lets. absurd (cc))

@@ -53,6 +53,7 @@ pub mod GivenRuns
 pub mod ServerEntries
 pub mod Losses
 pub mod ClientEntries
+pub mod RunningLeases
 pub mod RowsAfter
 pub mod RowFacts
 pub mod Replies

@@ -4,7 +4,7 @@
 ghost use Rattle.nq_laws.specs.ToldMet.{NoRoomIsMet, RefusalsAreMet, TellingsAreMet};
 ghost use Rattle.nq_model.specs.LossesAreNamed.{LossesAreNamedInEveryRun};
 ghost use Rattle.nq_laws.specs.RefusalsHaveCauses.{RefusalsHaveCauses};
-ghost use Rattle.nq_laws.specs.RefusedAnswers.{OnlyMomentsRefuse, OnlyNamesRefuse};
+ghost use Rattle.nq_laws.specs.RefusedAnswers.{OnlyMomentsRefuse, OnlyNamesRefuse, OnlyRangesRefuse};
 ghost use Rattle.nq_model.specs.AnswersHaveCauses.{AnswersHaveCauses};
 ghost use Rattle.nq_model.specs.AnswersTellWhatWas.{AnswersTellWhatWas};
 ghost use Rattle.nq_model.specs.FullHasItsCause.{FullHasItsCause};
@@ -33,7 +33,7 @@ pub fn refusals_have_causes()
 /// After every schedule within skew, what an answer that refuses says stood at the server at some moment between the call and the answer:
 /// `noentry` that no file of the name was kept, `stale` that no file of the id was, `exists` that one of the name was, and `nospace` that
 /// there was no room. `range` is said to `create` and `resize` with a length that no file can have, and to a call that reads or writes a
-/// block where the file had, at some moment of the run, no such block.
+/// block where the file had, at some moment between the call and the answer, no such block.
 pub fn answers_have_causes()
     ensures { AnswersHaveCauses }
 {}
@@ -74,6 +74,12 @@ pub fn refusals_are_met()
 /// is refused since the name was there from the call to the answer.
 pub fn only_moments_refuse()
     ensures { OnlyMomentsRefuse }
+{}
+
+/// In the journal of a run a fetch behind the resize that made its block is told `range` instead: that passes the tests of all other laws,
+/// and is refused since the file had that block from the call to the answer.
+pub fn only_ranges_refuse()
+    ensures { OnlyRangesRefuse }
 {}
 
 /// A journal in which `lost` names nothing passes the tests of all other laws, and is refused since `lost` names some write.
