@@ -17,12 +17,11 @@ use Rattle.nq_laws.proofs.RunTells.{HadSo, IsTrue, all-true}
 use Rattle.nq_model.specs.AnswersTellWhatWas.{HasLength}
 use Rattle.nq_model.specs.Bounds.{KeepsBounds}
 use Rattle.nq_model.specs.Chained.{IsChained, KnowsFile}
-use Rattle.nq_model.specs.ChainedLeasesKnow.{ChainsKnow}
 use Rattle.nq_model.specs.Client.{Client, Ticket, lease_on, lets_read, is_live}
 use Rattle.nq_model.specs.Hear.{granted_lease, inc_of, is_of_procedure, is_reply_to, reply_counts}
-use Rattle.nq_model.specs.LeaseInterval.{CanTake, IsCovered, KeepsLeaseInterval, claim_of, cover_end, grant_in, requested_file}
+use Rattle.nq_model.specs.LeaseInterval.{CanTake, IsCovered, claim_of, cover_end, grant_in, requested_file}
 use Rattle.nq_model.specs.Message.{reply}
-use Rattle.nq_model.specs.RepliesTellWhatWas.{Once, KeepsAt}
+use Rattle.nq_model.specs.RepliesTellWhatWas.{Once}
 use Rattle.nq_model.specs.Server.{standing, to_host}
 use Rattle.nq_model.specs.Skew.{IsWithinSkew}
 use Rattle.nq_model.specs.Table.{caches}

@@ -1,5 +1,5 @@
 -- Journals that only the laws on what answers say refuse.
-use Rattle.std.proofs.Common.{◌≡◌, ◌⊎◌, ◌≤◌, ◌<◌, ℕ, Bool, true, false, List, [], ◌∷◌, Option, Some, None, is_some, refl, sym, subst, ap, ◌∙◌, inl, inr, arith}
+use Rattle.std.proofs.Common.{◌≡◌, ◌⊎◌, ℕ, Bool, true, false, List, [], ◌∷◌, Option, Some, None, is_some, refl, sym, subst, ap, ◌∙◌, inl, inr, arith}
 use Rattle.std.specs.Prelude.{nat_le}
 use Rattle.nq_base.specs.Block.{filled, zeros}
 use Rattle.nq_base.specs.declared.Call.{Call}
@@ -9,7 +9,7 @@ use Rattle.nq_base.specs.declared.Said.{Said}
 use Rattle.nq_base.specs.declared.Told.{Told}
 use Rattle.nq_base.specs.declared.Who.{Who}
 use Rattle.nq_laws.specs.RefusedAnswers.{no_file_head, made_and_found, its_journal, OnlyMomentsRefuse, OnlyNamesRefuse}
-use Rattle.nq_laws.specs.RefusedAnswers.{one_block_head, grown_and_fetched, a_fetched_block, a_late_range, OnlyRangesRefuse}
+use Rattle.nq_laws.specs.RefusedAnswers.{one_block_head, grown_and_fetched, a_fetched_block, OnlyRangesRefuse}
 use Rattle.nq_model.specs.AnswersHaveCauses.{LacksName, LacksBlock}
 use Rattle.nq_model.specs.AnswersTellWhatWas.{Meanwhile}
 use Rattle.nq_model.specs.Journal.{Exists, IsCall}

@@ -1,5 +1,5 @@
 -- Journals that only the laws on what answers say refuse: each passes the tests of all other laws.
-use Rattle.std.specs.Prelude.{◌≡◌, ℕ, List, [], ◌∷◌, Some, IsTrue}
+use Rattle.std.specs.Prelude.{◌≡◌, List, [], ◌∷◌, Some, IsTrue}
 use Rattle.law_runs.specs.Refused.{passes}
 use Rattle.nq_base.specs.declared.Call.{Call}
 use Rattle.nq_base.specs.declared.Entry.{Entry}
