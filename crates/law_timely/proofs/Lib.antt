@@ -1,0 +1,16 @@
+pub mod Calls
+pub mod Numbers
+pub mod Looks
+pub mod Parts
+pub mod Covers
+pub mod Serves
+pub mod Links
+pub mod Moves
+pub mod Frees
+pub mod Waits
+pub mod WaitsOn
+pub mod Settled
+pub mod Stills
+pub mod Soon
+pub mod SomeTimely
+pub mod Premises

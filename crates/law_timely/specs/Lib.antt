@@ -1,0 +1,5 @@
+pub mod Timely
+pub mod QuietWhenStill
+pub mod NobodyIsWaitedFor
+pub mod TimelyMet
+pub mod PremisesMatter
