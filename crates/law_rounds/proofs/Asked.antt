@@ -151,10 +151,6 @@ pub data Hears (s : Server) : (o : Option Question) → ServerStep → Type 0 wh
   asked : (o : Option Question) (t : ServerStep) (q : Question) → o ≡ Some q → IsSame s t.server → t.server.table ≡ (ask s.table q).table → Hears s o t
 
 module _ (s : Server) (who : Who) (xid next : ℕ) where
-  quiet-mute : Hears s None (quiet s)
-  unfolding quiet
-  quiet-mute = mute None (quiet s) refl (same-self s) refl
-
   says-mute : (host : ℕ) (m : Message) → Hears s None (says s host m)
   unfolding says
   says-mute host m = mute None (says s host m) refl (same-self s) refl

@@ -5,7 +5,6 @@ use Rattle.std.specs.Prelude.{slice_get}
 use Rattle.std.proofs.lemmas.Bool.{and_from}
 use Rattle.std.proofs.lemmas.Bool.Decides.{nat_tests}
 use Rattle.nq_base.specs.declared.Event.{Event}
-use Rattle.nq_base.specs.declared.HostRow.{HostRow}
 use Rattle.nq_base.specs.declared.Reply.{Reply}
 use Rattle.nq_base.specs.declared.Request.{Request}
 use Rattle.nq_base.specs.declared.Who.{Who}
@@ -109,12 +108,6 @@ attach-counts inc who t is = rw is refl
 module _ (most : ℕ) (head : Head) (events : List Event) (bounds : KeepsBounds most head events) (within : IsWithinSkew head.hosts most events)
     (few : length events ≤ most_events) (room : length (run head events).packets ≤ most_sent) (host : ℕ) (c : Client)
     (at : slice_get (run head events).clients host ≡ Some c) (t : Ticket) (has : c.ticket ≡ Some t) where
-  s : Server
-  s = (run head events).server
-
-  line : HostRow
-  line = host_row (run head events).server.kept c.who.host
-
   here : c.who.host ≡ host
   here = ((run-holds head events).clients host c at).here
 

@@ -11,10 +11,8 @@ use Rattle.walk_steps.proofs.Rows.{choice}
 use Rattle.law_rounds.specs.DeliveryEnds.{AreUnderWay, calmed, enough_deliveries, IsDelivered}
 use Rattle.law_rounds.proofs.Final.{delivered as all-delivered}
 use Rattle.law_rounds.proofs.Items.{Rise, from-under-way}
-use Rattle.law_rounds.specs.CalmRound.{calm_round, calm_rounds}
+use Rattle.law_rounds.specs.CalmRound.{calm_round}
 use Rattle.law_rounds.specs.CalmRoundsAreLawful.{IsLawful}
-use Rattle.law_rounds.specs.CalmDeliveriesEnd.{CalmDeliveriesEnd}
-use Rattle.law_rounds.proofs.CalmIsLawful.{calm-is-lawful}
 use Rattle.law_rounds.proofs.QuietFlows.{grown}
 
 -- the numbers of what is under way rise, and each was sent
@@ -87,10 +85,6 @@ round-rising p r =
     let ticked = play_hosts (length q.world.clients) 0 q in
     played-rising ticked Event.ServerTick (hosts-rising (length q.world.clients) 0 q (flow-rising (enough_deliveries p) p r))
 
-pub rounds-rising : (count : ℕ) (p : Play) → IsRising p → IsRising (calm_rounds count p)
-rounds-rising zero p r = r
-rounds-rising (suc count) p r = rounds-rising count (calm_round p) (round-rising p r)
-
 pub calmed-rising : (head : Head) (events : List Event) (under_way : List ℕ) → AreUnderWay (length (run head events).packets) under_way
     → IsRising (calmed head events under_way)
 unfolding calmed
@@ -99,9 +93,3 @@ calmed-rising head events under_way all = from-under-way (length (run head event
 -- the delivery of a lawful play ends
 pub lawful-delivers : (most : ℕ) (head : Head) (p : Play) → IsLawful most head p → IsRising p → IsDelivered p
 lawful-delivers most head p l r = all-delivered most head p (record { is_run = l.is_run; bounds = l.bounds; within = l.within }) r
-
-pub calm-delivers : CalmDeliveriesEnd
-calm-delivers most head events bounds within under_way count all =
-    let base = calmed head events under_way in
-    lawful-delivers most head (calm_rounds count base) (calm-is-lawful most head events bounds within under_way count)
-    (rounds-rising count base (calmed-rising head events under_way all))

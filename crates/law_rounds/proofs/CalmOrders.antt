@@ -2,12 +2,12 @@
 use Rattle.std.proofs.Common.{◌≡◌, ℕ, zero, suc, List, [], ◌∷◌, length, refl, subst, ap, ◌∙◌, arith}
 use Rattle.nq_model.specs.Lines.{Play, play_flow, flow_first, play_rounds}
 use Rattle.nq_model.specs.World.{Head}
-use Rattle.law_rounds.specs.DeliveryEnds.{enough_deliveries}
+use Rattle.law_rounds.specs.DeliveryEnds.{calmed, enough_deliveries}
 use Rattle.law_rounds.specs.CalmRound.{calm_round, calm_rounds}
 use Rattle.law_rounds.specs.CalmRoundsAreLawful.{IsLawful}
-use Rattle.law_rounds.proofs.CalmEnds.{IsRising, round-rising, lawful-delivers}
+use Rattle.law_rounds.proofs.CalmEnds.{IsRising, calmed-rising, round-rising, lawful-delivers}
 use Rattle.law_rounds.proofs.CalmIsLawful.{calm-round}
-use Rattle.law_rounds.specs.WholeRounds.{play_order, IsInOrder, whole_round, whole_rounds, AreWhole, LinksKeepOrder}
+use Rattle.law_rounds.specs.WholeRounds.{play_order, IsInOrder, whole_round, whole_rounds, AreWhole, LinksKeepOrder, WholeRoundsCanBeMade}
 use Rattle.law_rounds.proofs.Next.{first-next}
 
 -- the numbers that a flow delivers
@@ -91,3 +91,15 @@ module _ (most : ℕ) (head : Head) where
     subst (λ (q : Play). AreWhole (calm_orders count (calm_round p)) q) (calm-is p) (calms-are-whole count (calm_round p) (calm-round most head p l)
         (round-rising p rising)),
   )
+
+pub whole-rounds-can-be-made : WholeRoundsCanBeMade
+unfolding calmed
+whole-rounds-can-be-made most head events bounds within under_way count all =
+    let base = calmed head events under_way in
+    let l : IsLawful most head base = record { is_run = refl; bounds = bounds; within = within } in
+    record {
+      orders = calm_orders count base;
+      many = calm-count count base;
+      whole = calms-are-whole most head count base l (calmed-rising head events under_way all);
+      links = calms-keep-links count base;
+    }

@@ -50,9 +50,6 @@ module _ (hosts few : ℕ) (turns : Client → ℕ) (asks : ℕ → Option Reque
 
   module _ (p : Play) (facts : Facts hosts few turns p.world) (agree : Agree hosts asks p.world) (k host : ℕ) (m : Message) (rest : List Item)
       (queue : Queued p.world.packets p.fresh (one k (to_host host m) ∷ rest)) where
-    abbrev w : World
-    w = p.world
-
     abbrev q : Play
     q = play p (Event.Deliver k)
 

@@ -15,11 +15,11 @@ use Rattle.nq_base.specs.declared.Who.{Who}
 use Rattle.nq_model.proofs.ClientLists.{put-lease-found}
 use Rattle.nq_model.specs.Client.{Client, ClientStep, begun, Job, attaching, for_call, renewing, pushing, Notice, Ticket, UnderWay, lease_on}
 use Rattle.nq_model.specs.Client.{notice_on, is_push_of, dirty_at, is_clean, revision_of, is_revision_before, lets_write}
-use Rattle.nq_model.specs.Hear.{hear, answers_call, answer_of, vacates_lease, vacates_noticed, loses, waits_for, reports_to, reports, push_refused}
+use Rattle.nq_model.specs.Hear.{answers_call, answer_of, vacates_lease, vacates_noticed, loses, waits_for, reports_to, reports, push_refused}
 use Rattle.nq_model.specs.Hear.{without_lease, granted_lease, breaks, breaks_chain, if_broken, holds, takes_grant, takes_optional, grant_caches}
 use Rattle.nq_model.specs.Hear.{caches_block, purges, knows_revision, then_caches, with_through, marks_through, lease_done, holds_caching}
 use Rattle.nq_model.specs.Hear.{caches_write, ends_push, caches_push, vacates_if_clean, push_done, spends, attached, pauses, replied, wants_of}
-use Rattle.nq_model.specs.Hear.{cancelled, cancels, notes_notice, evicted, goes_on, reply_counts}
+use Rattle.nq_model.specs.Hear.{cancelled, cancels, notes_notice, evicted, reply_counts}
 use Rattle.nq_model.specs.Message.{Message}
 use Rattle.nq_model.specs.Profile.{patience}
 use Rattle.nq_model.specs.Settle.{answers, names_losses, is_for_call, ticket_is_for_call, settle}
@@ -29,15 +29,14 @@ use Rattle.walk_steps.proofs.ClientMoves.{none-some}
 use Rattle.walk_steps.proofs.PartCases.{answers-call-cases, lease-done-cases, vacates-if-clean-cases}
 use Rattle.walk_steps.proofs.RepliedCases.{IsNamed, looked_up, created, attributes, OfCall, replied-cases}
 use Rattle.walk_steps.proofs.SettleCases.{CanWrite, IsSettling}
-use Rattle.walk_steps.proofs.StepCases.{evicted-cases, heard-cases}
+use Rattle.walk_steps.proofs.StepCases.{evicted-cases}
 use Rattle.walk_steps.proofs.Rows.{choice, same-number, number-same}
 use Rattle.walk_steps.proofs.Tests.{is-not-below}
 use Rattle.law_rounds.specs.SendsAgain.{is_cancelled}
-use Rattle.law_rounds.specs.Spared.{wants_lease, IsSpared, pausing, wants_none}
 use Rattle.law_rounds.specs.Efforts.{write_price, put_price, fresh_for, fresh_left, writes_to, read_left, lease_left, sent_left, job_left, asked_left}
 use Rattle.law_rounds.specs.Efforts.{requests_left, delays_left, is_idle, writes_left, calls_left, effort}
 use Rattle.law_rounds.proofs.Efforts.{total-more, lease_weight, reply_weight, weight, sent_weight, cost}
-use Rattle.law_rounds.proofs.EffortParts.{filter-shorter, none-left, called-left, settle-cheap, send-cheap, settle-saves}
+use Rattle.law_rounds.proofs.EffortParts.{filter-shorter, none-left, called-left, settle-cheap, settle-saves}
 
 -- what is left of a call is as before, or nothing
 pub record Goes (price note n : ℕ) (t u : ClientStep) : Type 0 where
@@ -598,45 +597,6 @@ module _ (price note : ℕ) where
               let more : reply_weight price r ≡ price + 2 = ap (reply_weight price) is ∙ ap (lease_weight price) idle in
               omega arith
 
-  replied-pays : (c : Client) (number : ℕ) (ticket : Ticket) (r : Reply) → c.ticket ≡ Some ticket → reply_counts r ticket ≡ true → Alone c
-      → Pays c r (replied (begun c) number ticket r)
-  replied-pays c number ticket r asks counts alone = replied-cases c number ticket r (Pays c r) (alone.asking.ticketed ticket asks).fits counts (record {
-    attaching = λ who inc job request is. by-cost c r (attached (start c)) (kept-cost c ticket (attached (start c)) asks (λ e. let two = sym job
-        ∙ e in cc) (attached-goes c)) (ap (reply_weight price) is);
-    named = λ answer job is. by-answer c r (start c) answer None (wider 0 1 (start c) (start c) (omega arith) (same-goes (start c)))
-        (named-weight ticket.request r answer is);
-    reading = λ who q file block want inc rev body grant of is. by-answer c r (then_caches (takes_optional (start c) file grant ticket.first) file
-        block body grant) (Answer.Ok (Value.Body body)) (Some number) (read-goes (start c) file block body grant ticket.first) (ap (reply_weight price) is);
-    leasing = λ who file want inc grant of is. lease-pays c ticket who file want inc grant r asks of alone is;
-    writing = λ who seq file block first last body inc rev of is. by-answer c r (knows_revision (caches_write (start c) file block body rev) file rev)
-        (Answer.Ok Value.Nothing) None (write-goes (start c) file block body rev) (ap (reply_weight price) is);
-    resizing = λ who seq q file blocks inc rev of is. by-answer c r (knows_revision (start c) file rev) (Answer.Ok Value.Nothing) None
-        (wider 0 1 (start c) (knows_revision (start c) file rev) (omega arith) (known-goes (start c) file rev)) (ap (reply_weight price) is);
-    removing = λ who seq q file inc of is. by-answer c r (start c) (Answer.Ok Value.Nothing) None (wider 0 1 (start c) (start c) (omega arith)
-        (same-goes (start c))) (ap (reply_weight price) is);
-    renewing = λ who file want inc grant job request is.
-        let few = kept-cost c ticket (takes_optional (start c) file grant ticket.first) asks (λ e. let two = sym job ∙ e in cc)
-        (optional-goes (start c) file grant ticket.first) in
-        let cheap = settle-cheap price note (takes_optional (start c) file grant ticket.first) in
-        let some = lease-some (is_idle grant) in
-        let same : reply_weight price r ≡ lease_weight price (is_idle grant) = ap (reply_weight price) is in
-        omega arith;
-    pushed = λ who seq file block first last base body inc rev job request is. by-cost c r (push_done (start c) file block body rev)
-        (kept-cost c ticket (push_done (start c) file block body rev) asks (λ e. let two = sym job ∙ e in cc) (pushed-goes (start c) file block body
-        rev)) (ap (reply_weight price) is);
-    putting_off = λ inc status of is off. by-cost c r (pauses (start c)) (let few = paused-cost c in omega arith) (ap (reply_weight price) is);
-    refusing = λ inc status job is counted final. by-answer c r (start c) (answer_of status) None (wider 0 1 (start c) (start c) (omega arith)
-        (same-goes (start c))) (ap (reply_weight price) is);
-    renewal_refused = λ inc status job is final. by-cost c r (start c) (kept-cost c ticket (start c) asks (λ e. let two = sym job ∙ e in cc)
-        (wider 0 1 (start c) (start c) (omega arith) (same-goes (start c)))) (ap (reply_weight price) is);
-    push_refused = λ who seq file block first last base body inc status job request is final. by-cost c r (push_refused (start c) file)
-        (kept-cost c ticket (push_refused (start c) file) asks (λ e. let two = sym job ∙ e in cc) (refused-goes (start c) file)) (ap (reply_weight price) is);
-  })
-    where
-      lease-some : (b : Bool) → 2 ≤ lease_weight price b
-      lease-some true = omega arith
-      lease-some false = omega arith
-
   -- no idle lease for a call is heard: then a reply costs no more than any other
   abbrev pub Lean : Client → Ticket → Reply → ClientStep → Type 0
   Lean c ticket r v = (ticket.job ≡ for_call → reply_weight price r ≡ 2) → cost price note (settle v) + 1 ≤ effort price c + 2
@@ -699,22 +659,6 @@ module _ (price note : ℕ) where
   abbrev pub CancelCosts : (rise : ℕ) → Client → (file : ℕ) → Type 0
   CancelCosts rise c file = requests_left price c.now (nat_lt c.now c.pause) c.call (cancelled file c.ticket) ≤ calls_left price c + rise
 
-  pub goes-cost : (n : ℕ) (t u : ClientStep) → Goes price note n t u → cost price note u ≤ cost price note t + n
-  goes-cost n t u g =
-      let rest = g.rest in
-      let same : calls_left price u.client ≡ requests_left price t.client.now (nat_lt t.client.now t.client.pause) u.client.call t.client.ticket =
-      rw (g.ticket, g.now, g.pause) refl in
-      by same g.call
-    where
-      by : calls_left price u.client ≡ requests_left price t.client.now (nat_lt t.client.now t.client.pause) u.client.call t.client.ticket
-          → (u.client.call ≡ t.client.call) ⊎ (u.client.call ≡ None) → cost price note u ≤ cost price note t + n
-      by same (inl is) = let at : requests_left price t.client.now (nat_lt t.client.now t.client.pause) u.client.call t.client.ticket
-          ≡ calls_left price t.client = ap (λ o. requests_left price t.client.now (nat_lt t.client.now t.client.pause) o t.client.ticket) is in
-          let rest = g.rest in omega arith
-      by same (inr none) = let at : requests_left price t.client.now (nat_lt t.client.now t.client.pause) u.client.call t.client.ticket ≡ 0 =
-          ap (λ o. requests_left price t.client.now (nat_lt t.client.now t.client.pause) o t.client.ticket) none ∙ none-left price note t.client.now
-          (nat_lt t.client.now t.client.pause) t.client.ticket in let rest = g.rest in omega arith
-
   noted-goes : (t : ClientStep) (file : ℕ) (tag : Tag) → Goes price note 1 t (notes_notice t file tag)
   unfolding notes_notice
   noted-goes t file tag = record { rest = omega arith; call = inl refl; ticket = refl; now = refl; pause = refl }
@@ -729,49 +673,6 @@ module _ (price note : ℕ) where
   pub cancels-cost : (rise : ℕ) (c : Client) (file : ℕ) → CancelCosts rise c file → cost price note (cancels (begun c) file) ≤ effort price c + rise
   unfolding cancels
   cancels-cost rise c file few = omega arith
-
-  notice-pays : (rise : ℕ) (c : Client) (file : ℕ) (tag : Tag) → CancelCosts rise c file
-      → cost price note (goes_on (evicted (cancels (begun c) file) file tag)) ≤ effort price c + (rise + 1)
-  notice-pays rise c file tag few =
-      let cut = cancels (begun c) file in
-      let gone = evicted cut file tag in
-      let a = cancels-cost rise c file few in
-      let b = goes-cost 1 cut gone (evicted-goes cut file tag) in
-      let d = settle-cheap price note gone in
-      let e = send-cheap price note (settle gone) in
-      omega arith
-
-  -- a datagram that counts costs no more than its weight, less one
-  pub hear-pays : (rise : ℕ) (c : Client) (k : ℕ) (m : Message) (t : ClientStep) → rise + 2 ≤ note → ((file : ℕ) → CancelCosts rise c file) → Alone c
-      → hear c k m ≡ Some t → cost price note t + 1 ≤ effort price c + weight price note m
-  hear-pays rise c k m t dear cancel alone hears = heard-cases c k m t (λ v. cost price note v + 1 ≤ effort price c + weight price note m) hears (record {
-    answered = λ xid r ticket is asks own inc counts.
-        let pays = replied-pays c k ticket r asks counts alone in
-        let next = send-cheap price note (settle (replied (begun c) k ticket r)) in
-        let same : weight price note m ≡ reply_weight price r = ap (weight price note) is in
-        omega arith;
-    noticed = λ xid file tag is older.
-        let pays = notice-pays rise c file tag (cancel file) in
-        let same : weight price note m ≡ note = ap (weight price note) is in
-        omega arith;
-  })
-
-  -- the same, where what a notice cancels is paid for beside
-  pub hear-costs : (c : Client) (k : ℕ) (m : Message) (t : ClientStep) (rise : ℕ) → 2 ≤ note → ((xid file : ℕ) (tag : Tag) → m ≡ Message.call xid
-      (Request.Evicted c.who file tag) → CancelCosts rise c file) → Alone c → hear c k m ≡ Some t → cost price note t + 1 ≤ effort price c
-      + (weight price note m + rise)
-  hear-costs c k m t rise dear cancel alone hears = heard-cases c k m t (λ v. cost price note v + 1 ≤ effort price c + (weight price note m + rise))
-      hears (record {
-        answered = λ xid r ticket is asks own inc counts.
-            let pays = replied-pays c k ticket r asks counts alone in
-            let next = send-cheap price note (settle (replied (begun c) k ticket r)) in
-            let same : weight price note m ≡ reply_weight price r = ap (weight price note) is in
-            omega arith;
-        noticed = λ xid file tag is older.
-            let pays = notice-pays rise c file tag (cancel xid file tag is) in
-            let same : weight price note m ≡ note = ap (weight price note) is in
-            omega arith;
-      })
 
   -- ---- what a cancelled request costs once more
 
@@ -841,76 +742,3 @@ module _ (price note : ℕ) where
       by false (Some u) None off = omega arith
       by false (Some u) (Some t) off = choice (λ (o : Option Ticket). asked_left price c.now u o ≤ asked_left price c.now u (Some t) + 0)
           (wants_of file t.request) None (Some t) (λ e. let less = job u t.first t.request e t.job off in omega arith) (λ e. omega arith)
-
-  -- ---- a client whose call wants no lease, or that pauses, loses nothing by a notice
-
-  -- no request of this call wants a lease
-  read-same : (u : UnderWay) → wants_lease u.call ≡ false → fresh_left price u ≤ read_left price u u.call
-  read-same u spared = by u.call refl spared
-    where
-      by : (op : Call) → u.call ≡ op → wants_lease op ≡ false → fresh_for price u op ≤ read_left price u op
-      by (Call.Read file block) is e = absurd (cc)
-      by (Call.Write file block body) is e = absurd (cc)
-      by (Call.WriteSync file block body) is e = let same : fresh_left price u ≡ put_price price u.written = ap (fresh_for price u) is in omega arith
-      by (Call.Sync file) is e = let same : fresh_left price u ≡ 0 = ap (fresh_for price u) is in omega arith
-      by (Call.Create name blocks) is e = let same : fresh_left price u ≡ price = ap (fresh_for price u) is in omega arith
-      by (Call.Lookup name) is e = let same : fresh_left price u ≡ price = ap (fresh_for price u) is in omega arith
-      by (Call.Attr file) is e = let same : fresh_left price u ≡ price = ap (fresh_for price u) is in omega arith
-      by (Call.Fetch file block) is e = let same : fresh_left price u ≡ price = ap (fresh_for price u) is in omega arith
-      by (Call.Resize file blocks) is e = let same : fresh_left price u ≡ price = ap (fresh_for price u) is in omega arith
-      by (Call.Remove file) is e = let same : fresh_left price u ≡ price = ap (fresh_for price u) is in omega arith
-
-  one-left : (u : UnderWay) → wants_lease u.call ≡ false → fresh_left price u ≤ price
-  one-left u spared = by u.call spared
-    where
-      put : (b : Bool) → put_price price b ≤ price
-      put true = omega arith
-      put false = omega arith
-
-      by : (op : Call) → wants_lease op ≡ false → fresh_for price u op ≤ price
-      by (Call.Read file block) e = absurd (cc)
-      by (Call.Write file block body) e = absurd (cc)
-      by (Call.WriteSync file block body) e = put u.written
-      by (Call.Sync file) e = omega arith
-      by (Call.Create name blocks) e = omega arith
-      by (Call.Lookup name) e = omega arith
-      by (Call.Attr file) e = omega arith
-      by (Call.Fetch file block) e = omega arith
-      by (Call.Resize file blocks) e = omega arith
-      by (Call.Remove file) e = omega arith
-
-  spared-call : (now : ℕ) (u : UnderWay) (file first : ℕ) (request : Request) → wants_lease u.call ≡ false → wants_of file request ≡ true
-      → fresh_left price u ≤ sent_left price now u first request
-  spared-call now u file first (Request.Read who q f block (Some want)) spared e = read-same u spared
-  spared-call now u file first (Request.Read who q f block None) spared e = let no : wants_of file (Request.Read who q f block None) ≡ false =
-      and-false (f == file) in absurd (cc)
-    where
-      and-false : (b : Bool) → (b && false) ≡ false
-      and-false true = refl
-      and-false false = refl
-  spared-call now u file first (Request.GetLease who f want) spared e = let one = one-left u spared in let least =
-      lease-least (first == now && writes_to f u.call) in omega arith
-  spared-call now u file first other spared e = absurd (cc)
-
-  pub spared-costs : (c : Client) (file : ℕ) → IsSpared c → CancelCosts 0 c file
-  spared-costs c file spared = by (nat_lt c.now c.pause) refl c.call refl c.ticket
-    where
-      job : (u : UnderWay) (first : ℕ) (request : Request) → wants_lease u.call ≡ false → wants_of file request ≡ true → (j : Job)
-          → fresh_left price u ≤ job_left price c.now u first request j
-      job u first request no_lease e attaching = omega arith
-      job u first request no_lease e for_call = spared-call c.now u file first request no_lease e
-      job u first request no_lease e renewing = omega arith
-      job u first request no_lease e pushing = omega arith
-
-      by : (b : Bool) → nat_lt c.now c.pause ≡ b → (o : Option UnderWay) → c.call ≡ o → (ticket : Option Ticket) → requests_left price c.now b o
-          (cancelled file ticket) ≤ requests_left price c.now b o ticket + 0
-      by true is o called ticket = omega arith
-      by false is None called ticket = omega arith
-      by false is (Some u) called None = omega arith
-      by false is (Some u) called (Some t) = choice (λ (o : Option Ticket). asked_left price c.now u o ≤ asked_left price c.now u (Some t) + 0)
-          (wants_of file t.request) None (Some t) (λ e. let less = job u t.first t.request (none-wanted u called spared) e t.job in omega arith)
-          (λ e. omega arith)
-        where
-          none-wanted : (v : UnderWay) → c.call ≡ Some v → IsSpared c → wants_lease v.call ≡ false
-          none-wanted v called (pausing late) = let runs = is-not-below c.now c.pause is in absurd (omega arith)
-          none-wanted v called (wants_none none) = none v called

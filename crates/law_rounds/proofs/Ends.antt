@@ -44,9 +44,6 @@ turn-pays (suc n) growths rest some = let same : suc n - 1 ≡ n = omega arith i
 
 module _ (hosts few : ℕ) (turns : Client → ℕ) (has_rows : AskersHaveRows) (Good : Play → Type 0) (facts : (p : Play) → Good p → Facts hosts few turns
     p.world) (goes : (p : Play) (k : ℕ) → Good p → Good (play p (Event.Deliver k))) where
-  abbrev State : (turns_then level : ℕ) → (ℕ → Option Request) → (old new : List Item) → Play → Type 0
-  State turns_then level asks old new p = Stands hosts few turns has_rows Good facts goes turns_then level asks old new p
-
   abbrev IsReady : ℕ → Play → Type 0
   IsReady most p = Ready hosts few turns has_rows Good facts goes most p
 
@@ -58,9 +55,6 @@ module _ (hosts few : ℕ) (turns : Client → ℕ) (has_rows : AskersHaveRows) 
   module _ (turns_then : ℕ) (asks : ℕ → Option Request) (i : Item) (rest : List Item) (p : Play) (most : ℕ) (s : Stands hosts few turns has_rows Good
       facts goes turns_then 0 asks (i ∷ rest) [] p) (less : left (growth few) (turns_then * most_growths hosts + energy hosts asks
       p.world.server.table.rows) (weight_of few asks p.world.server.table.rows (i ∷ rest)) ≤ most) where
-    abbrev others : List Item
-    others = rest ++ []
-
     same-rest : rest ++ [] ≡ rest
     same-rest = append-nil rest
 

@@ -6,7 +6,6 @@ use Rattle.nq_base.specs.declared.Request.{Request}
 use Rattle.nq_base.specs.declared.Row.{Row}
 use Rattle.nq_model.specs.Table.{caches, find_row}
 use Rattle.walk_steps.proofs.Rows.{same-number}
-use Rattle.law_rounds.specs.CancelledDeliveries.{one_if}
 
 -- ---- sums over hosts
 
@@ -128,6 +127,10 @@ is_doomed shared (Some row) = caches row.mode && (row.evicting || shared)
 
 abbrev pub doomed_at : (hosts : ℕ) → List Row → (file host : ℕ) → Bool
 doomed_at hosts rows file host = is_doomed (is_shared_in hosts rows file) (find_row file host rows)
+
+abbrev pub one_if : Bool → ℕ
+one_if true = 1
+one_if false = 0
 
 abbrev pub unless_sharing : (much : ℕ) → Bool → ℕ
 unless_sharing much true = 0

@@ -255,9 +255,3 @@ no-vacated attaching who file tag fits = cc
 no-vacated for_call who file tag fits = cc
 no-vacated renewing who file tag fits = cc
 no-vacated pushing who file tag fits = cc
-
-pub no-evicted : (job : Job) (who : Who) (file : ℕ) (tag : Tag) → fits_job job (Request.Evicted who file tag) ≡ true → ⊥
-no-evicted attaching who file tag fits = cc
-no-evicted for_call who file tag fits = cc
-no-evicted renewing who file tag fits = cc
-no-evicted pushing who file tag fits = cc

@@ -106,12 +106,6 @@ turns-most (c ∷ clients) =
 
 -- ---- a play that stands where its events lead
 
-first-same : {A : Type 0} (x y : A) (xs ys : List A) → x ∷ xs ≡ y ∷ ys → x ≡ y
-first-same x y xs ys e = cc
-
-rest-same : {A : Type 0} (x y : A) (xs ys : List A) → x ∷ xs ≡ y ∷ ys → xs ≡ ys
-rest-same x y xs ys e = cc
-
 goes-on : (most : ℕ) (head : Head) (p : Play) (k : ℕ) → IsLawful most head p → IsLawful most head (play p (Event.Deliver k))
 goes-on most head p k l = record {
   is_run = ap (λ w. step w (Event.Deliver k)) l.is_run;

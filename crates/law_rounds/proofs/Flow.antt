@@ -36,10 +36,6 @@ abbrev asked_at : Option Client → Option Request
 asked_at None = None
 asked_at (Some c) = asked_for c.ticket
 
--- one delivery, and what is left of the flow
-one-more : (fuel : ℕ) (p : Play) → play_flow (suc fuel) p ≡ play_flow fuel (flow_first p.fresh p)
-one-more fuel p = refl
-
 pub stays-empty : (fuel : ℕ) (p : Play) → p.fresh ≡ [] → (play_flow fuel p).fresh ≡ []
 stays-empty zero p none = none
 stays-empty (suc fuel) p none = stays-empty fuel (flow_first p.fresh p) (ap (λ ns. (flow_first ns p).fresh) none ∙ none)

@@ -11,7 +11,7 @@ use Rattle.nq_base.specs.declared.Tag.{Tag}
 use Rattle.nq_model.specs.Client.{Client, ClientStep, Ticket, begun}
 use Rattle.nq_model.specs.ClientStep.{client_tick}
 use Rattle.nq_model.specs.Hear.{inc_of, reply_counts, hear, goes_on, replied, evicted, cancels}
-use Rattle.nq_model.specs.Lines.{Play, play, play_flow, flow_first, play_hosts, delivered}
+use Rattle.nq_model.specs.Lines.{Play, play, play_hosts, delivered}
 use Rattle.nq_model.specs.Message.{Message, Packet, call, reply, datagram_of}
 use Rattle.nq_model.specs.Profile.{patience}
 use Rattle.nq_model.specs.Server.{to_host}
@@ -20,11 +20,8 @@ use Rattle.nq_model.specs.Stepped.{most_sent}
 use Rattle.nq_model.specs.World.{Head, World, from_host, after_client, after_server, at_client, sending_host, step, run}
 use Rattle.law_rounds.proofs.GoingOn.{calls-go-on}
 use Rattle.law_rounds.proofs.ClientCount.{client-count}
-use Rattle.law_rounds.specs.DeliveryEnds.{enough_deliveries}
-use Rattle.law_rounds.specs.CalmRound.{calm_round, calm_rounds}
 use Rattle.law_rounds.specs.CalmRoundsAreLawful.{IsLawful}
 use Rattle.law_rounds.proofs.PacketsCome.{Comes}
-use Rattle.law_rounds.proofs.AllAttached.{rounds-more}
 use Rattle.law_rounds.proofs.CalmIsLawful.{played-quiet}
 use Rattle.law_rounds.proofs.QuietFlows.{grown}
 use Rattle.walk_steps.proofs.ClientMoves.{some-same, none-some}
@@ -36,7 +33,6 @@ use Rattle.walk_steps.proofs.Rows.{same-number, number-same}
 use Rattle.law_rounds.specs.RoundsEndQuiet.{IsSmall}
 use Rattle.law_rounds.specs.WholeRounds.{play_order, whole_round, whole_rounds}
 use Rattle.law_rounds.proofs.Asking.{AnswersTicket, asks-answered}
-use Rattle.law_rounds.proofs.CalmOrders.{calm_orders, calms-are, calm-count}
 use Rattle.law_rounds.proofs.ClientTickets.{TicketIs, kept, resent, fresh, LastDrawn, Renewed, tick-renews, reply-renews, notice-renews}
 use Rattle.law_rounds.proofs.Coming.{in-map, keeps-coming, adds-coming, which-comes, Delivery, no_packet, at_server, at_host, ignored, no_client, delivery}
 use Rattle.law_rounds.proofs.Lines.{run-lined}
@@ -51,27 +47,9 @@ small-before p e s =
     ∙ length-append p.world.packets g.more in
     record { events = let few = s.events in omega arith; packets = let few = s.packets in omega arith }
 
-pub flow-small : (n : ℕ) (p : Play) → IsSmall (play_flow n p) → IsSmall p
-flow-small zero p s = s
-flow-small (suc n) p s = first p.fresh (flow-small n (flow_first p.fresh p) s)
-  where
-    first : (ks : List ℕ) → IsSmall (flow_first ks p) → IsSmall p
-    first [] t = t
-    first (k ∷ ks) t = small-before p (Event.Deliver k) t
-
 pub hosts-small : (count h : ℕ) (p : Play) → IsSmall (play_hosts count h p) → IsSmall p
 hosts-small zero h p s = s
 hosts-small (suc count) h p s = small-before p (Event.ClientTick h) (hosts-small count (h + 1) (play p (Event.ClientTick h)) s)
-
-pub round-small : (p : Play) → IsSmall (calm_round p) → IsSmall (play_flow (enough_deliveries p) p)
-unfolding calm_round
-round-small p s =
-    let q = play_flow (enough_deliveries p) p in
-    hosts-small (length q.world.clients) 0 q (small-before (play_hosts (length q.world.clients) 0 q) Event.ServerTick s)
-
-pub rounds-small : (count : ℕ) (p : Play) → IsSmall (calm_rounds count p) → IsSmall p
-rounds-small zero p s = s
-rounds-small (suc count) p s = flow-small (enough_deliveries p) p (round-small p (rounds-small count (calm_round p) s))
 
 pub order-small : (order : List ℕ) (p : Play) → IsSmall (play_order order p) → IsSmall p
 order-small [] p s = s
@@ -192,9 +170,6 @@ module _ (most : ℕ) (head : Head) (host : ℕ) where
         (datagram_of (call t.xid t.request))).sends) (sym l.is_run) a)
 
     module _ (k : ℕ) where
-      after : Play
-      after = play p (Event.Deliver k)
-
       -- who is not the receiver
       same-client : (v : World) (due : ℕ) → step p.world (Event.Deliver k) ≡ v → slice_get v.clients host ≡ slice_get p.world.clients host
           → ((c : Client) (t : Ticket) → slice_get p.world.clients host ≡ Some c → c.ticket ≡ Some t → Moved p k c t
@@ -500,14 +475,6 @@ module _ (most : ℕ) (head : Head) (host : ℕ) where
       let one : IsSmall (play_order first p) = whole-small first p (order-small second p1 two) in
       wholes-cover orders (whole_round second p1) (whole-lawful most head second p1 l1) below small
       (whole-covers 0 second p1 l1 below two (whole-covers 1 first p l below one (first-covers p l)))
-
-  pub third-covers : (more : ℕ) (p : Play) → IsLawful most head p → host < head.hosts → IsSmall (calm_rounds more (calm_rounds 2 p))
-      → Covered 0 (calm_rounds more (calm_rounds 2 p))
-  third-covers more p l below small =
-      let orders = calm_orders (2 + more) p in
-      let is : whole_rounds orders p ≡ calm_rounds more (calm_rounds 2 p) = sym (calms-are (2 + more) p) ∙ rounds-more 2 more p in
-      let many = calm-count (2 + more) p in
-      subst (λ (q : Play). Covered 0 q) is (later-covers orders p (omega arith) l below (subst (λ (q : Play). IsSmall q) (sym is) small))
 
   -- so after its delivery no request is under way
   pub none-asks : (order : List ℕ) (p : Play) → IsLawful most head p → (play_order order p).fresh ≡ [] → IsSmall (play_order order p) → Covered 0 p

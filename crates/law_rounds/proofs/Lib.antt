@@ -43,21 +43,11 @@ pub mod Final
 pub mod Skewed
 pub mod CalmIsLawful
 pub mod IdleSteps
-pub mod IdleWorlds
-pub mod CalmClocks
-pub mod ServerWeights
-pub mod FlowEnds
-pub mod Bounds
-pub mod SparedSteps
 pub mod QuietFlows
-pub mod CancelFlows
 pub mod Attaching
 pub mod CalmEnds
 pub mod PacketsCome
-pub mod AttachWorlds
-pub mod AllAttached
-pub mod SoonRounds
-pub mod LeasesOfUse
+pub mod AllFound
 pub mod Revisions
 pub mod Fair
 pub mod ServerAnswers
@@ -76,4 +66,3 @@ pub mod Sleeping
 pub mod LastRows
 pub mod Recovering
 pub mod RecoveryRounds
-pub mod SomeRounds

@@ -39,9 +39,6 @@ module _ (s : Server) (sender next : ℕ) (d : Datagram) (host : ℕ) (long : le
   abbrev Goes : Kept → Type 0
   Goes kept = LineGoes s sender d host (host_row kept host)
 
-  goes-same : (kept : Kept) → kept.hosts ≡ s.kept.hosts → Goes kept
-  goes-same kept same = line_same (same-lines s.kept kept host same)
-
   apart : (who : Who) → (host == who.host) ≡ false → host ≢ who.host
   apart who differs same = let yes : (host == who.host) ≡ true = number-same host who.host same in absurd (cc)
 

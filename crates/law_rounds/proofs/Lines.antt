@@ -76,9 +76,6 @@ module _ (most : ℕ) (head : Head) where
 
   module _ (events : List Event) (p : Packet) (during : KeepsBounds most head events) (within : IsWithinSkew head.hosts most events) (k : ℕ)
       (sent : slice_get (run head events).packets k ≡ Some p) (to : p.to ≡ Party.Server) where
-    w : World
-    w = run head events
-
     i : In (run head events).packets p
     i = in-get (run head events).packets k p sent
 

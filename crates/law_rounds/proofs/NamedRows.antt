@@ -217,9 +217,6 @@ get-client (x ∷ xs) (suc i) below = get-client xs i (omega arith)
 
 module _ (most : ℕ) (head : Head) (events : List Event) (bounds : KeepsBounds most head events) (within : IsWithinSkew head.hosts most events)
     (m : Marks (run head events)) where
-  w : World
-  w = run head events
-
   runs : Runs head.hosts most (run head events) events
   runs = run-runs most head events bounds within
 

@@ -1,12 +1,11 @@
 -- One delivery of a play, or two: what is under way then.
 use Rattle.std.proofs.Common.{◌≡◌, ◌≤◌, ℕ, ◌+◌, ◌*◌, ◌++◌, zero, suc, List, [], ◌∷◌, Some, length, refl, sym, ap, subst, ◌∙◌, arith}
-use Rattle.std.specs.Prelude.{map, slice_get}
-use Rattle.std.proofs.lemmas.List.{append-nil, length-append}
+use Rattle.std.specs.Prelude.{slice_get}
+use Rattle.std.proofs.lemmas.List.{length-append}
 use Rattle.nq_base.specs.declared.Event.{Event}
 use Rattle.nq_model.specs.Lines.{Play, play, flow_first, numbers_from, without, added}
 use Rattle.nq_model.specs.Message.{Packet}
-use Rattle.nq_model.specs.World.{World, from_host, after_client, after_server, step}
-use Rattle.walk_steps.proofs.Steps.{Changes, nothing, by_client, by_server, step-changes}
+use Rattle.nq_model.specs.World.{World, step}
 use Rattle.law_rounds.proofs.Items.{Item, one, pair, all_numbers, numbers_of, Each, IsSingle, Rise, Queued, Adds, adds-ones, all-append, ones}
 use Rattle.law_rounds.proofs.Items.{delivered-queue, queue-of}
 
@@ -15,15 +14,6 @@ use Rattle.law_rounds.proofs.Items.{delivered-queue, queue-of}
 pub record Grows (w v : World) : Type 0 where
   pub more : List Packet
   pub is : v.packets ≡ w.packets ++ more
-
-grown-by : (w v : World) → Changes w v → Grows w v
-unfolding after_client after_server
-grown-by w v (nothing is) = record { more = []; is = ap (λ (u : World). u.packets) is ∙ sym (append-nil w.packets) }
-grown-by w v (by_client host c t at acts to) = record { more = map (from_host host) t.sends; is = ap (λ (u : World). u.packets) to }
-grown-by w v (by_server t acts to) = record { more = t.sends; is = ap (λ (u : World). u.packets) to }
-
-pub grows : (w : World) (k : ℕ) → Grows w (step w (Event.Deliver k))
-grows w k = grown-by w (step w (Event.Deliver k)) (step-changes w (Event.Deliver k))
 
 -- ---- how many items they are
 

@@ -141,10 +141,6 @@ module _ (c : Client) (p : Prompt c) where
         sends (settle gone) (settles gone left) false;
   })
 
-  told : (op : Call) → Prompt (begins_call c op).client
-  unfolding begins_call
-  told op = prompt-same c _ refl refl refl p
-
   pub call-prompt : (op : Call) → Prompt (client_call c op).client
   unfolding says_busy begins_call is_called answers
   call-prompt op = call-cases c op (λ u. Prompt u.client) (record {

@@ -1,5 +1,5 @@
 -- From the third round on all clients are quiet once all has arrived.
-use Rattle.std.proofs.Common.{◌≡◌, ◌<◌, ◌⊎◌, ℕ, ◌+◌, Bool, true, false, List, [], Option, Some, None, is_some, length, refl, sym, subst, ap, ◌∙◌}
+use Rattle.std.proofs.Common.{◌≡◌, ◌<◌, ◌⊎◌, ℕ, Bool, true, false, List, [], Option, Some, None, is_some, length, refl, sym, subst, ap, ◌∙◌}
 use Rattle.std.proofs.Common.{arith, inl, inr}
 use Rattle.std.specs.Prelude.{slice_get}
 use Rattle.nq_base.specs.declared.Call.{Call}
@@ -11,20 +11,16 @@ use Rattle.law_rounds.specs.CallsGoOn.{GoesOn}
 use Rattle.law_rounds.proofs.ClientCount.{client-count}
 use Rattle.law_rounds.proofs.GoingOn.{calls-go-on}
 use Rattle.law_runs.proofs.ChainWorlds.{chain-fits}
-use Rattle.law_rounds.specs.DeliveryEnds.{calmed, enough_deliveries}
-use Rattle.law_rounds.specs.CalmRound.{calm_rounds}
+use Rattle.law_rounds.specs.DeliveryEnds.{calmed}
 use Rattle.law_rounds.specs.CalmRoundsAreLawful.{IsLawful}
-use Rattle.law_rounds.proofs.AllAttached.{rounds-more, all-found}
-use Rattle.law_rounds.proofs.CalmEnds.{IsRising, rounds-rising, calmed-rising}
-use Rattle.law_rounds.proofs.CalmIsLawful.{rounds}
+use Rattle.law_rounds.proofs.AllFound.{all-found}
 use Rattle.walk_steps.proofs.ClientMoves.{none-some}
 use Rattle.walk_steps.proofs.SettleCases.{IsSync, of_sync, of_put}
 use Rattle.walk_steps.proofs.Worlds.{run-holds}
-use Rattle.law_rounds.specs.RoundsEndQuiet.{IsSmall, all_delivered, waits_to_store, IsQuiet, RoundsEndQuiet}
+use Rattle.law_rounds.specs.RoundsEndQuiet.{IsSmall, waits_to_store, IsQuiet}
 use Rattle.law_rounds.proofs.Dues.{NoneDue, run-due}
 use Rattle.law_rounds.specs.WholeRounds.{play_order, whole_rounds, WholeRoundsEndQuiet}
-use Rattle.law_rounds.proofs.CalmOrders.{calm_order, delivered-is, calm-arrives}
-use Rattle.law_rounds.proofs.Flows.{Covered, flow-small, order-small, none-asks, later-covers, third-covers}
+use Rattle.law_rounds.proofs.Flows.{Covered, order-small, none-asks, later-covers}
 use Rattle.law_rounds.proofs.Orders.{order-lawful, wholes-lawful}
 use Rattle.law_rounds.proofs.ClientSteps.{get-below}
 
@@ -100,13 +96,6 @@ module _ (most : ℕ) (head : Head) where
       omega arith in
       quiet-client (play_order order p) lq host c at (none-asks most head host order p l none small (covers host below) c at)
 
-  -- so it is in a calm delivery
-  pub ends-quiet : (p : Play) → IsLawful most head p → IsRising p → IsSmall (all_delivered p) → ((host : ℕ) → host < head.hosts
-      → Covered most head host 0 p) → (host : ℕ) (c : Client) → slice_get (all_delivered p).world.clients host ≡ Some c → IsQuiet c
-  ends-quiet p l rising small covers host c at =
-      order-ends-quiet (calm_order p) p l (calm-arrives most head p l rising) (subst (λ (q : Play). IsSmall q) (delivered-is p) small) covers host c
-      (subst (λ (q : Play). slice_get q.world.clients host ≡ Some c) (delivered-is p) at)
-
 pub whole-rounds-end-quiet : WholeRoundsEndQuiet
 unfolding calmed
 whole-rounds-end-quiet most head events bounds within under_way orders order two whole none small =
@@ -115,17 +104,3 @@ whole-rounds-end-quiet most head events bounds within under_way orders order two
     let p = whole_rounds orders base in
     all-found IsQuiet (play_order order p).world.clients (order-ends-quiet most head order p (wholes-lawful most head orders base l0) none small
     (λ host below. later-covers most head host orders base two l0 below (order-small order p small)))
-
-pub rounds-end-quiet : RoundsEndQuiet
-unfolding calmed
-rounds-end-quiet most head events bounds within under_way more all small =
-    let base = calmed head events under_way in
-    let p = calm_rounds (2 + more) base in
-    let l0 : IsLawful most head base = record { is_run = refl; bounds = bounds; within = within } in
-    let l = rounds most head (2 + more) base l0 in
-    let split : calm_rounds (2 + more) base ≡ calm_rounds more (calm_rounds 2 base) = rounds-more 2 more base in
-    let rising = rounds-rising (2 + more) base (calmed-rising head events under_way all) in
-    let before : IsSmall (calm_rounds (2 + more) base) = flow-small (enough_deliveries (calm_rounds (2 + more) base)) (calm_rounds (2 + more) base) small in
-    let fits : IsSmall (calm_rounds more (calm_rounds 2 base)) = subst (λ (q : Play). IsSmall q) split before in
-    all-found IsQuiet (all_delivered p).world.clients (ends-quiet most head p l rising small (λ host below.
-    subst (λ (q : Play). Covered most head host 0 q) (sym split) (third-covers most head host more base l0 below fits)))

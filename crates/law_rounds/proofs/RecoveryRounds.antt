@@ -18,7 +18,6 @@ use Rattle.law_rounds.specs.DeliveryEnds.{calmed}
 use Rattle.law_rounds.specs.CalmRoundsAreLawful.{IsLawful}
 use Rattle.law_rounds.specs.QuietDeliveries.{recovers}
 use Rattle.law_rounds.proofs.Attaching.{tick-stays}
-use Rattle.law_rounds.proofs.CalmEnds.{calmed-rising}
 use Rattle.law_rounds.proofs.CalmIsLawful.{played-quiet}
 use Rattle.law_rounds.proofs.QuietFlows.{delivered-phase}
 use Rattle.walk_steps.proofs.Worlds.{get-set-same, get-set-other, run-holds}
@@ -27,9 +26,7 @@ use Rattle.walk_steps.proofs.ServerCases.{server-ticks}
 use Rattle.walk_steps.proofs.ServerMoves.{receive-keeps, tick-moves}
 use Rattle.walk_steps.proofs.Tests.{is-below, is-not-below}
 use Rattle.law_rounds.specs.RoundsEndQuiet.{IsSmall, IsQuiet}
-use Rattle.law_rounds.specs.RecoveriesEnd.{RecoveriesEnd}
 use Rattle.law_rounds.specs.WholeRounds.{play_order, whole_round, whole_rounds, AreWhole, WholeRecoveriesEnd}
-use Rattle.law_rounds.proofs.CalmOrders.{calm_orders, calms-are, calm-count, calms-are-whole}
 use Rattle.law_rounds.proofs.Coming.{Delivery, no_packet, at_server, at_host, ignored, no_client, delivery}
 use Rattle.law_rounds.proofs.Flows.{Covered, whole-small, wholes-small, wholes-cover, later-covers}
 use Rattle.law_rounds.proofs.LastRows.{not-serving, run-ends}
@@ -374,15 +371,3 @@ pub whole-recoveries-end : WholeRecoveriesEnd
 unfolding calmed
 whole-recoveries-end most head events bounds within under_way orders enough whole small =
     serves-from most head (calmed head events under_way) (record { is_run = refl; bounds = bounds; within = within }) orders enough whole small
-
-pub recoveries-end : RecoveriesEnd
-unfolding calmed
-recoveries-end most head events bounds within under_way more all small =
-    let base = calmed head events under_way in
-    let l : IsLawful most head base = record { is_run = refl; bounds = bounds; within = within } in
-    let count = most + (skew + write_slack) + more in
-    let is = calms-are count base in
-    let many = calm-count count base in
-    subst (λ (q : Play). recovers q.world.server.phase ≡ false) (sym is)
-    (serves-from most head base l (calm_orders count base) (omega arith)
-    (calms-are-whole most head count base l (calmed-rising head events under_way all)) (subst (λ (q : Play). IsSmall q) is small))

@@ -23,7 +23,7 @@ use Rattle.nq_model.specs.Settle.{is_for_call}
 use Rattle.nq_model.specs.Skew.{IsWithinSkew}
 use Rattle.nq_model.specs.Stepped.{most_sends}
 use Rattle.nq_model.specs.Table.{is_writing, find_row}
-use Rattle.nq_model.specs.World.{Head, World, from_host, sending_host, run}
+use Rattle.nq_model.specs.World.{Head, from_host, sending_host, run}
 use Rattle.nq_model.specs.Bounds.{KeepsBounds}
 use Rattle.walk_steps.proofs.WorldSends.{events-send-few}
 use Rattle.walk_steps.proofs.ClientMoves.{some-same, none-some}
@@ -102,9 +102,6 @@ lease-for inc grant (Request.GetLease who file want) e = (who, file, want, refl)
 lease-for inc grant other e = absurd (cc)
 
 module _ (head : Head) (events : List Event) where
-  abbrev w : World
-  w = run head events
-
   no-idle : (host : ℕ) (c : Client) (xid : ℕ) (ticket : Ticket) (inc : ℕ) (grant : Option Grant) → slice_get (run head events).clients host ≡ Some c
       → In (run head events).packets (to_host host (reply xid (Reply.GetLease inc grant))) → c.ticket ≡ Some ticket → ticket.job ≡ for_call
       → xid ≡ ticket.xid → inc ≡ c.who.inc → reply_counts (Reply.GetLease inc grant) ticket ≡ true → is_idle grant ≡ false

@@ -315,9 +315,6 @@ module _ (head : Head) (events : List Event) (host : ℕ) (c : Client) (k : ℕ)
       by (gives w e) = omega arith
       by (holds_on w e) = omega arith
 
-  alone : Alone c
-  alone = ((run-holds head events).clients host c at).alone
-
   shape : t ≡ s → (t.sends ≡ []) ⊎ (t.sends ≡ call c.xid (Request.Vacated c.who file tag) ∷ [])
   shape e = by n.gives_up
     where

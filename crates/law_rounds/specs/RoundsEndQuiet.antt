@@ -1,24 +1,16 @@
 -- Once the network is calm, each delivery ends quietly: nobody waits for a reply, and nobody has anything to send.
-use Rattle.std.specs.Prelude.{◌≡◌, ◌≤◌, ◌<◌, ℕ, ◌+◌, Bool, true, false, List, Some, None, All, length}
+use Rattle.std.specs.Prelude.{◌≡◌, ◌≤◌, ◌<◌, ℕ, ◌+◌, Bool, true, false, Some, None, length}
 use Rattle.nq_base.specs.declared.Call.{Call}
-use Rattle.nq_model.specs.Bounds.{InEveryRun}
 use Rattle.nq_model.specs.Client.{Client, Lease, UnderWay, lease_on, notice_on, is_clean}
-use Rattle.nq_model.specs.Lines.{Play, play_flow}
+use Rattle.nq_model.specs.Lines.{Play}
 use Rattle.nq_model.specs.Profile.{patience, renewal}
 use Rattle.nq_model.specs.Stepped.{most_events, most_sent}
 use Rattle.nq_model.specs.Table.{is_writing}
-use Rattle.nq_model.specs.World.{run}
-use Rattle.law_rounds.specs.DeliveryEnds.{AreUnderWay, calmed, enough_deliveries}
-use Rattle.law_rounds.specs.CalmRound.{calm_rounds}
 
 -- a play has no more events than a schedule may have, and no more packets than may have been sent before one
 pub record IsSmall (p : Play) : Type 0 where
   pub events : length p.events ≤ most_events
   pub packets : length p.world.packets ≤ most_sent
-
--- all that is under way arrives, with all that this sends
-abbrev pub all_delivered : Play → Play
-all_delivered p = play_flow (enough_deliveries p) p
 
 -- a lease that lets its holder delay writes, over a file that has some, goes on for more than 3 ticks
 pub record GoesOnFor (now : ℕ) (l : Lease) : Type 0 where
@@ -42,13 +34,3 @@ pub record IsQuiet (c : Client) : Type 0 where
   pub waits : (u : UnderWay) → c.call ≡ Some u → (c.now < c.pause) × (c.pause ≤ c.now + patience)
   pub no_sync : (u : UnderWay) → c.call ≡ Some u → waits_to_store u.written u.call ≡ false
   pub held : (file : ℕ) → is_clean c file ≡ false → (l : Lease) × (lease_on file c.leases ≡ Some l) × GoesOnFor c.now l
-
--- after every schedule within skew, whatever is under way: from the third calm round on all clients are quiet once all is delivered, where
--- the schedule with its calm rounds is no longer than a schedule may be
-abbrev pub RoundsEndQuiet : Type 0
-RoundsEndQuiet =
-    InEveryRun (λ head events.
-    (under_way : List ℕ) (more : ℕ)
-    → AreUnderWay (length (run head events).packets) under_way
-    → IsSmall (all_delivered (calm_rounds (2 + more) (calmed head events under_way)))
-    → All IsQuiet (all_delivered (calm_rounds (2 + more) (calmed head events under_way))).world.clients)

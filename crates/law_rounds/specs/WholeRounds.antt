@@ -7,8 +7,8 @@ use Rattle.nq_model.specs.Lines.{Play, play, play_rounds}
 use Rattle.nq_model.specs.Message.{Packet}
 use Rattle.nq_model.specs.Profile.{skew, write_slack}
 use Rattle.nq_model.specs.Skew.{IsWithinSkew}
-use Rattle.nq_model.specs.World.{Head}
-use Rattle.law_rounds.specs.DeliveryEnds.{calmed}
+use Rattle.nq_model.specs.World.{Head, run}
+use Rattle.law_rounds.specs.DeliveryEnds.{AreUnderWay, calmed}
 use Rattle.law_rounds.specs.QuietDeliveries.{recovers}
 use Rattle.law_rounds.specs.RoundsEndQuiet.{IsSmall, IsQuiet}
 
@@ -62,6 +62,21 @@ AreWhole (order ∷ orders) p = ((play_order order p).fresh ≡ []) × AreWhole 
 abbrev pub LinksKeepOrder : List (List ℕ) → Play → Type 0
 LinksKeepOrder [] p = Unit {0}
 LinksKeepOrder (order ∷ orders) p = IsInOrder order p × LinksKeepOrder orders (whole_round order p)
+
+-- ---- that there are some
+
+-- so many whole rounds can be made, in which each link keeps its order
+pub record CanBeMade (count : ℕ) (p : Play) : Type 0 where
+  pub orders : List (List ℕ)
+  pub many : length orders ≡ count
+  pub whole : AreWhole orders p
+  pub links : LinksKeepOrder orders p
+
+-- after every schedule within skew, whatever is under way: any number of whole rounds can be made, since each delivery ends
+abbrev pub WholeRoundsCanBeMade : Type 0
+WholeRoundsCanBeMade =
+    InEveryRun (λ head events.
+    (under_way : List ℕ) (count : ℕ) → AreUnderWay (length (run head events).packets) under_way → CanBeMade count (calmed head events under_way))
 
 -- ---- what holds of them in whatever order
 

@@ -1,4 +1,4 @@
--- Every call is answered by whole rounds in which links keep their order, so also by calm rounds.
+-- Every call is answered by whole rounds in which links keep their order.
 use Rattle.std.proofs.Common.{◌≡◌, ◌≤◌, ◌<◌, ◌⊎◌, ℕ, ◌+◌, ◌*◌, ◌++◌, false, List, [], ◌∷◌, Some, length, refl, subst, ap, ◌∙◌, arith, inl, inr}
 use Rattle.std.specs.Prelude.{slice_get}
 use Rattle.std.proofs.lemmas.List.{length-append}
@@ -7,7 +7,7 @@ use Rattle.nq_model.specs.Lines.{Play}
 use Rattle.nq_model.specs.Profile.{skew, write_slack}
 use Rattle.nq_model.specs.World.{Head}
 use Rattle.law_rounds.specs.DeliveryEnds.{calmed}
-use Rattle.law_rounds.specs.CallsAreAnswered.{IsAnswered}
+use Rattle.law_rounds.specs.AtRest.{IsAnswered}
 use Rattle.law_rounds.specs.CalmRoundsAreLawful.{IsLawful}
 use Rattle.law_rounds.specs.QuietDeliveries.{recovers}
 use Rattle.law_rounds.proofs.CalmEnds.{IsRising, calmed-rising}
@@ -17,9 +17,8 @@ use Rattle.law_rounds.proofs.Flows.{Covered, whole-small, wholes-small, wholes-c
 use Rattle.law_rounds.proofs.Orders.{whole-lawful, wholes-lawful, whole-rising, wholes-rising, rounds-append, whole-parts, links-behind, Parts, parts}
 use Rattle.law_rounds.proofs.Quiet.{order-ends-quiet}
 use Rattle.law_rounds.proofs.RecoveryRounds.{serves-from, serving-rounds}
-use Rattle.nq_laws.proofs.Hosts.{all-found}
-use Rattle.nq_laws.specs.CallsAnswered.{rounds_for}
-use Rattle.nq_laws.specs.WholeCallsAnswered.{WholeCallsAnswered, served_rounds_for, ServedCallsAnswered}
+use Rattle.law_rounds.proofs.AllFound.{all-found}
+use Rattle.nq_laws.specs.WholeCallsAnswered.{WholeCallsAnswered, served_rounds_for, ServedCallsAnswered, rounds_for}
 use Rattle.nq_laws.proofs.Counts.{open_calls, none-open}
 use Rattle.nq_laws.proofs.FourRounds.{Rounds, rounds-less, blocks, attached-last}
 

@@ -32,7 +32,7 @@ use Rattle.walk_steps.proofs.Worlds.{get-set-other, set-there, run-holds}
 use Rattle.walk_steps.proofs.StepSends.{TickSends, rests, again, asks_now, tick-sends}
 use Rattle.walk_steps.proofs.ServerCases.{server-ticks}
 use Rattle.nq_laws.proofs.Hosts.{ticked}
-use Rattle.nq_laws.proofs.LookReplies.{comes-from}
+use Rattle.nq_laws.proofs.ComesFrom.{comes-from}
 use Rattle.nq_laws.proofs.CallRequests.{run-asks}
 use Rattle.nq_laws.proofs.ClientHopes.{map-in}
 use Rattle.nq_laws.proofs.UnderWay.{Wants, NoneRenew, WantedNow, of_call, of_row, serves-is}
@@ -172,9 +172,6 @@ round-tickets p none free q c =
 
 module _ (most : ℕ) (head : Head) (p : Play) (l : IsLawful most head p) (none : p.fresh ≡ []) (free : (host : ℕ) (c : Client)
     → slice_get p.world.clients host ≡ Some c → c.ticket ≡ None) (serves : recovers (play_rounds 1 p).world.server.phase ≡ false) where
-  next : Play
-  next = play_rounds 1 p
-
   next-lawful : IsLawful most head (play_rounds 1 p)
   next-lawful = round most head p l
 

@@ -12,9 +12,8 @@ use Rattle.law_rounds.specs.WholeRounds.{play_order}
 use Rattle.law_rounds.proofs.Coming.{Delivery, no_packet, at_server, at_host, ignored, no_client, delivery}
 use Rattle.walk_steps.proofs.ClientMoves.{some-same, none-some}
 use Rattle.walk_steps.proofs.Worlds.{Holds, run-holds}
-use Rattle.nq_laws.proofs.Calling.{StillOpen, hear-keeps}
-use Rattle.nq_laws.proofs.LookTickets.{tick-opens}
-pub use Rattle.nq_laws.specs.CallsAnswered.{one_if_open, open_calls}
+use Rattle.nq_laws.proofs.Calling.{StillOpen, hear-keeps, tick-opens}
+pub use Rattle.nq_laws.specs.WholeCallsAnswered.{one_if_open, open_calls}
 
 pub one-set : (clients : List Client) (h : ℕ) (c d : Client) → slice_get clients h ≡ Some c
     → open_calls (slice_set clients h d) + one_if_open c.call ≡ open_calls clients + one_if_open d.call

@@ -1,35 +1,22 @@
 -- What deliveries and ticks leave of the client of one host.
 use Rattle.std.proofs.Common.{◌≡◌, ◌≢◌, ◌≤◌, ◌<◌, ℕ, ◌+◌, ◌==◌, Bool, true, false, zero, suc, List, [], ◌∷◌, Option, Some, None, length, refl, sym}
 use Rattle.std.proofs.Common.{subst, ◌∙◌, arith}
-use Rattle.std.specs.Prelude.{All, slice_get, slice_set, slice_index_or}
+use Rattle.std.specs.Prelude.{slice_get, slice_set}
 use Rattle.nq_base.specs.declared.Event.{Event}
 use Rattle.nq_model.specs.Client.{Client, ClientStep}
 use Rattle.nq_model.specs.ClientStep.{client_tick}
 use Rattle.nq_model.specs.Hear.{hear}
-use Rattle.nq_model.specs.Lines.{Play, play, play_flow, flow_first, play_hosts, play_rounds}
+use Rattle.nq_model.specs.Lines.{Play, play, play_hosts, play_rounds}
 use Rattle.nq_model.specs.Message.{Message}
 use Rattle.nq_model.specs.World.{Head, World, after_client, after_server, at_client, step}
 use Rattle.law_rounds.specs.CalmRoundsAreLawful.{IsLawful}
-use Rattle.law_rounds.proofs.CalmIsLawful.{played-quiet, flows}
+use Rattle.law_rounds.proofs.CalmIsLawful.{played-quiet}
 use Rattle.walk_steps.proofs.ClientFacts.{Alone}
-use Rattle.walk_steps.proofs.ClientMoves.{some-same, none-some}
+use Rattle.walk_steps.proofs.ClientMoves.{none-some}
 use Rattle.walk_steps.proofs.Worlds.{Holds, get-set-same, get-set-other, run-holds}
 use Rattle.walk_steps.proofs.Rows.{same-number, number-same}
 use Rattle.law_rounds.specs.WholeRounds.{play_order}
 use Rattle.law_rounds.proofs.Coming.{Delivery, no_packet, at_server, at_host, ignored, no_client, delivery}
-
--- ---- lists
-
-pub all-found : {A : Type 0} (P : A → Type 0) (xs : List A) → ((i : ℕ) (x : A) → slice_get xs i ≡ Some x → P x) → (k : ℕ) (d : A) → k < length xs
-    → P (slice_index_or xs k d)
-all-found P [] given k d below = absurd (omega arith)
-all-found P (y ∷ xs) given zero d below = given 0 y refl
-all-found P (y ∷ xs) given (suc k) d below = all-found P xs (λ i x is. given (suc i) x is) k d (omega arith)
-
-pub all-get : {A : Type 0} (P : A → Type 0) (xs : List A) (i : ℕ) (x : A) → slice_get xs i ≡ Some x → All P xs → P x
-all-get P [] i x is all = none-some x is
-all-get P (y ∷ xs) zero x is all = subst P (some-same y x is) (all 0 y (omega arith))
-all-get P (y ∷ xs) (suc i) x is all = all-get P xs i x is (λ k d below. all (suc k) d (omega arith))
 
 -- ---- what each datagram leaves of a client, deliveries leave
 
@@ -67,14 +54,6 @@ module _ (most : ℕ) (head : Head) (host : ℕ) where
       by (ignored h q c sent to at hears is) = subst (At P) (sym is) all
       by (no_client h q sent to none is) = subst (At P) (sym is) all
       by (at_host h q c t sent to at hears is) = subst (At P) (sym is) (stepped P w h c t at (keeps c k q.message t (holds.clients h c at).alone hears) all)
-
-  pub flow-keeps : (P : Client → Type 0) → Stays P → (n : ℕ) (p : Play) → IsLawful most head p → At P p.world → At P (play_flow n p).world
-  flow-keeps P keeps zero p l all = all
-  flow-keeps P keeps (suc n) p l all = flow-keeps P keeps n (flow_first p.fresh p) (flows most head 1 p l) (first p.fresh)
-    where
-      first : (ks : List ℕ) → At P (flow_first ks p).world
-      first [] = all
-      first (k ∷ ks) = delivered P keeps p.world (subst (λ u. Holds u) (sym l.is_run) (run-holds head p.events)) k all
 
   pub order-keeps : (P : Client → Type 0) → Stays P → (order : List ℕ) (p : Play) → IsLawful most head p → At P p.world → At P (play_order order p).world
   order-keeps P keeps [] p l all = all

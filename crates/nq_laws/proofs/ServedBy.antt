@@ -13,7 +13,7 @@ use Rattle.nq_base.specs.declared.Want.{Want}
 use Rattle.nq_base.specs.declared.Who.{Who}
 use Rattle.nq_model.specs.Ask.{conflicts, marked, mode_conflicts, term_of, sharing_row, caching_row, shared_again, renewed_row}
 use Rattle.nq_model.specs.Decide.{in_the_way, verdict_reply, decides, creates, writes_through, stores, stores_recovering, wrote, resizes, removes}
-use Rattle.nq_model.specs.Decide.{puts_off, commits}
+use Rattle.nq_model.specs.Decide.{puts_off, commits, done_reply}
 use Rattle.nq_model.specs.Hear.{is_put_off, wants_of}
 use Rattle.nq_model.specs.LeaseInterval.{requested_file}
 use Rattle.nq_model.specs.Message.{Message, Packet, call, reply, Datagram, request, datagram_of, asker, sequence_of}
@@ -41,7 +41,6 @@ use Rattle.nq_laws.proofs.Hope.{InWay}
 use Rattle.nq_laws.proofs.Served.{IsStill, IsWant, by_read, by_lease, RowFrom, stays, shares, begins, renews, OnlyStays, AreTold, Outcome, quiet}
 use Rattle.nq_laws.proofs.Served.{by_own, by_others, IsServed}
 use Rattle.nq_laws.proofs.PutOffs.{asked-file, changed-file}
-use Rattle.nq_laws.proofs.LookReplies.{done-not}
 
 -- ---- requests
 
@@ -69,6 +68,13 @@ status-of i j a b e = cc
 not-off : (i j : ℕ) (a b : Refusal) → is_put_off a ≡ false → Reply.Refused i a ≡ Reply.Refused j b → is_put_off b ≡ true → ⊥
 not-off i j a b final e off = let same : is_put_off a ≡ is_put_off b = ap is_put_off (status-of i j a b e) in let bad : true ≡ false =
     sym off ∙ sym same ∙ final in cc
+
+done-not : (i value inc : ℕ) (st : Refusal) (z : Request) → done_reply i value z ≡ Reply.Refused inc st → ⊥
+done-not i value inc st (Request.Create who seq name blocks) e = cc
+done-not i value inc st (Request.Write who seq file block first last push body) e = cc
+done-not i value inc st (Request.Resize who seq q file blocks) e = cc
+done-not i value inc st (Request.Remove who seq q file) e = cc
+done-not i value inc st other e = cc
 
 -- no verdict but TRYLATER puts a request off
 verdict-off : (i value inc : ℕ) (st : Refusal) (v : Verdict) (z : Request) → verdict_reply i v value z ≡ Reply.Refused inc st → is_put_off st ≡ true

@@ -7,6 +7,7 @@ use Rattle.nq_base.specs.declared.Call.{Call}
 use Rattle.nq_base.specs.declared.Event.{Event}
 use Rattle.nq_model.specs.Bounds.{KeepsBounds, BootsWithin}
 use Rattle.nq_model.specs.Lines.{Play, play}
+use Rattle.nq_model.specs.Skew.{is_within_skew}
 use Rattle.nq_model.specs.Stepped.{most_events, most_sent}
 use Rattle.nq_model.specs.World.{run}
 use Rattle.nq_model.proofs.SkewTest.{skew-test-is-sound}
@@ -16,13 +17,10 @@ use Rattle.walk_steps.proofs.Tests.{is-at-most}
 use Rattle.law_rounds.specs.DeliveryEnds.{AreUnderWay, calmed}
 use Rattle.law_rounds.specs.CalmRoundsAreLawful.{IsLawful}
 use Rattle.law_rounds.specs.QuietDeliveries.{recovers}
-use Rattle.law_rounds.specs.SomeNeedHalf.{is_open}
-use Rattle.law_rounds.proofs.SoonRounds.{is_over, over}
 use Rattle.law_rounds.specs.WholeRounds.{is_next, play_order, IsInOrder, whole_round, whole_rounds, AreWhole, LinksKeepOrder}
-use Rattle.nq_laws.specs.CallsAnswered.{open_calls, rounds_for}
-use Rattle.nq_laws.specs.WholeCallsAnswered.{served_rounds_for}
-use Rattle.nq_laws.specs.WholeMet.{pair_head, pair_events, both, pair_calmed, put_off_first, WholeRoundsAreMet, overtakings, LinksMatter}
-use Rattle.nq_laws.proofs.SomeShared.{pair-within}
+use Rattle.nq_laws.specs.WholeCallsAnswered.{served_rounds_for, open_calls, rounds_for}
+use Rattle.nq_laws.specs.WholeMet.{pair_head, pair_events, both, pair_calmed, put_off_first, WholeRoundsAreMet, overtakings, LinksMatter, is_open}
+use Rattle.nq_laws.proofs.SoonRounds.{is_over, over}
 
 -- ---- tests
 
@@ -64,6 +62,10 @@ pair-boots = one-first 6 (Event.Call 1 (Call.WriteSync 1 0 (filled 7))) (Event.C
 
 pair-bounds : KeepsBounds 6 pair_head pair_events
 pair-bounds = record { hosts = omega arith; first_long = omega arith; first_short = omega arith; boots = pair-boots }
+
+pair-within : is_within_skew 2 6 pair_events ≡ true
+unfolding filled zeros
+pair-within = refl
 
 pair-lawful : IsLawful 6 pair_head pair_calmed
 unfolding calmed

@@ -22,9 +22,8 @@ use Rattle.walk_steps.proofs.StepCases.{tick-cases}
 use Rattle.walk_steps.proofs.RowChanges.{HasUniqueKeys, found-kept, unique-filtered}
 use Rattle.walk_steps.proofs.ServerCases.{server-ticks}
 use Rattle.walk_steps.proofs.ServerTables.{StandingFits}
-use Rattle.nq_laws.proofs.Calling.{Keeps, settles, sends}
+use Rattle.nq_laws.proofs.Calling.{Keeps, settles, sends, tick-opens}
 use Rattle.nq_laws.proofs.Hosts.{ticked}
-use Rattle.nq_laws.proofs.LookTickets.{tick-opens}
 use Rattle.nq_laws.proofs.UnderWay.{serves-is}
 use Rattle.nq_laws.proofs.Frames.{NoWay}
 use Rattle.nq_laws.proofs.Hope.{file_of_call, access_of_call, InWay}

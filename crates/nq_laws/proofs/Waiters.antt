@@ -16,8 +16,7 @@ use Rattle.nq_model.specs.Table.{Table, find_row, with_rows, after_draw}
 use Rattle.walk_steps.proofs.AskCases.{with_marked, with_waiter}
 use Rattle.walk_steps.proofs.RowChanges.{mark, find-put-same}
 use Rattle.walk_steps.proofs.Rows.{choice}
-use Rattle.nq_laws.specs.SharedFilesAnswered.{IsSharedFor}
-use Rattle.nq_laws.specs.WaitersShare.{WaitersShare}
+use Rattle.nq_laws.specs.WaitersShare.{WaitersShare, IsSharedFor}
 
 long-enough : (now m : ℕ) → now + shortest_term ≤ now + max shortest_term m
 long-enough now m = omega arith

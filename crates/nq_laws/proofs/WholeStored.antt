@@ -9,7 +9,7 @@ use Rattle.nq_model.specs.World.{Head, World, run}
 use Rattle.law_rounds.proofs.ClientCount.{client-count}
 use Rattle.law_rounds.specs.DeliveryEnds.{calmed}
 use Rattle.law_rounds.specs.CalmRoundsAreLawful.{IsLawful}
-use Rattle.law_rounds.specs.EverythingIsStored.{HasStored}
+use Rattle.law_rounds.specs.AtRest.{HasStored}
 use Rattle.law_rounds.proofs.CalmEnds.{IsRising, calmed-rising}
 use Rattle.law_rounds.proofs.IdleSteps.{Rests, hear-idles, tick-idles}
 use Rattle.law_rounds.specs.RoundsEndQuiet.{IsSmall, IsQuiet}
@@ -19,8 +19,9 @@ use Rattle.law_rounds.proofs.Orders.{order-lawful, whole-lawful, wholes-lawful, 
 use Rattle.law_rounds.proofs.Quiet.{order-ends-quiet}
 use Rattle.nq_laws.proofs.EndRounds.{quiet-ends, quiet-stored}
 use Rattle.nq_laws.proofs.LeaseEnds.{EndsWithin, hear-ends, tick-ends}
-use Rattle.nq_laws.proofs.Hosts.{all-found, At, order-keeps, ticked}
-use Rattle.nq_laws.specs.CallsAnswered.{open_calls, rounds_for}
+use Rattle.nq_laws.proofs.Hosts.{At, order-keeps, ticked}
+use Rattle.law_rounds.proofs.AllFound.{all-found}
+use Rattle.nq_laws.specs.WholeCallsAnswered.{open_calls, rounds_for}
 use Rattle.nq_laws.specs.WholeStored.{WholeStored}
 use Rattle.nq_laws.proofs.AllAnswered.{answered-from}
 use Rattle.law_rounds.proofs.ClientSteps.{get-below}

@@ -1,18 +1,43 @@
 -- That the laws of whole rounds speak of something, and that links have to keep their order.
-use Rattle.std.specs.Prelude.{◌≡◌, ◌≤◌, ℕ, ◌+◌, true, false, List, [], ◌∷◌, length, slice_get, zero, suc}
+use Rattle.std.specs.Prelude.{◌≡◌, ◌≤◌, ℕ, ◌+◌, ◌*◌, Bool, true, false, List, [], ◌∷◌, Option, Some, None, is_some, length, slice_get, zero, suc}
 use Rattle.nq_base.specs.Block.{filled}
 use Rattle.nq_base.specs.declared.Call.{Call}
 use Rattle.nq_base.specs.declared.Event.{Event}
+use Rattle.nq_model.specs.Client.{Client}
 use Rattle.nq_model.specs.Lines.{Play}
 use Rattle.nq_model.specs.World.{Head, run}
 use Rattle.law_rounds.specs.DeliveryEnds.{AreUnderWay, calmed}
 use Rattle.law_rounds.specs.CalmRoundsAreLawful.{IsLawful}
 use Rattle.law_rounds.specs.QuietDeliveries.{recovers}
-use Rattle.law_rounds.specs.SomeNeedHalf.{is_open}
 use Rattle.law_rounds.specs.RoundsEndQuiet.{IsSmall}
-use Rattle.law_rounds.specs.WholeRounds.{whole_rounds, AreWhole, LinksKeepOrder}
-use Rattle.nq_laws.specs.CallsAnswered.{open_calls, rounds_for}
-use Rattle.nq_laws.specs.WholeCallsAnswered.{served_rounds_for}
+use Rattle.law_rounds.specs.WholeRounds.{whole_rounds, AreWhole, LinksKeepOrder, CanBeMade}
+use Rattle.nq_laws.specs.WholeCallsAnswered.{served_rounds_for, open_calls, rounds_for}
+
+-- whether a client has an open call
+abbrev pub is_open : Option Client → Bool
+is_open None = false
+is_open (Some c) = is_some c.call
+
+-- three hosts, terms of 6 ticks, and a file of one block
+abbrev pub late_head : Head
+late_head = record { hosts = 3; term = 6; longest = 6; files = ((97 ∷ []), 1) ∷ [] }
+
+-- a crash, and then, while the server recovers, two reads at odds by a tick, and a put; the newest event first
+abbrev pub late_events : List Event
+late_events =
+    Event.Call 2 (Call.WriteSync 1 0 (filled 7)) ∷ Event.Call 0 (Call.Read 1 0) ∷ Event.ClientTick 1 ∷
+    Event.Call 1 (Call.Read 1 0) ∷ Event.Crash 6 ∷ []
+
+-- the law of whole rounds speaks of a schedule with a recovery: whole rounds answer all three calls. The put is open after more than half as many
+pub record OpenCallsAreMet : Type 0 where
+  pub lawful : IsLawful 6 late_head (calmed late_head late_events [])
+  pub recovering : recovers (run late_head late_events).server.phase ≡ true
+  pub calls : open_calls (run late_head late_events).clients ≡ 3
+  pub made : CanBeMade (rounds_for 6 3) (calmed late_head late_events [])
+  pub small : IsSmall (whole_rounds made.orders (calmed late_head late_events []))
+  pub fewer : CanBeMade 18 (calmed late_head late_events [])
+  pub half : rounds_for 6 3 ≤ 2 * 18
+  pub unanswered : is_open (slice_get (whole_rounds fewer.orders (calmed late_head late_events [])).world.clients 2) ≡ true
 
 -- two hosts, terms of 6 ticks, and a file of one block
 abbrev pub pair_head : Head

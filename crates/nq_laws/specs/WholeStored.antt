@@ -5,10 +5,10 @@ use Rattle.nq_model.specs.Bounds.{KeepsBounds}
 use Rattle.nq_model.specs.Skew.{IsWithinSkew}
 use Rattle.nq_model.specs.World.{Head, run}
 use Rattle.law_rounds.specs.DeliveryEnds.{AreUnderWay, calmed}
-use Rattle.law_rounds.specs.EverythingIsStored.{HasStored}
+use Rattle.law_rounds.specs.AtRest.{HasStored}
 use Rattle.law_rounds.specs.RoundsEndQuiet.{IsSmall}
 use Rattle.law_rounds.specs.WholeRounds.{whole_rounds, AreWhole, LinksKeepOrder}
-use Rattle.nq_laws.specs.CallsAnswered.{open_calls, rounds_for}
+use Rattle.nq_laws.specs.WholeCallsAnswered.{open_calls, rounds_for}
 
 -- after every schedule within skew, whatever is under way: no client has delayed writes after as many whole rounds more than answer each call as the
 -- longest term of all boots has ticks, and one, or after more, where each link keeps its order, and the schedule with these rounds is no longer than

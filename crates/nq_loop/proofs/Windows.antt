@@ -19,8 +19,7 @@ use Rattle.law_rounds.specs.WholeRounds.{is_next, play_order, IsInOrder, whole_r
 use Rattle.law_rounds.proofs.Flows.{order-small}
 use Rattle.law_rounds.proofs.Orders.{order-lawful, wholes-lawful, order-rising, wholes-rising, rounds-append}
 use Rattle.law_rounds.proofs.RecoveryRounds.{order-phase, serving-rounds}
-use Rattle.nq_laws.specs.CallsAnswered.{one_if_open, open_calls}
-use Rattle.nq_laws.specs.WholeCallsAnswered.{served_rounds_for}
+use Rattle.nq_laws.specs.WholeCallsAnswered.{served_rounds_for, one_if_open, open_calls}
 use Rattle.nq_laws.proofs.AllAnswered.{served-from}
 use Rattle.nq_laws.proofs.Counts.{order-less, at-most-all}
 use Rattle.nq_loop.specs.InTime.{played}

@@ -1,5 +1,0 @@
-use Rattle.nq_laws.proofs.HeardNotices.{notices-are-heard}
-use Rattle.nq_laws.proofs.answered.answered.notices_are_heard.Goals as goal
-
-pub returns : goal.returns
-returns c = notices-are-heard

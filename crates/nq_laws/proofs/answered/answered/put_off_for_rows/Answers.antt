@@ -1,5 +1,0 @@
-use Rattle.nq_laws.proofs.PutOffs.{put-off-for-rows}
-use Rattle.nq_laws.proofs.answered.answered.put_off_for_rows.Goals as goal
-
-pub returns : goal.returns
-returns c = put-off-for-rows

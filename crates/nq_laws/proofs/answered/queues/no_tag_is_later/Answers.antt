@@ -1,5 +1,0 @@
-use Rattle.nq_laws.proofs.TagRuns.{no-tag-is-later}
-use Rattle.nq_laws.proofs.answered.queues.no_tag_is_later.Goals as goal
-
-pub returns : goal.returns
-returns c = no-tag-is-later

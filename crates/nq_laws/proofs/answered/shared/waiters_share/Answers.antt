@@ -1,5 +1,0 @@
-use Rattle.nq_laws.proofs.Waiters.{waiters-share}
-use Rattle.nq_laws.proofs.answered.shared.waiters_share.Goals as goal
-
-pub returns : goal.returns
-returns c = waiters-share
