@@ -53,10 +53,10 @@ pub fn run_loop<P: Keeper, K: Sink, L: Link, C: Clock>(
     requires some { 1 ≤ hosts }
     requires few { hosts ≤ 64 }
     requires links { length links.old ≡ hosts + 1 }
-    ensures ends { LoopEnds result.end hosts turns (clock_told C.floor C.readings clock.old) (clock_told C.floor C.readings clock.new)
+    ensures ends { LoopEnds result.end hosts turns (clock_told C.floor C.readings C.reads clock.old) (clock_told C.floor C.readings C.reads clock.new)
         (map (told_of L.sent L.waiting L.faults L.receives) links.old) (map (told_of L.sent L.waiting L.faults L.receives) links.new)
         (K.held out.old) (K.held out.new) (K.faults out.old) (K.faults out.new) }
-    ensures keeps { result.end ≡ Ending.Done → KeepsLoop hosts turns (clock_told C.floor C.readings clock.old) (clock_told C.floor C.readings clock.new)
+    ensures keeps { result.end ≡ Ending.Done → KeepsLoop hosts turns (clock_told C.floor C.readings C.reads clock.old) (clock_told C.floor C.readings C.reads clock.new)
         (map (told_of L.sent L.waiting L.faults L.receives) links.old) (map (told_of L.sent L.waiting L.faults L.receives) links.new)
         (K.held out.old) (K.held out.new) (P.content result.keeper) }
     ensures counts { CountsKeeper result.end (P.faults keeper) (P.faults result.keeper) }
@@ -98,10 +98,10 @@ fn loop_over<P: Keeper, K: Sink, L: Link, C: Clock>(
     requires links { length links.old ≡ hosts + 1 }
     requires settings { HasSettings hosts 60 30 world }
     requires plays { Plays (beginning (loop_head hosts)) [] world (P.content world.server.keeper) }
-    ensures ends { LoopEnds result.end hosts turns (clock_told C.floor C.readings clock.old) (clock_told C.floor C.readings clock.new)
+    ensures ends { LoopEnds result.end hosts turns (clock_told C.floor C.readings C.reads clock.old) (clock_told C.floor C.readings C.reads clock.new)
         (map (told_of L.sent L.waiting L.faults L.receives) links.old) (map (told_of L.sent L.waiting L.faults L.receives) links.new)
         (K.held out.old) (K.held out.new) (K.faults out.old) (K.faults out.new) }
-    ensures keeps { result.end ≡ Ending.Done → KeepsLoop hosts turns (clock_told C.floor C.readings clock.old) (clock_told C.floor C.readings clock.new)
+    ensures keeps { result.end ≡ Ending.Done → KeepsLoop hosts turns (clock_told C.floor C.readings C.reads clock.old) (clock_told C.floor C.readings C.reads clock.new)
         (map (told_of L.sent L.waiting L.faults L.receives) links.old) (map (told_of L.sent L.waiting L.faults L.receives) links.new)
         (K.held out.old) (K.held out.new) (P.content result.keeper) }
     ensures counts { CountsKeeper result.end (P.faults world.server.keeper) (P.faults result.keeper) }

@@ -43,8 +43,8 @@ returns g c =
     c.in-Ok-new.ensures.counts in
     let both = c.take_turns-last.ensures.turns (beginning head) (sym c.in-Ok-new.ensures.hosts) here in
     let links = map told c.args.links.now in
-    let clock = clock_told g.C.Clock.floor g.C.Clock.readings c.args.clock.now in
-    let clock' = clock_told g.C.Clock.floor g.C.Clock.readings c.take_turns-last.new.clock in
+    let clock = clock_told g.C.Clock.floor g.C.Clock.readings g.C.Clock.reads c.args.clock.now in
+    let clock' = clock_told g.C.Clock.floor g.C.Clock.readings g.C.Clock.reads c.take_turns-last.new.clock in
     let held = g.K.Sink.held c.args.out.now in
     let now = g.K.Sink.held c.tell-end.new.out in
     let w = g.K.Sink.faults c.args.out.now in
