@@ -56,7 +56,8 @@ const MOST_BYTES: usize = 16_777_216;
 /// premise, since the run itself tests it. What the words have no use for stays as it was: the input, the disk, the link, the links of a
 /// loop, the clock, the fates.
 ///
-/// The answer is the exit status, with the disk. It is 6 only where the disk failed, and for `serve` 10 exactly where the image is wrong.
+/// The answer is the exit status, with the disk. It is 6 only where the disk failed, and for `serve` 10 exactly where the image is wrong. Where
+/// the input or the output failed, it says so, or tells a fault that came before.
 /// `docs/commands.md` says when each status comes, and what is printed then.
 pub fn run<S: Source, K: Sink, D: Disk + Drop, L: Link, C: Clock>(
     alloc: Global,
