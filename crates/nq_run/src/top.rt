@@ -110,6 +110,9 @@ pub fn run<S: Source, K: Sink, D: Disk + Drop, L: Link, C: Clock>(
         (K.held out.old) (K.held out.new) (K.faults out.old) (K.faults out.new) (clock_told C.floor C.readings C.reads clock.old) (clock_told C.floor C.readings C.reads clock.new)
         (link_told L.sent L.waiting L.faults L.receives link.old)
         (link_told L.sent L.waiting L.faults L.receives link.new) }
+    // Refuses a run that passes over a fault of its input or its output and ends with 0.
+    ensures faultless { result.status ≡ status_of Ending.Done
+        → (S.faults input.new ≡ S.faults input.old) × (K.faults out.new ≡ K.faults out.old) }
     ensures follows { D.follows disk result.disk }
     ensures disk { uses_disk (command_of words.now) ≡ false → result.disk ≡ disk }
     ensures untouched { NeverSays (command_of words.now) (map (λ fate. (Fate-box fate).told fate.value) fates.old) → result.disk ≡ disk }
@@ -167,6 +170,8 @@ fn run_command<S: Source, K: Sink, D: Disk + Drop, L: Link, C: Clock>(
         × (S.left input.new ≡ S.left input.old) × PrintsLine usage_line (K.held out.old) (K.held out.new) (K.faults out.old) (K.faults out.new) }
     ensures never { NeverSays (command_of words.now) (map (λ fate. (Fate-box fate).told fate.value) fates.old) → (result.status ≡ status_of Ending.Usage) × (result.disk ≡ disk) }
     ensures alone { result.status ≡ status_of Ending.Usage → result.disk ≡ disk }
+    ensures faultless { result.status ≡ status_of Ending.Done
+        → (S.faults input.new ≡ S.faults input.old) × (K.faults out.new ≡ K.faults out.old) }
     ensures follows { D.follows disk result.disk }
     ensures keeps { Unless (uses_disk (command_of words.now)) (result.disk ≡ disk) × Unless (reads_input (command_of words.now)) (input.new ≡ input.old) × Unless (uses_link (command_of words.now)) (link.new ≡ link.old)
         × Unless (uses_links (command_of words.now)) (links.new ≡ links.old) × Unless (reads_clock (command_of words.now)) (clock.new ≡ clock.old) × Unless (uses_fates (command_of words.now)) (fates.new ≡ fates.old) }
