@@ -19,7 +19,7 @@ use Rattle.nq_script.specs.Text.{spaced, text_of}
 use Rattle.nq_loop.specs.Met.{one_head, three_turns}
 use Rattle.nq_loop.specs.PrintedMet.{slow_clock, asked, PrintedLoopsAreMet}
 use Rattle.nq_loop.proofs.SomeLoop.{loops-are-met}
-use Rattle.nq_loop.proofs.SomeTurns.{write, sync, read, are-taken, two_read, goes}
+use Rattle.nq_loop.proofs.SomeTurns.{write, sync, read, are-taken, three_read, goes}
 
 -- the events, the oldest first
 abbrev forward : List Event
@@ -85,7 +85,7 @@ back = refl
 played : play (loop_head 1) (map once forward) ≡ ran three_turns
 played = plays-taken (loop_head 1) forward (subst (λ es. AreTaken one_head es) (sym back) are-taken) ∙ ap ran back
 
-is-whole : IsWhole 1 3 text three_turns slow_clock two_read (asked 0 0) (asked 3 3)
+is-whole : IsWhole 1 3 text three_turns slow_clock three_read (asked 0 0) (asked 3 3)
 is-whole = record {
   turned = record { count = 3; within = omega arith; goes = goes; ends = inl refl };
   spelled = subst (λ es. SpellsSchedule (loop_head 1) (map once es) text) (sym there) spelled;
@@ -95,7 +95,7 @@ is-whole = record {
 
 pub printed-loops-are-met : PrintedLoopsAreMet
 printed-loops-are-met = record {
-  after = two_read;
+  after = three_read;
   now = with_end (Some []) (loop_text (loop_head 1) text three_turns);
   ends = record { text = text; events = three_turns; whole = is-whole; printed = refl };
   in_time = loops-are-met.in_time;

@@ -355,10 +355,13 @@ are-taken = (read-lawful, (lawful-3, (lawful-2, (sync-lawful, (server-lawful, (h
 
 -- the clock behind each turn
 abbrev one_read : ClockTold
-one_read = record { floor = 0; readings = Some (1 ∷ 1 ∷ []) }
+one_read = record { floor = 0; readings = Some (1 ∷ 1 ∷ []); reads = 1 }
 
-abbrev pub two_read : ClockTold
-two_read = record { floor = 1; readings = Some (1 ∷ []) }
+abbrev two_read : ClockTold
+two_read = record { floor = 1; readings = Some (1 ∷ []); reads = 2 }
+
+abbrev pub three_read : ClockTold
+three_read = record { floor = 1; readings = Some (1 ∷ []); reads = 3 }
 
 first-made : MakesAll (Makes one_head) (turn_steps 1 0) true (at_moment [] 0 0) (at_moment one_turn 1 1)
 first-made = (
@@ -456,7 +459,7 @@ left-1 : all_answered one_head one_turn ≡ false
 unfolding filled zeros given-run
 left-1 = refl
 
-pub goes : Goes one_head 3 (between [] (asked 0 0) slow_clock) (between three_turns (asked 3 3) two_read)
+pub goes : Goes one_head 3 (between [] (asked 0 0) slow_clock) (between three_turns (asked 3 3) three_read)
 goes = (
   between two_turns (asked 2 2) two_read,
   (
@@ -469,12 +472,12 @@ goes = (
   where
     first : TakesTurn one_head LoopTurn.Took slow_clock one_read (at_moment [] 0 0) (at_moment one_turn 1 1)
     first = takes 0 0 0 slow_clock one_read (at_moment [] 0 0) (at_moment one_turn 1 1) now-0 refl
-        (record { rises = omega arith; floor = omega arith; below = omega arith; told = (refl, refl) }) first-made
+        (record { rises = omega arith; floor = omega arith; below = omega arith; told = (refl, refl); once = refl }) first-made
 
     second : TakesTurn one_head LoopTurn.Took one_read two_read (at_moment one_turn 1 1) (at_moment two_turns 2 2)
     second = takes 1 0 1 one_read two_read (at_moment one_turn 1 1) (at_moment two_turns 2 2) now-1 refl
-        (record { rises = omega arith; floor = omega arith; below = omega arith; told = (refl, refl) }) second-made
+        (record { rises = omega arith; floor = omega arith; below = omega arith; told = (refl, refl); once = refl }) second-made
 
-    third : TakesTurn one_head LoopTurn.Took two_read two_read (at_moment two_turns 2 2) (at_moment three_turns 3 3)
-    third = takes 1 1 0 two_read two_read (at_moment two_turns 2 2) (at_moment three_turns 3 3) now-2 refl
-        (record { rises = omega arith; floor = omega arith; below = omega arith; told = (refl, refl) }) third-made
+    third : TakesTurn one_head LoopTurn.Took two_read three_read (at_moment two_turns 2 2) (at_moment three_turns 3 3)
+    third = takes 1 1 0 two_read three_read (at_moment two_turns 2 2) (at_moment three_turns 3 3) now-2 refl
+        (record { rises = omega arith; floor = omega arith; below = omega arith; told = (refl, refl); once = refl }) third-made

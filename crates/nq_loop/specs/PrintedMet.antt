@@ -8,9 +8,9 @@ use Rattle.nq_link.specs.Links.{LinkTold}
 use Rattle.nq_loop.specs.InTime.{all_in_time}
 use Rattle.nq_loop.specs.Met.{one_head}
 
--- a clock that shows 0, and 1 from then on
+-- a clock that was not read yet, and shows 0, and 1 from then on
 abbrev pub slow_clock : ClockTold
-slow_clock = record { floor = 0; readings = Some (0 ∷ 1 ∷ 1 ∷ []) }
+slow_clock = record { floor = 0; readings = Some (0 ∷ 1 ∷ 1 ∷ []); reads = 0 }
 
 -- the links of the server and of a host, which were asked for so many receives, and tell nothing else
 abbrev pub asked : (server host : ℕ) → List LinkTold

@@ -5,6 +5,7 @@ ghost use Rattle.std.specs.Prelude.{◌≡◌, ◌≤◌, reverse};
 ghost use Rattle.nq_loop.specs.Holding.{IsLooped};
 ghost use Rattle.nq_loop.specs.Printed.{PrintsRan};
 ghost use Rattle.nq_loop.specs.Whole.{loop_head};
+ghost use Rattle.nq_replay.specs.Ending.{CountsSink};
 ghost use Rattle.nq_replay.specs.Playing.{beginning};
 ghost use Rattle.nq_world.specs.Playing.{Plays};
 
@@ -29,8 +30,9 @@ pub(crate) fn print_loop<P: Keeper, K: Sink>(
     requires few { head.now.hosts ≤ 64 }
     requires head { head.now ≡ loop_head head.now.hosts }
     requires looped { AllByRecursion (IsLooped head.now.hosts) ran.now }
-    ensures { Plays (beginning head.now) (reverse ran.now) world.now (P.content world.now.server.keeper)
+    ensures prints { Plays (beginning head.now) (reverse ran.now) world.now (P.content world.now.server.keeper)
         → PrintsRan result head.now ran.now (K.held out.old) (K.held out.new) (K.faults out.old) (K.faults out.new) }
+    ensures sink { CountsSink result (K.faults out.old) (K.faults out.new) }
 {
     let Ok(text) = schedule_text(alloc, head, ran) else {
         return Ending::Memory;

@@ -10,7 +10,7 @@ ghost use Rattle.nq_loop.specs.Looped.{KeepsLoop, LoopEnds, TellsEnd};
 ghost use Rattle.nq_loop.specs.Sending.{told_of};
 ghost use Rattle.nq_loop.specs.Whole.{loop_head};
 ghost use Rattle.nq_replay.specs.Playing.{beginning};
-ghost use Rattle.nq_replay.specs.Ending.{CountsKeeper};
+ghost use Rattle.nq_replay.specs.Ending.{CountsKeeper, CountsSink};
 ghost use Rattle.nq_world.specs.Playing.{HasSettings, Plays};
 
 use crate::printing::print_loop;
@@ -53,13 +53,14 @@ pub fn run_loop<P: Keeper, K: Sink, L: Link, C: Clock>(
     requires some { 1 ≤ hosts }
     requires few { hosts ≤ 64 }
     requires links { length links.old ≡ hosts + 1 }
-    ensures ends { LoopEnds result.end hosts turns (clock_told C.floor C.readings clock.old) (clock_told C.floor C.readings clock.new)
+    ensures ends { LoopEnds result.end hosts turns (clock_told C.floor C.readings C.reads clock.old) (clock_told C.floor C.readings C.reads clock.new)
         (map (told_of L.sent L.waiting L.faults L.receives) links.old) (map (told_of L.sent L.waiting L.faults L.receives) links.new)
         (K.held out.old) (K.held out.new) (K.faults out.old) (K.faults out.new) }
-    ensures keeps { result.end ≡ Ending.Done → KeepsLoop hosts turns (clock_told C.floor C.readings clock.old) (clock_told C.floor C.readings clock.new)
+    ensures keeps { result.end ≡ Ending.Done → KeepsLoop hosts turns (clock_told C.floor C.readings C.reads clock.old) (clock_told C.floor C.readings C.reads clock.new)
         (map (told_of L.sent L.waiting L.faults L.receives) links.old) (map (told_of L.sent L.waiting L.faults L.receives) links.new)
         (K.held out.old) (K.held out.new) (P.content result.keeper) }
     ensures counts { CountsKeeper result.end (P.faults keeper) (P.faults result.keeper) }
+    ensures sink { CountsSink result.end (K.faults out.old) (K.faults out.new) }
     ensures follows { P.follows keeper result.keeper }
 {
     let Ok(head) = loop_head(alloc, hosts) else {
@@ -98,13 +99,14 @@ fn loop_over<P: Keeper, K: Sink, L: Link, C: Clock>(
     requires links { length links.old ≡ hosts + 1 }
     requires settings { HasSettings hosts 60 30 world }
     requires plays { Plays (beginning (loop_head hosts)) [] world (P.content world.server.keeper) }
-    ensures ends { LoopEnds result.end hosts turns (clock_told C.floor C.readings clock.old) (clock_told C.floor C.readings clock.new)
+    ensures ends { LoopEnds result.end hosts turns (clock_told C.floor C.readings C.reads clock.old) (clock_told C.floor C.readings C.reads clock.new)
         (map (told_of L.sent L.waiting L.faults L.receives) links.old) (map (told_of L.sent L.waiting L.faults L.receives) links.new)
         (K.held out.old) (K.held out.new) (K.faults out.old) (K.faults out.new) }
-    ensures keeps { result.end ≡ Ending.Done → KeepsLoop hosts turns (clock_told C.floor C.readings clock.old) (clock_told C.floor C.readings clock.new)
+    ensures keeps { result.end ≡ Ending.Done → KeepsLoop hosts turns (clock_told C.floor C.readings C.reads clock.old) (clock_told C.floor C.readings C.reads clock.new)
         (map (told_of L.sent L.waiting L.faults L.receives) links.old) (map (told_of L.sent L.waiting L.faults L.receives) links.new)
         (K.held out.old) (K.held out.new) (P.content result.keeper) }
     ensures counts { CountsKeeper result.end (P.faults world.server.keeper) (P.faults result.keeper) }
+    ensures sink { CountsSink result.end (K.faults out.old) (K.faults out.new) }
     ensures follows { P.follows world.server.keeper result.keeper }
 {
     let mut world = world;
@@ -141,8 +143,9 @@ fn tell<P: Keeper, K: Sink>(
     requires few { head.now.hosts ≤ 64 }
     requires head { head.now ≡ loop_head head.now.hosts }
     requires looped { AllByRecursion (IsLooped head.now.hosts) ran.now }
-    ensures { TellsEnd result last head.now world.now (P.content world.now.server.keeper) ran.now (K.held out.old) (K.held out.new) (K.faults out.old)
+    ensures tells { TellsEnd result last head.now world.now (P.content world.now.server.keeper) ran.now (K.held out.old) (K.held out.new) (K.faults out.old)
         (K.faults out.new) }
+    ensures sink { CountsSink result (K.faults out.old) (K.faults out.new) }
 {
     match last {
         LoopTurn::Took => print_loop(alloc, head, world, ran, out),

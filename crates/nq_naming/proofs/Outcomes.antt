@@ -196,6 +196,7 @@ lacks_text text held w = record {
   skew = λ number broken breaks. inr tt;
   passes = λ number bound passes. inr tt;
   done = λ head m runs. inr tt;
+  sink = refl;
 }
 
 -- ---- what was played

@@ -14,7 +14,7 @@ use Rattle.nq_io.specs.Whole.{TakesSome}
 use Rattle.nq_journal.specs.Text.{journal_text}
 use Rattle.nq_model.specs.Kept.{Kept}
 use Rattle.nq_model.specs.Stepped.{Stepped, no_packet, out_of_skew, too_many_events, too_many_packets}
-use Rattle.nq_replay.specs.Ending.{IsUnlessFault}
+use Rattle.nq_replay.specs.Ending.{CountsSink, IsUnlessFault}
 use Rattle.nq_replay.specs.Lawful.{IsLawful}
 use Rattle.nq_replay.specs.Playing.{beginning}
 use Rattle.nq_replay.specs.Lines.{limit_line, script_line, skew_line}
@@ -132,6 +132,7 @@ pub record TellsText (end : Ending) (text : List ℕ) (held now : Option (List �
   pub skew : (number : ℕ) (broken : SkewBroken) → StopsNames text number (out_of_skew broken) → IsUnlessFault end Ending.Skew 0 0 w w'
   pub passes : (number : ℕ) (bound : Bound) → PassesNames text number bound → IsUnlessFault end Ending.Limit 0 0 w w'
   pub done : (head : Head) (m : Moment) → RunsNames text head m → IsUnlessFault end Ending.Done 0 0 w w'
+  pub sink : CountsSink end w w'
 
 -- what a run with lists read and printed, by its end
 abbrev pub EndsNames : Ending → (limit : ℕ) → (left rest held now : Option (List ℕ)) → (r r' w w' : ℕ) → Type 0

@@ -9,7 +9,7 @@ ghost use Rattle.nq_keeper.specs.StoredKeeper.{empty_kept};
 ghost use Rattle.nq_model.specs.Stepped.{out_of_skew};
 ghost use Rattle.nq_replay.specs.Playing.{beginning};
 ghost use Rattle.nq_replay.specs.declared.play.played.Played.{Played};
-ghost use Rattle.nq_replay.specs.Ending.{IsUnlessFault};
+ghost use Rattle.nq_replay.specs.Ending.{CountsSink, CountsSource, IsUnlessFault};
 ghost use Rattle.nq_replay.specs.Schedules.{HasReason};
 ghost use Rattle.nq_replay.specs.declared.Bound.{Bound};
 ghost use Rattle.nq_script.specs.Heads.{FitsHead};
@@ -77,6 +77,8 @@ pub fn run_names<S: Source, K: Sink>(
     ensures done { (text : List ℕ) → S.left input.old ≡ Some text → length text ≤ limit
         → (head : Head) (m : Moment) → RunsNames text head m
         → IsUnlessFault result Ending.Done (S.faults input.old) (S.faults input.new) (K.faults out.old) (K.faults out.new) }
+    ensures source { CountsSource result (S.faults input.old) (S.faults input.new) }
+    ensures sink { CountsSink result (K.faults out.old) (K.faults out.new) }
 {
     match read_all(alloc, input, limit) {
         Whole::All(text) => run_text(alloc, &text, out),
@@ -101,8 +103,9 @@ fn run_text<K: Sink>(alloc: Global, text: &[u8], out: &mut K) -> Ending
 /// Runs a schedule with lists over a keeper in memory, which is told to fail in no call.
 fn run_in_memory<K: Sink>(alloc: Global, script: &MixedScript<Aside>, out: &mut K) -> Ending
     requires { IsReadyMixed IsOfHost script.now.script script.now.asides.items }
-    ensures { EndsNamesPlayed result script.now.script.head (play script.now.script.head (mixed script.now.asides.items script.now.script.lines))
+    ensures ends { EndsNamesPlayed result script.now.script.head (play script.now.script.head (mixed script.now.asides.items script.now.script.lines))
         (K.held out.old) (K.held out.new) (K.faults out.old) (K.faults out.new) }
+    ensures sink { CountsSink result (K.faults out.old) (K.faults out.new) }
 {
     match ListKeeper::new(alloc, Vec::new(alloc)) {
         Ok(keeper) => run_over(alloc, script, keeper, out),
@@ -121,8 +124,9 @@ fn run_over<L: Keeper + Drop, K: Sink>(
     requires ready { IsReadyMixed IsOfHost script.now.script script.now.asides.items }
     requires empty { L.content keeper ≡ Some empty_kept }
     requires never { NeverFails L.faults L.follows keeper }
-    ensures { EndsNamesPlayed result script.now.script.head (play script.now.script.head (mixed script.now.asides.items script.now.script.lines))
+    ensures ends { EndsNamesPlayed result script.now.script.head (play script.now.script.head (mixed script.now.asides.items script.now.script.lines))
         (K.held out.old) (K.held out.new) (K.faults out.old) (K.faults out.new) }
+    ensures sink { CountsSink result (K.faults out.old) (K.faults out.new) }
 {
     let Ok(mut world) = begin_names(alloc, &script.script.head, keeper) else {
         return Ending::Memory;
@@ -171,8 +175,9 @@ fn tell<L: Keeper, K: Sink>(
     requires fits { FitsHead head.now }
     requires reason { HasReason played }
     requires told { played ≡ Played.All → IsTold head.now world.now (L.content world.now.inner.server.keeper) }
-    ensures { (due : Ended Moment) → Comes played due (λ m. IsAtEnd (beginning head.now) m world.now (L.content world.now.inner.server.keeper) found.now)
+    ensures ends { (due : Ended Moment) → Comes played due (λ m. IsAtEnd (beginning head.now) m world.now (L.content world.now.inner.server.keeper) found.now)
         → EndsNamesPlayed result head.now due (K.held out.old) (K.held out.new) (K.faults out.old) (K.faults out.new) }
+    ensures sink { CountsSink result (K.faults out.old) (K.faults out.new) }
 {
     match played {
         Played::All => {

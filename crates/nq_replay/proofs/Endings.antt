@@ -4,8 +4,8 @@ use Rattle.std.specs.Option.{IfSome}
 use Rattle.std.specs.Prelude.{IfErr}
 use Rattle.nq_base.specs.declared.ending.ending.Ending.{Ending}
 use Rattle.nq_io.specs.Whole.{IsAll, IsOver}
-use Rattle.nq_replay.specs.Ending.{IsFault, IsUnlessFault, TellsOver}
-use Rattle.nq_replay.specs.Reading.{IsReadAs, RefusedUnlessFault, Refuses, RefusesText}
+use Rattle.nq_replay.specs.Ending.{CountsSource, IsFault, IsUnlessFault, TellsOver}
+use Rattle.nq_replay.specs.Reading.{CountsInput, IsReadAs, RefusedUnlessFault, Refuses, RefusesText}
 use Rattle.nq_replay.specs.Replay.{OfInput}
 use Rattle.nq_replay.specs.Schedules.{TellsStop}
 use Rattle.nq_script.specs.Schedule.{FirstBadLine}
@@ -74,3 +74,22 @@ pub over_unless : (end : Ending) (front : List ℕ) (held now : Option (List ℕ
 over_unless Ending.Memory front held now r r' w w' tells = inr tt
 over_unless Ending.Limit front held now r r' w w' tells = inl refl
 over_unless other front held now r r' w w' tells = absurd tells
+
+-- telling it meets no fault of the source
+pub over_counts : (end : Ending) (front : List ℕ) (held now : Option (List ℕ)) (w w' before count : ℕ) → TellsOver end front held now w w'
+    → count ≡ before → CountsSource end before count
+over_counts Ending.Memory front held now w w' before count tells same = same
+over_counts Ending.Limit front held now w w' before count tells same = same
+over_counts other front held now w w' before count tells same = absurd tells
+
+-- nor does reading a text
+refused_counts : (end : Ending) (text : List ℕ) (held now : Option (List ℕ)) (w w' before count : ℕ) → RefusesText end text held now w w'
+    → count ≡ before → CountsSource end before count
+refused_counts Ending.Script text held now w w' before count so same = same
+refused_counts Ending.Memory text held now w w' before count so same = same
+refused_counts other text held now w w' before count so same = absurd so
+
+pub read_counts : (result : Result Script Ending) (text : List ℕ) (held now : Option (List ℕ)) (w w' before count : ℕ)
+    → IfErr result (λ end. RefusesText end text held now w w') → count ≡ before → CountsInput result before count
+read_counts (Ok script) text held now w w' before count so same = same
+read_counts (Err end) text held now w w' before count so same = refused_counts end text held now w w' before count so same

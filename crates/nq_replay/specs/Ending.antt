@@ -66,6 +66,23 @@ abbrev pub CountsKeeper : Ending → (before count : ℕ) → Type 0
 CountsKeeper Ending.KeepFault before count = Rose before count
 CountsKeeper other before count = count ≡ before
 
+-- The source's count of faults rose where the end is that it failed, and stands still at every other end. This refuses a run that goes on with
+-- what it read before its source failed
+abbrev pub CountsSource : Ending → (before count : ℕ) → Type 0
+CountsSource Ending.ReadFault before count = Rose before count
+CountsSource other before count = count ≡ before
+
+-- The sink's count of faults rose where the end is that it failed. Where a line tells the end, what became of that line says what the count
+-- did; at every other end it stands still. This refuses a run that ends with `Done`, or for want of memory, though its sink failed
+abbrev pub CountsSink : Ending → (before count : ℕ) → Type 0
+CountsSink Ending.WriteFault before count = Rose before count
+CountsSink Ending.Usage before count = Unit {0}
+CountsSink Ending.Script before count = Unit {0}
+CountsSink Ending.Skew before count = Unit {0}
+CountsSink Ending.Limit before count = Unit {0}
+CountsSink Ending.NotSound before count = Unit {0}
+CountsSink other before count = count ≡ before
+
 -- How a replay over a keeper ends that is to end as its input says: an input that passes the limit, a faulty line, a tick that breaks the
 -- rule on skew, too many events or packets, or all events taken. A fault that was counted, or want of memory, may come in the place of that
 pub record EndsByInput (end : Ending) (limit : ℕ) (left : Option (List ℕ)) (r r' w w' k k' : ℕ) : Type 0 where

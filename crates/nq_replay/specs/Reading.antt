@@ -4,7 +4,7 @@ use Rattle.std.specs.Prelude.{◌≡◌, ℕ, List, Option, Result, Ok, Err}
 use Rattle.nq_base.specs.declared.ending.ending.Ending.{Ending}
 use Rattle.nq_io.specs.Faults.{Rose}
 use Rattle.nq_io.specs.Whole.{TakesSome}
-use Rattle.nq_replay.specs.Ending.{IsUnlessFault}
+use Rattle.nq_replay.specs.Ending.{CountsSource, IsUnlessFault}
 use Rattle.nq_replay.specs.Lines.{script_line}
 use Rattle.nq_io.specs.Sink.{PrintsLine}
 use Rattle.nq_replay.specs.Replay.{OfInput, PrintsLimit, TakesInput}
@@ -38,6 +38,12 @@ Refuses Ending.ReadFault limit left rest held now r r' w w' = (now ≡ held) × 
 Refuses Ending.Memory limit left rest held now r r' w w' = (now ≡ held) × TakesInput limit left rest
 Refuses Ending.Limit limit left rest held now r r' w w' = PrintsLimit limit left rest held now w w'
 Refuses other limit left rest held now r r' w w' = ⊥
+
+-- the source's count of faults, by what came of reading: where a schedule was read it stands still. This refuses one that is made of what a
+-- source gave before it failed
+abbrev pub CountsInput : Result Script Ending → (before count : ℕ) → Type 0
+CountsInput (Ok script) before count = count ≡ before
+CountsInput (Err end) before count = CountsSource end before count
 
 -- no schedule was read, for this end, if no fault came in its place
 abbrev pub RefusedUnlessFault : Result Script Ending → (wanted : Ending) → (r r' w w' : ℕ) → Type 0

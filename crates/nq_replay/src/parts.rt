@@ -2,6 +2,7 @@
 
 ghost use Rattle.std.specs.Prelude.{◌++◌};
 ghost use Rattle.nq_journal.specs.Text.{IsVersion, journal_text};
+ghost use Rattle.nq_replay.specs.Ending.{CountsSink};
 ghost use Rattle.nq_replay.specs.Schedules.{PrintsBytes};
 
 use nq_base::Journal;
@@ -24,8 +25,9 @@ pub fn print_parts<K: Sink>(
     out: &mut K,
 ) -> Ending
     requires { IsVersion version }
-    ensures { PrintsBytes result (before.now ++ (journal_text version journal.now.entries ++ after.now))
+    ensures prints { PrintsBytes result (before.now ++ (journal_text version journal.now.entries ++ after.now))
         (K.held out.old) (K.held out.new) (K.faults out.old) (K.faults out.new) }
+    ensures sink { CountsSink result (K.faults out.old) (K.faults out.new) }
 {
     if !is_in(journal, version) {
         return Ending::Memory;

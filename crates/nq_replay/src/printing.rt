@@ -1,7 +1,7 @@
 //! The lines that tell faults.
 
 ghost use Rattle.std.specs.Prelude.{◌≡◌, ◌<◌, IfOk, length, string_bytes, Ok};
-ghost use Rattle.nq_replay.specs.Ending.{TellsOver};
+ghost use Rattle.nq_replay.specs.Ending.{CountsSink, TellsOver};
 ghost use Rattle.nq_replay.specs.Lines.{script_line, skew_line, limit_line, last_line};
 
 use nq_base::ending::Ending;
@@ -64,7 +64,8 @@ pub(crate) fn limit_text(alloc: Global, number: usize, bound: Bound) -> Result<S
 /// Tells in which line the input passes the limit on bytes. The front has one byte more than the limit.
 pub fn tell_over<K: Sink>(alloc: Global, front: &[u8], out: &mut K) -> Ending
     requires { 0 < length front.now }
-    ensures { TellsOver result front.now (K.held out.old) (K.held out.new) (K.faults out.old) (K.faults out.new) }
+    ensures tells { TellsOver result front.now (K.held out.old) (K.held out.new) (K.faults out.old) (K.faults out.new) }
+    ensures sink { CountsSink result (K.faults out.old) (K.faults out.new) }
 {
     match limit_text(alloc, line_of_last(front), Bound::Bytes) {
         Ok(line) => {

@@ -2,8 +2,8 @@
 
 ghost use Rattle.std.specs.Prelude.{◌≡◌, ◌<◌, ◌≤◌, ◌^◌, ℕ, List, Some, length, IfErr, IfOk, OnOk};
 ghost use Rattle.nq_base.specs.declared.ending.ending.Ending.{Ending};
-ghost use Rattle.nq_replay.specs.Ending.{IsFault};
-ghost use Rattle.nq_replay.specs.Reading.{IsReadAs, RefusedUnlessFault, Refuses, RefusesText};
+ghost use Rattle.nq_replay.specs.Ending.{CountsSink, IsFault};
+ghost use Rattle.nq_replay.specs.Reading.{CountsInput, IsReadAs, RefusedUnlessFault, Refuses, RefusesText};
 ghost use Rattle.nq_replay.specs.Replay.{OfInput};
 ghost use Rattle.nq_replay.specs.Schedules.{IsReady};
 ghost use Rattle.nq_script.specs.Schedule.{FirstBadLine, SpellsSchedule};
@@ -45,6 +45,8 @@ pub fn read_script<S: Source, K: Sink>(
     ensures spelled { (text : List ℕ) → S.left input.old ≡ Some text → length text ≤ limit
         → (head : Head) (lines : List Line) → SpellsSchedule head lines text
         → IfErr result (λ end. IsFault end (S.faults input.old) (S.faults input.new) (K.faults out.old) (K.faults out.new)) }
+    ensures source { CountsInput result (S.faults input.old) (S.faults input.new) }
+    ensures sink { IfErr result (λ end. CountsSink end (K.faults out.old) (K.faults out.new)) }
 {
     match read_all(alloc, input, limit) {
         Whole::All(text) => read_text(alloc, &text, out),
@@ -64,6 +66,7 @@ fn read_text<K: Sink>(alloc: Global, text: &[u8], out: &mut K) -> Result<Script,
     ensures script { (number : ℕ) → FirstBadLine text.now number
         → RefusedUnlessFault result Ending.Script 0 0 (K.faults out.old) (K.faults out.new) }
     ensures spelled { (head : Head) (lines : List Line) → SpellsSchedule head lines text.now → IfErr result (λ end. end ≡ Ending.Memory) }
+    ensures sink { IfErr result (λ end. CountsSink end (K.faults out.old) (K.faults out.new)) }
 {
     match parse(alloc, text) {
         Ok(script) => Ok(script),

@@ -9,7 +9,7 @@ ghost use Rattle.nq_keeper.specs.StoredKeeper.{empty_kept};
 ghost use Rattle.nq_replay.specs.Going.{Comes, said};
 ghost use Rattle.nq_replay.specs.Playing.{Ended, beginning, play};
 ghost use Rattle.nq_replay.specs.declared.play.played.Played.{Played};
-ghost use Rattle.nq_replay.specs.Ending.{CountsKeeper};
+ghost use Rattle.nq_replay.specs.Ending.{CountsKeeper, CountsSink};
 ghost use Rattle.nq_replay.specs.Schedules.{EndsOver, IsReady, IsReason, KeepsPlayed, PrintsEntries, TellsStop, TellsWhy, bound_of};
 ghost use Rattle.nq_replay.specs.declared.printing.Bound.{Bound};
 ghost use Rattle.nq_script.specs.declared.heads.Head.{Head};
@@ -52,6 +52,7 @@ pub fn replay<P: Keeper, K: Sink>(
         (K.faults out.old) (K.faults out.new) }
     ensures keeps { result.end ≡ Ending.Done → KeepsPlayed script.now.head (play script.now.head script.now.lines) (P.content result.keeper) }
     ensures counts { CountsKeeper result.end (P.faults keeper) (P.faults result.keeper) }
+    ensures sink { CountsSink result.end (K.faults out.old) (K.faults out.new) }
     ensures follows { P.follows keeper result.keeper }
 {
     match begin(alloc, &script.head, keeper) {
@@ -81,6 +82,7 @@ fn replay_over<P: Keeper, K: Sink>(
         (K.faults out.old) (K.faults out.new) }
     ensures keeps { result.end ≡ Ending.Done → KeepsPlayed script.now.head (play script.now.head script.now.lines) (P.content result.keeper) }
     ensures counts { CountsKeeper result.end (P.faults world.server.keeper) (P.faults result.keeper) }
+    ensures sink { CountsSink result.end (K.faults out.old) (K.faults out.new) }
     ensures follows { P.follows world.server.keeper result.keeper }
 {
     let mut world = world;
@@ -132,6 +134,7 @@ fn tell<L: Keeper, K: Sink>(
         (L.content world.now.server.keeper))
         → KeepsPlayed head due (L.content world.now.server.keeper) }
     ensures counts { (before count : ℕ) → CountsFaults (said played) before count → CountsKeeper result before count }
+    ensures sink { CountsSink result (K.faults out.old) (K.faults out.new) }
 {
     match played {
         Played::All => print_entries(alloc, world.journal(), version, out),
@@ -142,7 +145,8 @@ fn tell<L: Keeper, K: Sink>(
 /// Tells at which line a schedule stopped, and why; nothing where the keeper failed.
 fn tell_why<K: Sink>(alloc: Global, line: u32, answer: Stepped, out: &mut K) -> Ending
     requires { answer ≡ Stepped.Done → ⊥ }
-    ensures { TellsWhy result line answer (K.held out.old) (K.held out.new) (K.faults out.old) (K.faults out.new) }
+    ensures tells { TellsWhy result line answer (K.held out.old) (K.held out.new) (K.faults out.old) (K.faults out.new) }
+    ensures sink { CountsSink result (K.faults out.old) (K.faults out.new) }
 {
     match answer {
         Stepped::Fault => Ending::KeepFault,
@@ -155,8 +159,9 @@ fn tell_why<K: Sink>(alloc: Global, line: u32, answer: Stepped, out: &mut K) -> 
 fn print_entries<K: Sink>(alloc: Global, journal: &Journal, version: u32, out: &mut K) -> Ending
     requires version { IsVersion version }
     requires has { All (Has version) journal.now.entries }
-    ensures { (entries : List Entry) → map plain journal.now.entries ≡ entries
+    ensures prints { (entries : List Entry) → map plain journal.now.entries ≡ entries
         → PrintsEntries result version entries (K.held out.old) (K.held out.new) (K.faults out.old) (K.faults out.new) }
+    ensures sink { CountsSink result (K.faults out.old) (K.faults out.new) }
 {
     match print(alloc, journal, version, out) {
         Printed::All => Ending::Done,
@@ -168,7 +173,8 @@ fn print_entries<K: Sink>(alloc: Global, journal: &Journal, version: u32, out: &
 /// Tells at which line a schedule stopped, and why.
 pub fn tell_stop<K: Sink>(alloc: Global, line: u32, answer: Stepped, out: &mut K) -> Ending
     requires { IsReason answer }
-    ensures { TellsStop result line answer (K.held out.old) (K.held out.new) (K.faults out.old) (K.faults out.new) }
+    ensures tells { TellsStop result line answer (K.held out.old) (K.held out.new) (K.faults out.old) (K.faults out.new) }
+    ensures sink { CountsSink result (K.faults out.old) (K.faults out.new) }
 {
     match answer {
         Stepped::NoPacket => tell_script(alloc, line, out),
@@ -181,7 +187,8 @@ pub fn tell_stop<K: Sink>(alloc: Global, line: u32, answer: Stepped, out: &mut K
 
 /// Tells a faulty line.
 pub fn tell_script<K: Sink>(alloc: Global, line: u32, out: &mut K) -> Ending
-    ensures { TellsStop result line Stepped.NoPacket (K.held out.old) (K.held out.new) (K.faults out.old) (K.faults out.new) }
+    ensures tells { TellsStop result line Stepped.NoPacket (K.held out.old) (K.held out.new) (K.faults out.old) (K.faults out.new) }
+    ensures sink { CountsSink result (K.faults out.old) (K.faults out.new) }
 {
     match script_text(alloc, line as usize) {
         Ok(text) => {
@@ -194,7 +201,8 @@ pub fn tell_script<K: Sink>(alloc: Global, line: u32, out: &mut K) -> Ending
 
 /// Tells which tick breaks the rule on skew.
 fn tell_skew<K: Sink>(alloc: Global, line: u32, broken: SkewBroken, out: &mut K) -> Ending
-    ensures { TellsStop result line (Stepped.SkewBroken broken) (K.held out.old) (K.held out.new) (K.faults out.old) (K.faults out.new) }
+    ensures tells { TellsStop result line (Stepped.SkewBroken broken) (K.held out.old) (K.held out.new) (K.faults out.old) (K.faults out.new) }
+    ensures sink { CountsSink result (K.faults out.old) (K.faults out.new) }
 {
     match skew_text(alloc, line, broken) {
         Ok(text) => {
@@ -207,7 +215,8 @@ fn tell_skew<K: Sink>(alloc: Global, line: u32, broken: SkewBroken, out: &mut K)
 
 /// Tells where there are too many events or packets.
 pub fn tell_limit<K: Sink>(alloc: Global, line: u32, limit: Limit, out: &mut K) -> Ending
-    ensures { TellsStop result line (Stepped.Limit limit) (K.held out.old) (K.held out.new) (K.faults out.old) (K.faults out.new) }
+    ensures tells { TellsStop result line (Stepped.Limit limit) (K.held out.old) (K.held out.new) (K.faults out.old) (K.faults out.new) }
+    ensures sink { CountsSink result (K.faults out.old) (K.faults out.new) }
 {
     match limit_text(alloc, line as usize, bound_of(limit)) {
         Ok(text) => {

@@ -18,7 +18,7 @@ use Rattle.nq_io.specs.Whole.{IsAll, IsOver}
 use Rattle.nq_journal.specs.Fault.{IsFaultyAt, IsJournal, ended}
 use Rattle.nq_journal.specs.Parsing.{IsFault, IsTextOf, named}
 use Rattle.nq_journal.specs.Text.{IsText, entry_line, entry_words, end_line, head_line, journal_text}
-use Rattle.nq_replay.specs.Ending.{IsUnlessFault, TellsOver}
+use Rattle.nq_replay.specs.Ending.{CountsSource, IsUnlessFault, TellsOver}
 use Rattle.nq_run.specs.Judging.{IsJudged, IsSaidUnlessFault, Judges, JudgesText, PrintsWrong, TellsVerdict, yes_line}
 use Rattle.nq_replay.specs.Lines.{script_line}
 use Rattle.nq_script.specs.Words.{line, joined}
@@ -170,6 +170,12 @@ pub judges_over : (end : Ending) (front : List ℕ) (limit : ℕ) (left rest hel
 judges_over Ending.Memory front limit left rest held now r r' w w' over tells = (tells, inr (inr (front, over)))
 judges_over Ending.Limit front limit left rest held now r r' w w' over tells = record { front = front; passes = over; printed = tells }
 judges_over other front limit left rest held now r r' w w' over tells = absurd tells
+
+-- judging a text counts no fault of the source
+pub judged_source : (end : Ending) (text : List ℕ) (held now : Option (List ℕ)) (w w' before count : ℕ) → JudgesText end text held now w w'
+    → count ≡ before → CountsSource end before count
+judged_source Ending.ReadFault text held now w w' before count judges same = absurd judges
+judged_source other text held now w w' before count judges same = same
 
 is_journal : (text : List ℕ) (found : Option Fault) → IsJudged text found → IsJournal text
 is_journal text found judged = record { version = judged.version; entries = judged.entries; text = judged.spelled }

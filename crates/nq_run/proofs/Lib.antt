@@ -1,4 +1,5 @@
 pub mod Commands
+pub mod Faultless
 pub mod Finding
 pub mod Hiding
 pub mod Judgements

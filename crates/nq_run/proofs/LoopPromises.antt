@@ -9,7 +9,7 @@ use Rattle.nq_loop.specs.Whole.{loop_head}
 use Rattle.nq_model.specs.Kept.{Kept}
 use Rattle.nq_clock.specs.Clocks.{ClockTold}
 use Rattle.nq_link.specs.Links.{LinkTold}
-use Rattle.nq_replay.specs.Ending.{CountsKeeper}
+use Rattle.nq_replay.specs.Ending.{CountsKeeper, CountsSink}
 use Rattle.nq_run.proofs.Promises.{faultless, holds_throughout}
 use Rattle.nq_run.specs.Looping.{LoopsFor, LoopsLawfully}
 
@@ -32,14 +32,15 @@ done_looped hosts turns clock clock' links links' held now kept keeps =
 pub loops_for : (end : Ending) (code hosts turns : ℕ) (clock clock' : ClockTold) (links links' : List LinkTold) (held now : Option (List ℕ))
     (w w' k k' : ℕ) (kept : Option Kept) → code ≡ status_of end
     → LoopEnds end hosts turns clock clock' links links' held now w w' → (end ≡ Ending.Done → KeepsLoop hosts turns clock clock' links links' held now
-    kept) → CountsKeeper end k k'
+    kept) → CountsKeeper end k k' → CountsSink end w w'
     → LoopsFor code hosts turns clock clock' links links' held now w w' k k' kept
-loops_for end code hosts turns clock clock' links links' held now w w' k k' kept status ends keeps counts = record {
+loops_for end code hosts turns clock clock' links links' held now w w' k k' kept status ends keeps counts sink = record {
   end = end;
   status = status;
   ends = ends;
   unless = loops-unless end hosts turns clock clock' links links' held now w w' k k' ends counts;
   counts = counts;
+  sink = sink;
   lawful = λ done. done_looped hosts turns clock clock' links links' held now kept (keeps done);
 }
 

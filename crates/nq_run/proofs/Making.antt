@@ -32,6 +32,7 @@ storms-kept code kind start count rules old new held now w w' k k' ended bytes s
   does = s.does;
   unless = s.unless;
   counts = s.counts;
+  sink = s.sink;
   lawful = λ done.
       let l = s.lawful done in
       record {
@@ -58,6 +59,7 @@ loops-kept code hosts turns clock clock' links links' held now w w' k k' ended b
   ends = s.ends;
   unless = s.unless;
   counts = s.counts;
+  sink = s.sink;
   lawful = λ done.
       let l = s.lawful done in
       record {

@@ -3,6 +3,7 @@ use Rattle.std.proofs.Common.{◌≡◌, ℕ, List, Option, subst}
 use Rattle.nq_base.proofs.Ends.{one_end}
 use Rattle.nq_base.specs.Status.{status_of}
 use Rattle.nq_base.specs.declared.ending.ending.Ending.{Ending}
+use Rattle.nq_replay.specs.Ending.{CountsSink, CountsSource}
 use Rattle.nq_replay.specs.Playing.{beginning}
 use Rattle.nq_replay.specs.Replay.{OfInput}
 use Rattle.nq_run.proofs.Promises.{faultless, holds_throughout}
@@ -34,12 +35,15 @@ input_names limit left rest held now p = record { text = p.text; read = p.read; 
 
 -- a run with lists by its end
 pub names_for : (end : Ending) (limit code : ℕ) (left rest held now : Option (List ℕ)) (r r' w w' : ℕ) → code ≡ status_of end
-    → EndsNames end limit left rest held now r r' w w' → EndsByInput end limit left r r' w w' → NamesFor limit code left rest held now r r' w w'
-names_for end limit code left rest held now r r' w w' status ends by_input = record {
+    → EndsNames end limit left rest held now r r' w w' → EndsByInput end limit left r r' w w' → CountsSource end r r' → CountsSink end w w'
+    → NamesFor limit code left rest held now r r' w w'
+names_for end limit code left rest held now r r' w w' status ends by_input source sink = record {
   end = end;
   status = status;
   ends = ends;
   by_input = by_input;
+  source = source;
+  sink = sink;
   lawful = λ done. input_names limit left rest held now (subst (λ e. EndsNames e limit left rest held now r r' w w') done ends);
 }
 

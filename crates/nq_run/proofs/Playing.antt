@@ -8,7 +8,7 @@ use Rattle.nq_base.specs.declared.ending.ending.Ending.{Ending}
 use Rattle.nq_model.specs.Kept.{Kept}
 use Rattle.nq_replay.specs.Playing.{Ended, play, ran, stopped}
 use Rattle.nq_replay.proofs.Outcomes.{memory_before}
-use Rattle.nq_replay.specs.Ending.{CountsKeeper, IsFault}
+use Rattle.nq_replay.specs.Ending.{CountsKeeper, CountsSink, CountsSource, IsFault}
 use Rattle.nq_replay.specs.Reading.{IsReadAs, RefusedUnlessFault, Refuses}
 use Rattle.nq_replay.specs.Replay.{OfInput}
 use Rattle.nq_replay.specs.Schedules.{EndsOver, KeepsPlayed}
@@ -48,6 +48,11 @@ counts-not Ending.KeepFault before count fails = fails
 counts-not Ending.Memory before count fails = fails
 counts-not other before count fails = absurd fails
 
+sinks-not : (end : Ending) (w before count : ℕ) → EmptiesNot end before count → CountsSink end w w
+sinks-not Ending.KeepFault w before count fails = refl
+sinks-not Ending.Memory w before count fails = refl
+sinks-not other w before count fails = absurd fails
+
 pub plays_not : (end : Ending) (code : ℕ) (head : Head) (due : Ended) (held : Option (List ℕ)) (w before count : ℕ) (bytes : Option (List ℕ))
     → code ≡ status_of end
     → EmptiesNot end before count → PlaysOn head due code held held w w before count bytes
@@ -56,6 +61,7 @@ plays_not end code head due held w before count bytes status fails = record {
   status = status;
   ends = ends-not end head due held w before count fails;
   keeps = λ done. absurd (never-done end before count fails done);
+  sink = sinks-not end w before count fails;
   first = before;
   last = count;
   counts = counts-not end before count fails;
@@ -68,13 +74,14 @@ module _ {D : Type 0} (told : D → Option (List ℕ)) (faults : D → ℕ) (fol
   pub plays_store : (end : Ending) (code : ℕ) (head : Head) (due : Ended) (held now : Option (List ℕ)) (w w' : ℕ) (disk : D) (store served : StoredStore D)
       → code ≡ status_of end → ((first last : D) → follows first last → faults first ≤ faults last) → IsFresh store → faults store.disk ≡ faults disk
       → GoesOn faults follows store served → EndsOver end head due held now w w' → (end ≡ Ending.Done → KeepsPlayed head due (content_of told served))
-      → CountsKeeper end (faults_of faults store) (faults_of faults served)
+      → CountsKeeper end (faults_of faults store) (faults_of faults served) → CountsSink end w w'
       → PlaysOn head due code held now w w' (faults disk) (faults served.disk) (told served.disk)
-  plays_store end code head due held now w w' disk store served status rises fresh same goes ends keeps counts = record {
+  plays_store end code head due held now w w' disk store served status rises fresh same goes ends keeps counts sink = record {
     end = end;
     status = status;
     ends = ends;
     keeps = λ done. keeps-on head due served.ended (told served.disk) (keeps done);
+    sink = sink;
     first = faults_of faults store;
     last = faults_of faults served;
     counts = counts;
@@ -89,18 +96,26 @@ never-unread head (ran events) held now w w' (inr failed) = let is = failed.0 in
 never-unread head (stopped line answer) held now w w' (inl ends) = absurd ends
 never-unread head (stopped line answer) held now w w' (inr failed) = let is = failed.0 in absurd (cc)
 
+-- playing a schedule counts no fault of the source
+played-source : (end : Ending) (head : Head) (due : Ended) (held now : Option (List ℕ)) (r r' w w' : ℕ) → EndsOver end head due held now w w'
+    → r' ≡ r → CountsSource end r r'
+played-source Ending.ReadFault head due held now r r' w w' ends same = absurd (never-unread head due held now w w' ends)
+played-source other head due held now r r' w w' ends same = same
+
 -- a schedule that was read
 pub replays_on : {D : Type 0} (script : Script) (limit code : ℕ) (left rest held now : Option (List ℕ)) (r r' w w' before count : ℕ)
     (bytes : Option (List ℕ)) (disk disk' : D)
-    → OfInput limit left rest (λ text. IsReadAs script text) → PlaysOn script.head (play script.head script.lines) code held now w w' before count bytes
+    → OfInput limit left rest (λ text. IsReadAs script text) → r' ≡ r
+    → PlaysOn script.head (play script.head script.lines) code held now w w' before count bytes
     → ((text : List ℕ) → left ≡ Some text → limit < length text → ⊥)
     → ((text : List ℕ) → left ≡ Some text → length text ≤ limit → (number : ℕ) → FirstBadLine text number → ⊥)
     → ReplaysOn limit code left rest held now r r' w w' before count bytes disk disk'
-replays_on script limit code left rest held now r r' w w' before count bytes disk disk' read p over bad = record {
+replays_on script limit code left rest held now r r' w w' before count bytes disk disk' read same p over bad = record {
   replays = record {
     first = p.first;
     last = p.last;
-    does = replays_for p.end script limit code left rest held now r r' w w' p.first p.last (kept_told bytes) p.status read p.ends p.keeps p.counts;
+    does = replays_for p.end script limit code left rest held now r r' w w' p.first p.last (kept_told bytes) p.status read p.ends p.keeps p.counts
+        (played-source p.end script.head (play script.head script.lines) held now r r' w w' p.ends same) p.sink;
     hides = p.hides;
   };
   over = λ text is more. absurd (over text is more);
@@ -117,12 +132,12 @@ pub refused_on : {D : Type 0} (end : Ending) (limit code : ℕ) (left rest held 
     → ((text : List ℕ) → left ≡ Some text → length text ≤ limit → (number : ℕ) → FirstBadLine text number → RefusedUnlessFault (Err end) Ending.Script
     r r' w w')
     → ((text : List ℕ) → left ≡ Some text → length text ≤ limit → (head : Head) (lines : List Line) → SpellsSchedule head lines text → IsFault end r r' w w')
-    → ReplaysOn limit code left rest held now r r' w w' before before bytes disk disk
-refused_on end limit code left rest held now r r' w w' before bytes disk status refuses over bad spelled = record {
+    → CountsSource end r r' → CountsSink end w w' → ReplaysOn limit code left rest held now r r' w w' before before bytes disk disk
+refused_on end limit code left rest held now r r' w w' before bytes disk status refuses over bad spelled source sink = record {
   replays = record {
     first = 0;
     last = 0;
-    does = refused_for end limit code left rest held now r r' w w' 0 (kept_told bytes) status refuses over bad spelled;
+    does = refused_for end limit code left rest held now r r' w w' 0 (kept_told bytes) status refuses over bad spelled source sink;
     hides = hides_untouched code before 0 (λ six. absurd (subst (λ e. Refuses e limit left rest held now r r' w w')
         (one_end end Ending.KeepFault code status six) refuses));
   };

@@ -6,7 +6,7 @@ use Rattle.nq_base.specs.declared.ending.ending.Ending.{Ending}
 use Rattle.nq_model.specs.Kept.{Kept}
 use Rattle.nq_replay.specs.Playing.{play}
 use Rattle.nq_replay.proofs.Whole.{over_by_input, over_ends, over_within, refused_by_input, refused_counts, refused_ends, refused_not_done}
-use Rattle.nq_replay.specs.Ending.{CountsKeeper, Ends, IsFault}
+use Rattle.nq_replay.specs.Ending.{CountsKeeper, CountsSink, CountsSource, Ends, IsFault}
 use Rattle.nq_run.specs.Judging.{Judges}
 use Rattle.nq_replay.specs.Reading.{IsReadAs, RefusedUnlessFault, Refuses}
 use Rattle.nq_replay.specs.Replay.{OfInput}
@@ -23,14 +23,16 @@ use Rattle.nq_script.specs.declared.scripts.Script.{Script}
 pub replays_for : (end : Ending) (script : Script) (limit code : ℕ) (left rest held now : Option (List ℕ)) (r r' w w' k k' : ℕ) (told : Option Kept)
     → code ≡ status_of end
     → OfInput limit left rest (λ text. IsReadAs script text) → EndsOver end script.head (play script.head script.lines) held now w w'
-    → (end ≡ Ending.Done → KeepsPlayed script.head (play script.head script.lines) told) → CountsKeeper end k k'
-    → ReplaysFor limit code left rest held now r r' w w' k k' told
-replays_for end script limit code left rest held now r r' w w' k k' told status read ends keeps counts = record {
+    → (end ≡ Ending.Done → KeepsPlayed script.head (play script.head script.lines) told) → CountsKeeper end k k' → CountsSource end r r'
+    → CountsSink end w w' → ReplaysFor limit code left rest held now r r' w w' k k' told
+replays_for end script limit code left rest held now r r' w w' k k' told status read ends keeps counts source sink = record {
   end = end;
   status = status;
   ends = over_ends end script limit left rest held now r r' w w' read ends;
   by_input = over_by_input end script limit left rest held now r r' w w' k k' read ends counts;
   counts = counts;
+  source = source;
+  sink = sink;
   headline = λ done. input_lawful limit left rest held now told (over_within end script limit left rest held now told w w' read ends keeps done);
   sound = λ done. input_sound limit left rest held now told (over_within end script limit left rest held now told w w' read ends keeps done);
 }
@@ -42,13 +44,15 @@ pub refused_for : (end : Ending) (limit code : ℕ) (left rest held now : Option
     → ((text : List ℕ) → left ≡ Some text → length text ≤ limit → (number : ℕ) → FirstBadLine text number → RefusedUnlessFault (Err end) Ending.Script
     r r' w w')
     → ((text : List ℕ) → left ≡ Some text → length text ≤ limit → (head : Head) (lines : List Line) → SpellsSchedule head lines text → IsFault end r r' w w')
-    → ReplaysFor limit code left rest held now r r' w w' k k told
-refused_for end limit code left rest held now r r' w w' k told status refuses over bad spelled = record {
+    → CountsSource end r r' → CountsSink end w w' → ReplaysFor limit code left rest held now r r' w w' k k told
+refused_for end limit code left rest held now r r' w w' k told status refuses over bad spelled source sink = record {
   end = end;
   status = status;
   ends = refused_ends end limit left rest held now r r' w w' refuses;
   by_input = refused_by_input end limit left r r' w w' k k over bad spelled;
   counts = refused_counts end limit left rest held now r r' w w' k refuses;
+  source = source;
+  sink = sink;
   headline = λ done. absurd (refused_not_done end limit left rest held now r r' w w' refuses done);
   sound = λ done. absurd (refused_not_done end limit left rest held now r r' w w' refuses done);
 }

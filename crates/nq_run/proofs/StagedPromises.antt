@@ -6,6 +6,7 @@ use Rattle.nq_base.specs.declared.ending.ending.Ending.{Ending}
 use Rattle.nq_model.specs.Journal.{Each}
 use Rattle.nq_model.specs.Stepped.{most_events}
 use Rattle.nq_model.specs.World.{Head as Beginning}
+use Rattle.nq_replay.specs.Ending.{CountsSink, CountsSource}
 use Rattle.nq_replay.specs.Playing.{beginning}
 use Rattle.nq_replay.specs.Replay.{OfInput}
 use Rattle.nq_run.proofs.Promises.{faultless, holds_throughout}
@@ -61,12 +62,14 @@ input_staged limit left rest held now p = record { text = p.text; read = p.read;
 
 -- a staged run by its end
 pub stages_for : (end : Ending) (limit code : ℕ) (left rest held now : Option (List ℕ)) (r r' w w' : ℕ) → code ≡ status_of end → EndsStaged end limit
-    left rest held now r r' w w' → EndsByInput end limit left r r' w w' → StagesFor limit code left rest held now r r' w w'
-stages_for end limit code left rest held now r r' w w' status ends by_input = record {
+    left rest held now r r' w w' → EndsByInput end limit left r r' w w' → CountsSource end r r' → CountsSink end w w' → StagesFor limit code left rest held now r r' w w'
+stages_for end limit code left rest held now r r' w w' status ends by_input source sink = record {
   end = end;
   status = status;
   ends = ends;
   by_input = by_input;
+  source = source;
+  sink = sink;
   lawful = λ done. input_staged limit left rest held now (subst (λ e. EndsStaged e limit left rest held now r r' w w') done ends);
 }
 

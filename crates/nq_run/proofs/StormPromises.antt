@@ -4,7 +4,7 @@ use Rattle.nq_base.proofs.Ends.{one_end}
 use Rattle.nq_base.specs.Status.{status_of}
 use Rattle.nq_base.specs.declared.ending.ending.Ending.{Ending}
 use Rattle.nq_model.specs.Kept.{Kept}
-use Rattle.nq_replay.specs.Ending.{CountsKeeper}
+use Rattle.nq_replay.specs.Ending.{CountsKeeper, CountsSink}
 use Rattle.nq_replay.specs.Lines.{usage_line}
 use Rattle.nq_io.specs.Sink.{PrintsLine}
 use Rattle.nq_run.proofs.Promises.{faultless, holds_throughout}
@@ -76,14 +76,15 @@ unless_storm other start count first held now w w' k k' ends counts = absurd end
 pub storms_for : (end : Ending) (code kind start count : ℕ) (told : List (Option Rule)) (old new : List FateTold) (first : Option Rule)
     (held now : Option (List ℕ)) (w w' k k' : ℕ) (kept : Option Kept) → code ≡ status_of end
     → IsFirstOf kind told first → StormEnds end start count first held now w w' → (end ≡ Ending.Done → KeepsStorm start count first held now kept)
-    → CountsKeeper end k k' → AsksInStorm end kind count old new
+    → CountsKeeper end k k' → CountsSink end w w' → AsksInStorm end kind count old new
     → StormsFor code kind start count told old new held now w w' k k' kept
-storms_for end code kind start count told old new first held now w w' k k' kept status found ends keeps counts asked = record {
+storms_for end code kind start count told old new first held now w w' k k' kept status found ends keeps counts sink asked = record {
   end = end;
   status = status;
   does = does_storm end kind start count told first held now w w' found ends;
   unless = unless_storm end start count first held now w w' k k' ends counts;
   counts = counts;
+  sink = sink;
   lawful = λ done. done_lawfully kind start count told first held now kept found (keeps done);
   asked = asked;
 }
@@ -98,6 +99,7 @@ storms_none code kind start count told fates held now w w' k kept status lack pr
   does = inr (refl, lack, printed);
   unless = inl refl;
   counts = refl;
+  sink = tt;
   lawful = λ done. absurd (cc);
   asked = inr (refl, refl);
 }

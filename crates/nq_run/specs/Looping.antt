@@ -16,7 +16,7 @@ use Rattle.nq_model.specs.World.{run}
 use Rattle.nq_clock.specs.Clocks.{ClockTold}
 use Rattle.nq_link.specs.Links.{LinkTold}
 use Rattle.nq_replay.specs.Playing.{beginning}
-use Rattle.nq_replay.specs.Ending.{CountsKeeper}
+use Rattle.nq_replay.specs.Ending.{CountsKeeper, CountsSink}
 use Rattle.nq_replay.specs.Replay.{kept_of}
 use Rattle.nq_run.specs.Promised.{HoldsThroughout}
 
@@ -36,7 +36,8 @@ pub record LoopsLawfully (hosts turns : ℕ) (clock clock' : ClockTold) (links l
   pub judged : verdict (run (beginning (loop_head hosts)) events).journal ≡ None
   pub keeps : kept ≡ Some (kept_of (loop_head hosts) events)
 
--- a loop among so many hosts took its turns, or ended before, and the status is that of its end, which has its cause
+-- a loop among so many hosts took its turns, or ended before, and the status is that of its end, which has its cause. `sink` refuses a loop
+-- that ends with 0 though its output failed
 pub record LoopsFor (code hosts turns : ℕ) (clock clock' : ClockTold) (links links' : List LinkTold) (held now : Option (List ℕ)) (w w' k k' : ℕ)
     (kept : Option Kept) : Type 0 where
   pub end : Ending
@@ -44,4 +45,5 @@ pub record LoopsFor (code hosts turns : ℕ) (clock clock' : ClockTold) (links l
   pub ends : LoopEnds end hosts turns clock clock' links links' held now w w'
   pub unless : EndsUnlessFault end links links' w w' k k'
   pub counts : CountsKeeper end k k'
+  pub sink : CountsSink end w w'
   pub lawful : end ≡ Ending.Done → LoopsLawfully hosts turns clock clock' links links' held now kept

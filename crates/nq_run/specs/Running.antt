@@ -7,7 +7,7 @@ use Rattle.nq_base.specs.declared.ending.ending.Ending.{Ending}
 use Rattle.nq_clock.specs.Clocks.{ClockTold}
 use Rattle.nq_link.specs.Links.{LinkTold}
 use Rattle.nq_replay.specs.Playing.{Ended}
-use Rattle.nq_replay.specs.Ending.{CountsKeeper}
+use Rattle.nq_replay.specs.Ending.{CountsKeeper, CountsSink}
 use Rattle.nq_replay.specs.Schedules.{EndsOver, KeepsPlayed}
 use Rattle.nq_run.specs.Fates.{FateTold}
 use Rattle.nq_run.specs.Looping.{LoopsFor}
@@ -46,6 +46,7 @@ pub record PlaysOn (head : Head) (due : Ended) (code : ℕ) (held now : Option (
   pub status : code ≡ status_of end
   pub ends : EndsOver end head due held now w w'
   pub keeps : end ≡ Ending.Done → KeepsPlayed head due (kept_told bytes)
+  pub sink : CountsSink end w w'
   pub first : ℕ
   pub last : ℕ
   pub counts : CountsKeeper end first last

@@ -9,7 +9,7 @@ use Rattle.nq_io.specs.Told.{with_end}
 use Rattle.nq_model.specs.Stepped.{out_of_skew}
 use Rattle.nq_model.specs.World.{run}
 use Rattle.nq_replay.specs.Playing.{beginning}
-use Rattle.nq_replay.specs.Ending.{IsUnlessFault}
+use Rattle.nq_replay.specs.Ending.{CountsSink, CountsSource, IsUnlessFault}
 use Rattle.nq_replay.specs.Replay.{OfInput}
 use Rattle.nq_replay.specs.declared.Bound.{Bound}
 use Rattle.nq_check.specs.Verdict.{verdict}
@@ -46,10 +46,13 @@ pub record EndsByInput (end : Ending) (limit : ℕ) (left : Option (List ℕ)) (
   pub done : (text : List ℕ) → left ≡ Some text → length text ≤ limit → (head : Head) (events : List StagedEvent) → RunsStaged text head events
       → IsUnlessFault end Ending.Done r r' w w'
 
--- a staged schedule was run, or it ended before, and the status is that of its end, which has its cause
+-- a staged schedule was run, or it ended before, and the status is that of its end, which has its cause. `source` and
+-- `sink` refuse a run that ends with 0 though its input or its output failed
 pub record StagesFor (limit code : ℕ) (left rest held now : Option (List ℕ)) (r r' w w' : ℕ) : Type 0 where
   pub end : Ending
   pub status : code ≡ status_of end
   pub ends : EndsStaged end limit left rest held now r r' w w'
   pub by_input : EndsByInput end limit left r r' w w'
+  pub source : CountsSource end r r'
+  pub sink : CountsSink end w w'
   pub lawful : end ≡ Ending.Done → OfInput limit left rest (λ text. StagesLawfully text held now)

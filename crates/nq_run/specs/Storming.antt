@@ -11,7 +11,7 @@ use Rattle.nq_io.specs.Told.{with_end}
 use Rattle.nq_model.specs.Kept.{Kept}
 use Rattle.nq_model.specs.World.{run}
 use Rattle.nq_replay.specs.Playing.{beginning}
-use Rattle.nq_replay.specs.Ending.{CountsKeeper, IsFault}
+use Rattle.nq_replay.specs.Ending.{CountsKeeper, CountsSink, IsFault}
 use Rattle.nq_replay.specs.Lines.{usage_line}
 use Rattle.nq_io.specs.Sink.{PrintsLine}
 use Rattle.nq_replay.specs.Replay.{kept_of}
@@ -53,7 +53,8 @@ pub record StormsLawfully (kind start count : ℕ) (told : List (Option Rule)) (
   pub judged : verdict (run (beginning storm_head) events).journal ≡ None
   pub keeps : kept ≡ Some (kept_of storm_head events)
 
--- a storm was run, or it ended before, and the status is that of its end, which has its cause; a fate was asked once for each event
+-- a storm was run, or it ended before, and the status is that of its end, which has its cause; a fate was asked once for each event. `sink`
+-- refuses a storm that ends with 0 though its output failed
 pub record StormsFor (code kind start count : ℕ) (told : List (Option Rule)) (old new : List FateTold) (held now : Option (List ℕ)) (w w' k k' : ℕ)
     (kept : Option Kept) : Type 0 where
   pub end : Ending
@@ -61,5 +62,6 @@ pub record StormsFor (code kind start count : ℕ) (told : List (Option Rule)) (
   pub does : DoesStorm end kind start count told held now w w'
   pub unless : StormsUnlessFault end w w' k k'
   pub counts : CountsKeeper end k k'
+  pub sink : CountsSink end w w'
   pub lawful : end ≡ Ending.Done → StormsLawfully kind start count told held now kept
   pub asked : AsksInStorm end kind count old new

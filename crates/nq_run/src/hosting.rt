@@ -26,7 +26,7 @@ pub(crate) fn attended<S: Source, K: Sink, L: Link, C: Clock>(
 ) -> u8
     requires { limit < 2 ^ 31 }
     ensures { Attends turns (record { host = host; inc = inc }) limit result (S.left input.old) (S.left input.new) (S.faults input.old) (S.faults input.new)
-        (K.held out.old) (K.held out.new) (K.faults out.old) (K.faults out.new) (clock_told C.floor C.readings clock.old) (clock_told C.floor C.readings clock.new)
+        (K.held out.old) (K.held out.new) (K.faults out.old) (K.faults out.new) (clock_told C.floor C.readings C.reads clock.old) (clock_told C.floor C.readings C.reads clock.new)
         (link_told L.sent L.waiting L.faults L.receives link.old)
         (link_told L.sent L.waiting L.faults L.receives link.new) }
 {

@@ -4,7 +4,7 @@ ghost use Rattle.std.specs.Prelude.{◌≡◌, ◌<◌, ◌≤◌, ◌^◌, ◌+
 ghost use Rattle.nq_check.specs.Verdict.{Fault, IsVerdict};
 ghost use Rattle.nq_journal.specs.Fault.{IsFaultyAt, IsJournal};
 ghost use Rattle.nq_base.specs.declared.ending.ending.Ending.{Ending};
-ghost use Rattle.nq_replay.specs.Ending.{IsUnlessFault};
+ghost use Rattle.nq_replay.specs.Ending.{CountsSink, CountsSource, IsUnlessFault};
 ghost use Rattle.nq_run.specs.Judging.{IsSaidUnlessFault, Judges, JudgesText, TellsVerdict, no_line};
 
 use nq_base::NoMemory;
@@ -36,6 +36,8 @@ pub fn judge<S: Source, K: Sink>(alloc: Global, input: &mut S, out: &mut K, limi
         → IsUnlessFault result Ending.Script (S.faults input.old) (S.faults input.new) (K.faults out.old) (K.faults out.new) }
     ensures said { (text : List ℕ) → S.left input.old ≡ Some text → length text ≤ limit → IsJournal text
         → IsSaidUnlessFault result (S.faults input.old) (S.faults input.new) (K.faults out.old) (K.faults out.new) }
+    ensures source { CountsSource result (S.faults input.old) (S.faults input.new) }
+    ensures sink { CountsSink result (K.faults out.old) (K.faults out.new) }
 {
     match read_all(alloc, input, limit) {
         Whole::All(text) => judge_text(alloc, &text, out),
@@ -48,7 +50,8 @@ pub fn judge<S: Source, K: Sink>(alloc: Global, input: &mut S, out: &mut K, limi
 /// Judges a text that was read, and prints the verdict or its first faulty line.
 fn judge_text<K: Sink>(alloc: Global, text: &[u8], out: &mut K) -> Ending
     requires { length text.now < 2 ^ 31 }
-    ensures { JudgesText result text.now (K.held out.old) (K.held out.new) (K.faults out.old) (K.faults out.new) }
+    ensures judges { JudgesText result text.now (K.held out.old) (K.held out.new) (K.faults out.old) (K.faults out.new) }
+    ensures sink { CountsSink result (K.faults out.old) (K.faults out.new) }
 {
     match parse(alloc, text) {
         Ok(journal) => tell(alloc, check(alloc, &journal), out),
@@ -66,7 +69,8 @@ fn judge_text<K: Sink>(alloc: Global, text: &[u8], out: &mut K) -> Ending
 /// Prints a verdict.
 fn tell<K: Sink>(alloc: Global, judged: Judged, out: &mut K) -> Ending
     requires { (place : ℕ) (rule : _) → judged ≡ Judged.No place rule → place < 2 ^ 31 }
-    ensures { TellsVerdict result judged (K.held out.old) (K.held out.new) (K.faults out.old) (K.faults out.new) }
+    ensures tells { TellsVerdict result judged (K.held out.old) (K.held out.new) (K.faults out.old) (K.faults out.new) }
+    ensures sink { CountsSink result (K.faults out.old) (K.faults out.new) }
 {
     match judged {
         Judged::Yes => match out.put(b"yes\n") {

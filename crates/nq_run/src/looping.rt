@@ -28,7 +28,7 @@ pub(crate) fn looped<K: Sink, D: Disk + Drop, L: Link, C: Clock>(
     requires some { 1 ≤ hosts }
     requires few { hosts ≤ 64 }
     requires links { length links.old ≡ hosts + 1 }
-    ensures loops { LoopsOn result.status hosts turns (clock_told C.floor C.readings clock.old) (clock_told C.floor C.readings clock.new)
+    ensures loops { LoopsOn result.status hosts turns (clock_told C.floor C.readings C.reads clock.old) (clock_told C.floor C.readings C.reads clock.new)
         (map (told_of L.sent L.waiting L.faults L.receives) links.old) (map (told_of L.sent L.waiting L.faults L.receives) links.new)
         (K.held out.old) (K.held out.new) (K.faults out.old) (K.faults out.new) (D.faults disk) (D.faults result.disk) (D.told result.disk) }
     ensures follows { D.follows disk result.disk }

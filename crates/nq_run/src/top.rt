@@ -56,7 +56,8 @@ const MOST_BYTES: usize = 16_777_216;
 /// premise, since the run itself tests it. What the words have no use for stays as it was: the input, the disk, the link, the links of a
 /// loop, the clock, the fates.
 ///
-/// The answer is the exit status, with the disk. It is 6 only where the disk failed, and for `serve` 10 exactly where the image is wrong.
+/// The answer is the exit status, with the disk. It is 6 only where the disk failed, and for `serve` 10 exactly where the image is wrong. Where
+/// the input or the output failed, it says so, or tells a fault that came before.
 /// `docs/commands.md` says when each status comes, and what is printed then.
 pub fn run<S: Source, K: Sink, D: Disk + Drop, L: Link, C: Clock>(
     alloc: Global,
@@ -79,7 +80,7 @@ pub fn run<S: Source, K: Sink, D: Disk + Drop, L: Link, C: Clock>(
     ensures quiet { IsFormat words.now → out.new ≡ out.old }
     ensures serves { (turns longest : ℕ) → command_of words.now ≡ Some (Command.Serve turns longest)
         → ServesDisk D.told D.faults D.may_leave D.follows D.leaves result.status longest turns disk result.disk
-        (clock_told C.floor C.readings clock.old) (clock_told C.floor C.readings clock.new)
+        (clock_told C.floor C.readings C.reads clock.old) (clock_told C.floor C.readings C.reads clock.new)
         (link_told L.sent L.waiting L.faults L.receives link.old)
         (link_told L.sent L.waiting L.faults L.receives link.new)
         (K.held out.old) (K.held out.new) (K.faults out.old) (K.faults out.new) }
@@ -92,7 +93,7 @@ pub fn run<S: Source, K: Sink, D: Disk + Drop, L: Link, C: Clock>(
         (map (λ fate. fate_told ((Fate-box fate).told fate.value) (asks fate)) fates.old) (map (λ fate. fate_told ((Fate-box fate).told fate.value) (asks fate)) fates.new)
         (K.held out.old) (K.held out.new) (K.faults out.old) (K.faults out.new) (D.faults disk) (D.faults result.disk) (D.told result.disk) }
     ensures loops { (hosts turns : ℕ) → command_of words.now ≡ Some (Command.Loop hosts turns)
-        → LoopsOn result.status hosts turns (clock_told C.floor C.readings clock.old) (clock_told C.floor C.readings clock.new)
+        → LoopsOn result.status hosts turns (clock_told C.floor C.readings C.reads clock.old) (clock_told C.floor C.readings C.reads clock.new)
         (map (told_of L.sent L.waiting L.faults L.receives) links.old) (map (told_of L.sent L.waiting L.faults L.receives) links.new)
         (K.held out.old) (K.held out.new) (K.faults out.old) (K.faults out.new) (D.faults disk) (D.faults result.disk) (D.told result.disk) }
     ensures checks { IsCheck words.now
@@ -106,9 +107,12 @@ pub fn run<S: Source, K: Sink, D: Disk + Drop, L: Link, C: Clock>(
         (S.faults input.old) (S.faults input.new) (K.faults out.old) (K.faults out.new) }
     ensures attends { (host inc turns : ℕ) → command_of words.now ≡ Some (Command.Client host inc turns)
         → Attends turns (record { host = host; inc = inc }) most_bytes result.status (S.left input.old) (S.left input.new) (S.faults input.old) (S.faults input.new)
-        (K.held out.old) (K.held out.new) (K.faults out.old) (K.faults out.new) (clock_told C.floor C.readings clock.old) (clock_told C.floor C.readings clock.new)
+        (K.held out.old) (K.held out.new) (K.faults out.old) (K.faults out.new) (clock_told C.floor C.readings C.reads clock.old) (clock_told C.floor C.readings C.reads clock.new)
         (link_told L.sent L.waiting L.faults L.receives link.old)
         (link_told L.sent L.waiting L.faults L.receives link.new) }
+    // Refuses a run that passes over a fault of its input or its output and ends with 0.
+    ensures faultless { result.status ≡ status_of Ending.Done
+        → (S.faults input.new ≡ S.faults input.old) × (K.faults out.new ≡ K.faults out.old) }
     ensures follows { D.follows disk result.disk }
     ensures disk { uses_disk (command_of words.now) ≡ false → result.disk ≡ disk }
     ensures untouched { NeverSays (command_of words.now) (map (λ fate. (Fate-box fate).told fate.value) fates.old) → result.disk ≡ disk }
@@ -139,7 +143,7 @@ fn run_command<S: Source, K: Sink, D: Disk + Drop, L: Link, C: Clock>(
     ensures does { Does (command_of words.now)
         (Formats D.faults D.told D.may_leave result.status disk result.disk × (out.new ≡ out.old))
         (λ turns longest. ServesDisk D.told D.faults D.may_leave D.follows D.leaves result.status longest turns disk result.disk
-        (clock_told C.floor C.readings clock.old) (clock_told C.floor C.readings clock.new)
+        (clock_told C.floor C.readings C.reads clock.old) (clock_told C.floor C.readings C.reads clock.new)
         (link_told L.sent L.waiting L.faults L.receives link.old)
         (link_told L.sent L.waiting L.faults L.receives link.new)
         (K.held out.old) (K.held out.new) (K.faults out.old) (K.faults out.new))
@@ -149,7 +153,7 @@ fn run_command<S: Source, K: Sink, D: Disk + Drop, L: Link, C: Clock>(
         (λ kind start events. StormsOn result.status kind start events (map (λ fate. (Fate-box fate).told fate.value) fates.old)
         (map (λ fate. fate_told ((Fate-box fate).told fate.value) (asks fate)) fates.old) (map (λ fate. fate_told ((Fate-box fate).told fate.value) (asks fate)) fates.new)
         (K.held out.old) (K.held out.new) (K.faults out.old) (K.faults out.new) (D.faults disk) (D.faults result.disk) (D.told result.disk))
-        (λ hosts turns. LoopsOn result.status hosts turns (clock_told C.floor C.readings clock.old) (clock_told C.floor C.readings clock.new)
+        (λ hosts turns. LoopsOn result.status hosts turns (clock_told C.floor C.readings C.reads clock.old) (clock_told C.floor C.readings C.reads clock.new)
         (map (told_of L.sent L.waiting L.faults L.receives) links.old) (map (told_of L.sent L.waiting L.faults L.receives) links.new)
         (K.held out.old) (K.held out.new) (K.faults out.old) (K.faults out.new) (D.faults disk) (D.faults result.disk) (D.told result.disk))
         (ChecksFor most_bytes result.status (S.left input.old) (S.left input.new) (K.held out.old) (K.held out.new)
@@ -159,13 +163,15 @@ fn run_command<S: Source, K: Sink, D: Disk + Drop, L: Link, C: Clock>(
         (NamesFor most_bytes result.status (S.left input.old) (S.left input.new) (K.held out.old) (K.held out.new)
         (S.faults input.old) (S.faults input.new) (K.faults out.old) (K.faults out.new))
         (λ host inc turns. Attends turns (record { host = host; inc = inc }) most_bytes result.status (S.left input.old) (S.left input.new) (S.faults input.old) (S.faults input.new)
-        (K.held out.old) (K.held out.new) (K.faults out.old) (K.faults out.new) (clock_told C.floor C.readings clock.old) (clock_told C.floor C.readings clock.new)
+        (K.held out.old) (K.held out.new) (K.faults out.old) (K.faults out.new) (clock_told C.floor C.readings C.reads clock.old) (clock_told C.floor C.readings C.reads clock.new)
         (link_told L.sent L.waiting L.faults L.receives link.old)
         (link_told L.sent L.waiting L.faults L.receives link.new)) }
     ensures usage { result.status ≡ status_of Ending.Usage → SaysNothing (command_of words.now) (map (λ fate. (Fate-box fate).told fate.value) fates.old)
         × (S.left input.new ≡ S.left input.old) × PrintsLine usage_line (K.held out.old) (K.held out.new) (K.faults out.old) (K.faults out.new) }
     ensures never { NeverSays (command_of words.now) (map (λ fate. (Fate-box fate).told fate.value) fates.old) → (result.status ≡ status_of Ending.Usage) × (result.disk ≡ disk) }
     ensures alone { result.status ≡ status_of Ending.Usage → result.disk ≡ disk }
+    ensures faultless { result.status ≡ status_of Ending.Done
+        → (S.faults input.new ≡ S.faults input.old) × (K.faults out.new ≡ K.faults out.old) }
     ensures follows { D.follows disk result.disk }
     ensures keeps { Unless (uses_disk (command_of words.now)) (result.disk ≡ disk) × Unless (reads_input (command_of words.now)) (input.new ≡ input.old) × Unless (uses_link (command_of words.now)) (link.new ≡ link.old)
         × Unless (uses_links (command_of words.now)) (links.new ≡ links.old) × Unless (reads_clock (command_of words.now)) (clock.new ≡ clock.old) × Unless (uses_fates (command_of words.now)) (fates.new ≡ fates.old) }

@@ -53,7 +53,7 @@ pub fn serve_disk<D: Disk + Drop, L: Link, C: Clock, K: Sink>(
     requires long { 5 ≤ longest }
     requires short { longest ≤ 600 }
     ensures serves { ServesDisk D.told D.faults D.may_leave D.follows D.leaves result.status longest turns disk result.disk
-        (clock_told C.floor C.readings clock.old) (clock_told C.floor C.readings clock.new)
+        (clock_told C.floor C.readings C.reads clock.old) (clock_told C.floor C.readings C.reads clock.new)
         (link_told L.sent L.waiting L.faults L.receives link.old)
         (link_told L.sent L.waiting L.faults L.receives link.new)
         (K.held out.old) (K.held out.new) (K.faults out.old) (K.faults out.new) }
@@ -120,7 +120,7 @@ fn serve_store<D: Disk + Drop, L: Link, C: Clock, K: Sink>(
     ensures serves { EndsServing D.told D.faults D.follows
         (λ ended served. LeavesServing (content_of D.told) (faults_of D.faults) (GoesOn D.faults D.follows) (λ first last. LeavesKept (D.leaves first.disk last.disk))
         longest turns store ended served
-        (clock_told C.floor C.readings clock.old) (clock_told C.floor C.readings clock.new)
+        (clock_told C.floor C.readings C.reads clock.old) (clock_told C.floor C.readings C.reads clock.new)
         (link_told L.sent L.waiting L.faults L.receives link.old)
         (link_told L.sent L.waiting L.faults L.receives link.new))
         result.status turns store result.disk

@@ -3,7 +3,7 @@ use Rattle.std.proofs.Common.{◌≡◌, ℕ, List, Option, Some, inl, inr, refl
 use Rattle.std.specs.Option.{IfSome}
 use Rattle.nq_base.specs.declared.ending.ending.Ending.{Ending}
 use Rattle.nq_io.specs.Whole.{IsAll, IsOver}
-use Rattle.nq_replay.specs.Ending.{IsFault, IsUnlessFault, TellsOver}
+use Rattle.nq_replay.specs.Ending.{CountsSource, IsFault, IsUnlessFault, TellsOver}
 use Rattle.nq_staged.specs.Running.{EndsStaged, EndsStagedText}
 
 -- what was read is what was told
@@ -22,6 +22,12 @@ pub still_unless : (end wanted : Ending) (text : List ℕ) (held now : Option (L
     → IsUnlessFault end wanted 0 0 w w' → IsUnlessFault end wanted r r' w w'
 still_unless end wanted text held now r r' w w' ends (inl same) = inl same
 still_unless end wanted text held now r r' w w' ends (inr fault) = inr (still_fault end text held now r r' w w' ends fault)
+
+-- nor does it count one
+pub still_counts : (end : Ending) (text : List ℕ) (held now : Option (List ℕ)) (w w' before count : ℕ) → EndsStagedText end text held now w w'
+    → count ≡ before → CountsSource end before count
+still_counts Ending.ReadFault text held now w w' before count ends same = absurd ends
+still_counts other text held now w w' before count ends same = same
 
 -- what was printed of a text that was read is what was printed of the input
 pub ends_text : (end : Ending) (text : List ℕ) (limit : ℕ) (left rest held now : Option (List ℕ)) (r r' w w' : ℕ) → IsAll text limit left rest

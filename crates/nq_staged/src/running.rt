@@ -9,7 +9,7 @@ ghost use Rattle.nq_keeper.specs.StoredKeeper.{empty_kept};
 ghost use Rattle.nq_model.specs.Stepped.{out_of_skew};
 ghost use Rattle.nq_replay.specs.Playing.{beginning};
 ghost use Rattle.nq_replay.specs.declared.play.played.Played.{Played};
-ghost use Rattle.nq_replay.specs.Ending.{IsUnlessFault};
+ghost use Rattle.nq_replay.specs.Ending.{CountsSink, CountsSource, IsUnlessFault};
 ghost use Rattle.nq_world.specs.Beginning.{NeverFails};
 ghost use Rattle.nq_replay.specs.Schedules.{HasReason};
 ghost use Rattle.nq_replay.specs.declared.Bound.{Bound};
@@ -77,6 +77,8 @@ pub fn run_staged<S: Source, K: Sink>(
     ensures done { (text : List ℕ) → S.left input.old ≡ Some text → length text ≤ limit
         → (head : Head) (events : List StagedEvent) → RunsStaged text head events
         → IsUnlessFault result Ending.Done (S.faults input.old) (S.faults input.new) (K.faults out.old) (K.faults out.new) }
+    ensures source { CountsSource result (S.faults input.old) (S.faults input.new) }
+    ensures sink { CountsSink result (K.faults out.old) (K.faults out.new) }
 {
     match read_all(alloc, input, limit) {
         Whole::All(text) => run_text(alloc, &text, out),
@@ -98,6 +100,7 @@ fn run_text<K: Sink>(alloc: Global, text: &[u8], out: &mut K) -> Ending
         → IsUnlessFault result Ending.Limit 0 0 (K.faults out.old) (K.faults out.new) }
     ensures done { (head : Head) (events : List StagedEvent) → RunsStaged text.now head events
         → IsUnlessFault result Ending.Done 0 0 (K.faults out.old) (K.faults out.new) }
+    ensures sink { CountsSink result (K.faults out.old) (K.faults out.new) }
 {
     match read_script(alloc, text) {
         Ok(script) => run_in_memory(alloc, &script, out),
@@ -109,8 +112,9 @@ fn run_text<K: Sink>(alloc: Global, text: &[u8], out: &mut K) -> Ending
 /// Runs a staged schedule over a keeper in memory, which is told to fail in no call.
 fn run_in_memory<K: Sink>(alloc: Global, script: &MixedScript<Offer>, out: &mut K) -> Ending
     requires { IsReadyMixed IsOfHost script.now.script script.now.asides.items }
-    ensures { EndsStagedPlayed result script.now.script.head (play script.now.script.head (mixed script.now.asides.items script.now.script.lines))
+    ensures ends { EndsStagedPlayed result script.now.script.head (play script.now.script.head (mixed script.now.asides.items script.now.script.lines))
         (K.held out.old) (K.held out.new) (K.faults out.old) (K.faults out.new) }
+    ensures sink { CountsSink result (K.faults out.old) (K.faults out.new) }
 {
     match ListKeeper::new(alloc, Vec::new(alloc)) {
         Ok(keeper) => run_over(alloc, script, keeper, out),
@@ -129,8 +133,9 @@ fn run_over<L: Keeper + Drop, K: Sink>(
     requires ready { IsReadyMixed IsOfHost script.now.script script.now.asides.items }
     requires empty { L.content keeper ≡ Some empty_kept }
     requires never { NeverFails L.faults L.follows keeper }
-    ensures { EndsStagedPlayed result script.now.script.head (play script.now.script.head (mixed script.now.asides.items script.now.script.lines))
+    ensures ends { EndsStagedPlayed result script.now.script.head (play script.now.script.head (mixed script.now.asides.items script.now.script.lines))
         (K.held out.old) (K.held out.new) (K.faults out.old) (K.faults out.new) }
+    ensures sink { CountsSink result (K.faults out.old) (K.faults out.new) }
 {
     let Ok(mut world) = begin_staged(alloc, &script.script.head, keeper) else {
         return Ending::Memory;
@@ -196,8 +201,9 @@ fn tell<L: Keeper, K: Sink>(
     requires version { head.now.version ≡ 2 }
     requires reason { HasReason played }
     requires told { played ≡ Played.All → IsTold head.now world.now (L.content world.now.inner.server.keeper) }
-    ensures { (due : Ended (List StagedEvent)) → Comes played due (λ events. PlaysOutside (beginning head.now) events world.now (L.content world.now.inner.server.keeper))
+    ensures ends { (due : Ended (List StagedEvent)) → Comes played due (λ events. PlaysOutside (beginning head.now) events world.now (L.content world.now.inner.server.keeper))
         → EndsStagedPlayed result head.now due (K.held out.old) (K.held out.new) (K.faults out.old) (K.faults out.new) }
+    ensures sink { CountsSink result (K.faults out.old) (K.faults out.new) }
 {
     match played {
         Played::All => print_run(alloc, head, world, out),
@@ -215,9 +221,10 @@ fn print_run<L: Keeper, K: Sink>(
     requires fits { FitsHead head.now }
     requires version { head.now.version ≡ 2 }
     requires told { IsTold head.now world.now (L.content world.now.inner.server.keeper) }
-    ensures { (events : List StagedEvent) → PlaysOutside (beginning head.now) events world.now (L.content world.now.inner.server.keeper)
+    ensures prints { (events : List StagedEvent) → PlaysOutside (beginning head.now) events world.now (L.content world.now.inner.server.keeper)
         → PrintsRun result head.now events (K.held out.old) (K.held out.new) (K.faults out.old) (K.faults out.new)
         ⊎ ((result ≡ Ending.Memory) × (K.held out.new ≡ K.held out.old)) }
+    ensures sink { CountsSink result (K.faults out.old) (K.faults out.new) }
 {
     let Ok(text) = schedule_text(alloc, head, world.ran()) else {
         return Ending::Memory;

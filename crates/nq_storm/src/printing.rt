@@ -2,6 +2,7 @@
 
 ghost use Rattle.std.specs.List.{AllByRecursion};
 ghost use Rattle.std.specs.Prelude.{◌≡◌, reverse};
+ghost use Rattle.nq_replay.specs.Ending.{CountsSink};
 ghost use Rattle.nq_replay.specs.Playing.{beginning};
 ghost use Rattle.nq_storm.specs.Heads.{storm_head};
 ghost use Rattle.nq_storm.specs.Printed.{PrintsRan};
@@ -27,8 +28,9 @@ pub(crate) fn print_storm<L: Keeper, K: Sink>(
 ) -> Ending
     requires head { head.now ≡ storm_head }
     requires stormy { AllByRecursion IsStormy ran.now }
-    ensures { Plays (beginning storm_head) (reverse ran.now) world.now (L.content world.now.server.keeper)
+    ensures prints { Plays (beginning storm_head) (reverse ran.now) world.now (L.content world.now.server.keeper)
         → PrintsRan result ran.now (K.held out.old) (K.held out.new) (K.faults out.old) (K.faults out.new) }
+    ensures sink { CountsSink result (K.faults out.old) (K.faults out.new) }
 {
     let Ok(text) = schedule_text(alloc, head, ran) else {
         return Ending::Memory;

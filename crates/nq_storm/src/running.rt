@@ -5,7 +5,7 @@ ghost use Rattle.std.specs.Prelude.{◌≡◌, [], ℕ, Option, Some, reverse};
 ghost use Rattle.nq_base.specs.declared.ending.ending.Ending.{Ending};
 ghost use Rattle.nq_keeper.specs.StoredKeeper.{empty_kept};
 ghost use Rattle.nq_replay.specs.Playing.{beginning};
-ghost use Rattle.nq_replay.specs.Ending.{CountsKeeper};
+ghost use Rattle.nq_replay.specs.Ending.{CountsKeeper, CountsSink};
 ghost use Rattle.nq_storm.specs.Asking.{AsksFor, AsksWanted};
 ghost use Rattle.nq_storm.specs.Ending.{CountsFaults, Storms};
 ghost use Rattle.nq_storm.specs.Heads.{storm_head};
@@ -50,6 +50,7 @@ pub fn run_storm<P: Keeper, K: Sink>(
     ensures keeps { result.end ≡ Ending.Done → KeepsStorm start events (told fate.old) (K.held out.old) (K.held out.new) (P.content result.keeper) }
     ensures asks { AsksFor result.end events (asks fate.old) (asks fate.new) }
     ensures counts { CountsKeeper result.end (P.faults keeper) (P.faults result.keeper) }
+    ensures sink { CountsSink result.end (K.faults out.old) (K.faults out.new) }
     ensures follows { P.follows keeper result.keeper }
 {
     let Ok(head) = storm_head(alloc) else {
@@ -89,6 +90,7 @@ fn storm_over<P: Keeper, K: Sink>(
     ensures keeps { result.end ≡ Ending.Done → KeepsStorm start events (told fate.old) (K.held out.old) (K.held out.new) (P.content result.keeper) }
     ensures asks { AsksFor result.end events (asks fate.old) (asks fate.new) }
     ensures counts { CountsKeeper result.end (P.faults world.server.keeper) (P.faults result.keeper) }
+    ensures sink { CountsSink result.end (K.faults out.old) (K.faults out.new) }
     ensures follows { P.follows world.server.keeper result.keeper }
 {
     let mut world = world;
@@ -127,6 +129,7 @@ fn tell<L: Keeper, K: Sink>(
     ensures counts { (start count : ℕ) (first : Option Rule) → Storms stormed (beginning storm_head) start count first (reverse ran.now) world.now
         (L.content world.now.server.keeper)
         → (before now : ℕ) → CountsFaults stormed before now → CountsKeeper result before now }
+    ensures sink { CountsSink result (K.faults out.old) (K.faults out.new) }
 {
     match stormed {
         Stormed::Done => print_storm(alloc, head, world, ran, out),

@@ -34,7 +34,7 @@ pub fn client_turn<L: Link, C: Clock>(
     log: &mut Journal,
 ) -> ClientTurn
     ensures turn { AttendsTurn result next.old next.new
-        (clock_told C.floor C.readings clock.old) (clock_told C.floor C.readings clock.new)
+        (clock_told C.floor C.readings C.reads clock.old) (clock_told C.floor C.readings C.reads clock.new)
         (link_told L.sent L.waiting L.faults L.receives link.old)
         (link_told L.sent L.waiting L.faults L.receives link.new)
         client.old client.new log.old log.new }
@@ -65,7 +65,7 @@ fn attend<L: Link, C: Clock>(
     out: &mut Outbox,
     log: &mut Journal,
 ) -> Result<Option<Answer>, Stop>
-    ensures { Stages result (clock_told C.floor C.readings clock.old) (clock_told C.floor C.readings clock.new)
+    ensures { Stages result (clock_told C.floor C.readings C.reads clock.old) (clock_told C.floor C.readings C.reads clock.new)
         (link_told L.sent L.waiting L.faults L.receives link.old)
         (link_told L.sent L.waiting L.faults L.receives link.new)
         (record { client = client.old; out = out.old; log = log.old; next = next.old })

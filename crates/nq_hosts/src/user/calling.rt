@@ -27,8 +27,8 @@ pub(crate) fn run_call<L: Link, C: Clock>(
     turns: u32,
 ) -> Result<(), Halt>
     ensures { RunsCall turns call.now result
-        (between session.old (clock_told C.floor C.readings clock.old) (link_told L.sent L.waiting L.faults L.receives link.old))
-        (between session.new (clock_told C.floor C.readings clock.new) (link_told L.sent L.waiting L.faults L.receives link.new)) }
+        (between session.old (clock_told C.floor C.readings C.reads clock.old) (link_told L.sent L.waiting L.faults L.receives link.old))
+        (between session.new (clock_told C.floor C.readings C.reads clock.new) (link_told L.sent L.waiting L.faults L.receives link.new)) }
 {
     match make_call(alloc, &mut session.client, link, &mut session.log, call) {
         Err(why) => Err(why),

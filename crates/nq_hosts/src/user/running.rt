@@ -48,7 +48,7 @@ pub(crate) fn run<L: Link, C: Clock>(
     requires calls { (lines : List (List ℕ)) × AreCalls lines text.now }
     ensures { (log : EntryList) × (log.entries ≡ [])
         × Runs plan.turns plan.who text.now result.ended log result.log
-        (clock_told C.floor C.readings clock.old) (clock_told C.floor C.readings clock.new)
+        (clock_told C.floor C.readings C.reads clock.old) (clock_told C.floor C.readings C.reads clock.new)
         (link_told L.sent L.waiting L.faults L.receives link.old)
         (link_told L.sent L.waiting L.faults L.receives link.new) }
 {
@@ -109,8 +109,8 @@ fn attend<L: Link, C: Clock>(
     requires short { length text.now < 2 ^ 31 }
     requires calls { (lines : List (List ℕ)) × AreCalls lines text.now }
     ensures { Attends turns text.now result
-        (between session.old (clock_told C.floor C.readings clock.old) (link_told L.sent L.waiting L.faults L.receives link.old))
-        (between session.new (clock_told C.floor C.readings clock.new) (link_told L.sent L.waiting L.faults L.receives link.new)) }
+        (between session.old (clock_told C.floor C.readings C.reads clock.old) (link_told L.sent L.waiting L.faults L.receives link.old))
+        (between session.new (clock_told C.floor C.readings C.reads clock.new) (link_told L.sent L.waiting L.faults L.receives link.new)) }
 {
     match take_turns(alloc, session, link, clock, Aim::Attached, turns) {
         Err(why) => Err(Stop { why, line: 0 }),
@@ -130,8 +130,8 @@ fn run_lines<L: Link, C: Clock>(
     requires short { length text.now < 2 ^ 31 }
     requires calls { (lines : List (List ℕ)) × AreCalls lines text.now }
     ensures { RunsText turns text.now result
-        (between session.old (clock_told C.floor C.readings clock.old) (link_told L.sent L.waiting L.faults L.receives link.old))
-        (between session.new (clock_told C.floor C.readings clock.new) (link_told L.sent L.waiting L.faults L.receives link.new)) }
+        (between session.old (clock_told C.floor C.readings C.reads clock.old) (link_told L.sent L.waiting L.faults L.receives link.old))
+        (between session.new (clock_told C.floor C.readings C.reads clock.new) (link_told L.sent L.waiting L.faults L.receives link.new)) }
 {
     let mut rest = text;
     let mut number = 1;
@@ -157,8 +157,8 @@ fn run_line<L: Link, C: Clock>(
 ) -> Result<(), Halt>
     requires { IsCall line.now }
     ensures { RunsLine turns line.now result
-        (between session.old (clock_told C.floor C.readings clock.old) (link_told L.sent L.waiting L.faults L.receives link.old))
-        (between session.new (clock_told C.floor C.readings clock.new) (link_told L.sent L.waiting L.faults L.receives link.new)) }
+        (between session.old (clock_told C.floor C.readings C.reads clock.old) (link_told L.sent L.waiting L.faults L.receives link.old))
+        (between session.new (clock_told C.floor C.readings C.reads clock.new) (link_told L.sent L.waiting L.faults L.receives link.new)) }
 {
     match parse_call(alloc, line, 1) {
         Ok(call) => run_call(alloc, session, link, clock, &call, turns),

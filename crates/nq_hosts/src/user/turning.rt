@@ -24,8 +24,8 @@ pub(crate) fn take_turns<L: Link, C: Clock>(
     turns: u32,
 ) -> Result<(), Halt>
     ensures { TakesTurns aim turns result
-        (between session.old (clock_told C.floor C.readings clock.old) (link_told L.sent L.waiting L.faults L.receives link.old))
-        (between session.new (clock_told C.floor C.readings clock.new) (link_told L.sent L.waiting L.faults L.receives link.new)) }
+        (between session.old (clock_told C.floor C.readings C.reads clock.old) (link_told L.sent L.waiting L.faults L.receives link.old))
+        (between session.new (clock_told C.floor C.readings C.reads clock.new) (link_told L.sent L.waiting L.faults L.receives link.new)) }
 {
     for _turn in 0..turns {
         match take_turn(alloc, session, link, clock, aim) {
@@ -49,8 +49,8 @@ fn take_turn<L: Link, C: Clock>(
     aim: Aim,
 ) -> Result<bool, Halt>
     ensures { TakesTurn aim result
-        (between session.old (clock_told C.floor C.readings clock.old) (link_told L.sent L.waiting L.faults L.receives link.old))
-        (between session.new (clock_told C.floor C.readings clock.new) (link_told L.sent L.waiting L.faults L.receives link.new)) }
+        (between session.old (clock_told C.floor C.readings C.reads clock.old) (link_told L.sent L.waiting L.faults L.receives link.old))
+        (between session.new (clock_told C.floor C.readings C.reads clock.new) (link_told L.sent L.waiting L.faults L.receives link.new)) }
 {
     let client = &mut session.client;
     match client_turn(

@@ -42,7 +42,7 @@ pub fn client<S: Source, K: Sink, L: Link, C: Clock>(
     requires { plan.limit < 2 ^ 31 }
     ensures uses { Uses plan.turns plan.who plan.limit result (S.left input.old) (S.left input.new) (S.faults input.old) (S.faults input.new)
         (K.held out.old) (K.held out.new) (K.faults out.old) (K.faults out.new)
-        (clock_told C.floor C.readings clock.old) (clock_told C.floor C.readings clock.new)
+        (clock_told C.floor C.readings C.reads clock.old) (clock_told C.floor C.readings C.reads clock.new)
         (link_told L.sent L.waiting L.faults L.receives link.old)
         (link_told L.sent L.waiting L.faults L.receives link.new) }
     ensures cause { EndsBy result (S.faults input.old) (S.faults input.new) (K.faults out.old) (K.faults out.new) (L.faults link.old) (L.faults link.new) }
@@ -68,7 +68,7 @@ fn use_text<K: Sink, L: Link, C: Clock>(
     requires { length text.now < 2 ^ 31 }
     ensures { (fault : Option ℕ) × Tells fault text.now × UsesText fault plan.turns plan.who text.now result
         (K.held out.old) (K.held out.new) (K.faults out.old) (K.faults out.new)
-        (clock_told C.floor C.readings clock.old) (clock_told C.floor C.readings clock.new)
+        (clock_told C.floor C.readings C.reads clock.old) (clock_told C.floor C.readings C.reads clock.new)
         (link_told L.sent L.waiting L.faults L.receives link.old)
         (link_told L.sent L.waiting L.faults L.receives link.new) }
 {

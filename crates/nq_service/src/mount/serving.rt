@@ -54,11 +54,11 @@ pub fn serve_image<D: Disk + Drop, L: Link, C: Clock, W: Watcher<L> + Greeter>(
     requires long { 5 ≤ longest }
     requires short { longest ≤ 600 }
     ensures serves { IfOk result (λ left. ServesImage D.told D.faults D.may_leave D.follows D.leaves longest turns disk left.ended left.disk
-        (clock_told C.floor C.readings clock.old) (clock_told C.floor C.readings clock.new)
+        (clock_told C.floor C.readings C.reads clock.old) (clock_told C.floor C.readings C.reads clock.new)
         (link_told L.sent L.waiting L.faults L.receives link.old)
         (link_told L.sent L.waiting L.faults L.receives link.new)) }
     ensures refuses { IfErr result (λ fault. ServesNot D.told D.faults D.may_leave D.leaves disk fault
-        (clock_told C.floor C.readings clock.old) (clock_told C.floor C.readings clock.new)
+        (clock_told C.floor C.readings C.reads clock.old) (clock_told C.floor C.readings C.reads clock.new)
         (link_told L.sent L.waiting L.faults L.receives link.old)
         (link_told L.sent L.waiting L.faults L.receives link.new)) }
 {
@@ -83,7 +83,7 @@ fn serve_store<D: Disk + Drop, L: Link, C: Clock, W: Watcher<L> + Greeter>(
     requires short { longest ≤ 600 }
     requires fresh { IsFresh store }
     ensures { EndsServing D.told D.faults D.follows D.leaves longest turns store result.ended result.disk
-        (clock_told C.floor C.readings clock.old) (clock_told C.floor C.readings clock.new)
+        (clock_told C.floor C.readings C.reads clock.old) (clock_told C.floor C.readings C.reads clock.new)
         (link_told L.sent L.waiting L.faults L.receives link.old)
         (link_told L.sent L.waiting L.faults L.receives link.new) }
 {

@@ -54,7 +54,7 @@ pub fn keep_serving<K: Keeper, L: Link, C: Clock, W: Watcher<L>>(
     requires long { 5 ≤ longest }
     requires short { longest ≤ 600 }
     ensures serves { LeavesServing K.content K.faults K.follows K.leaves longest turns keeper result.ended result.keeper
-        (clock_told C.floor C.readings clock.old) (clock_told C.floor C.readings clock.new)
+        (clock_told C.floor C.readings C.reads clock.old) (clock_told C.floor C.readings C.reads clock.new)
         (link_told L.sent L.waiting L.faults L.receives link.old)
         (link_told L.sent L.waiting L.faults L.receives link.new) }
     ensures follows { K.follows keeper result.keeper }
@@ -79,7 +79,7 @@ fn boot_and_run<K: Keeper, L: Link, C: Clock, W: Watcher<L>>(
     requires short { longest ≤ 600 }
     requires early { now < 2 ^ 62 }
     ensures runs { LeavesRuns K.content K.faults K.follows K.leaves longest turns now keeper result.ended result.keeper
-        (clock_told C.floor C.readings clock.old) (clock_told C.floor C.readings clock.new)
+        (clock_told C.floor C.readings C.reads clock.old) (clock_told C.floor C.readings C.reads clock.new)
         (link_told L.sent L.waiting L.faults L.receives link.old)
         (link_told L.sent L.waiting L.faults L.receives link.new) }
     ensures follows { K.follows keeper result.keeper }

@@ -27,9 +27,9 @@ pub(crate) fn take_turns<K: Keeper, L: Link, C: Clock, W: Watcher<L>>(
     turns: u64,
 ) -> Result<(), Halt>
     ensures turns { LeavesTurns K.content K.faults K.follows K.leaves turns result
-        (standing server.old next.old (clock_told C.floor C.readings clock.old)
+        (standing server.old next.old (clock_told C.floor C.readings C.reads clock.old)
         (link_told L.sent L.waiting L.faults L.receives link.old))
-        (standing server.new next.new (clock_told C.floor C.readings clock.new)
+        (standing server.new next.new (clock_told C.floor C.readings C.reads clock.new)
         (link_told L.sent L.waiting L.faults L.receives link.new)) }
     ensures follows { K.follows server.old.keeper server.new.keeper }
 {
@@ -53,9 +53,9 @@ fn take_turn<K: Keeper, L: Link, C: Clock, W: Watcher<L>>(
     watcher: &mut W,
 ) -> Result<(), Halt>
     ensures turn { LeavesTaking K.content K.faults K.follows K.leaves result
-        (standing server.old next.old (clock_told C.floor C.readings clock.old)
+        (standing server.old next.old (clock_told C.floor C.readings C.reads clock.old)
         (link_told L.sent L.waiting L.faults L.receives link.old))
-        (standing server.new next.new (clock_told C.floor C.readings clock.new)
+        (standing server.new next.new (clock_told C.floor C.readings C.reads clock.new)
         (link_told L.sent L.waiting L.faults L.receives link.new)) }
     ensures follows { K.follows server.old.keeper server.new.keeper }
 {

@@ -36,7 +36,7 @@ pub(crate) fn serve_turn<K: Keeper, L: Link, C: Clock>(
     log: &mut Journal,
 ) -> Turn
     ensures turn { LeavesTurn K.content K.faults K.follows K.leaves result next.old next.new
-        (clock_told C.floor C.readings clock.old) (clock_told C.floor C.readings clock.new)
+        (clock_told C.floor C.readings C.reads clock.old) (clock_told C.floor C.readings C.reads clock.new)
         (link_told L.sent L.waiting L.faults L.receives link.old)
         (link_told L.sent L.waiting L.faults L.receives link.new)
         server.old server.new log.old log.new }
@@ -71,7 +71,7 @@ fn serve<K: Keeper, L: Link, C: Clock>(
     out: &mut Outbox,
     log: &mut Journal,
 ) -> Result<bool, Halt>
-    ensures stages { LeavesStages K.content K.faults K.follows K.leaves result (clock_told C.floor C.readings clock.old) (clock_told C.floor C.readings clock.new)
+    ensures stages { LeavesStages K.content K.faults K.follows K.leaves result (clock_told C.floor C.readings C.reads clock.old) (clock_told C.floor C.readings C.reads clock.new)
         (link_told L.sent L.waiting L.faults L.receives link.old)
         (link_told L.sent L.waiting L.faults L.receives link.new)
         (record { server = server.old; out = out.old; log = log.old })

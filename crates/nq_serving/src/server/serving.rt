@@ -40,7 +40,7 @@ pub fn serve<K: Keeper, L: Link, C: Clock, S: Sink>(
     requires long { 5 ≤ longest }
     requires short { longest ≤ 600 }
     ensures serves { Tells result.end turns (λ ended. LeavesServing K.content K.faults K.follows K.leaves longest turns keeper ended result.keeper
-        (clock_told C.floor C.readings clock.old) (clock_told C.floor C.readings clock.new)
+        (clock_told C.floor C.readings C.reads clock.old) (clock_told C.floor C.readings C.reads clock.new)
         (link_told L.sent L.waiting L.faults L.receives link.old)
         (link_told L.sent L.waiting L.faults L.receives link.new))
         (S.held out.old) (S.held out.new) (S.faults out.old) (S.faults out.new) }
@@ -109,7 +109,7 @@ fn boot_and_run<K: Keeper, L: Link, C: Clock>(
     requires short { longest ≤ 600 }
     requires early { now < 2 ^ 62 }
     ensures runs { LeavesRuns K.content K.faults K.follows K.leaves longest turns now keeper result.ended result.keeper
-        (clock_told C.floor C.readings clock.old) (clock_told C.floor C.readings clock.new)
+        (clock_told C.floor C.readings C.reads clock.old) (clock_told C.floor C.readings C.reads clock.new)
         (link_told L.sent L.waiting L.faults L.receives link.old)
         (link_told L.sent L.waiting L.faults L.receives link.new) }
     ensures follows { K.follows keeper result.keeper }

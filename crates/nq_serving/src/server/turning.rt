@@ -26,9 +26,9 @@ pub(crate) fn take_turns<K: Keeper, L: Link, C: Clock>(
     turns: u32,
 ) -> Result<(), Halt>
     ensures turns { LeavesTurns K.content K.faults K.follows K.leaves turns result
-        (between server.old log.old next.old (clock_told C.floor C.readings clock.old)
+        (between server.old log.old next.old (clock_told C.floor C.readings C.reads clock.old)
         (link_told L.sent L.waiting L.faults L.receives link.old))
-        (between server.new log.new next.new (clock_told C.floor C.readings clock.new)
+        (between server.new log.new next.new (clock_told C.floor C.readings C.reads clock.new)
         (link_told L.sent L.waiting L.faults L.receives link.new)) }
     ensures follows { K.follows server.old.keeper server.new.keeper }
 {
@@ -52,9 +52,9 @@ fn take_turn<K: Keeper, L: Link, C: Clock>(
     log: &mut Journal,
 ) -> Result<(), Halt>
     ensures turn { LeavesTaking K.content K.faults K.follows K.leaves result
-        (between server.old log.old next.old (clock_told C.floor C.readings clock.old)
+        (between server.old log.old next.old (clock_told C.floor C.readings C.reads clock.old)
         (link_told L.sent L.waiting L.faults L.receives link.old))
-        (between server.new log.new next.new (clock_told C.floor C.readings clock.new)
+        (between server.new log.new next.new (clock_told C.floor C.readings C.reads clock.new)
         (link_told L.sent L.waiting L.faults L.receives link.new)) }
     ensures follows { K.follows server.old.keeper server.new.keeper }
 {

@@ -15,8 +15,8 @@ schedule_text-requires g c = record {
   told = are-told c.args.head.now c.args.ran.now (ap (λ h. h.version) c.requires.head) c.requires.looped;
 }
 
-pub returns : goal.returns
-returns g c = λ plays.
+pub returns-clause-prints : goal.returns-clause-prints
+returns-clause-prints g c = λ plays.
     let head = c.args.head.now in
     let events = reverse c.args.ran.now in
     let entries = c.args.world.now.entries in
@@ -26,4 +26,4 @@ returns g c = λ plays.
     (c.as_bytes.ensures.value ∙ c.in-Ok-count_text.ensures) shown
     (c.calls.ensures ∙ ap (count_by is_call) lent) (c.answers.ensures ∙ ap (count_by is_answer) lent) in
     prints_counted c.print_parts.result head c.args.ran.now c.deref.result.now c.in-Ok.text.items c.journal-2.result.now.entries entries c.as_bytes.result.now
-    _ _ _ _ (ap (λ h. h.version) c.requires.head) c.deref.ensures.value c.journal-2.ensures c.in-Ok.ensures shown line c.print_parts.ensures
+    _ _ _ _ (ap (λ h. h.version) c.requires.head) c.deref.ensures.value c.journal-2.ensures c.in-Ok.ensures shown line c.print_parts.ensures.prints

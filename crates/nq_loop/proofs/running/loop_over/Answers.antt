@@ -43,8 +43,8 @@ returns g c =
     c.in-Ok-new.ensures.counts in
     let both = c.take_turns-last.ensures.turns (beginning head) (sym c.in-Ok-new.ensures.hosts) here in
     let links = map told c.args.links.now in
-    let clock = clock_told g.C.Clock.floor g.C.Clock.readings c.args.clock.now in
-    let clock' = clock_told g.C.Clock.floor g.C.Clock.readings c.take_turns-last.new.clock in
+    let clock = clock_told g.C.Clock.floor g.C.Clock.readings g.C.Clock.reads c.args.clock.now in
+    let clock' = clock_told g.C.Clock.floor g.C.Clock.readings g.C.Clock.reads c.take_turns-last.new.clock in
     let held = g.K.Sink.held c.args.out.now in
     let now = g.K.Sink.held c.tell-end.new.out in
     let w = g.K.Sink.faults c.args.out.now in
@@ -52,7 +52,7 @@ returns g c =
     let takes = subst (λ ran. TakesTurns (beginning head) c.args.turns c.take_turns-last.result (between (reverse ran) links clock)
     (now_at last clock')) c.in-Ok.ensures.empty both.0 in
     let tells = subst (λ h. TellsEnd c.tell-end.result c.take_turns-last.result h c.take_turns-last.new.world
-    (g.P.Keeper.content c.take_turns-last.new.world.server.keeper) c.take_turns-last.new.ran held now w w') c.requires.head c.tell-end.ensures in
+    (g.P.Keeper.content c.take_turns-last.new.world.server.keeper) c.take_turns-last.new.ran held now w w') c.requires.head c.tell-end.ensures.tells in
     let same = c.into_keeper-2.ensures in
     record {
       ends = ends c.tell-end.result c.take_turns-last.result c.args.hosts c.args.turns clock clock' links last held now w w' takes both.1 tells;
@@ -60,5 +60,6 @@ returns g c =
           takes both.1 tells done);
       counts = rw same (counts-loop c.tell-end.result c.take_turns-last.result c.args.hosts last held now w w'
           (g.P.Keeper.faults c.args.world.server.keeper) _ both.1 tells c.take_turns-last.ensures.faults);
+      sink = c.tell-end.ensures.sink;
       follows = rw same c.take_turns-last.ensures.follows;
     }

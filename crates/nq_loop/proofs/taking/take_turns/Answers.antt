@@ -29,8 +29,8 @@ loop-turn-preserved g c = record {
       let left = sym (c.all_answered.ensures head (reverse c.loop-turn.ran) mine before.1.plays before.1.counts) ∙ c.if-all_answered.false in
       let turned = c.loop_turn.ensures.turn head mine before.1 in
       went head c.loop-turn.turn c.loop_turn.result (now_at (loop_of g.P.Keeper.content g.L.Link.sent g.L.Link.waiting g.L.Link.faults
-      g.L.Link.receives c.args.world.now c.args.state.now c.args.ran.now c.args.links.now) (clock_told g.C.Clock.floor g.C.Clock.readings
-      c.args.clock.now)) (clock_told g.C.Clock.floor g.C.Clock.readings c.loop-turn.clock) (clock_told g.C.Clock.floor g.C.Clock.readings
+      g.L.Link.receives c.args.world.now c.args.state.now c.args.ran.now c.args.links.now) (clock_told g.C.Clock.floor g.C.Clock.readings g.C.Clock.reads
+      c.args.clock.now)) (clock_told g.C.Clock.floor g.C.Clock.readings g.C.Clock.reads c.loop-turn.clock) (clock_told g.C.Clock.floor g.C.Clock.readings g.C.Clock.reads
       c.loop_turn.new.clock)
       (loop_of g.P.Keeper.content g.L.Link.sent g.L.Link.waiting g.L.Link.faults g.L.Link.receives c.loop-turn.world c.loop-turn.state c.loop-turn.ran
       c.loop-turn.links)
@@ -51,8 +51,8 @@ returns-in-Err-clause-turns g c = λ head hosts here.
     let turned = c.loop_turn.ensures.turn head mine before.1 in
     stopped head c.loop-turn.turn c.args.turns c.loop_turn.result c.in-Err.stopped (now_at (loop_of g.P.Keeper.content g.L.Link.sent g.L.Link.waiting
     g.L.Link.faults g.L.Link.receives c.args.world.now c.args.state.now c.args.ran.now c.args.links.now) (clock_told g.C.Clock.floor
-    g.C.Clock.readings c.args.clock.now)) (clock_told g.C.Clock.floor g.C.Clock.readings c.loop-turn.clock) (clock_told g.C.Clock.floor
-    g.C.Clock.readings c.loop_turn.new.clock)
+    g.C.Clock.readings g.C.Clock.reads c.args.clock.now)) (clock_told g.C.Clock.floor g.C.Clock.readings g.C.Clock.reads c.loop-turn.clock) (clock_told g.C.Clock.floor
+    g.C.Clock.readings g.C.Clock.reads c.loop_turn.new.clock)
     (loop_of g.P.Keeper.content g.L.Link.sent g.L.Link.waiting g.L.Link.faults g.L.Link.receives c.loop-turn.world c.loop-turn.state c.loop-turn.ran
     c.loop-turn.links)
     (loop_of g.P.Keeper.content g.L.Link.sent g.L.Link.waiting g.L.Link.faults g.L.Link.receives c.loop_turn.new.world c.loop_turn.new.state

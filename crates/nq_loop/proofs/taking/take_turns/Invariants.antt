@@ -11,9 +11,9 @@ invariant-loop-turn g l = record {
   goes : (head : Head) → head.hosts ≡ length l.fn.state.begun → IsLooping head (loop_of g.P.Keeper.content g.L.Link.sent g.L.Link.waiting
       g.L.Link.faults g.L.Link.receives l.fn.world l.fn.state l.fn.ran l.fn.links)
       → Goes head l.turn (now_at (loop_of g.P.Keeper.content g.L.Link.sent g.L.Link.waiting g.L.Link.faults g.L.Link.receives l.fn.world l.fn.state
-      l.fn.ran l.fn.links) (clock_told g.C.Clock.floor g.C.Clock.readings l.fn.clock))
+      l.fn.ran l.fn.links) (clock_told g.C.Clock.floor g.C.Clock.readings g.C.Clock.reads l.fn.clock))
       (now_at (loop_of g.P.Keeper.content g.L.Link.sent g.L.Link.waiting g.L.Link.faults g.L.Link.receives l.world l.state l.ran l.links)
-      (clock_told g.C.Clock.floor g.C.Clock.readings l.clock))
+      (clock_told g.C.Clock.floor g.C.Clock.readings g.C.Clock.reads l.clock))
       × IsLooping head (loop_of g.P.Keeper.content g.L.Link.sent g.L.Link.waiting g.L.Link.faults g.L.Link.receives l.world l.state l.ran l.links);
   clients : length l.world.clients ≡ length l.fn.world.clients;
   hosts : length l.state.begun ≡ length l.fn.state.begun;

@@ -7,7 +7,7 @@ pub returns : goal.returns
 returns g c = record {
   turn = λ head hosts here.
       turned head c.answered.result c.take_steps.result c.now-reading.result c.rounds_due-rounds.result c.server_time.result
-      (clock_told g.C.Clock.floor g.C.Clock.readings c.args.clock.now) (clock_told g.C.Clock.floor g.C.Clock.readings c.now-reading.new.self)
+      (clock_told g.C.Clock.floor g.C.Clock.readings g.C.Clock.reads c.args.clock.now) (clock_told g.C.Clock.floor g.C.Clock.readings g.C.Clock.reads c.now-reading.new.self)
       (loop_of g.K.Keeper.content g.L.Link.sent g.L.Link.waiting g.L.Link.faults g.L.Link.receives c.args.world.now c.args.state.now c.args.ran.now
       c.args.links.now)
       (loop_of g.K.Keeper.content g.L.Link.sent g.L.Link.waiting g.L.Link.faults g.L.Link.receives c.take_steps.new.world c.take_steps.new.state
@@ -17,8 +17,8 @@ returns g c = record {
         rises = c.now-reading.ensures.rises;
         floor = c.now-reading.ensures.floor;
         below = c.now-reading.ensures.below;
-        told =
-            c.now-reading.ensures.told;
+        told = c.now-reading.ensures.told;
+        once = c.now-reading.ensures.reads;
       })
       c.rounds_due-rounds.ensures c.server_time.ensures here (c.take_steps.ensures.loops head hosts here);
   keeps = keeps-turn c.answered.result c.take_steps.result _ _ _ _ _ _ c.answered.ensures c.take_steps.ensures.keeps;

@@ -3,7 +3,8 @@ use Rattle.nq_replay.specs.Ending.{TellsOver}
 use Rattle.nq_model.specs.Stepped.{out_of_skew}
 use Rattle.nq_naming.specs.Running.{FaultyNames, PassesNames, RunsNames, StopsNames}
 use Rattle.nq_io.specs.Whole.{IsAll}
-use Rattle.nq_naming.proofs.Endings.{ends_over, ends_text, over_unless, still_unless, told_text}
+use Rattle.nq_replay.proofs.Endings.{over_counts}
+use Rattle.nq_naming.proofs.Endings.{ends_over, ends_text, over_unless, still_counts, still_unless, told_text}
 use Rattle.nq_naming.proofs.running.run_names.Goals as goal
 
 pub returns-in-All-clause-ends : goal.returns-in-All-clause-ends
@@ -16,10 +17,10 @@ pub returns-in-Over-clause-ends : goal.returns-in-Over-clause-ends
 returns-in-Over-clause-ends g c =
     ends_over c.tell_over.result c.in-Over.front.items c.args.limit _ _ _ _ _ _ _ _ c.in-Over.ensures.reads
     (subst (λ t. TellsOver c.tell_over.result t (g.K.Sink.held c.args.out.now) (g.K.Sink.held c.tell_over.new.out) (g.K.Sink.faults c.args.out.now)
-    (g.K.Sink.faults c.tell_over.new.out)) c.deref-in-Over.ensures.value c.tell_over.ensures)
+    (g.K.Sink.faults c.tell_over.new.out)) c.deref-in-Over.ensures.value c.tell_over.ensures.tells)
 
 pub returns-in-Over-clause-limit : goal.returns-in-Over-clause-limit
-returns-in-Over-clause-limit g c = λ text told longer. over_unless c.tell_over.result _ _ _ _ _ _ _ c.tell_over.ensures
+returns-in-Over-clause-limit g c = λ text told longer. over_unless c.tell_over.result _ _ _ _ _ _ _ c.tell_over.ensures.tells
 
 pub returns-in-All-clause-script : goal.returns-in-All-clause-script
 returns-in-All-clause-script g c = λ text told within number faulty.
@@ -54,6 +55,8 @@ returns-in-Failed g c = record {
   skew = λ text told within number broken breaks. inr c.in-Failed.ensures.cause;
   passes = λ text told within number bound passes. inr c.in-Failed.ensures.cause;
   done = λ text told within head m runs. inr c.in-Failed.ensures.cause;
+  source = c.in-Failed.ensures.cause;
+  sink = refl;
 }
 
 pub returns-in-Memory : goal.returns-in-Memory
@@ -65,4 +68,15 @@ returns-in-Memory g c = record {
   skew = λ text told within number broken breaks. inr tt;
   passes = λ text told within number bound passes. inr tt;
   done = λ text told within head m runs. inr tt;
+  source = c.in-Memory.ensures.cause;
+  sink = refl;
 }
+
+pub returns-in-All-clause-source : goal.returns-in-All-clause-source
+returns-in-All-clause-source g c = still_counts c.run_text.result c.deref.result.now _ _ _ _ _ _ c.run_text.ensures.ends c.in-All.ensures.cause
+
+pub returns-in-Over-clause-source : goal.returns-in-Over-clause-source
+returns-in-Over-clause-source g c = over_counts c.tell_over.result _ _ _ _ _ _ _ c.tell_over.ensures.tells c.in-Over.ensures.cause
+
+pub returns-in-All-clause-sink : goal.returns-in-All-clause-sink
+returns-in-All-clause-sink g c = c.run_text.ensures.sink

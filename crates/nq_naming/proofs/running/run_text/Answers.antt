@@ -9,28 +9,29 @@ run_in_memory-requires g c = c.in-Ok.ensures.ready
 pub returns-in-Ok : goal.returns-in-Ok
 returns-in-Ok g c = record {
   ends = text_of_schedule c.run_in_memory.result c.in-Ok.script.script.head (mixed c.in-Ok.script.asides.items c.in-Ok.script.script.lines)
-      c.args.text.now _ _ _ _ c.in-Ok.ensures.found c.run_in_memory.ensures;
+      c.args.text.now _ _ _ _ c.in-Ok.ensures.found c.run_in_memory.ensures.ends;
   script = λ number faulty.
       ends_faulty c.run_in_memory.result c.in-Ok.script.script.head (mixed c.in-Ok.script.asides.items c.in-Ok.script.script.lines) c.args.text.now
-      number _ _ _ _ c.run_in_memory.ensures c.in-Ok.ensures.only (c.in-Ok.ensures.bad number) faulty;
+      number _ _ _ _ c.run_in_memory.ensures.ends c.in-Ok.ensures.only (c.in-Ok.ensures.bad number) faulty;
   skew = λ number broken breaks.
       ends_skew c.run_in_memory.result c.in-Ok.script.script.head (mixed c.in-Ok.script.asides.items c.in-Ok.script.script.lines) number broken _ _ _
-      _ c.run_in_memory.ensures (is_due c.in-Ok.script.script.head breaks.head (mixed c.in-Ok.script.asides.items c.in-Ok.script.script.lines)
+      _ c.run_in_memory.ensures.ends (is_due c.in-Ok.script.script.head breaks.head (mixed c.in-Ok.script.asides.items c.in-Ok.script.script.lines)
       breaks.lines _ (c.in-Ok.ensures.only breaks.head breaks.lines breaks.spelled) breaks.stopped);
   passes = λ number bound passes.
       ends_passing c.run_in_memory.result c.in-Ok.script.script.head (mixed c.in-Ok.script.asides.items c.in-Ok.script.script.lines) c.args.text.now
-      number bound _ _ _ _ c.run_in_memory.ensures c.in-Ok.ensures.only passes;
+      number bound _ _ _ _ c.run_in_memory.ensures.ends c.in-Ok.ensures.only passes;
   done = λ head m runs.
       ends_done c.run_in_memory.result c.in-Ok.script.script.head (mixed c.in-Ok.script.asides.items c.in-Ok.script.script.lines) head runs.lines m _
-      _ _ _ c.run_in_memory.ensures (c.in-Ok.ensures.only head runs.lines runs.spelled) runs.played;
+      _ _ _ c.run_in_memory.ensures.ends (c.in-Ok.ensures.only head runs.lines runs.spelled) runs.played;
+  sink = c.run_in_memory.ensures.sink;
 }
 
 pub returns-in-Err-Bad : goal.returns-in-Err-Bad
 returns-in-Err-Bad g c = record {
   ends = text_of_fault c.tell_script.result c.in-Err-Bad.number c.args.text.now _ _ _ _ (names_bad c.in-Err-Bad.field-0 c.in-Err-Bad.number _
-      c.in-Err-Bad.field-0-is c.in-Err-Bad.ensures.found) c.tell_script.ensures;
+      c.in-Err-Bad.field-0-is c.in-Err-Bad.ensures.found) c.tell_script.ensures.tells;
   script = λ number faulty.
-      script_unless c.tell_script.result c.in-Err-Bad.number _ _ _ _ c.tell_script.ensures;
+      script_unless c.tell_script.result c.in-Err-Bad.number _ _ _ _ c.tell_script.ensures.tells;
   skew = λ number broken breaks.
       absurd (names_bad c.in-Err-Bad.field-0 c.in-Err-Bad.number (λ n. ⊥) c.in-Err-Bad.field-0-is (c.in-Err-Bad.ensures.only breaks.head breaks.lines
       breaks.spelled));
@@ -39,6 +40,7 @@ returns-in-Err-Bad g c = record {
       c.in-Err-Bad.field-0-is (c.in-Err-Bad.ensures.only h ls spelled)) passes);
   done = λ head m runs.
       absurd (names_bad c.in-Err-Bad.field-0 c.in-Err-Bad.number (λ n. ⊥) c.in-Err-Bad.field-0-is (c.in-Err-Bad.ensures.only head runs.lines runs.spelled));
+  sink = c.tell_script.ensures.sink;
 }
 
 pub returns-in-Err-Memory : goal.returns-in-Err-Memory

@@ -17,11 +17,11 @@ schedule_text-requires-clause-told g c =
     all-reverse (IsTellable c.args.head.now) c.ran.result.now
     (subst (AllByRecursion (IsTellable c.args.head.now)) (sym (c.ran.ensures (beginning c.args.head.now) is.moment.events _ is.plays)) is.tellable)
 
-pub returns-in_default : goal.returns-in_default
-returns-in_default g c = λ due comes. memory_before c.args.head.now due _ _
+pub returns-in_default-clause-ends : goal.returns-in_default-clause-ends
+returns-in_default-clause-ends g c = λ due comes. memory_before c.args.head.now due _ _
 
-pub returns-in-Ok : goal.returns-in-Ok
-returns-in-Ok g c = λ due comes.
+pub returns-in-Ok-clause-ends : goal.returns-in-Ok-clause-ends
+returns-in-Ok-clause-ends g c = λ due comes.
     let P : Moment → Type 0 = λ m. IsAtEnd (beginning c.args.head.now) m c.args.world.now (g.L.Keeper.content c.args.world.now.inner.server.keeper)
     c.args.found.now in
     let spelled = subst (SpellsSchedule c.args.head.now (map once c.ran.result.now)) (sym c.deref.ensures.value) c.in-Ok.ensures in
@@ -30,11 +30,11 @@ returns-in-Ok g c = λ due comes.
       bytes = _;
       are = is-printed c.args.head.now m c.args.world.now _ c.ran.result.now c.journal.result.now.entries c.deref.result.now c.args.found.now at
           (c.ran.ensures (beginning c.args.head.now) m.events _ at.plays) (c.journal.ensures (beginning c.args.head.now) m.events _ at.plays) spelled;
-      printed = c.print_parts.ensures;
+      printed = c.print_parts.ensures.prints;
     }))
 
-pub returns-in-Stopped : goal.returns-in-Stopped
-returns-in-Stopped g c = λ due comes.
+pub returns-in-Stopped-clause-ends : goal.returns-in-Stopped-clause-ends
+returns-in-Stopped-clause-ends g c = λ due comes.
     let P : Moment → Type 0 = λ m. IsAtEnd (beginning c.args.head.now) m c.args.world.now (g.L.Keeper.content c.args.world.now.inner.server.keeper)
     c.args.found.now in
-    stop_ends c.tell_stop.result c.args.head.now c.in-Stopped.line c.in-Stopped.answer due P _ _ _ _ (rw c.in-Stopped.is at comes) c.tell_stop.ensures
+    stop_ends c.tell_stop.result c.args.head.now c.in-Stopped.line c.in-Stopped.answer due P _ _ _ _ (rw c.in-Stopped.is at comes) c.tell_stop.ensures.tells

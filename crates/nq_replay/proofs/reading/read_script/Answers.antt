@@ -1,7 +1,7 @@
 use Rattle.std.proofs.Common.{◌∙◌, sym, subst}
 use Rattle.nq_io.specs.Whole.{IsAll}
 use Rattle.nq_replay.specs.Ending.{TellsOver}
-use Rattle.nq_replay.proofs.Endings.{faults_read, over_unless, read_as, refused_read, refuses_over, refuses_read, told_text}
+use Rattle.nq_replay.proofs.Endings.{faults_read, over_counts, over_unless, read_as, read_counts, refused_read, refuses_over, refuses_read, told_text}
 use Rattle.nq_script.specs.Schedule.{FirstBadLine, SpellsSchedule}
 use Rattle.nq_replay.proofs.reading.read_script.Goals as goal
 
@@ -32,7 +32,14 @@ pub returns-in-Over-clause-refuses : goal.returns-in-Over-clause-refuses
 returns-in-Over-clause-refuses g c =
     refuses_over c.tell_over.result c.in-Over.front.items c.args.limit _ _ _ _ _ _ _ _ c.in-Over.ensures.reads
     (subst (λ t. TellsOver c.tell_over.result t (g.K.Sink.held c.args.out.now) (g.K.Sink.held c.tell_over.new.out) (g.K.Sink.faults c.args.out.now)
-    (g.K.Sink.faults c.tell_over.new.out)) c.deref-in-Over.ensures.value c.tell_over.ensures)
+    (g.K.Sink.faults c.tell_over.new.out)) c.deref-in-Over.ensures.value c.tell_over.ensures.tells)
 
 pub returns-in-Over-clause-limit : goal.returns-in-Over-clause-limit
-returns-in-Over-clause-limit g c = λ text told longer. over_unless c.tell_over.result _ _ _ _ _ _ _ c.tell_over.ensures
+returns-in-Over-clause-limit g c = λ text told longer. over_unless c.tell_over.result _ _ _ _ _ _ _ c.tell_over.ensures.tells
+
+pub returns-in-All-clause-source : goal.returns-in-All-clause-source
+returns-in-All-clause-source g c =
+    read_counts c.read_text.result c.deref.result.now _ _ _ _ _ _ c.read_text.ensures.refuses c.in-All.ensures.cause
+
+pub returns-in-Over-clause-source : goal.returns-in-Over-clause-source
+returns-in-Over-clause-source g c = over_counts c.tell_over.result _ _ _ _ _ _ _ c.tell_over.ensures.tells c.in-Over.ensures.cause

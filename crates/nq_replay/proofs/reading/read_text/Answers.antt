@@ -14,10 +14,10 @@ returns-in-Ok-clause-script g c = c.in-Ok.ensures.bad
 pub returns-in-Err-Bad-clause-refuses : goal.returns-in-Err-Bad-clause-refuses
 returns-in-Err-Bad-clause-refuses g c =
     refuses_text c.tell_script.result c.in-Err-Bad.number c.args.text.now _ _ _ _ (names_bad c.in-Err-Bad.field-0 c.in-Err-Bad.number _
-    c.in-Err-Bad.field-0-is c.in-Err-Bad.ensures.found) c.tell_script.ensures
+    c.in-Err-Bad.field-0-is c.in-Err-Bad.ensures.found) c.tell_script.ensures.tells
 
 pub returns-in-Err-Bad-clause-script : goal.returns-in-Err-Bad-clause-script
-returns-in-Err-Bad-clause-script g c = λ number bad. script_unless c.tell_script.result c.in-Err-Bad.number _ _ _ _ c.tell_script.ensures
+returns-in-Err-Bad-clause-script g c = λ number bad. script_unless c.tell_script.result c.in-Err-Bad.number _ _ _ _ c.tell_script.ensures.tells
 
 pub returns-in-Err-Bad-clause-spelled : goal.returns-in-Err-Bad-clause-spelled
 returns-in-Err-Bad-clause-spelled g c = λ head lines spelled.

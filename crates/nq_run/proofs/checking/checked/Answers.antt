@@ -8,4 +8,6 @@ returns g c = record {
   over = c.judge.ensures.limit;
   script = c.judge.ensures.script;
   said = c.judge.ensures.said;
+  source = c.judge.ensures.source;
+  sink = c.judge.ensures.sink;
 }

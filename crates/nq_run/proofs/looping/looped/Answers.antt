@@ -10,7 +10,7 @@ returns-in-Ok-clause-loops g c =
     c.into_disk.result c.into_disk.ensures
     g.met.D.Disk.rises c.in-Ok.ensures.fresh c.in-Ok.ensures.counts c.run_loop-finished.ensures.follows
     (loops_for c.run_loop-finished.result.end c.status.result c.args.hosts c.args.turns _ _ _ _ _ _ _ _ _ _ _ c.status.ensures
-    c.run_loop-finished.ensures.ends c.run_loop-finished.ensures.keeps c.run_loop-finished.ensures.counts)
+    c.run_loop-finished.ensures.ends c.run_loop-finished.ensures.keeps c.run_loop-finished.ensures.counts c.run_loop-finished.ensures.sink)
 
 pub returns-in-Ok-clause-follows : goal.returns-in-Ok-clause-follows
 returns-in-Ok-clause-follows g c =

@@ -8,4 +8,4 @@ returns g c = names_for c.run_names.result c.args.limit c.status.result _ _ _ _ 
   skew = c.run_names.ensures.skew;
   passes = c.run_names.ensures.passes;
   done = c.run_names.ensures.done;
-})
+}) c.run_names.ensures.source c.run_names.ensures.sink

@@ -17,7 +17,7 @@ returns-in-Ok-clause-plays g c =
     subst (λ d. PlaysOn head due c.status.result held now w w' (g.D.Disk.faults disk) (g.D.Disk.faults d) (g.D.Disk.told d)) (sym c.into_disk.ensures)
     (plays_store g.D.Disk.told g.D.Disk.faults g.D.Disk.follows c.replay-finished.result.end c.status.result head due held now w w' disk c.in-Ok.store served
     c.status.ensures g.met.D.Disk.rises c.in-Ok.ensures.fresh c.in-Ok.ensures.counts c.replay-finished.ensures.follows c.replay-finished.ensures.ends
-    c.replay-finished.ensures.keeps c.replay-finished.ensures.counts)
+    c.replay-finished.ensures.keeps c.replay-finished.ensures.counts c.replay-finished.ensures.sink)
 
 pub returns-in-Ok-clause-follows : goal.returns-in-Ok-clause-follows
 returns-in-Ok-clause-follows g c =

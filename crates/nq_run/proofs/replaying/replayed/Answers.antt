@@ -21,9 +21,9 @@ returns-in-Ok-clause-replays g c =
     (writes out) (writes out') (faults disk) (faults disk') bytes disk disk') c.in-Ok.ensures.quiet
     (replays_on c.in-Ok.script c.args.limit c.play_on.result.status (left input) (left input') (held between) (held out') (reads input) (reads input')
     (writes between) (writes out') (faults disk) (faults disk') bytes disk disk'
-    c.in-Ok.ensures.read c.play_on.ensures.plays c.in-Ok.ensures.limit c.in-Ok.ensures.script)
+    c.in-Ok.ensures.read c.in-Ok.ensures.source c.play_on.ensures.plays c.in-Ok.ensures.limit c.in-Ok.ensures.script)
 
 pub returns-in-Err-clause-replays : goal.returns-in-Err-clause-replays
 returns-in-Err-clause-replays g c =
     refused_on c.in-Err.end c.args.limit c.status.result _ _ _ _ _ _ _ _ _ _ c.args.disk c.status.ensures c.in-Err.ensures.refuses
-    c.in-Err.ensures.limit c.in-Err.ensures.script c.in-Err.ensures.spelled
+    c.in-Err.ensures.limit c.in-Err.ensures.script c.in-Err.ensures.spelled c.in-Err.ensures.source c.in-Err.ensures.sink

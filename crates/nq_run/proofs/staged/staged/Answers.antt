@@ -8,4 +8,4 @@ returns g c = stages_for c.run_staged.result c.args.limit c.status.result _ _ _ 
   skew = c.run_staged.ensures.skew;
   passes = c.run_staged.ensures.passes;
   done = c.run_staged.ensures.done;
-})
+}) c.run_staged.ensures.source c.run_staged.ensures.sink

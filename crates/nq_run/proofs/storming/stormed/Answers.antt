@@ -25,7 +25,7 @@ returns-in-Ok-clause-storms g c =
     (g.K.Sink.faults c.args.out.now) (g.K.Sink.faults c.run_storm-finished.new.out)) c.deref_box_mut-1.ensures.value.1 c.run_storm-finished.ensures.ends)
     (λ done. subst (λ v. KeepsStorm c.args.start c.args.events ((goal.Fate-dyn g v).told v.1) held now kept) c.deref_box_mut-1.ensures.value.1
     (c.run_storm-finished.ensures.keeps done))
-    c.run_storm-finished.ensures.counts
+    c.run_storm-finished.ensures.counts c.run_storm-finished.ensures.sink
     (inl (asks_first (λ fate. fate_told ((goal.Fate-dyn g (fate.vtable, fate.value)).told fate.value)
     ((goal.Fate-dyn g (fate.vtable, fate.value)).asks fate.value)) end c.args.kind c.args.events c.in-Some.place c.args.fates.now
     c.index-fates-place.result _ c.in-Some.ensures.within c.index-fates-place.is c.in-Some.ensures.others c.in-Some.ensures.found

@@ -49,6 +49,9 @@ returns-clause-attends g c = λ host inc turns is. rw is at c.run_command.ensure
 pub returns-clause-follows : goal.returns-clause-follows
 returns-clause-follows g c = c.run_command.ensures.follows
 
+pub returns-clause-faultless : goal.returns-clause-faultless
+returns-clause-faultless g c = c.run_command.ensures.faultless
+
 pub returns-clause-untouched : goal.returns-clause-untouched
 returns-clause-untouched g c = λ never. (c.run_command.ensures.never never).1
 

@@ -1,4 +1,6 @@
-use Rattle.std.proofs.Common.{◌∙◌, Some, ap, refl, sym}
+use Rattle.std.proofs.Common.{◌∙◌, Some, ap, arith, refl, sym}
+use Rattle.nq_run.proofs.Faultless.{attends_faultless, checks_faultless, loops_faultless, names_faultless, replays_faultless, serves_faultless}
+use Rattle.nq_run.proofs.Faultless.{stages_faultless, storms_faultless}
 use Rattle.nq_run.proofs.Making.{loops_usage, storms_usage}
 use Rattle.nq_run.proofs.NamesPromises.{names_usage}
 use Rattle.nq_run.proofs.Playing.{replays_usage}
@@ -34,6 +36,9 @@ pub returns-in-Some-Format-clause-never : goal.returns-in-Some-Format-clause-nev
 returns-in-Some-Format-clause-never g c = λ never. absurd (rw (sym c.command.ensures.says ∙ c.in-Some-Format.is ∙ ap Some c.in-Some-Format.field-0-is)
     at never)
 
+pub returns-in-Some-Format-clause-faultless : goal.returns-in-Some-Format-clause-faultless
+returns-in-Some-Format-clause-faultless g c = λ done. (refl, refl)
+
 pub returns-in-Some-Format-clause-follows : goal.returns-in-Some-Format-clause-follows
 returns-in-Some-Format-clause-follows g c = c.format_disk.ensures.follows
 
@@ -62,6 +67,14 @@ returns-in-Some-Serve-clause-alone g c = λ none. absurd (serves_usage g.D.Disk.
 
 pub returns-in-Some-Serve-clause-never : goal.returns-in-Some-Serve-clause-never
 returns-in-Some-Serve-clause-never g c = λ never. absurd (rw (sym c.command.ensures.says ∙ c.in-Some-Serve.is ∙ ap Some c.in-Some-Serve.field-0-is) at never)
+
+pub returns-in-Some-Serve-clause-faultless : goal.returns-in-Some-Serve-clause-faultless
+returns-in-Some-Serve-clause-faultless g c = λ done. (
+  refl,
+  serves_faultless g.D.Disk.told g.D.Disk.faults g.D.Disk.may_leave g.D.Disk.follows
+      g.D.Disk.leaves c.serve_disk.result.status c.in-Some-Serve.longest c.in-Some-Serve.turns c.args.disk c.serve_disk.result.disk _ _ _ _ _ _ _ _
+      c.serve_disk.ensures.serves done,
+)
 
 pub returns-in-Some-Serve-clause-follows : goal.returns-in-Some-Serve-clause-follows
 returns-in-Some-Serve-clause-follows g c = c.serve_disk.ensures.follows
@@ -92,6 +105,10 @@ pub returns-in-Some-Replay-clause-never : goal.returns-in-Some-Replay-clause-nev
 returns-in-Some-Replay-clause-never g c = λ never. absurd (rw (sym c.command.ensures.says ∙ c.in-Some-Replay.is ∙ ap Some c.in-Some-Replay.field-0-is)
     at never)
 
+pub returns-in-Some-Replay-clause-faultless : goal.returns-in-Some-Replay-clause-faultless
+returns-in-Some-Replay-clause-faultless g c = replays_faultless _ c.replayed.result.status _ _ _ _ _ _ _ _ _ _ _ c.args.disk c.replayed.result.disk
+    c.replayed.ensures.replays
+
 pub returns-in-Some-Replay-clause-follows : goal.returns-in-Some-Replay-clause-follows
 returns-in-Some-Replay-clause-follows g c = c.replayed.ensures.follows
 
@@ -121,6 +138,13 @@ pub returns-in-Some-Storm-clause-never : goal.returns-in-Some-Storm-clause-never
 returns-in-Some-Storm-clause-never g c = λ never. c.stormed.ensures.never (rw (sym c.command.ensures.says ∙ c.in-Some-Storm.is
     ∙ ap Some c.in-Some-Storm.field-0-is) at never)
 
+pub returns-in-Some-Storm-clause-faultless : goal.returns-in-Some-Storm-clause-faultless
+returns-in-Some-Storm-clause-faultless g c = λ done. (
+  refl,
+  storms_faultless c.stormed.result.status c.in-Some-Storm.kind c.in-Some-Storm.start
+      c.in-Some-Storm.events _ _ _ _ _ _ _ _ _ _ c.stormed.ensures.storms done,
+)
+
 pub returns-in-Some-Storm-clause-follows : goal.returns-in-Some-Storm-clause-follows
 returns-in-Some-Storm-clause-follows g c = c.stormed.ensures.follows
 
@@ -148,6 +172,13 @@ returns-in-Some-Loop-clause-alone g c = λ none. absurd (loops_usage c.looped.re
 pub returns-in-Some-Loop-clause-never : goal.returns-in-Some-Loop-clause-never
 returns-in-Some-Loop-clause-never g c = λ never. absurd (rw (sym c.command.ensures.says ∙ c.in-Some-Loop.is ∙ ap Some c.in-Some-Loop.field-0-is) at never)
 
+pub returns-in-Some-Loop-clause-faultless : goal.returns-in-Some-Loop-clause-faultless
+returns-in-Some-Loop-clause-faultless g c = λ done. (
+  refl,
+  loops_faultless c.looped.result.status c.in-Some-Loop.hosts c.in-Some-Loop.turns _ _ _ _ _ _ _ _ _ _ _
+      c.looped.ensures.loops done,
+)
+
 pub returns-in-Some-Loop-clause-follows : goal.returns-in-Some-Loop-clause-follows
 returns-in-Some-Loop-clause-follows g c = c.looped.ensures.follows
 
@@ -166,6 +197,9 @@ returns-in-Some-Check-clause-alone g c = λ none. refl
 
 pub returns-in-Some-Check-clause-never : goal.returns-in-Some-Check-clause-never
 returns-in-Some-Check-clause-never g c = λ never. absurd (rw (sym c.command.ensures.says ∙ c.in-Some-Check.is ∙ ap Some c.in-Some-Check.field-0-is) at never)
+
+pub returns-in-Some-Check-clause-faultless : goal.returns-in-Some-Check-clause-faultless
+returns-in-Some-Check-clause-faultless g c = checks_faultless _ c.checked.result _ _ _ _ _ _ _ _ c.checked.ensures
 
 pub returns-in-Some-Check-clause-follows : goal.returns-in-Some-Check-clause-follows
 returns-in-Some-Check-clause-follows g c = g.met.D.Disk.follows_itself c.args.disk
@@ -194,6 +228,9 @@ pub returns-in-Some-Staged-clause-never : goal.returns-in-Some-Staged-clause-nev
 returns-in-Some-Staged-clause-never g c = λ never. absurd (rw (sym c.command.ensures.says ∙ c.in-Some-Staged.is ∙ ap Some c.in-Some-Staged.field-0-is)
     at never)
 
+pub returns-in-Some-Staged-clause-faultless : goal.returns-in-Some-Staged-clause-faultless
+returns-in-Some-Staged-clause-faultless g c = stages_faultless _ c.staged.result _ _ _ _ _ _ _ _ c.staged.ensures
+
 pub returns-in-Some-Staged-clause-follows : goal.returns-in-Some-Staged-clause-follows
 returns-in-Some-Staged-clause-follows g c = g.met.D.Disk.follows_itself c.args.disk
 
@@ -219,6 +256,9 @@ returns-in-Some-Names-clause-alone g c = λ none. refl
 
 pub returns-in-Some-Names-clause-never : goal.returns-in-Some-Names-clause-never
 returns-in-Some-Names-clause-never g c = λ never. absurd (rw (sym c.command.ensures.says ∙ c.in-Some-Names.is ∙ ap Some c.in-Some-Names.field-0-is) at never)
+
+pub returns-in-Some-Names-clause-faultless : goal.returns-in-Some-Names-clause-faultless
+returns-in-Some-Names-clause-faultless g c = names_faultless _ c.named.result _ _ _ _ _ _ _ _ c.named.ensures
 
 pub returns-in-Some-Names-clause-follows : goal.returns-in-Some-Names-clause-follows
 returns-in-Some-Names-clause-follows g c = g.met.D.Disk.follows_itself c.args.disk
@@ -248,6 +288,9 @@ pub returns-in-Some-Client-clause-never : goal.returns-in-Some-Client-clause-nev
 returns-in-Some-Client-clause-never g c = λ never. absurd (rw (sym c.command.ensures.says ∙ c.in-Some-Client.is ∙ ap Some c.in-Some-Client.field-0-is)
     at never)
 
+pub returns-in-Some-Client-clause-faultless : goal.returns-in-Some-Client-clause-faultless
+returns-in-Some-Client-clause-faultless g c = attends_faultless c.in-Some-Client.turns _ _ c.attended.result _ _ _ _ _ _ _ _ _ _ _ _ c.attended.ensures
+
 pub returns-in-Some-Client-clause-follows : goal.returns-in-Some-Client-clause-follows
 returns-in-Some-Client-clause-follows g c = g.met.D.Disk.follows_itself c.args.disk
 
@@ -272,6 +315,9 @@ returns-in-None-clause-alone g c = λ none. refl
 
 pub returns-in-None-clause-never : goal.returns-in-None-clause-never
 returns-in-None-clause-never g c = λ never. (c.usage.ensures.usage, refl)
+
+pub returns-in-None-clause-faultless : goal.returns-in-None-clause-faultless
+returns-in-None-clause-faultless g c = λ done. let no = sym c.usage.ensures.usage ∙ done in absurd (omega arith)
 
 pub returns-in-None-clause-follows : goal.returns-in-None-clause-follows
 returns-in-None-clause-follows g c = g.met.D.Disk.follows_itself c.args.disk

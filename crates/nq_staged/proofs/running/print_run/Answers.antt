@@ -16,8 +16,8 @@ schedule_text-requires-clause-told g c =
     all-reverse (IsTellable c.args.head.now) c.ran.result.now
     (subst (AllByRecursion (IsTellable c.args.head.now)) (sym (c.ran.ensures (beginning c.args.head.now) is.events _ is.plays)) is.tellable)
 
-pub returns : goal.returns
-returns g c = λ events plays.
+pub returns-clause-prints : goal.returns-clause-prints
+returns-clause-prints g c = λ events plays.
     let spelled = subst (SpellsSchedule c.args.head.now (map once c.ran.result.now)) (sym c.deref.ensures.value) c.in-Ok.ensures in
     let said : c.as_bytes.result.now ≡ count_line (counts_of c.counts.result) = c.as_bytes.ensures.value ∙ c.in-Ok-count_text.ensures in
     inl (record {
@@ -26,5 +26,5 @@ returns g c = λ events plays.
           c.deref.result.now c.as_bytes.result.now plays
           (c.ran.ensures (beginning c.args.head.now) events _ plays) (c.journal.ensures (beginning c.args.head.now) events _ plays)
           (c.counts.ensures (beginning c.args.head.now) events _ plays) spelled said;
-      printed = c.print_parts.ensures;
+      printed = c.print_parts.ensures.prints;
     })

@@ -22,8 +22,8 @@ pub schedule_text-requires-clause-told : goal.schedule_text-requires-clause-told
 schedule_text-requires-clause-told g c =
     subst (λ (h : Head). AllByRecursion (IsTellable h) c.args.ran.now) (sym c.requires.head) (are_told c.args.ran.now c.requires.stormy)
 
-pub returns : goal.returns
-returns g c = λ plays.
+pub returns-clause-prints : goal.returns-clause-prints
+returns-clause-prints g c = λ plays.
     let events = reverse c.args.ran.now in
     let spelled = subst (λ (h : Head). SpellsSchedule h (map once c.args.ran.now) c.in-Ok.text.items) c.requires.head c.in-Ok.ensures in
     let shown : map plain c.args.world.now.entries ≡ journal_of storm_head events = plays.shown.shows.entries in
@@ -34,4 +34,4 @@ returns g c = λ plays.
     (c.losses-lost.ensures ∙ ap (count_by is_loss) (c.entries.ensures ∙ c.journal.ensures)) in
     prints_counted c.print_parts.result c.args.ran.now c.deref.result.now c.in-Ok.text.items c.journal-2.result.now.entries c.args.world.now.entries
     c.as_bytes.result.now
-    _ _ _ _ c.deref.ensures.value c.journal-2.ensures spelled shown line c.print_parts.ensures
+    _ _ _ _ c.deref.ensures.value c.journal-2.ensures spelled shown line c.print_parts.ensures.prints

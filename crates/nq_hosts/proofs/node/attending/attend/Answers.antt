@@ -5,7 +5,7 @@ use Rattle.nq_hosts.proofs.node.attending.attend.Goals as goal
 
 pub returns-in-Ok : goal.returns-in-Ok
 returns-in-Ok g c =
-    let clock_of = clock_told g.C.Clock.floor g.C.Clock.readings in
+    let clock_of = clock_told g.C.Clock.floor g.C.Clock.readings g.C.Clock.reads in
     let link_of = link_told g.L.Link.sent g.L.Link.waiting g.L.Link.faults g.L.Link.receives in
     went_on c.go_on.result c.in-Ok.ticked c.now-reading.result (clock_of c.args.clock.now) (clock_of c.now-reading.new.self)
     (link_of c.args.link.now)
@@ -17,13 +17,13 @@ returns-in-Ok g c =
       rises = c.now-reading.ensures.rises;
       floor = c.now-reading.ensures.floor;
       below = c.now-reading.ensures.below;
-      told =
-          c.now-reading.ensures.told;
+      told = c.now-reading.ensures.told;
+      once = c.now-reading.ensures.reads;
     }) c.in-Ok.ensures c.go_on.ensures
 
 pub returns-in-Err : goal.returns-in-Err
 returns-in-Err g c =
-    let clock_of = clock_told g.C.Clock.floor g.C.Clock.readings in
+    let clock_of = clock_told g.C.Clock.floor g.C.Clock.readings g.C.Clock.reads in
     let link_of = link_told g.L.Link.sent g.L.Link.waiting g.L.Link.faults g.L.Link.receives in
     stopped c.in-Err.why c.now-reading.result (clock_of c.args.clock.now) (clock_of c.now-reading.new.self)
     (link_of c.args.link.now)
@@ -33,6 +33,6 @@ returns-in-Err g c =
       rises = c.now-reading.ensures.rises;
       floor = c.now-reading.ensures.floor;
       below = c.now-reading.ensures.below;
-      told =
-          c.now-reading.ensures.told;
+      told = c.now-reading.ensures.told;
+      once = c.now-reading.ensures.reads;
     }) c.in-Err.ensures

@@ -7,7 +7,7 @@ use Rattle.nq_hosts.proofs.user.running.run_lines.Goals as goal
 
 pub run_line-requires : goal.run_line-requires
 run_line-requires g c =
-    let clock_of = clock_told g.C.Clock.floor g.C.Clock.readings in
+    let clock_of = clock_told g.C.Clock.floor g.C.Clock.readings g.C.Clock.reads in
     let link_of = link_told g.L.Link.sent g.L.Link.waiting g.L.Link.faults g.L.Link.receives in
     let at : Between = between c.args.session.now (clock_of c.args.clock.now) (link_of c.args.link.now) in
     let now : Between = between c.loop-line.session (clock_of c.loop-line.clock) (link_of c.loop-line.link) in
@@ -16,7 +16,7 @@ run_line-requires g c =
 
 pub returns-in-Err : goal.returns-in-Err
 returns-in-Err g c =
-    let clock_of = clock_told g.C.Clock.floor g.C.Clock.readings in
+    let clock_of = clock_told g.C.Clock.floor g.C.Clock.readings g.C.Clock.reads in
     let link_of = link_told g.L.Link.sent g.L.Link.waiting g.L.Link.faults g.L.Link.receives in
     let at : Between = between c.args.session.now (clock_of c.args.clock.now) (link_of c.args.link.now) in
     let now : Between = between c.loop-line.session (clock_of c.loop-line.clock) (link_of c.loop-line.link) in
@@ -30,7 +30,7 @@ loop-line-smaller g c = shorter c.loop-line.rest.now c.in-Some.line.now c.in-Som
 
 pub loop-line-preserved : goal.loop-line-preserved
 loop-line-preserved g c =
-    let clock_of = clock_told g.C.Clock.floor g.C.Clock.readings in
+    let clock_of = clock_told g.C.Clock.floor g.C.Clock.readings g.C.Clock.reads in
     let link_of = link_told g.L.Link.sent g.L.Link.waiting g.L.Link.faults g.L.Link.receives in
     let at : Between = between c.args.session.now (clock_of c.args.clock.now) (link_of c.args.link.now) in
     let now : Between = between c.loop-line.session (clock_of c.loop-line.clock) (link_of c.loop-line.link) in
@@ -40,7 +40,7 @@ loop-line-preserved g c =
 
 pub returns : goal.returns
 returns g c =
-    let clock_of = clock_told g.C.Clock.floor g.C.Clock.readings in
+    let clock_of = clock_told g.C.Clock.floor g.C.Clock.readings g.C.Clock.reads in
     let link_of = link_told g.L.Link.sent g.L.Link.waiting g.L.Link.faults g.L.Link.receives in
     let at : Between = between c.args.session.now (clock_of c.args.clock.now) (link_of c.args.link.now) in
     let now : Between = between c.loop-line.session (clock_of c.loop-line.clock) (link_of c.loop-line.link) in

@@ -7,7 +7,7 @@ use Rattle.nq_hosts.proofs.user.running.run_lines.Given as goal
 
 abbrev pub invariant-loop-line : goal.invariant-loop-line
 invariant-loop-line g l =
-    let clock_of = clock_told g.C.Clock.floor g.C.Clock.readings in
+    let clock_of = clock_told g.C.Clock.floor g.C.Clock.readings g.C.Clock.reads in
     let link_of = link_told g.L.Link.sent g.L.Link.waiting g.L.Link.faults g.L.Link.receives in
     Progress l.turns l.text l.rest l.number
     (between l.fn.session (clock_of l.fn.clock) (link_of l.fn.link))

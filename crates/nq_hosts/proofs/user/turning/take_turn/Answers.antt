@@ -7,7 +7,7 @@ use Rattle.nq_hosts.proofs.user.turning.take_turn.Goals as goal
 
 pub returns : goal.returns
 returns g c =
-    let clock_of = clock_told g.C.Clock.floor g.C.Clock.readings in
+    let clock_of = clock_told g.C.Clock.floor g.C.Clock.readings g.C.Clock.reads in
     let link_of = link_told g.L.Link.sent g.L.Link.waiting g.L.Link.faults g.L.Link.receives in
     let at : Between = between c.args.session.now (clock_of c.args.clock.now) (link_of c.args.link.now) in
     let after : Between = record {

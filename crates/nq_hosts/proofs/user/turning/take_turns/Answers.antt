@@ -7,7 +7,7 @@ use Rattle.nq_hosts.proofs.user.turning.take_turns.Goals as goal
 
 pub returns-then-done : goal.returns-then-done
 returns-then-done g c =
-    let clock_of = clock_told g.C.Clock.floor g.C.Clock.readings in
+    let clock_of = clock_told g.C.Clock.floor g.C.Clock.readings g.C.Clock.reads in
     let link_of = link_told g.L.Link.sent g.L.Link.waiting g.L.Link.faults g.L.Link.receives in
     let before : Between = between c.loop-turn.session (clock_of c.loop-turn.clock) (link_of c.loop-turn.link) in
     let after : Between = between c.take_turn.new.session (clock_of c.take_turn.new.clock) (link_of c.take_turn.new.link) in
@@ -21,7 +21,7 @@ returns-then-done g c =
 
 pub returns-in-Err : goal.returns-in-Err
 returns-in-Err g c =
-    let clock_of = clock_told g.C.Clock.floor g.C.Clock.readings in
+    let clock_of = clock_told g.C.Clock.floor g.C.Clock.readings g.C.Clock.reads in
     let link_of = link_told g.L.Link.sent g.L.Link.waiting g.L.Link.faults g.L.Link.receives in
     let at : Between = between c.args.session.now (clock_of c.args.clock.now) (link_of c.args.link.now) in
     let after : Between = between c.take_turn.new.session (clock_of c.take_turn.new.clock) (link_of c.take_turn.new.link) in
@@ -35,7 +35,7 @@ returns-in-Err g c =
 
 pub loop-turn-preserved : goal.loop-turn-preserved
 loop-turn-preserved g c =
-    let clock_of = clock_told g.C.Clock.floor g.C.Clock.readings in
+    let clock_of = clock_told g.C.Clock.floor g.C.Clock.readings g.C.Clock.reads in
     let link_of = link_told g.L.Link.sent g.L.Link.waiting g.L.Link.faults g.L.Link.receives in
     let before : Between = between c.loop-turn.session (clock_of c.loop-turn.clock) (link_of c.loop-turn.link) in
     let after : Between = between c.take_turn.new.session (clock_of c.take_turn.new.clock) (link_of c.take_turn.new.link) in

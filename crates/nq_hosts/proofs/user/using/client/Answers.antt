@@ -8,7 +8,7 @@ use Rattle.nq_hosts.proofs.user.using.client.Goals as goal
 
 pub returns-in-All-clause-cause : goal.returns-in-All-clause-cause
 returns-in-All-clause-cause g c =
-    let clock_of = clock_told g.C.Clock.floor g.C.Clock.readings in
+    let clock_of = clock_told g.C.Clock.floor g.C.Clock.readings g.C.Clock.reads in
     let link_of = link_told g.L.Link.sent g.L.Link.waiting g.L.Link.faults g.L.Link.receives in
     text_by c.use_text.ensures.0 c.args.plan.turns c.args.plan.who c.deref.result.now c.use_text.result (g.K.Sink.held c.args.out.now)
     (g.K.Sink.held c.use_text.new.out) (g.S.Source.faults c.args.input.now) (g.S.Source.faults c.read_all.new.source) (g.K.Sink.faults c.args.out.now)
@@ -17,7 +17,7 @@ returns-in-All-clause-cause g c =
 
 pub returns-in-All-clause-lawful : goal.returns-in-All-clause-lawful
 returns-in-All-clause-lawful g c =
-    let clock_of = clock_told g.C.Clock.floor g.C.Clock.readings in
+    let clock_of = clock_told g.C.Clock.floor g.C.Clock.readings g.C.Clock.reads in
     let link_of = link_told g.L.Link.sent g.L.Link.waiting g.L.Link.faults g.L.Link.receives in
     λ text lines told are script.
     let all : c.in-All.text.items ≡ text = subst (λ o. IfSome o (λ input. c.in-All.text.items ≡ input)) told c.in-All.ensures.reads.all in

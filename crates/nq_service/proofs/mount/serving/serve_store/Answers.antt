@@ -8,7 +8,7 @@ use Rattle.nq_service.proofs.mount.serving.serve_store.Goals as goal
 
 pub returns : goal.returns
 returns g c =
-    let clock_of = clock_told g.C.Clock.floor g.C.Clock.readings in
+    let clock_of = clock_told g.C.Clock.floor g.C.Clock.readings g.C.Clock.reads in
     let link_of = link_told g.L.Link.sent g.L.Link.waiting g.L.Link.faults g.L.Link.receives in
     let ran = c.keep_serving-ended in
     let handed = c.into_disk.ensures ∙ ap (λ (store : StoredStore g.row.D.Denot). store.disk) c.into_keeper.ensures in

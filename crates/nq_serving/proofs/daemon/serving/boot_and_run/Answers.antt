@@ -10,7 +10,7 @@ use Rattle.nq_serving.proofs.daemon.serving.boot_and_run.Goals as goal
 
 pub returns-in-Ok-clause-runs : goal.returns-in-Ok-clause-runs
 returns-in-Ok-clause-runs g c =
-    let clock_of = clock_told g.C.Clock.floor g.C.Clock.readings in
+    let clock_of = clock_told g.C.Clock.floor g.C.Clock.readings g.C.Clock.reads in
     let link_of = link_told g.L.Link.sent g.L.Link.waiting g.L.Link.faults g.L.Link.receives in
     let last = standing c.take_turns-ended.new.server c.take_turns-ended.new.next (clock_of c.take_turns-ended.new.clock)
     (link_of c.take_turns-ended.new.link) in
@@ -38,7 +38,7 @@ returns-in-Ok-clause-runs g c =
 
 pub returns-in-Err-clause-runs : goal.returns-in-Err-clause-runs
 returns-in-Err-clause-runs g c =
-    let clock_of = clock_told g.C.Clock.floor g.C.Clock.readings in
+    let clock_of = clock_told g.C.Clock.floor g.C.Clock.readings g.C.Clock.reads in
     let link_of = link_told g.L.Link.sent g.L.Link.waiting g.L.Link.faults g.L.Link.receives in
     ran_none g.K.Keeper.content g.K.Keeper.faults g.K.Keeper.follows g.K.Keeper.leaves c.args.longest c.args.turns c.args.now c.args.keeper
     c.not_booted.result.ended c.not_booted.result.keeper (clock_of c.args.clock.now) (link_of c.args.link.now) c.in-Err.fault c.boot.result c.in-Err.is

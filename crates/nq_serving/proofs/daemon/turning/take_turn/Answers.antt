@@ -7,7 +7,7 @@ use Rattle.nq_serving.proofs.daemon.turning.take_turn.Goals as goal
 
 pub returns-clause-turn : goal.returns-clause-turn
 returns-clause-turn g c =
-    let clock_of = clock_told g.C.Clock.floor g.C.Clock.readings in
+    let clock_of = clock_told g.C.Clock.floor g.C.Clock.readings g.C.Clock.reads in
     let link_of = link_told g.L.Link.sent g.L.Link.waiting g.L.Link.faults g.L.Link.receives in
     let at = standing c.args.server.now c.args.next.now (clock_of c.args.clock.now) (link_of c.args.link.now) in
     let after = standing c.serve_turn-turn.new.server c.serve_turn-turn.new.next (clock_of c.serve_turn-turn.new.clock)

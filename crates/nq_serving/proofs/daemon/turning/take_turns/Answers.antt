@@ -7,7 +7,7 @@ use Rattle.nq_serving.proofs.daemon.turning.take_turns.Goals as goal
 
 pub loop-turn-init : goal.loop-turn-init
 loop-turn-init g c =
-    let clock_of = clock_told g.C.Clock.floor g.C.Clock.readings in
+    let clock_of = clock_told g.C.Clock.floor g.C.Clock.readings g.C.Clock.reads in
     let link_of = link_told g.L.Link.sent g.L.Link.waiting g.L.Link.faults g.L.Link.receives in
     record {
       goes = gone_none g.K.Keeper.content g.K.Keeper.faults g.K.Keeper.follows g.K.Keeper.leaves
@@ -21,7 +21,7 @@ returns-in-Err-clause-follows g c = g.met.K.Keeper.follows_on _ _ _ c.loop-turn.
 
 pub returns-in-Err-clause-turns : goal.returns-in-Err-clause-turns
 returns-in-Err-clause-turns g c =
-    let clock_of = clock_told g.C.Clock.floor g.C.Clock.readings in
+    let clock_of = clock_told g.C.Clock.floor g.C.Clock.readings g.C.Clock.reads in
     let link_of = link_told g.L.Link.sent g.L.Link.waiting g.L.Link.faults g.L.Link.receives in
     gone_stopped g.K.Keeper.content g.K.Keeper.faults g.K.Keeper.follows g.K.Keeper.leaves g.met.K.Keeper.follows_itself g.met.K.Keeper.follows_on
     c.loop-turn._turn c.args.turns c.in-Err.why
@@ -32,7 +32,7 @@ returns-in-Err-clause-turns g c =
 
 pub loop-turn-preserved : goal.loop-turn-preserved
 loop-turn-preserved g c =
-    let clock_of = clock_told g.C.Clock.floor g.C.Clock.readings in
+    let clock_of = clock_told g.C.Clock.floor g.C.Clock.readings g.C.Clock.reads in
     let link_of = link_told g.L.Link.sent g.L.Link.waiting g.L.Link.faults g.L.Link.receives in
     record {
       goes =
@@ -49,7 +49,7 @@ loop-turn-preserved g c =
 
 pub returns-clause-turns : goal.returns-clause-turns
 returns-clause-turns g c =
-    let clock_of = clock_told g.C.Clock.floor g.C.Clock.readings in
+    let clock_of = clock_told g.C.Clock.floor g.C.Clock.readings g.C.Clock.reads in
     let link_of = link_told g.L.Link.sent g.L.Link.waiting g.L.Link.faults g.L.Link.receives in
     gone_all g.K.Keeper.content g.K.Keeper.faults g.K.Keeper.follows g.K.Keeper.leaves c.loop-turn._turn c.args.turns
     (standing c.args.server.now c.args.next.now (clock_of c.args.clock.now) (link_of c.args.link.now))

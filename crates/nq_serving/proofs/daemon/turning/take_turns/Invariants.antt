@@ -6,7 +6,7 @@ use Rattle.nq_serving.proofs.daemon.turning.take_turns.Given as goal
 
 abbrev pub invariant-loop-turn : goal.invariant-loop-turn
 invariant-loop-turn g l =
-    let clock_of = clock_told g.C.Clock.floor g.C.Clock.readings in
+    let clock_of = clock_told g.C.Clock.floor g.C.Clock.readings g.C.Clock.reads in
     let link_of = link_told g.L.Link.sent g.L.Link.waiting g.L.Link.faults g.L.Link.receives in
     record {
       goes : GoneOn g.K.Keeper.content g.K.Keeper.faults g.K.Keeper.follows g.K.Keeper.leaves l._turn

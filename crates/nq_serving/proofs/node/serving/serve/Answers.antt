@@ -5,7 +5,7 @@ use Rattle.nq_serving.proofs.node.serving.serve.Goals as goal
 
 pub returns-in-Ok-clause-stages : goal.returns-in-Ok-clause-stages
 returns-in-Ok-clause-stages g c =
-    let clock_of = clock_told g.C.Clock.floor g.C.Clock.readings in
+    let clock_of = clock_told g.C.Clock.floor g.C.Clock.readings g.C.Clock.reads in
     let link_of = link_told g.L.Link.sent g.L.Link.waiting g.L.Link.faults g.L.Link.receives in
     went_on_leaves g.K.Keeper.content g.K.Keeper.faults g.K.Keeper.follows g.K.Keeper.leaves g.met.K.Keeper.follows_on g.met.K.Keeper.parts
     c.go_on.result c.is_below-rises.result c.now-reading.result (clock_of c.args.clock.now) (clock_of c.now-reading.new.self)
@@ -18,8 +18,8 @@ returns-in-Ok-clause-stages g c =
       rises = c.now-reading.ensures.rises;
       floor = c.now-reading.ensures.floor;
       below = c.now-reading.ensures.below;
-      told =
-          c.now-reading.ensures.told;
+      told = c.now-reading.ensures.told;
+      once = c.now-reading.ensures.reads;
     }) c.in-Ok.ensures.ticked c.is_below-rises.ensures
     c.in-Ok.ensures.leaves c.tick_to.ensures.follows c.go_on.ensures.goes
 
@@ -28,7 +28,7 @@ returns-in-Ok-clause-follows g c = g.met.K.Keeper.follows_on _ _ _ c.tick_to.ens
 
 pub returns-in-Err-clause-stages : goal.returns-in-Err-clause-stages
 returns-in-Err-clause-stages g c =
-    let clock_of = clock_told g.C.Clock.floor g.C.Clock.readings in
+    let clock_of = clock_told g.C.Clock.floor g.C.Clock.readings g.C.Clock.reads in
     let link_of = link_told g.L.Link.sent g.L.Link.waiting g.L.Link.faults g.L.Link.receives in
     stopped_leaves g.K.Keeper.content g.K.Keeper.faults g.K.Keeper.follows g.K.Keeper.leaves g.met.K.Keeper.follows_on g.met.K.Keeper.parts
     c.in-Err.why c.now-reading.result (clock_of c.args.clock.now) (clock_of c.now-reading.new.self)
@@ -39,6 +39,6 @@ returns-in-Err-clause-stages g c =
       rises = c.now-reading.ensures.rises;
       floor = c.now-reading.ensures.floor;
       below = c.now-reading.ensures.below;
-      told =
-          c.now-reading.ensures.told;
+      told = c.now-reading.ensures.told;
+      once = c.now-reading.ensures.reads;
     }) c.in-Err.ensures.ticked c.in-Err.ensures.leaves

@@ -9,12 +9,12 @@ use Rattle.nq_serving.proofs.server.serving.serve.Goals as goal
 
 pub returns-in_default-clause-serves : goal.returns-in_default-clause-serves
 returns-in_default-clause-serves g c =
-    let clock_of = clock_told g.C.Clock.floor g.C.Clock.readings in (
+    let clock_of = clock_told g.C.Clock.floor g.C.Clock.readings g.C.Clock.reads in (
       record {
         serves = record {
           time = c.now-now.result;
           between = clock_of c.now-now.new.self;
-          read = record { rises = c.now-now.ensures.rises; floor = c.now-now.ensures.floor; below = c.now-now.ensures.below; told = c.now-now.ensures.told };
+          read = record { rises = c.now-now.ensures.rises; floor = c.now-now.ensures.floor; below = c.now-now.ensures.below; told = c.now-now.ensures.told; once = c.now-now.ensures.reads };
           runs = inr (record { none = (refl, refl); same = g.met.K.Keeper.follows_itself c.args.keeper; clocks = refl; links = refl });
         };
         only = λ kept told found left. inl (c.pause.ensures.leaves kept told found left);
@@ -28,7 +28,7 @@ returns-in_default-clause-serves g c =
 pub returns-clause-serves : goal.returns-clause-serves
 unfolding turns_line
 returns-clause-serves g c =
-    let clock_of = clock_told g.C.Clock.floor g.C.Clock.readings in
+    let clock_of = clock_told g.C.Clock.floor g.C.Clock.readings g.C.Clock.reads in
     let link_of = link_told g.L.Link.sent g.L.Link.waiting g.L.Link.faults g.L.Link.receives in
     let ran = c.boot_and_run-ended.result in
     tells (λ ended. LeavesServing g.K.Keeper.content g.K.Keeper.faults g.K.Keeper.follows g.K.Keeper.leaves c.args.longest c.args.turns c.args.keeper
@@ -40,7 +40,7 @@ returns-clause-serves g c =
       serves = record {
         time = c.now-now.result;
         between = clock_of c.now-now.new.self;
-        read = record { rises = c.now-now.ensures.rises; floor = c.now-now.ensures.floor; below = c.now-now.ensures.below; told = c.now-now.ensures.told };
+        read = record { rises = c.now-now.ensures.rises; floor = c.now-now.ensures.floor; below = c.now-now.ensures.below; told = c.now-now.ensures.told; once = c.now-now.ensures.reads };
         runs = c.boot_and_run-ended.ensures.runs.runs;
       };
       only = c.boot_and_run-ended.ensures.runs.only;
@@ -54,7 +54,7 @@ returns-clause-serves g c =
 pub returns-clause-cause : goal.returns-clause-cause
 returns-clause-cause g c =
     let link_of = link_told g.L.Link.sent g.L.Link.waiting g.L.Link.faults g.L.Link.receives in
-    let clock_of = clock_told g.C.Clock.floor g.C.Clock.readings in
+    let clock_of = clock_told g.C.Clock.floor g.C.Clock.readings g.C.Clock.reads in
     let ran = c.boot_and_run-ended.result in
     ends_by ran.ended c.as_bytes.result.now c.tell-end.result (g.S.Sink.held c.args.out.now) (g.S.Sink.held c.tell-end.new.out)
     (g.K.Keeper.content c.args.keeper) (g.K.Keeper.faults c.args.keeper) (g.K.Keeper.faults ran.keeper) (g.L.Link.faults c.args.link.now)
