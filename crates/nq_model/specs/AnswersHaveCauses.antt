@@ -13,7 +13,6 @@ use Rattle.nq_model.specs.Bounds.{InEveryRun}
 use Rattle.nq_model.specs.Journal.{Throughout, SpeaksOf, call_of}
 use Rattle.nq_model.specs.Kept.{File, blocks_of, blocks_in_all, find_file, find_name}
 use Rattle.nq_model.specs.Profile.{most_blocks, most_blocks_of_file, most_files, most_ids}
-use Rattle.nq_model.specs.RepliesTellWhatWas.{Once}
 use Rattle.nq_model.specs.World.{Head, run}
 
 -- ---- what stands at the server
@@ -54,15 +53,14 @@ pub record CannotGrow (files : List File) (id blocks : ℕ) : Type 0 where
 
 -- ---- answers
 
--- at some moment of the run, which need not be behind the call, the file had no such block: a client that has a lease says so by the
--- length that the lease tells
-abbrev pub HadNoBlock : Head → List Event → (file block : ℕ) → Type 0
-HadNoBlock head events file block = Once (λ w. LacksBlock w.server.kept.files file block) head events
+-- between the call and its answer the file had no such block, as the server says, or a client by the length that a running lease tells
+abbrev pub HadNoBlock : Head → List Event → (who : Who) (q file block : ℕ) → Type 0
+HadNoBlock head events who q file block = Meanwhile (λ w. LacksBlock w.server.kept.files file block) who q head events
 
 -- why a call was answered so: NOENTRY is said to `lookup` alone, and between the call and its answer no file of its name was kept; STALE to
 -- a call that speaks of a file, and no file of its id was kept; EXISTS to `create` alone, and a file of its name was kept; NOSPACE to
 -- `create` and `resize` alone, and there was no room for such a file, or for such a length of the file; RANGE to `create` and `resize` with
--- a length that no file can have, and to a call that reads or writes a block, and its file had had no such block
+-- a length that no file can have, and to a call that reads or writes a block, and its file had no such block
 abbrev pub IsAnsweredSo : Head → List Event → (who : Who) (q : ℕ) → Said → Option Told → Type 0
 IsAnsweredSo head events who q NoEntry (Some (Lookup name)) = Meanwhile (λ w. LacksName w.server.kept.files name) who q head events
 IsAnsweredSo head events who q NoEntry other = ⊥
@@ -76,10 +74,10 @@ IsAnsweredSo head events who q NoSpace (Some (Resize file blocks)) = Meanwhile (
 IsAnsweredSo head events who q NoSpace other = ⊥
 IsAnsweredSo head events who q Range (Some (Create name blocks)) = IsNoLength blocks
 IsAnsweredSo head events who q Range (Some (Resize file blocks)) = IsNoLength blocks
-IsAnsweredSo head events who q Range (Some (Read file block)) = HadNoBlock head events file block
-IsAnsweredSo head events who q Range (Some (Fetch file block)) = HadNoBlock head events file block
-IsAnsweredSo head events who q Range (Some (Write file block value)) = HadNoBlock head events file block
-IsAnsweredSo head events who q Range (Some (WriteSync file block value)) = HadNoBlock head events file block
+IsAnsweredSo head events who q Range (Some (Read file block)) = HadNoBlock head events who q file block
+IsAnsweredSo head events who q Range (Some (Fetch file block)) = HadNoBlock head events who q file block
+IsAnsweredSo head events who q Range (Some (Write file block value)) = HadNoBlock head events who q file block
+IsAnsweredSo head events who q Range (Some (WriteSync file block value)) = HadNoBlock head events who q file block
 IsAnsweredSo head events who q Range other = ⊥
 IsAnsweredSo head events who q other told = ⊤
 
