@@ -1,11 +1,21 @@
 -- When serving fails.
-use Rattle.std.proofs.Common.{◌≡◌, ◌≤◌, ℕ, Option, Result, Err, subst}
+use Rattle.std.proofs.Common.{◌≡◌, ◌⊎◌, ◌<◌, ◌≤◌, ◌^◌, ◌-◌, ◌∙◌, ℕ, Option, Result, Ok, Err, inl, inr, subst, ap, sym, arith}
+use Rattle.std.proofs.lemmas.Bool.{cases_lt}
 use Rattle.nq_serving.specs.DaemonServing.{EndsBy}
 use Rattle.nq_base.specs.declared.ending.halt.Halt.{Halt}
 use Rattle.nq_io.specs.Faults.{Rose}
 use Rattle.nq_model.specs.Kept.{Kept}
-use Rattle.nq_store.specs.Storing.{GoesOn, HasRisen, IsFresh, StoredStore, faults_of}
+use Rattle.nq_service.specs.MountServing.{StoodStill}
+use Rattle.nq_store.specs.Storing.{GoesOn, HasRisen, IsFresh, StoredStore, counted, faults_of}
 use Rattle.nq_store.proofs.Risen.{risen_over}
+
+stood-below : (before now refused : ℕ) → before ≤ now → counted now refused ≡ counted before 0 → before < 2 ^ 64 - 1 → now ≡ before
+stood-below before now refused rises same below = omega arith
+
+stood : (before now refused : ℕ) → before ≤ now → counted now refused ≡ counted before 0 → (before < 2 ^ 64 - 1) ⊎ (2 ^ 64 - 1 ≤ before)
+    → StoodStill before now
+stood before now refused rises same (inl below) = inl (stood-below before now refused rises same below)
+stood before now refused rises same (inr end) = inr end
 
 module _ {D : Type 0} (faults : D → ℕ) (follows : D → D → Type 0) where
   -- where the keeper failed, the disk failed
@@ -17,3 +27,15 @@ module _ {D : Type 0} (faults : D → ℕ) (follows : D → D → Type 0) where
       let rose : Rose (faults_of faults store) (faults_of faults served) =
       subst (λ (e : Result Unit Halt). EndsBy e content (faults_of faults store) (faults_of faults served)) keep ends in
       risen_over faults follows disk store served rises fresh counts goes rose
+
+  -- where all turns were taken, the disk did not fail
+  pub stood_still : (ended : Result Unit Halt) (disk : D) (store served : StoredStore D) (content : Option Kept)
+      → ((first last : D) → follows first last → faults first ≤ faults last) → IsFresh store → faults store.disk ≡ faults disk
+      → GoesOn faults follows store served → EndsBy ended content (faults_of faults store) (faults_of faults served)
+      → ended ≡ Ok tt → StoodStill (faults disk) (faults served.disk)
+  stood_still ended disk store served content rises fresh counts goes ends done =
+      let so = subst (λ (e : Result Unit Halt). EndsBy e content (faults_of faults store) (faults_of faults served)) done ends in
+      let same = so.1 ∙ ap (λ (n : ℕ). counted (faults store.disk) n) fresh.none in
+      subst (λ (n : ℕ). StoodStill n (faults served.disk)) counts
+      (stood (faults store.disk) (faults served.disk) served.refused (rises store.disk served.disk goes.disk) same
+      (cases_lt (faults store.disk) (2 ^ 64 - 1)))

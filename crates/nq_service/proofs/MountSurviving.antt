@@ -11,9 +11,9 @@ use Rattle.nq_image.specs.Nothing.{nothing_kept}
 use Rattle.nq_io.specs.Faults.{Rose}
 use Rattle.nq_model.specs.Kept.{Kept}
 use Rattle.nq_store.proofs.Emptied.{nothing_on}
-use Rattle.nq_service.proofs.MountFailing.{failed_by}
+use Rattle.nq_service.proofs.MountFailing.{failed_by, stood_still}
 use Rattle.nq_service.specs.Opening.{FailsEarly, IsOpenedAs, IsReady, OpensOrMakes, OpensReady}
-use Rattle.nq_service.specs.MountServing.{EndsServing, IsFoundAmong, IsWhyNot, ServesImage, ServesNot}
+use Rattle.nq_service.specs.MountServing.{EndsServing, IsFoundAmong, IsWhyNot, ServesImage, ServesNot, StoodStill}
 use Rattle.nq_clock.specs.Clocks.{ClockTold}
 use Rattle.nq_link.specs.Links.{LinkTold}
 use Rattle.nq_disk.specs.Saying.{Each}
@@ -131,6 +131,9 @@ module _ {D : Type 0} (told : D → Option (List ℕ)) (faults : D → ℕ) (may
         failed = λ keep. subst (λ (d : D). HasRisen (faults disk) (faults d)) (sym ends.handed)
             (failed_by faults follows ended disk store ends.served (content_of told store) rises opened.fresh (opened.counts ∙ is_ready.counts) ends.same
             ends.cause keep);
+        done = λ all. subst (λ (d : D). StoodStill (faults disk) (faults d)) (sym ends.handed)
+            (stood_still faults follows ended disk store ends.served (content_of told store) rises opened.fresh (opened.counts ∙ is_ready.counts)
+            ends.same ends.cause all);
         survives = λ bytes is some kept same.
             let still = is_ready.stays bytes is some in
             found-first disk ready store ended left clock clock' link link' ends stays outer parts is_ready.same opened.same on still.0 still.1

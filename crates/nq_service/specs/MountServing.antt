@@ -2,7 +2,7 @@
 -- what a stop at a moment may leave of its bytes, `follows` says that a disk is another one after some of its calls, and `leaves` is what a
 -- stop between two moments may leave.
 use Rattle.std.specs.Option.{ForSome}
-use Rattle.std.specs.Prelude.{◌≡◌, ◌<◌, ℕ, List, [], Option, Some, None, Result, Err, length}
+use Rattle.std.specs.Prelude.{◌≡◌, ◌⊎◌, ◌<◌, ◌≤◌, ◌^◌, ◌-◌, ℕ, List, [], Option, Some, None, Result, Ok, Err, length}
 use Rattle.nq_serving.specs.DaemonLeaving.{IsLeftInRuns, LeavesServing}
 use Rattle.nq_serving.specs.DaemonServing.{EndsBy}
 use Rattle.nq_base.specs.declared.ending.halt.Halt.{Halt}
@@ -66,9 +66,14 @@ IsFoundAmong told faults follows leaves longest turns store ended left clock clo
     IsLeftInRuns (content_of told) (faults_of faults) (GoesOn faults follows) longest turns ends.serving.serves.time store ended ends.served
     ends.serving.serves.between clock' link link' ends.serving.serves.runs kept (kept_on image)
 
+-- a count of faults stood still, or it stood at the end of its type before, where it cannot rise
+abbrev pub StoodStill : (before now : ℕ) → Type 0
+StoodStill before now = (now ≡ before) ⊎ (2 ^ 64 - 1 ≤ before)
+
 -- The disk was made ready and opened as a store, which was served from. Where the disk had a byte, and all that a stop might have left of it at first
 -- stood for one kept state, whatever a stop at any moment of the call leaves opens, and stands for that or for what was kept after some of the
--- steps. Where it had none, the same is so of a stop at any moment from then on that the image was made, for the state in which nothing is kept
+-- steps. Where it had none, the same is so of a stop at any moment from then on that the image was made, for the state in which nothing is kept. Where
+-- all turns were taken, no call of the disk failed
 pub record ServesImage {D : Type 0} (told : D → Option (List ℕ)) (faults : D → ℕ) (may_leave : D → List ℕ → Type 0) (follows : D → D → Type 0)
     (leaves : D → D → List ℕ → Type 0) (longest turns : ℕ) (disk : D) (ended : Result Unit Halt) (left : D) (clock clock' : ClockTold)
     (link link' : LinkTold) : Type 0 where
@@ -80,6 +85,7 @@ pub record ServesImage {D : Type 0} (told : D → Option (List ℕ)) (faults : D
   pub fresh : IsFresh store
   pub ends : EndsServing told faults follows leaves longest turns store ended left clock clock' link link'
   pub failed : ended ≡ Err Halt.Keep → HasRisen (faults disk) (faults left)
+  pub done : ended ≡ Ok tt → StoodStill (faults disk) (faults left)
   pub survives : ForSome (told disk) (λ bytes. 0 < length bytes → (kept : Kept) → AllStandFor (may_leave disk) kept
       → Each (leaves disk left) (IsFoundAmong told faults follows leaves longest turns store ended left clock clock' link link' ends kept))
   pub survives_made : told disk ≡ Some []

@@ -3,14 +3,11 @@
 ghost use Rattle.std.specs.Prelude.{◌≡◌};
 ghost use Rattle.nq_service.specs.Recent.{IsBody};
 
-use crate::recent::pieces::{Piece, copy_of};
+use crate::recent::pieces::{Piece, add, copy_of};
 use nq_base::{Block, BlockNo, Change, FileId, FileRow, Heads, Host, HostRow, Name, Space};
 use nq_keeper::{KeepFault, Keeper};
 use std::alloc::Global;
 use std::marker::Model;
-
-/// How many blocks are kept at most.
-const MOST: usize = 64;
 
 /// A keeper over another one, which has copies of the blocks that were read last, 64 at most, until something is changed. Contracts see the
 /// keeper within it.
@@ -22,13 +19,13 @@ pub struct RecentKeeper<K: Keeper> {
 }
 
 impl<K: Keeper> Model for RecentKeeper<K> {
-    ghost use Rattle.nq_service.specs.Recent.{AreBodies};
+    ghost use Rattle.nq_service.specs.Recent.{AreRecent};
 
     ghost Value = { K };
 
     ghost view = { λ k. k.keeper };
 
-    ghost invariant = { λ k. AreBodies (K.content k.keeper) k.pieces.items };
+    ghost invariant = { λ k. AreRecent (K.content k.keeper) k.pieces.items };
 }
 
 impl<K: Keeper> RecentKeeper<K> {
@@ -60,11 +57,8 @@ impl<K: Keeper> RecentKeeper<K> {
         requires { IsBody (K.content self.old) file block body.now }
         ensures { self.new ≡ self.old }
     {
-        if self.pieces.len() >= MOST {
-            self.pieces.clear();
-        }
         if let Ok(body) = body.copied(self.alloc) {
-            let _kept = self.pieces.push(Piece { file, block, body });
+            add(&mut self.pieces, Piece { file, block, body });
         }
     }
 }

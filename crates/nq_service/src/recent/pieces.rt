@@ -1,8 +1,8 @@
 //! Blocks that were read.
 
-ghost use Rattle.std.specs.Prelude.{◌≡◌, Option, IfSome};
+ghost use Rattle.std.specs.Prelude.{◌≡◌, ◌<◌, ◌≤◌, Option, IfSome, length};
 ghost use Rattle.nq_model.specs.Kept.{Kept};
-ghost use Rattle.nq_service.specs.Recent.{AreBodies, IsBody};
+ghost use Rattle.nq_service.specs.Recent.{AreBodies, AreRecent, IsBody, most_pieces};
 
 use nq_base::{Block, BlockNo, FileId};
 use std::alloc::Global;
@@ -13,6 +13,29 @@ pub(crate) struct Piece {
     pub(crate) file: FileId,
     pub(crate) block: BlockNo,
     pub(crate) body: Block,
+}
+
+/// How many blocks are kept at most.
+const MOST: usize = 64;
+
+/// Adds a piece, where there is memory for it. Where there are as many as may be, the others go before.
+pub(crate) fn add(pieces: &mut Vec<Piece>, piece: Piece)
+    requires few { length pieces.old.items ≤ most_pieces }
+    ensures { (told : Option Kept) → AreRecent told pieces.old.items → IsBody told piece.file piece.block piece.body → AreRecent told pieces.new.items }
+{
+    make_room(pieces);
+    let _kept = pieces.push(piece);
+}
+
+/// Makes room for one more piece.
+fn make_room(pieces: &mut Vec<Piece>)
+    requires few { length pieces.old.items ≤ most_pieces }
+    ensures room { length pieces.new.items < most_pieces }
+    ensures bodies { (told : Option Kept) → AreBodies told pieces.old.items → AreBodies told pieces.new.items }
+{
+    if pieces.len() == MOST {
+        pieces.clear();
+    }
 }
 
 /// A copy of the body of a block, if it is among these and there is memory for it.
