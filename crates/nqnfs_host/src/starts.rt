@@ -1,6 +1,6 @@
 //! The number of a host's start, its incarnation: a small file keeps the last one, and the machine's clock says how high it has to be at least.
 
-use nq_base::{Host, Inc};
+use nq_base::Inc;
 use nq_command::prompt::{next_start, risen, start_text};
 use std::fs::{self, File};
 use std::io::{self, ErrorKind, Write};
@@ -21,8 +21,13 @@ pub(crate) fn let_second_pass(rt: &HostRuntime) {
         if seconds_now(rt) != began {
             return;
         }
-        let _slept = thread::sleep(rt, Duration::from_millis(PAUSE));
+        pause(rt);
     }
+}
+
+/// Sleeps for a moment.
+pub(crate) fn pause(rt: &HostRuntime) {
+    let _slept = thread::sleep(rt, Duration::from_millis(PAUSE));
 }
 
 /// The seconds since 1970 that the machine's clock shows; 0 where it shows none.
@@ -36,20 +41,19 @@ fn seconds_now(rt: &HostRuntime) -> u64 {
     }
 }
 
-/// The next incarnation of a host. It is written down before anything is sent. None where the file cannot be read or written or holds no
+/// The next incarnation of the host with this folder. It is written down before anything is sent. None where the file cannot be read or written or holds no
 /// number, and where no number is left.
-pub(crate) fn next_inc(rt: &HostRuntime, host: Host) -> Option<Inc> {
-    let host = host.0;
-    match format!(in rt.alloc(); "nqnfs-host-{host}") {
-        Ok(name) => next_in(rt, name.as_str()),
+pub(crate) fn next_inc(rt: &HostRuntime, folder: &str) -> Option<Inc> {
+    match format!(in rt.alloc(); "{folder}/incarnation") {
+        Ok(name) => next_in(rt, folder, name.as_str()),
         Err(_) => None,
     }
 }
 
 /// The next incarnation by the file of this name.
-fn next_in(rt: &HostRuntime, name: &str) -> Option<Inc> {
+fn next_in(rt: &HostRuntime, folder: &str, name: &str) -> Option<Inc> {
     let start = start_after(rt, name)?;
-    if put_down(rt, name, start) {
+    if put_down(rt, folder, name, start) {
         Some(Inc(start))
     } else {
         None
@@ -58,7 +62,7 @@ fn next_in(rt: &HostRuntime, name: &str) -> Option<Inc> {
 
 /// Writes a start down in the file of this name: in a file of its own that then takes the other's place, so that a stop leaves the old
 /// number or the new one. Whether it went well.
-fn put_down(rt: &HostRuntime, name: &str, start: u32) -> bool {
+fn put_down(rt: &HostRuntime, folder: &str, name: &str, start: u32) -> bool {
     let Ok(fresh) = format!(in rt.alloc(); "{name}.new") else {
         return false;
     };
@@ -71,7 +75,7 @@ fn put_down(rt: &HostRuntime, name: &str, start: u32) -> bool {
     {
         return false;
     }
-    match File::open(rt, ".") {
+    match File::open(rt, folder) {
         Ok(folder) => folder.sync_all().is_ok(),
         Err(_) => false,
     }
@@ -88,7 +92,7 @@ fn start_after(rt: &HostRuntime, name: &str) -> Option<u32> {
 }
 
 /// Writes a file, if it could be opened, and syncs it.
-pub(crate) fn write_synced(file: io::Result<File>, bytes: &[u8]) -> io::Result<()> {
+fn write_synced(file: io::Result<File>, bytes: &[u8]) -> io::Result<()> {
     let mut file = file?;
     file.write_all(bytes)?;
     file.sync_all()

@@ -1,0 +1,5 @@
+pub mod Answers
+pub mod Heads
+pub mod Getting
+pub mod Storing
+pub mod Tidying

@@ -1,0 +1,163 @@
+//! Those who ask a host on this machine.
+
+use mio::net::UnixStream;
+use nq_asks::{Kind, Numbers, ask_in, push_answer};
+use nq_base::NoMemory;
+use nq_script::words::{Words, cut, is};
+use nq_whole::MOST_BYTES;
+use std::alloc::Global;
+use std::io::{ErrorKind, Read, Write};
+
+/// The most bytes of a line.
+const MOST_LINE: usize = 1024;
+
+/// How many bytes are read at once.
+const READ_SIZE: usize = 16384;
+
+/// What somebody asks: the words of a line and, where they say that a whole file is stored, its bytes.
+#[derive(Drop)]
+pub(crate) struct Ask {
+    /// Its number.
+    pub(crate) number: u32,
+    /// The words.
+    pub(crate) text: Vec<u8>,
+    /// The bytes.
+    pub(crate) body: Vec<u8>,
+}
+
+/// Somebody who asks.
+#[derive(Drop)]
+pub(crate) struct Asker {
+    alloc: Global,
+    stream: UnixStream,
+    incoming: Vec<u8>,
+    outgoing: Vec<u8>,
+    sent: usize,
+    numbers: Numbers,
+    /// Whether it is gone, or said what is no ask.
+    pub(crate) is_over: bool,
+}
+
+/// How many bytes follow a line: as many as the third word of `store NAME SIZE` says.
+fn bytes_behind(text: &[u8]) -> usize {
+    let mut words = Words::new(text);
+    let verb = words.next().unwrap_or(b"");
+    let _name = words.next();
+    match words.u32() {
+        Some(size) if is(verb, b"store") => (size as usize).min(MOST_BYTES),
+        _ => 0,
+    }
+}
+
+impl Asker {
+    /// Somebody who has connected.
+    pub(crate) fn new(alloc: Global, stream: UnixStream) -> Asker {
+        Asker {
+            alloc,
+            stream,
+            incoming: Vec::new(alloc),
+            outgoing: Vec::new(alloc),
+            sent: 0,
+            numbers: Numbers::new(),
+            is_over: false,
+        }
+    }
+
+    /// The stream, to wait for it.
+    pub(crate) fn stream(&mut self) -> &mut UnixStream {
+        &mut self.stream
+    }
+
+    /// Takes in what has come. Whether anything has.
+    pub(crate) fn read(&mut self) -> bool {
+        let mut buffer = [0; READ_SIZE];
+        if self.incoming.len() > MOST_BYTES + MOST_LINE {
+            return false;
+        }
+        match self.stream.read(&mut buffer) {
+            Ok(0) => self.is_over = true,
+            Ok(count) => {
+                if count > READ_SIZE || self.incoming.extend_from_slice(&buffer[..count]).is_err() {
+                    self.is_over = true;
+                }
+                return true;
+            }
+            Err(error) if error.kind() == ErrorKind::WouldBlock => {}
+            Err(_) => self.is_over = true,
+        }
+        false
+    }
+
+    /// The next ask, if all of it has come. One whose number is not above all before it is left out.
+    pub(crate) fn next_ask(&mut self) -> Option<Ask> {
+        let Some((line, rest)) = cut(&self.incoming, b'\n') else {
+            self.is_over = self.is_over || self.incoming.len() > MOST_LINE;
+            return None;
+        };
+        let Some((number, text)) = ask_in(line) else {
+            self.is_over = true;
+            return None;
+        };
+        let size = bytes_behind(text);
+        if rest.len() < size {
+            return None;
+        }
+        let Ok(ask) = copied(self.alloc, number, text, &rest[..size]) else {
+            self.is_over = true;
+            return None;
+        };
+        let Ok(rest) = rest[size..].to_vec(self.alloc) else {
+            self.is_over = true;
+            return None;
+        };
+        self.incoming = rest;
+        if self.numbers.admit(number) {
+            Some(ask)
+        } else {
+            None
+        }
+    }
+
+    /// Answers an ask, with bytes behind the line where the kind says so.
+    pub(crate) fn answer(&mut self, number: u32, kind: Kind, text: &[u8], bytes: &[u8]) {
+        let told = push_answer(&mut self.outgoing, number, kind, text);
+        if told.is_err()
+            || self.outgoing.push(b'\n').is_err()
+            || self.outgoing.extend_from_slice(bytes).is_err()
+        {
+            self.is_over = true;
+        }
+        self.write();
+    }
+
+    /// Sends what is left to be sent, as far as it goes.
+    pub(crate) fn write(&mut self) {
+        for _part in 0..=MOST_BYTES {
+            if self.sent >= self.outgoing.len() {
+                self.outgoing.clear();
+                self.sent = 0;
+                return;
+            }
+            match self.stream.write(&self.outgoing[self.sent..]) {
+                Ok(count) => self.sent = self.sent.saturating_add(count),
+                Err(error) if error.kind() == ErrorKind::WouldBlock => return,
+                Err(_) => {
+                    self.is_over = true;
+                    return;
+                }
+            }
+        }
+    }
+
+    /// Whether something is left to be sent.
+    pub(crate) fn is_owed(&self) -> bool {
+        !self.outgoing.is_empty()
+    }
+}
+
+/// An ask with its own words and bytes.
+fn copied(alloc: Global, number: u32, text: &[u8], body: &[u8]) -> Result<Ask, NoMemory> {
+    let text = text.to_vec(alloc)?;
+    let body = body.to_vec(alloc)?;
+    Ok(Ask { number, text, body })
+}
