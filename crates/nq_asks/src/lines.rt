@@ -37,7 +37,7 @@ pub fn ask_in(line: &[u8]) -> Option<(u32, &[u8])>
     ensures is { option_map (λ r. (r.0, r.1.now)) result ≡ number_then line.now }
     ensures found { IfSome result (λ r. line.now ≡ ask_line r.0 r.1.now) }
     ensures only { (number : ℕ) (text : List ℕ) → number < 2 ^ 32 → line.now ≡ ask_line number text
-        → option_map (λ r. (r.0, r.1.now)) result ≡ Some (number, text) }
+        → number_then line.now ≡ Some (number, text) }
 {
     numbered(line)
 }
@@ -99,7 +99,7 @@ pub fn answer_in(line: &[u8]) -> Option<(u32, Kind, &[u8])>
     ensures is { option_map (λ r. (r.0, (r.1, r.2.now))) result ≡ answer_told line.now }
     ensures found { IfSome result (λ r. line.now ≡ answer_line r.0 r.1 r.2.now) }
     ensures only { (number : ℕ) (kind : Kind) (text : List ℕ) → number < 2 ^ 32 → line.now ≡ answer_line number kind text
-        → option_map (λ r. (r.0, (r.1, r.2.now))) result ≡ Some (number, (kind, text)) }
+        → answer_told line.now ≡ Some (number, (kind, text)) }
 {
     answered(line)
 }

@@ -18,7 +18,12 @@ const TERM: u32 = 30;
 const MOST_TURNS: u32 = 1024;
 
 /// A client that begins an incarnation now, if there is memory for it. It asks the server to attach it.
-fn begin(alloc: Global, who: Who, link: &mut HostLink, clock: &mut StdClock<HostRuntime>) -> Option<Client> {
+fn begin(
+    alloc: Global,
+    who: Who,
+    link: &mut HostLink,
+    clock: &mut StdClock<HostRuntime>,
+) -> Option<Client> {
     let now = clock.now();
     let mut out = Outbox::new(alloc, 0).unwrap();
     let Ok(client) = Client::start(alloc, who.host, who.inc, TERM, now, &mut out) else {
@@ -43,7 +48,12 @@ pub(crate) struct HostDesk {
 
 impl HostDesk {
     /// A client that begins an incarnation, which no start before this one had, if there is memory for it.
-    pub(crate) fn open(alloc: Global, who: Who, link: HostLink, clock: StdClock<HostRuntime>) -> Option<HostDesk> {
+    pub(crate) fn open(
+        alloc: Global,
+        who: Who,
+        link: HostLink,
+        clock: StdClock<HostRuntime>,
+    ) -> Option<HostDesk> {
         let mut link = link;
         let mut clock = clock;
         let client = begin(alloc, who, &mut link, &mut clock)?;

@@ -60,8 +60,12 @@ impl<'a> Hosting<'a> {
         let Ok(poll) = Poll::new(rt) else {
             return Err(desk);
         };
-        let server = poll.registry().register(&mut desk.link.socket, SERVER, Interest::READABLE);
-        let askers = poll.registry().register(&mut door, DOOR, Interest::READABLE);
+        let server = poll
+            .registry()
+            .register(&mut desk.link.socket, SERVER, Interest::READABLE);
+        let askers = poll
+            .registry()
+            .register(&mut door, DOOR, Interest::READABLE);
         if server.is_err() || askers.is_err() {
             return Err(desk);
         }
@@ -85,7 +89,8 @@ impl<'a> Hosting<'a> {
         let mut is_busy = false;
         for _round in 0..u64::MAX {
             let wait = if is_busy { 0 } else { WAIT };
-            self.poll.poll(&mut events, Some(Duration::from_millis(wait)))?;
+            self.poll
+                .poll(&mut events, Some(Duration::from_millis(wait)))?;
             is_busy = self.round();
             if self.is_told || self.desk.halt.is_some() {
                 return Ok(());
@@ -117,7 +122,13 @@ impl<'a> Hosting<'a> {
             let place = self.free_place();
             let token = Token(place.saturating_add(2));
             let both = Interest::READABLE | Interest::WRITABLE;
-            if place >= MOST_ASKERS || self.poll.registry().register(asker.stream(), token, both).is_err() {
+            if place >= MOST_ASKERS
+                || self
+                    .poll
+                    .registry()
+                    .register(asker.stream(), token, both)
+                    .is_err()
+            {
                 continue;
             }
             match self.askers.get_mut(place) {
@@ -239,16 +250,34 @@ impl<'a> Hosting<'a> {
         let number = ask.number;
         self.made = self.made.saturating_add(1);
         let Some(own) = own_name(self.alloc, self.desk.who(), self.made) else {
-            return self.reply(place, number, Kind::Refused, b"memory: memory was wanting", &[]);
+            return self.reply(
+                place,
+                number,
+                Kind::Refused,
+                b"memory: memory was wanting",
+                &[],
+            );
         };
         if let Some(name) = name_stored(&ask.text) {
             if !self.ledger.add(&Made { own, name }) {
-                return self.reply(place, number, Kind::Refused, b"the host cannot write in its folder", &[]);
+                return self.reply(
+                    place,
+                    number,
+                    Kind::Refused,
+                    b"the host cannot write in its folder",
+                    &[],
+                );
             }
         }
         match Work::new(self.alloc, place, ask, own) {
             Some(work) => self.work = Some(work),
-            None => self.reply(place, number, Kind::Refused, b"the host knows no such ask", &[]),
+            None => self.reply(
+                place,
+                number,
+                Kind::Refused,
+                b"the host knows no such ask",
+                &[],
+            ),
         }
     }
 

@@ -51,10 +51,7 @@ fn is_server(address: SocketAddr) -> bool {
 
 /// Whether an error says only that nothing is there.
 fn is_silence(error: &io::Error) -> bool {
-    matches!(
-        error.kind(),
-        ErrorKind::WouldBlock | ErrorKind::Interrupted
-    )
+    matches!(error.kind(), ErrorKind::WouldBlock | ErrorKind::Interrupted)
 }
 
 impl HostLink {

@@ -118,7 +118,9 @@ fn be_host(rt: &HostRuntime, host: Host) -> Ending {
 /// Tells that a port cannot be bound.
 fn told_port(rt: &HostRuntime, number: u32, error: &io::Error) -> Ending {
     let _told = match error.kind() {
-        ErrorKind::AddrInUse => eprintln!(rt; "nqnfs_host: host {number} runs already: its port is taken"),
+        ErrorKind::AddrInUse => eprintln!(rt;
+            "nqnfs_host: host {number} runs already: its port is taken"
+        ),
         _ => eprintln!(rt; "nqnfs_host: the port of host {number} cannot be bound"),
     };
     Ending::LinkFault
@@ -169,7 +171,9 @@ fn live(rt: &HostRuntime, folder: &str, who: Who, link: HostLink, door: UnixList
 fn attend(rt: &HostRuntime, folder: &str, who: Who, hosting: Hosting<'_>) -> Ending {
     let mut hosting = hosting;
     let (number, inc) = (who.host.0, who.inc.0);
-    let _told = println!(rt; "nqnfs_host 1: host {number}, incarnation {inc}, asked at {folder}/asks");
+    let _told = println!(rt;
+        "nqnfs_host 1: host {number}, incarnation {inc}, asked at {folder}/asks"
+    );
     let ran = hosting.run();
     let mut desk = hosting.close();
     let ending = match desk.halt {

@@ -1,12 +1,12 @@
 //! What a host does for one ask, call by call.
 
 use crate::askers::Ask;
+use crate::ledger::Made;
 use nq_asks::Kind;
 use nq_base::{Answer, Call, Name, NoMemory, Who};
 use nq_command::prompt::answer_text;
 use nq_script::parse_call;
 use nq_script::words::{Words, is};
-use crate::ledger::Made;
 use nq_whole::{Getting, Got, MOST_BYTES, Said, Storing, Tidying, Told};
 use std::alloc::Global;
 
@@ -70,7 +70,11 @@ pub(crate) struct Work {
 pub(crate) fn name_stored(text: &[u8]) -> Option<Name> {
     let mut words = Words::new(text);
     let verb = words.next()?;
-    if is(verb, b"store") { words.name() } else { None }
+    if is(verb, b"store") {
+        words.name()
+    } else {
+        None
+    }
 }
 
 /// A name for a file with the bytes of a whole one: no host takes it a second time, since an incarnation is taken once.

@@ -18,7 +18,8 @@ const MOST_READS: u64 = 1 << 40;
 const READ_SIZE: usize = 16384;
 
 // What is said once an answer is waited for.
-const WAITING: &str = "waiting for an answer: no server runs, it recovers, or another host has a lease on the file; \
+const WAITING: &str =
+    "waiting: the host does other asks first, no server runs, it recovers, or another host has a lease on the file; \
     Ctrl-C ends this program, and the ask goes on at the host";
 
 /// What a host answers.

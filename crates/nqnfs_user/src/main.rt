@@ -39,7 +39,9 @@ fn obey(rt: &HostRuntime) -> u8 {
     let mut words = args;
     let _program = words.next();
     let Some(word) = words.next() else {
-        let _told = eprintln!(rt; "nqnfs_user: the number of a host is missing; usage: nqnfs_user HOST [COMMAND]");
+        let _told = eprintln!(rt;
+            "nqnfs_user: the number of a host is missing; usage: nqnfs_user HOST [COMMAND]"
+        );
         return Ending::Usage.status();
     };
     if word.as_str() == "--help" {

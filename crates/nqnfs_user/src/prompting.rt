@@ -101,10 +101,14 @@ fn refuse(rt: &HostRuntime, words: &str) -> Did {
 fn tell_wrong(rt: &HostRuntime, text: &[u8]) -> Did {
     let why = match wrong_of(text) {
         None | Some(Wrong::Verb) => "no line begins so; help tells what there is, and quit ends",
-        Some(Wrong::Few) => "a word is missing; help tells what stands where, with one blank between two words",
-        Some(Wrong::Many) => "there is a word too many; help tells what stands where, with one blank between two words",
-        Some(Wrong::Name) => "that is no name: it has 1 to 64 printable bytes of ASCII, without blanks and without /",
-        Some(Wrong::Number) => "that is no number: it is 0 to 4294967295, without a sign and without zeros in front",
+        Some(Wrong::Few) =>
+            "a word is missing; help tells what stands where, with one blank between two words",
+        Some(Wrong::Many) =>
+            "there is a word too many; help tells what stands where, with one blank between two words",
+        Some(Wrong::Name) =>
+            "that is no name: it has 1 to 64 printable bytes of ASCII, without blanks and without /",
+        Some(Wrong::Number) =>
+            "that is no number: it is 0 to 4294967295, without a sign and without zeros in front",
     };
     let _told = println!(rt; "{why}");
     Did::Wrong
@@ -122,7 +126,9 @@ fn tell(rt: &HostRuntime, reply: &Reply) -> Did {
 
 /// Tells that the host is gone.
 fn tell_gone(rt: &HostRuntime) -> Did {
-    let _told = eprintln!(rt; "nqnfs_user: the host is gone; what was asked last may have been done, or not");
+    let _told = eprintln!(rt;
+        "nqnfs_user: the host is gone; what was asked last may have been done, or not"
+    );
     Did::Gone
 }
 
