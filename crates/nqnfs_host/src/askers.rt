@@ -11,6 +11,9 @@ use std::io::{ErrorKind, Read, Write};
 /// The most bytes of a line.
 const MOST_LINE: usize = 1024;
 
+/// The most parts in which an answer is sent at once.
+const MOST_PARTS: u32 = 4096;
+
 /// How many bytes are read at once.
 const READ_SIZE: usize = 16384;
 
@@ -132,7 +135,7 @@ impl Asker {
 
     /// Sends what is left to be sent, as far as it goes.
     pub(crate) fn write(&mut self) {
-        for _part in 0..=MOST_BYTES {
+        for _part in 0..MOST_PARTS {
             if self.sent >= self.outgoing.len() {
                 self.outgoing.clear();
                 self.sent = 0;
