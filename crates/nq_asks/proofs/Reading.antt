@@ -2,7 +2,7 @@
 use Rattle.std.proofs.Common.{◌≡◌, ℕ, ◌<◌, ◌^◌, List, ◌∷◌, ◌++◌, Option, Some, None, refl, ap, sym, ◌∙◌}
 use Rattle.std.specs.Fmt.{decimal}
 use Rattle.std.specs.Prelude.{Bool, true, false, IfSome, bytes_eq, codes, if◌then◌else◌, option_map}
-use Rattle.std.proofs.lemmas.Option.{same_Some, some_pair_parts}
+use Rattle.std.proofs.lemmas.Option.{none-some, same_Some, some_pair_parts}
 use Rattle.std.proofs.lemmas.Slice.Eq.{bytes_eq-Decides}
 use Rattle.nq_base.specs.Steps.{◌>>=◌}
 use Rattle.nq_base.proofs.Options.{bind_some}
@@ -20,11 +20,13 @@ unfolding kind_of
 kind-again Kind.Done = refl
 kind-again Kind.Refused = refl
 kind-again Kind.Bytes = refl
+kind-again Kind.Note = refl
 
 cut-kind : (kind : Kind) (text : List ℕ) → cut_at 32 (kind_word kind ++ 32 ∷ text) ≡ Some (kind_word kind, text)
 cut-kind Kind.Done text = cut-again 32 (codes "ok") text (lacks-tested 32 (codes "ok") refl)
 cut-kind Kind.Refused text = cut-again 32 (codes "no") text (lacks-tested 32 (codes "no") refl)
 cut-kind Kind.Bytes text = cut-again 32 (codes "bytes") text (lacks-tested 32 (codes "bytes") refl)
+cut-kind Kind.Note text = cut-again 32 (codes "note") text (lacks-tested 32 (codes "note") refl)
 
 kind-then : (kind : Kind) (text : List ℕ) → kind_then (kind_word kind ++ 32 ∷ text) ≡ Some (kind, text)
 unfolding kind_then
@@ -45,22 +47,25 @@ pub ask-found : {X : Type 0} (view : X → ℕ × List ℕ) (line : List ℕ) (r
 ask-found view line None is = tt
 ask-found view line (Some r) is = (then-found line (view r).0 (view r).1 (sym is)).0
 
+-- one kind more: a word that is tested for it, and else one of the rest
+one-kind : (word own : List ℕ) (one kind : Kind) (rest : Option Kind) → kind_word one ≡ own
+    → (rest ≡ Some kind → word ≡ kind_word kind) → (if bytes_eq word own then Some one else rest) ≡ Some kind → word ≡ kind_word kind
+one-kind word own one kind rest spelled others is = by_test (bytes_eq word own) refl is
+  where
+    by_test : (test : Bool) → bytes_eq word own ≡ test → (if test then Some one else rest) ≡ Some kind → word ≡ kind_word kind
+    by_test true same told = (bytes_eq-Decides word own).0 same ∙ sym spelled ∙ ap kind_word (same_Some _ _ told)
+    by_test false other told = others told
+
+no-kind : (word : List ℕ) (kind : Kind) → None ≡ Some kind → word ≡ kind_word kind
+no-kind word kind is = absurd (none-some kind is)
+
 kind-found : (word : List ℕ) (kind : Kind) → kind_of word ≡ Some kind → word ≡ kind_word kind
 unfolding kind_of
-kind-found word kind is = by_ok (bytes_eq word (codes "ok")) refl is
-  where
-    last : (test : Bool) → bytes_eq word (codes "bytes") ≡ test → (if test then Some Kind.Bytes else None) ≡ Some kind → word ≡ kind_word kind
-    last true same told = (bytes_eq-Decides word (codes "bytes")).0 same ∙ ap kind_word (same_Some _ _ told)
-    last false other told = absurd (cc)
-    by_no : (test : Bool) → bytes_eq word (codes "no") ≡ test
-        → (if test then Some Kind.Refused else if bytes_eq word (codes "bytes") then Some Kind.Bytes else None) ≡ Some kind → word ≡ kind_word kind
-    by_no true same told = (bytes_eq-Decides word (codes "no")).0 same ∙ ap kind_word (same_Some _ _ told)
-    by_no false other told = last (bytes_eq word (codes "bytes")) refl told
-    by_ok : (test : Bool) → bytes_eq word (codes "ok") ≡ test
-        → (if test then Some Kind.Done else if bytes_eq word (codes "no") then Some Kind.Refused
-            else if bytes_eq word (codes "bytes") then Some Kind.Bytes else None) ≡ Some kind → word ≡ kind_word kind
-    by_ok true same told = (bytes_eq-Decides word (codes "ok")).0 same ∙ ap kind_word (same_Some _ _ told)
-    by_ok false other told = by_no (bytes_eq word (codes "no")) refl told
+kind-found word kind is =
+    one-kind word (codes "ok") Kind.Done kind _ refl (
+    one-kind word (codes "no") Kind.Refused kind _ refl (
+    one-kind word (codes "bytes") Kind.Bytes kind _ refl (
+    one-kind word (codes "note") Kind.Note kind None refl (no-kind word kind)))) is
 
 -- a line that is spelled as an answer is read as it
 pub answer-only : (number : ℕ) (kind : Kind) (text line : List ℕ) → number < 2 ^ 32 → line ≡ answer_line number kind text

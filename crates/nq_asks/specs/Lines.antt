@@ -15,6 +15,7 @@ abbrev pub kind_word : Kind → List ℕ
 kind_word Kind.Done = codes "ok"
 kind_word Kind.Refused = codes "no"
 kind_word Kind.Bytes = codes "bytes"
+kind_word Kind.Note = codes "note"
 
 -- the kind of answer that a word tells
 unfoldable pub kind_of : List ℕ → Option Kind
@@ -22,6 +23,7 @@ kind_of word =
     if bytes_eq word (codes "ok") then Some Kind.Done
     else if bytes_eq word (codes "no") then Some Kind.Refused
     else if bytes_eq word (codes "bytes") then Some Kind.Bytes
+    else if bytes_eq word (codes "note") then Some Kind.Note
     else None
 
 -- the line of an answer: the number of its ask, its kind, and words; behind `bytes` stands how many bytes follow the line

@@ -8,7 +8,7 @@ ghost use Rattle.nq_script.specs.Reading.{number_then};
 use nq_base::NoMemory;
 use nq_script::words::{cut, is, number32, push_bytes, push_digits};
 
-/// The kind of an answer.
+/// The kind of a line that a host sends.
 #[derive(Clone, Copy)]
 pub enum Kind {
     /// It was done; the words say what came.
@@ -17,6 +17,8 @@ pub enum Kind {
     Refused,
     /// It was done; the words say how many bytes follow the line.
     Bytes,
+    /// The answer comes later; the words say what the host has to tell meanwhile.
+    Note,
 }
 
 /// Appends the line of an ask, without an end of line.
@@ -60,6 +62,7 @@ fn kind_word(kind: Kind) -> &'static [u8]
         Kind::Done => b"ok",
         Kind::Refused => b"no",
         Kind::Bytes => b"bytes",
+        Kind::Note => b"note",
     }
 }
 
@@ -74,6 +77,8 @@ fn kind_of(word: &[u8]) -> Option<Kind>
         Some(Kind::Refused)
     } else if is(word, b"bytes") {
         Some(Kind::Bytes)
+    } else if is(word, b"note") {
+        Some(Kind::Note)
     } else {
         None
     }

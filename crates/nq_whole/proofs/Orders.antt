@@ -1,16 +1,16 @@
 -- The head is written behind all the bytes that it tells.
-use Rattle.std.proofs.Common.{◌≡◌, ◌≤◌, ◌<◌, ℕ, suc, ◌+◌, ◌*◌, Bool, true, false, nat_le, List, [], ◌∷◌, ◌++◌, Option, Some, None, length, if◌then◌else◌, refl, sym, ap, ◌∙◌, arith}
+use Rattle.std.proofs.Common.{◌≡◌, ◌≤◌, ◌<◌, ℕ, suc, ◌+◌, ◌*◌, Bool, true, false, nat_le, List, [], ◌∷◌, ◌++◌, Option, Some, None, length, if◌then◌else◌, refl, sym, subst, ap, ◌∙◌, append_assoc, append-nil, arith}
 use Rattle.std.specs.Prelude.{Contains}
 use Rattle.std.proofs.lemmas.Bool.Decides.{nat_tests}
 use Rattle.std.proofs.lemmas.List.Elements.{Contains-append_left, Contains-push}
 use Rattle.nq_base.specs.declared.Answer.{Answer}
 use Rattle.nq_base.specs.declared.Call.{Call}
 use Rattle.nq_base.specs.declared.Value.{Value}
-use Rattle.nq_command.specs.Pieces.{piece_of}
+use Rattle.nq_whole.specs.Pieces.{piece_of}
 use Rattle.nq_whole.specs.Answers.{body_in, file_in, is_done}
 use Rattle.nq_whole.specs.Heads.{head_in}
 use Rattle.nq_whole.specs.Storing.{AreStored, IsWhole, KeepsOrder, Made, StandsBefore, Stores, asked_at, cleared, filled_to, found, headed, made, old_head}
-use Rattle.nq_whole.specs.Storing.{store_at, stored, synced, written}
+use Rattle.nq_whole.specs.Storing.{made_from, step_after, store_at, stored, synced, written}
 use Rattle.nq_whole.specs.declared.heads.Head.{Head}
 use Rattle.nq_whole.specs.declared.storing.Said.{Said}
 use Rattle.nq_whole.specs.declared.storing.Step.{Step}
@@ -99,11 +99,19 @@ cleared-stands : (calls : Made) (old : Option ℕ) (bytes : List ℕ) → Stands
 cleared-stands calls None bytes = tt
 cleared-stands calls (Some old) bytes = tt
 
-synced-stands : (calls : Made) (answer : Answer) (file : ℕ) (old : Option ℕ) (bytes : List ℕ) → StandsBefore calls bytes (synced answer file old).step
-synced-stands calls (Answer.Ok value) file old bytes = cleared-stands calls old bytes
-synced-stands calls (Answer.Lost losses) file old bytes = tt
-synced-stands calls Answer.Stale file old bytes = tt
-synced-stands calls other file old bytes = tt
+synced-stands : (calls : Made) (answer : Answer) (old : Option ℕ) (bytes : List ℕ) → StandsBefore calls bytes (synced answer old).step
+synced-stands calls (Answer.Ok value) old bytes = cleared-stands calls old bytes
+synced-stands calls Answer.NoEntry old bytes = tt
+synced-stands calls Answer.Exists old bytes = tt
+synced-stands calls Answer.Pending old bytes = tt
+synced-stands calls Answer.Busy old bytes = tt
+synced-stands calls (Answer.Lost losses) old bytes = tt
+synced-stands calls Answer.Stale old bytes = tt
+synced-stands calls Answer.NoSpace old bytes = tt
+synced-stands calls Answer.Range old bytes = tt
+synced-stands calls Answer.DirtyFull old bytes = tt
+synced-stands calls Answer.Memory old bytes = tt
+synced-stands calls Answer.Spent old bytes = tt
 
 step-stands : (name own bytes : List ℕ) (step : Step) (answer : Answer) (calls : Made) → StandsBefore calls bytes step
     → StandsBefore (calls ++ (asked_at name own bytes step, answer) ∷ []) bytes (store_at step answer bytes).step
@@ -114,7 +122,7 @@ step-stands name own bytes (Step.Founding file) answer calls is = found-stands _
 step-stands name own bytes (Step.Heading file at) answer calls is = headed-stands _ (body_in answer) file at bytes (whole-more calls _ file bytes is)
 step-stands name own bytes (Step.Writing file at old) answer calls is =
     written-stands _ (is_done answer) file at old bytes (whole-more calls _ file bytes is)
-step-stands name own bytes (Step.Syncing file at old) answer calls is = synced-stands _ answer file old bytes
+step-stands name own bytes (Step.Syncing file at old) answer calls is = synced-stands _ answer old bytes
 step-stands name own bytes (Step.Clearing old) answer calls is = tt
 step-stands name own bytes (Step.Dropping file) answer calls is = tt
 step-stands name own bytes Step.Ended answer calls is = tt
@@ -124,3 +132,14 @@ pub keeps : (answer : Answer) (old new : Stores) → new ≡ record old { step =
 keeps answer old new is = λ calls stands.
     subst (λ (s : Stores). StandsBefore (calls ++ (asked_at old.name old.own old.bytes old.step, answer) ∷ []) s.bytes s.step) (sym is)
     (step-stands old.name old.own old.bytes old.step answer calls stands)
+
+-- whatever is answered from a step on, what stands before each step was done
+pub runs : (name own bytes : List ℕ) (answers : List Answer) (step : Step) (calls : Made) → StandsBefore calls bytes step
+    → StandsBefore (calls ++ made_from name own bytes answers step) bytes (step_after bytes answers step)
+runs name own bytes [] step calls is = subst (λ (c : Made). StandsBefore c bytes step) (sym (append-nil calls)) is
+runs name own bytes (answer ∷ answers) step calls is =
+    let call = (asked_at name own bytes step, answer) in
+    let next = (store_at step answer bytes).step in
+    subst (λ (c : Made). StandsBefore c bytes (step_after bytes answers next))
+        (append_assoc calls (call ∷ []) (made_from name own bytes answers next))
+        (runs name own bytes answers next (calls ++ call ∷ []) (step-stands name own bytes step answer calls is))

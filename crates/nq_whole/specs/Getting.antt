@@ -1,8 +1,8 @@
 -- Getting a whole file: what is asked next, and what an answer makes of it.
-use Rattle.std.specs.Prelude.{◌≡◌, ℕ, ◌+◌, ◌*◌, Bool, true, false, List, [], ◌++◌, Option, Some, None, ⊤, length, take, nat_le, nat_lt, if◌then◌else◌}
+use Rattle.std.specs.Prelude.{◌≡◌, ℕ, ◌+◌, ◌*◌, Bool, true, false, List, [], ◌∷◌, ◌++◌, Option, Some, None, ⊤, length, take, nat_le, nat_lt, if◌then◌else◌}
 use Rattle.nq_base.specs.declared.Answer.{Answer}
 use Rattle.nq_base.specs.declared.Call.{Call}
-use Rattle.nq_command.specs.Pieces.{joined_pieces, piece_of}
+use Rattle.nq_whole.specs.Pieces.{joined_pieces, piece_of}
 use Rattle.nq_whole.specs.Answers.{body_in, file_in, is_gone}
 use Rattle.nq_whole.specs.Heads.{head_in}
 use Rattle.nq_whole.specs.declared.getting.Got.{Got}
@@ -114,3 +114,18 @@ abbrev pub KeepsPart : Answer → (old new : Gets) → Type 0
 KeepsPart answer old new =
     (stored : ℕ → Option (List ℕ)) → IsLawfulAt stored old.stage (body_in answer) → HasPartAt stored old.stage old.bytes
     → HasPartAt stored new.stage new.bytes
+
+-- getting begins
+abbrev pub begun : (name : List ℕ) → Gets
+begun name = record { name = name; stage = Stage.Finding; bytes = [] }
+
+-- getting behind answers that came one after another
+abbrev pub gets_after : List Answer → Gets → Gets
+gets_after [] g = g
+gets_after (answer ∷ answers) g = gets_after answers (get_at g.stage answer g).gets
+
+-- each answer is lawful where it comes
+abbrev pub AreLawful : (stored : ℕ → Option (List ℕ)) → List Answer → Gets → Type 0
+AreLawful stored [] g = ⊤
+AreLawful stored (answer ∷ answers) g =
+    IsLawfulAt stored g.stage (body_in answer) × AreLawful stored answers (get_at g.stage answer g).gets

@@ -8,9 +8,13 @@ use Rattle.nq_whole.specs.declared.heads.Head.{Head}
 abbrev pub most_bytes : ℕ
 most_bytes = 4194304
 
--- the block of a head: the number of the file, the number of bytes, a mark, and zeros
+-- the first bytes of the block of a head: the number of the file, the number of bytes, and a mark
+abbrev pub front_of_head : Head → List ℕ
+front_of_head head = word head.file ++ (word head.size ++ codes "whole file")
+
+-- the block of a head: these bytes, with zeros behind them
 unfoldable pub block_of : Head → List ℕ
-block_of head = word head.file ++ (word head.size ++ (codes "whole file" ++ replicate 4078 0))
+block_of head = front_of_head head ++ replicate 4078 0
 
 -- the head that a block tells: the mark stands in it, and the number of bytes is one that a file can have
 unfoldable pub head_in : (block : List ℕ) → Option Head

@@ -4,7 +4,7 @@ use Rattle.nq_base.specs.Block.{value_of}
 use Rattle.nq_base.specs.declared.Answer.{Answer}
 use Rattle.nq_base.specs.declared.Call.{Call}
 use Rattle.nq_base.specs.declared.Value.{Value}
-use Rattle.nq_command.specs.Pieces.{piece_of}
+use Rattle.nq_whole.specs.Pieces.{piece_of}
 use Rattle.nq_whole.specs.Answers.{body_in, file_in, is_done}
 use Rattle.nq_whole.specs.Heads.{block_of, head_in}
 use Rattle.nq_whole.specs.declared.heads.Head.{Head}
@@ -94,12 +94,10 @@ abbrev pub cleared : Option ℕ → StoreStep
 cleared (Some old) = goes (Step.Clearing old)
 cleared None = ends Said.Done
 
--- behind the sync of the head. Where it is not known whether the head is stored, the bytes stay
-abbrev pub synced : Answer → (file : ℕ) → Option ℕ → StoreStep
-synced (Answer.Ok value) file old = cleared old
-synced (Answer.Lost losses) file old = drops file
-synced Answer.Stale file old = drops file
-synced other file old = ends Said.Refused
+-- behind the sync of the head. Where it is not known whether the head is stored, the bytes stay, for tidying up
+abbrev pub synced : Answer → Option ℕ → StoreStep
+synced (Answer.Ok value) old = cleared old
+synced other old = ends Said.Refused
 
 -- what an answer makes of storing at a step
 abbrev pub store_at : Step → Answer → (bytes : List ℕ) → StoreStep
@@ -109,7 +107,7 @@ store_at (Step.Finding file) answer bytes = found answer file
 store_at (Step.Founding file) answer bytes = found answer file
 store_at (Step.Heading file at) answer bytes = headed (body_in answer) file at
 store_at (Step.Writing file at old) answer bytes = written (is_done answer) file at old
-store_at (Step.Syncing file at old) answer bytes = synced answer file old
+store_at (Step.Syncing file at old) answer bytes = synced answer old
 store_at (Step.Clearing old) answer bytes = ends Said.Done
 store_at (Step.Dropping file) answer bytes = ends Said.Refused
 store_at Step.Ended answer bytes = ends Said.Refused
@@ -151,3 +149,14 @@ abbrev pub KeepsOrder : Answer → (old new : Stores) → Type 0
 KeepsOrder answer old new =
     (made : Made) → StandsBefore made old.bytes old.step
     → StandsBefore (made ++ (asked_at old.name old.own old.bytes old.step, answer) ∷ []) new.bytes new.step
+
+-- the step behind answers that came one after another
+abbrev pub step_after : (bytes : List ℕ) → List Answer → Step → Step
+step_after bytes [] step = step
+step_after bytes (answer ∷ answers) step = step_after bytes answers (store_at step answer bytes).step
+
+-- the calls that were made from a step on, each with its answer
+abbrev pub made_from : (name own bytes : List ℕ) → List Answer → Step → Made
+made_from name own bytes [] step = []
+made_from name own bytes (answer ∷ answers) step =
+    (asked_at name own bytes step, answer) ∷ made_from name own bytes answers (store_at step answer bytes).step

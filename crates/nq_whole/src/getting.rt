@@ -6,8 +6,8 @@ ghost use Rattle.nq_whole.specs.Getting.{Gives, KeepsPart, asked_at, missed, rea
 
 use crate::answers::{body_in, file_in, is_gone};
 use crate::heads::{Head, head_in};
+use crate::pieces::push_body;
 use nq_base::{Answer, Block, BlockNo, Call, FileId, Name};
-use nq_command::prompt::push_body;
 use std::alloc::Global;
 use std::marker::Model;
 

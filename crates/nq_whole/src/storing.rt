@@ -7,8 +7,8 @@ ghost use Rattle.nq_whole.specs.Storing.{KeepsOrder, asked_at, blocks_for, fille
 
 use crate::answers::{body_in, file_in, is_done};
 use crate::heads::{Head, head_block, head_in};
+use crate::pieces::piece;
 use nq_base::{Answer, Block, BlockNo, Call, FileId, Name, NoMemory, Value};
-use nq_command::prompt::piece;
 use std::alloc::Global;
 use std::marker::Model;
 
@@ -149,8 +149,8 @@ fn old_head(body: &Block, file: FileId, at: FileId) -> StoreStep
 }
 
 /// Behind the sync of the head.
-fn synced(answer: &Answer, file: FileId, old: Option<FileId>) -> StoreStep
-    ensures is { result ≡ synced answer.now file old }
+fn synced(answer: &Answer, old: Option<FileId>) -> StoreStep
+    ensures is { result ≡ synced answer.now old }
     ensures none { needs result.step ≡ 0 }
 {
     match answer {
@@ -158,8 +158,6 @@ fn synced(answer: &Answer, file: FileId, old: Option<FileId>) -> StoreStep
             Some(old) => goes(Step::Clearing(old)),
             None => ends(Said::Done),
         },
-        Answer::Lost(_) => drops(file),
-        Answer::Stale => drops(file),
         _ => ends(Said::Refused),
     }
 }
@@ -286,7 +284,7 @@ impl Storing {
                     drops(file)
                 }
             }
-            Step::Syncing(file, _, old) => synced(answer, file, old),
+            Step::Syncing(_, _, old) => synced(answer, old),
             Step::Clearing(_) => ends(Said::Done),
             Step::Dropping(_) => ends(Said::Refused),
             Step::Ended => ends(Said::Refused),

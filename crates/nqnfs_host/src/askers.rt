@@ -41,15 +41,27 @@ pub(crate) struct Asker {
     pub(crate) is_over: bool,
 }
 
-/// How many bytes follow a line: as many as the third word of `store NAME SIZE` says.
-fn bytes_behind(text: &[u8]) -> usize {
+/// How many bytes follow a line: as many as the third word of `store NAME SIZE` says. None where those are too many.
+fn bytes_behind(text: &[u8]) -> Option<usize> {
     let mut words = Words::new(text);
     let verb = words.next().unwrap_or(b"");
-    let _name = words.next();
-    match words.u32() {
-        Some(size) if is(verb, b"store") => (size as usize).min(MOST_BYTES),
-        _ => 0,
+    if !is(verb, b"store") {
+        return Some(0);
     }
+    let _name = words.next();
+    let size = words.u32()? as usize;
+    if size > MOST_BYTES {
+        None
+    } else {
+        Some(size)
+    }
+}
+
+/// The number and the words of a line that asks, and how many bytes follow it.
+fn asked(line: &[u8]) -> Option<(u32, &[u8], usize)> {
+    let (number, text) = ask_in(line)?;
+    let size = bytes_behind(text)?;
+    Some((number, text, size))
 }
 
 impl Asker {
@@ -91,25 +103,25 @@ impl Asker {
         false
     }
 
-    /// The next ask, if all of it has come. One whose number is not above all before it is left out.
+    /// The next ask, if all of it has come and the answer to the last one is sent. One whose number is not above all before it is left out.
     pub(crate) fn next_ask(&mut self) -> Option<Ask> {
+        if self.is_over || !self.outgoing.is_empty() {
+            return None;
+        }
         let Some((line, rest)) = cut(&self.incoming, b'\n') else {
-            self.is_over = self.is_over || self.incoming.len() > MOST_LINE;
+            self.is_over = self.incoming.len() > MOST_LINE;
             return None;
         };
-        let Some((number, text)) = ask_in(line) else {
+        let Some((number, text, size)) = asked(line) else {
             self.is_over = true;
             return None;
         };
-        let size = bytes_behind(text);
         if rest.len() < size {
             return None;
         }
-        let Ok(ask) = copied(self.alloc, number, text, &rest[..size]) else {
-            self.is_over = true;
-            return None;
-        };
-        let Ok(rest) = rest[size..].to_vec(self.alloc) else {
+        let ask = copied(self.alloc, number, text, &rest[..size]);
+        let rest = rest[size..].to_vec(self.alloc);
+        let (Ok(ask), Ok(rest)) = (ask, rest) else {
             self.is_over = true;
             return None;
         };
@@ -121,7 +133,18 @@ impl Asker {
         }
     }
 
-    /// Answers an ask, with bytes behind the line where the kind says so.
+    /// Whether the next ask says that the host is to end.
+    pub(crate) fn says_end(&self) -> bool {
+        match cut(&self.incoming, b'\n') {
+            Some((line, _)) => match ask_in(line) {
+                Some((_, text)) => is(text, b"end"),
+                None => false,
+            },
+            None => false,
+        }
+    }
+
+    /// Sends an answer, with bytes behind the line where the kind says so.
     pub(crate) fn answer(&mut self, number: u32, kind: Kind, text: &[u8], bytes: &[u8]) {
         let told = push_answer(&mut self.outgoing, number, kind, text);
         if told.is_err()
@@ -150,11 +173,6 @@ impl Asker {
                 }
             }
         }
-    }
-
-    /// Whether something is left to be sent.
-    pub(crate) fn is_owed(&self) -> bool {
-        !self.outgoing.is_empty()
     }
 }
 

@@ -2,7 +2,8 @@
 
 use crate::link::HostLink;
 use nq_base::ending::Halt;
-use nq_base::{Answer, Call, Journal, Who};
+use nq_base::{Answer, Call, FileId, Journal, Who};
+use nq_calling::{call_now, lost_text};
 use nq_client::Client;
 use nq_clock::{Clock, StdClock};
 use nq_hosts::node::{ClientTurn, client_turn};
@@ -16,6 +17,12 @@ const TERM: u32 = 30;
 
 /// The most turns that are taken one behind the other before askers are heard again.
 const MOST_TURNS: u32 = 1024;
+
+/// From so many bytes on, no more losses are put into words before somebody has been told.
+const MOST_LOST: usize = 65_536;
+
+/// What stands before the delayed writes that were lost.
+const LOST: &[u8] = b"lost: delayed writes came too late:";
 
 /// A client that begins an incarnation now, if there is memory for it. It asks the server to attach it.
 fn begin(
@@ -44,6 +51,7 @@ pub(crate) struct HostDesk {
     /// Why no more can be asked, if that is so.
     pub(crate) halt: Option<Halt>,
     answer: Option<Answer>,
+    lost: Vec<u8>,
 }
 
 impl HostDesk {
@@ -65,12 +73,18 @@ impl HostDesk {
             clock,
             halt: None,
             answer: None,
+            lost: Vec::new(alloc),
         })
     }
 
     /// Who it is.
     pub(crate) fn who(&self) -> Who {
         self.client.who()
+    }
+
+    /// The client's time, in ticks.
+    pub(crate) fn time(&self) -> u64 {
+        self.client.time().0
     }
 
     /// Takes in what came, and ends what is over by now: takes turns until nothing is there. Each reads the clock first.
@@ -83,7 +97,7 @@ impl HostDesk {
         }
     }
 
-    /// Takes a turn, with a journal that is dropped behind it, and keeps the answer that it brings.
+    /// Takes a turn, and keeps the answer and the losses that it brings.
     fn turn(&mut self) {
         let mut log = Journal::new(self.alloc).unwrap();
         let turn = client_turn(
@@ -94,6 +108,7 @@ impl HostDesk {
             &mut self.next,
             &mut log,
         );
+        self.note(&log);
         match turn {
             ClientTurn::Quiet | ClientTurn::Link => {}
             ClientTurn::Answered(answer) => self.answer = Some(answer),
@@ -102,19 +117,48 @@ impl HostDesk {
         }
     }
 
+    /// Keeps the losses that a journal tells, in words.
+    fn note(&mut self, log: &Journal) {
+        if self.lost.len() > MOST_LOST {
+            return;
+        }
+        let noted = match lost_text(self.alloc, log) {
+            Ok(text) if text.is_empty() => true,
+            Ok(text) => self.add_lost(&text),
+            Err(_) => false,
+        };
+        if !noted {
+            self.halt = Some(Halt::Memory);
+        }
+    }
+
+    /// Adds losses in words. Whether there was memory for them.
+    fn add_lost(&mut self, text: &[u8]) -> bool {
+        let begun = !self.lost.is_empty() || self.lost.extend_from_slice(LOST).is_ok();
+        begun && self.lost.extend_from_slice(text).is_ok()
+    }
+
     /// Whether calls can be made now.
     pub(crate) fn is_ready(&self) -> bool {
         self.client.is_attached() && self.client.call_under_way().is_none()
     }
 
-    /// Makes a call, and sends what it pushes. Turns were taken before, in this round. Its answer, if it has one at once.
+    /// Makes a call behind a turn, which reads the clock, and sends what it pushes. Its answer, if it has one at once. There is none where the
+    /// client could not take the call in now, and then no call is under way.
     pub(crate) fn ask(&mut self, call: &Call) -> Option<Answer> {
-        let mut out = Outbox::new(self.alloc, 0).unwrap();
         let mut log = Journal::new(self.alloc).unwrap();
-        let answer = self.client.call(call, &mut out, &mut log);
-        let _sent = send_all(&mut self.link, &out);
+        let answer = call_now(
+            self.alloc,
+            &mut self.client,
+            &mut self.link,
+            &mut self.clock,
+            &mut self.next,
+            &mut log,
+            call,
+        );
+        self.note(&log);
         match answer {
-            Answer::Pending => None,
+            Answer::Pending | Answer::Busy => None,
             Answer::Memory => {
                 self.halt = Some(Halt::Memory);
                 Some(Answer::Memory)
@@ -130,6 +174,24 @@ impl HostDesk {
     /// The answer that turns brought to the call under way.
     pub(crate) fn take_answer(&mut self) -> Option<Answer> {
         self.answer.take()
+    }
+
+    /// The delayed writes that were lost since this was last asked, in words; nothing where none were.
+    pub(crate) fn take_lost(&mut self) -> Vec<u8> {
+        mem::replace(&mut self.lost, Vec::new(self.alloc))
+    }
+
+    /// Whether writes are delayed.
+    pub(crate) fn is_delaying(&self) -> bool {
+        self.client.dirty().pending() > 0
+    }
+
+    /// The file of the oldest delayed write that is not being stored yet.
+    pub(crate) fn first_delayed(&self) -> Option<FileId> {
+        match self.client.dirty().nth(0) {
+            Some(loss) => Some(loss.file),
+            None => None,
+        }
     }
 
     /// Begins an incarnation more: as the server attaches it, it ends the leases of those before. Whether there was memory for it.
@@ -152,6 +214,7 @@ impl HostDesk {
             clock: _clock,
             halt: _,
             answer: _answer,
+            lost: _lost,
         } = self;
         client.stop();
     }

@@ -1,13 +1,14 @@
 //! A host at work: it hears the server and those who ask, and waits for both at once.
 
-use crate::askers::Asker;
+use crate::askers::{Ask, Asker};
 use crate::desk::HostDesk;
 use crate::ledger::{Ledger, Made};
-use crate::work::{Came, Reply, Work, name_stored, own_name};
+use crate::starts::pause;
+use crate::work::{Came, NO_MEMORY, NOBODY, Reply, Work, name_stored, own_name};
 use mio::net::UnixListener;
 use mio::{Events, Interest, Poll, Token};
 use nq_asks::Kind;
-use nq_base::{Answer, Call, NoMemory};
+use nq_base::{Answer, Call, Name, NoMemory};
 use std::alloc::Global;
 use std::io;
 use std::time::Duration;
@@ -30,6 +31,12 @@ const WAIT: u64 = 200;
 /// The most calls of a round.
 const MOST_CALLS: u32 = 256;
 
+/// After how many ticks without an ask it stores what is delayed.
+const QUIET: u64 = 2;
+
+/// How often it looks at most, in the end, whether what was delayed is stored.
+const FAREWELL: u32 = 400;
+
 /// A host with those who ask it.
 pub(crate) struct Hosting<'a> {
     alloc: Global,
@@ -42,8 +49,9 @@ pub(crate) struct Hosting<'a> {
     work: Option<Work>,
     ledger: Ledger<'a>,
     made: u32,
-    /// Whether somebody told it to end.
-    pub(crate) is_told: bool,
+    asked: u64,
+    /// Who told it to end, and the number of that ask.
+    ender: Option<(usize, u32)>,
 }
 
 impl<'a> Hosting<'a> {
@@ -79,12 +87,13 @@ impl<'a> Hosting<'a> {
             work: None,
             ledger,
             made: 0,
-            is_told: false,
+            asked: 0,
+            ender: None,
         })
     }
 
     /// Works until it is told to end, or no more can be asked.
-    pub(crate) fn run(&mut self) -> io::Result<()> {
+    pub(crate) fn run(&mut self, rt: &HostRuntime) -> io::Result<()> {
         let mut events = Events::with_capacity(self.alloc, MOST_EVENTS)?;
         let mut is_busy = false;
         for _round in 0..u64::MAX {
@@ -92,8 +101,13 @@ impl<'a> Hosting<'a> {
             self.poll
                 .poll(&mut events, Some(Duration::from_millis(wait)))?;
             is_busy = self.round();
-            if self.is_told || self.desk.halt.is_some() {
+            if self.desk.halt.is_some() {
                 return Ok(());
+            }
+            if let Some((place, number)) = self.ender.take() {
+                if self.finish(rt, place, number) {
+                    return Ok(());
+                }
             }
         }
         Ok(())
@@ -101,15 +115,21 @@ impl<'a> Hosting<'a> {
 
     /// Hears all once, and does what can be done. Whether something is left to be done at once.
     fn round(&mut self) -> bool {
+        self.hear();
+        self.let_in();
+        let has_read = self.read();
+        self.write();
+        self.hear_end();
+        let has_called = self.call_on();
+        has_read || has_called || !self.desk.link.is_dry()
+    }
+
+    /// Hears the server, and takes in the answer to the call under way.
+    fn hear(&mut self) {
         self.desk.hear();
         if let Some(answer) = self.desk.take_answer() {
             self.advance(&answer);
         }
-        self.let_in();
-        let has_read = self.read();
-        let has_called = self.call_on();
-        self.write();
-        has_read || has_called || !self.desk.link.is_dry()
     }
 
     /// Lets in those who connect.
@@ -165,14 +185,12 @@ impl<'a> Hosting<'a> {
     fn write(&mut self) {
         let at_work = match &self.work {
             Some(work) => work.place,
-            None => MOST_ASKERS,
+            None => NOBODY,
         };
         for (place, asker) in self.askers.iter_mut().enumerate() {
             let mut is_over = false;
             if let Some(asker) = asker {
-                if asker.is_owed() {
-                    asker.write();
-                }
+                asker.write();
                 is_over = asker.is_over && place != at_work;
             }
             if is_over {
@@ -181,18 +199,32 @@ impl<'a> Hosting<'a> {
         }
     }
 
-    /// Makes calls, each behind turns that have read the clock, until one has no answer yet or nobody asks. Whether more can be made.
+    /// Hears who wants it to end, also while a call is under way.
+    fn hear_end(&mut self) {
+        for (place, asker) in self.askers.iter_mut().enumerate() {
+            if let Some(asker) = asker {
+                if asker.says_end() {
+                    if let Some(ask) = asker.next_ask() {
+                        self.ender = Some((place, ask.number));
+                    }
+                }
+            }
+        }
+    }
+
+    /// Makes calls, each behind a turn that has read the clock, until one has no answer yet or nothing is to be done. Whether more can be
+    /// made.
     fn call_on(&mut self) -> bool {
         for _call in 0..MOST_CALLS {
-            if self.is_told || self.desk.halt.is_some() || !self.desk.is_ready() {
+            if self.ender.is_some() || self.desk.halt.is_some() || !self.desk.is_ready() {
                 return false;
             }
-            if self.work.is_none() {
-                self.take_ask();
+            if self.work.is_none() && !self.take_up() {
+                return false;
             }
             let call = match &self.work {
                 Some(work) => work.asks(),
-                None => return false,
+                None => continue,
             };
             if !self.make(call) {
                 return false;
@@ -201,7 +233,7 @@ impl<'a> Hosting<'a> {
         true
     }
 
-    /// Makes a call, behind turns. Whether it has its answer.
+    /// Makes a call. Whether it has its answer.
     fn make(&mut self, call: Result<Call, NoMemory>) -> bool {
         let Ok(call) = call else {
             if let Some(work) = self.work.take() {
@@ -209,7 +241,6 @@ impl<'a> Hosting<'a> {
             }
             return true;
         };
-        self.desk.hear();
         match self.desk.ask(&call) {
             Some(answer) => {
                 self.advance(&answer);
@@ -219,12 +250,17 @@ impl<'a> Hosting<'a> {
         }
     }
 
-    /// Takes the next ask, from each asker in turn, once all is tidied up that earlier incarnations left.
-    fn take_ask(&mut self) {
+    /// Takes up what is to be done next: tidying up, else an ask, else storing what is delayed. Whether there was anything.
+    fn take_up(&mut self) -> bool {
         if let Some(made) = self.ledger.next_left() {
             self.work = Some(Work::tidy(self.alloc, made));
-            return;
+            return true;
         }
+        self.take_ask() || self.take_delayed()
+    }
+
+    /// Takes the next ask, from each asker in turn. Whether there was one.
+    fn take_ask(&mut self) -> bool {
         let count = self.askers.len();
         for step in 0..count {
             let place = self.first.saturating_add(step) % count;
@@ -234,50 +270,58 @@ impl<'a> Hosting<'a> {
             };
             if let Some(ask) = ask {
                 self.first = place.saturating_add(1);
+                self.asked = self.desk.time();
                 self.begin(place, ask);
-                return;
+                return true;
             }
+        }
+        false
+    }
+
+    /// Begins to store what is delayed, where nobody has asked for a while. Whether there was anything.
+    fn take_delayed(&mut self) -> bool {
+        if self.desk.time().saturating_sub(self.asked) < QUIET {
+            return false;
+        }
+        match self.desk.first_delayed() {
+            Some(file) => {
+                self.work = Some(Work::sync(self.alloc, file));
+                true
+            }
+            None => false,
         }
     }
 
     /// Begins the work for an ask.
-    fn begin(&mut self, place: usize, ask: crate::askers::Ask) {
+    fn begin(&mut self, place: usize, ask: Ask) {
+        let number = ask.number;
         if ask.text.as_slice() == b"end".as_slice() {
-            self.is_told = true;
-            self.reply(place, ask.number, Kind::Done, b"ok", &[]);
+            self.ender = Some((place, number));
             return;
         }
+        if let Some(name) = name_stored(&ask.text) {
+            return self.begin_store(place, ask, name);
+        }
+        match Work::new(self.alloc, place, &ask) {
+            Some(work) => self.work = Some(work),
+            None => self.refuse(place, number, b"the host knows no such ask"),
+        }
+    }
+
+    /// Begins to store a file under a name. What is made for it is written down before.
+    fn begin_store(&mut self, place: usize, ask: Ask, name: Name) {
         let number = ask.number;
         self.made = self.made.saturating_add(1);
         let Some(own) = own_name(self.alloc, self.desk.who(), self.made) else {
-            return self.reply(
-                place,
-                number,
-                Kind::Refused,
-                b"memory: memory was wanting",
-                &[],
-            );
+            return self.refuse(place, number, NO_MEMORY);
         };
-        if let Some(name) = name_stored(&ask.text) {
-            if !self.ledger.add(&Made { own, name }) {
-                return self.reply(
-                    place,
-                    number,
-                    Kind::Refused,
-                    b"the host cannot write in its folder",
-                    &[],
-                );
-            }
+        let made = Made { own, name };
+        if !self.ledger.add(&made) {
+            return self.refuse(place, number, b"the host cannot write in its folder");
         }
-        match Work::new(self.alloc, place, ask, own) {
+        match Work::store(self.alloc, place, ask, made) {
             Some(work) => self.work = Some(work),
-            None => self.reply(
-                place,
-                number,
-                Kind::Refused,
-                b"the host knows no such ask",
-                &[],
-            ),
+            None => self.refuse(place, number, b"these are too many bytes"),
         }
     }
 
@@ -293,7 +337,7 @@ impl<'a> Hosting<'a> {
         match came {
             Came::On(work) => self.work = Some(work),
             Came::Tidied(Some(made)) => {
-                let _noted = self.ledger.add(&made);
+                let _noted = self.ledger.keep(&made);
             }
             Came::Tidied(None) => {
                 let _noted = self.ledger.put_down();
@@ -305,17 +349,59 @@ impl<'a> Hosting<'a> {
                     kind,
                     text,
                     bytes,
+                    refused,
                 } = reply;
+                if let Some(name) = refused {
+                    let _noted = self.ledger.doubt(&name);
+                }
                 self.reply(place, number, kind, &text, &bytes);
             }
         }
     }
 
-    /// Answers an ask.
+    /// Refuses an ask.
+    fn refuse(&mut self, place: usize, number: u32, why: &[u8]) {
+        self.reply(place, number, Kind::Refused, why, &[]);
+    }
+
+    /// Answers an ask. Before, whoever asked is told of the delayed writes that were lost since somebody was told.
     fn reply(&mut self, place: usize, number: u32, kind: Kind, text: &[u8], bytes: &[u8]) {
         if let Some(Some(asker)) = self.askers.get_mut(place) {
+            let lost = self.desk.take_lost();
+            if !lost.is_empty() {
+                asker.answer(number, Kind::Note, &lost, &[]);
+            }
             asker.answer(number, kind, text, bytes);
         }
+    }
+
+    /// Stores what is delayed, as long as that does not take too long, and tells whoever wants it to end. Whether it ends.
+    fn finish(&mut self, rt: &HostRuntime, place: usize, number: u32) -> bool {
+        let mut kept = None;
+        for _look in 0..FAREWELL {
+            self.hear();
+            if self.desk.halt.is_some() || !self.desk.is_delaying() {
+                break;
+            }
+            if self.desk.is_ready() {
+                if kept.is_none() {
+                    kept = self.work.take();
+                }
+                if let Some(file) = self.desk.first_delayed() {
+                    let _answer = self.desk.ask(&Call::Sync { file });
+                }
+            }
+            pause(rt);
+        }
+        if self.work.is_none() {
+            self.work = kept;
+        }
+        if self.desk.is_delaying() {
+            self.refuse(place, number, STILL_DELAYED);
+            return false;
+        }
+        self.reply(place, number, Kind::Done, b"ok", &[]);
+        true
     }
 
     /// Ends it; what is left is its client.
@@ -330,8 +416,13 @@ impl<'a> Hosting<'a> {
             work: _work,
             ledger: _ledger,
             made: _,
-            is_told: _,
+            asked: _,
+            ender: _,
         } = self;
         desk
     }
 }
+
+/// What is said where the host does not end, since writes are delayed.
+const STILL_DELAYED: &[u8] =
+    b"delayed writes are not stored yet, so the host goes on; a signal ends it, and then they are lost";

@@ -13,7 +13,7 @@ use crate::desk::HostDesk;
 use crate::hosting::Hosting;
 use crate::ledger::Ledger;
 use crate::link::HostLink;
-use crate::starts::{let_second_pass, next_inc};
+use crate::starts::{NoStart, let_second_pass, next_inc, pause};
 use mio::net::UnixListener;
 use nq_base::ending::{Ending, Halt};
 use nq_base::{Host, Who};
@@ -37,7 +37,7 @@ The folder nqnfs-HOST, which it makes in this one, has its socket and its incarn
 --version    prints the version
 ";
 
-/// For how many milliseconds the giving back of leases is waited for.
+/// How often it is looked at most whether the leases are given back.
 const FAREWELL: u32 = 400;
 
 fn main(rt: HostRuntime) -> ExitCode {
@@ -95,16 +95,14 @@ fn be_host(rt: &HostRuntime, host: Host) -> Ending {
         Ok(link) => link,
         Err(error) => return told_port(rt, number, &error),
     };
-    if !make_folder(rt, folder.as_str()) {
+    if make_folder(rt, folder.as_str()).is_err() {
         let _told = eprintln!(rt; "nqnfs_host: the folder {folder} cannot be made");
         return Ending::KeepFault;
     }
     let_second_pass(rt);
-    let Some(inc) = next_inc(rt, folder.as_str()) else {
-        let _told = eprintln!(rt;
-            "nqnfs_host: the file {folder}/incarnation cannot be read or written, or holds no number"
-        );
-        return Ending::KeepFault;
+    let inc = match next_inc(rt, folder.as_str()) {
+        Ok(inc) => inc,
+        Err(why) => return told_start(rt, folder.as_str(), why),
     };
     match open_door(rt, folder.as_str()) {
         Ok(door) => live(rt, folder.as_str(), Who { host, inc }, link, door),
@@ -113,6 +111,25 @@ fn be_host(rt: &HostRuntime, host: Host) -> Ending {
             Ending::LinkFault
         }
     }
+}
+
+/// Tells why there is no next incarnation.
+fn told_start(rt: &HostRuntime, folder: &str, why: NoStart) -> Ending {
+    let words = match why {
+        NoStart::Memory => return told_memory(rt),
+        NoStart::Read => "cannot be read",
+        NoStart::Number => "holds no number of a start, or the last one that there is",
+        NoStart::Full => "cannot be written: the disk is full",
+        NoStart::Write => "cannot be written",
+    };
+    let _told = eprintln!(rt; "nqnfs_host: the file {folder}/incarnation {words}");
+    Ending::KeepFault
+}
+
+/// Tells that memory was wanting.
+fn told_memory(rt: &HostRuntime) -> Ending {
+    let _told = eprintln!(rt; "nqnfs_host: memory was wanting");
+    Ending::Memory
 }
 
 /// Tells that a port cannot be bound.
@@ -126,13 +143,13 @@ fn told_port(rt: &HostRuntime, number: u32, error: &io::Error) -> Ending {
     Ending::LinkFault
 }
 
-/// Makes the folder of a host, which is for its user alone. Whether it is there.
-fn make_folder(rt: &HostRuntime, folder: &str) -> bool {
+/// Makes the folder of a host, if it is not there, and sees to it that it is for its user alone.
+fn make_folder(rt: &HostRuntime, folder: &str) -> io::Result<()> {
     let mut maker = DirBuilder::new();
     maker.mode(0o700);
     match maker.create(rt, folder) {
-        Ok(()) => true,
-        Err(error) => error.kind() == ErrorKind::AlreadyExists,
+        Err(error) if error.kind() != ErrorKind::AlreadyExists => Err(error),
+        _ => fs::set_permissions(rt, folder, Permissions::from_mode(0o700)),
     }
 }
 
@@ -148,10 +165,10 @@ fn open_door(rt: &HostRuntime, folder: &str) -> io::Result<UnixListener> {
 /// Lives until it is told to end.
 fn live(rt: &HostRuntime, folder: &str, who: Who, link: HostLink, door: UnixListener) -> Ending {
     let Ok(watch) = rt.clone() else {
-        return Ending::Memory;
+        return told_memory(rt);
     };
     let Some(desk) = HostDesk::open(rt.alloc(), who, link, StdClock::new(watch)) else {
-        return Ending::Memory;
+        return told_memory(rt);
     };
     let Some(ledger) = Ledger::open(rt, folder) else {
         let _told = eprintln!(rt; "nqnfs_host: the file {folder}/made cannot be read");
@@ -161,6 +178,7 @@ fn live(rt: &HostRuntime, folder: &str, who: Who, link: HostLink, door: UnixList
     match Hosting::open(rt, desk, door, ledger) {
         Ok(hosting) => attend(rt, folder, who, hosting),
         Err(desk) => {
+            let _told = eprintln!(rt; "nqnfs_host: its sockets cannot be waited for");
             desk.close();
             Ending::LinkFault
         }
@@ -174,27 +192,34 @@ fn attend(rt: &HostRuntime, folder: &str, who: Who, hosting: Hosting<'_>) -> End
     let _told = println!(rt;
         "nqnfs_host 1: host {number}, incarnation {inc}, asked at {folder}/asks"
     );
-    let ran = hosting.run();
+    let ran = hosting.run(rt);
     let mut desk = hosting.close();
     let ending = match desk.halt {
-        Some(Halt::Memory) => Ending::Memory,
-        Some(_) => Ending::Limit,
-        None if ran.is_err() => Ending::LinkFault,
+        Some(Halt::Memory) => told_memory(rt),
+        Some(_) => told(rt, Ending::Limit, "a start takes in no more; begin another one"),
+        None if ran.is_err() => told(rt, Ending::LinkFault, "its sockets cannot be waited for"),
         None => Ending::Done,
     };
+    if desk.is_delaying() {
+        let _lost = told(rt, ending, "delayed writes that were not stored are lost");
+    }
     if !give_back(rt, folder, who.host, &mut desk) {
-        let _told = eprintln!(rt;
-            "nqnfs_host: the leases were not given back; whoever comes next may wait for 38 seconds"
-        );
+        let _told = told(rt, ending, "its leases run on, so others may wait for 38 seconds");
     }
     desk.close();
+    ending
+}
+
+/// Tells words on a line, and ends so.
+fn told(rt: &HostRuntime, ending: Ending, words: &str) -> Ending {
+    let _told = eprintln!(rt; "nqnfs_host: {words}");
     ending
 }
 
 /// Gives all leases back: the host begins one incarnation more, and the server ends the leases of those before as it attaches it. Whether
 /// it did.
 fn give_back(rt: &HostRuntime, folder: &str, host: Host, desk: &mut HostDesk) -> bool {
-    let Some(inc) = next_inc(rt, folder) else {
+    let Ok(inc) = next_inc(rt, folder) else {
         return false;
     };
     if !desk.begin_again(Who { host, inc }) {
@@ -205,7 +230,7 @@ fn give_back(rt: &HostRuntime, folder: &str, host: Host, desk: &mut HostDesk) ->
         if desk.is_ready() {
             return true;
         }
-        starts::pause(rt);
+        pause(rt);
     }
     false
 }

@@ -13,6 +13,21 @@ const LOOKS: u32 = 150;
 /// For how many milliseconds to sleep between two looks.
 const PAUSE: u64 = 10;
 
+/// Why a host has no next incarnation.
+#[derive(Clone, Copy)]
+pub(crate) enum NoStart {
+    /// Memory was wanting.
+    Memory,
+    /// The file with the last one cannot be read.
+    Read,
+    /// It holds no number, or the last one that there is.
+    Number,
+    /// The disk is full.
+    Full,
+    /// The file cannot be written.
+    Write,
+}
+
 /// Waits until the second is over that the machine's clock shows. A host does so behind binding its port: whoever was this host before took
 /// its incarnation in an earlier second, also by a file in another folder.
 pub(crate) fn let_second_pass(rt: &HostRuntime) {
@@ -41,54 +56,57 @@ fn seconds_now(rt: &HostRuntime) -> u64 {
     }
 }
 
-/// The next incarnation of the host with this folder. It is written down before anything is sent. None where the file cannot be read or written or holds no
-/// number, and where no number is left.
-pub(crate) fn next_inc(rt: &HostRuntime, folder: &str) -> Option<Inc> {
+/// The next incarnation of the host with this folder. It is written down before anything is sent.
+pub(crate) fn next_inc(rt: &HostRuntime, folder: &str) -> Result<Inc, NoStart> {
     match format!(in rt.alloc(); "{folder}/incarnation") {
-        Ok(name) => next_in(rt, folder, name.as_str()),
-        Err(_) => None,
+        Ok(path) => next_in(rt, folder, path.as_str()),
+        Err(_) => Err(NoStart::Memory),
     }
 }
 
-/// The next incarnation by the file of this name.
-fn next_in(rt: &HostRuntime, folder: &str, name: &str) -> Option<Inc> {
-    let start = start_after(rt, name)?;
-    if put_down(rt, folder, name, start) {
-        Some(Inc(start))
-    } else {
-        None
-    }
-}
-
-/// Writes a start down in the file of this name: in a file of its own that then takes the other's place, so that a stop leaves the old
-/// number or the new one. Whether it went well.
-fn put_down(rt: &HostRuntime, folder: &str, name: &str, start: u32) -> bool {
-    let Ok(fresh) = format!(in rt.alloc(); "{name}.new") else {
-        return false;
+/// The next incarnation by the file at this path.
+fn next_in(rt: &HostRuntime, folder: &str, path: &str) -> Result<Inc, NoStart> {
+    let start = match start_after(rt, path) {
+        Ok(start) => start,
+        Err(why) => return Err(why),
     };
     let Ok(line) = start_text(rt.alloc(), start) else {
-        return false;
+        return Err(NoStart::Memory);
     };
-    let fresh = fresh.as_str();
-    if write_synced(File::create(rt, fresh), &line).is_err()
-        || fs::rename(rt, fresh, name).is_err()
-    {
-        return false;
-    }
-    match File::open(rt, folder) {
-        Ok(folder) => folder.sync_all().is_ok(),
-        Err(_) => false,
+    match replace_file(rt, folder, path, &line) {
+        Ok(()) => Ok(Inc(start)),
+        Err(error) => match error.kind() {
+            ErrorKind::OutOfMemory => Err(NoStart::Memory),
+            ErrorKind::StorageFull | ErrorKind::QuotaExceeded => Err(NoStart::Full),
+            _ => Err(NoStart::Write),
+        },
     }
 }
 
-/// The start behind the one that the file of this name tells. Where there is no file, only the clock says how high it is.
-fn start_after(rt: &HostRuntime, name: &str) -> Option<u32> {
+/// The start behind the one that the file at this path tells. Where there is no file, only the clock says how high it is.
+fn start_after(rt: &HostRuntime, path: &str) -> Result<u32, NoStart> {
     let seconds = seconds_now(rt);
-    match fs::read(rt, name) {
-        Ok(text) => next_start(&text, seconds),
-        Err(error) if error.kind() == ErrorKind::NotFound => Some(risen(1, seconds)),
-        Err(_) => None,
+    match fs::read(rt, path) {
+        Ok(text) => match next_start(&text, seconds) {
+            Some(start) => Ok(start),
+            None => Err(NoStart::Number),
+        },
+        Err(error) if error.kind() == ErrorKind::NotFound => Ok(risen(1, seconds)),
+        Err(_) => Err(NoStart::Read),
     }
+}
+
+/// Writes a file anew: into a file of its own, which then takes the other's place, so that a stop leaves the old bytes or the new ones.
+pub(crate) fn replace_file(
+    rt: &HostRuntime,
+    folder: &str,
+    path: &str,
+    bytes: &[u8],
+) -> io::Result<()> {
+    let fresh = format!(in rt.alloc(); "{path}.new")?;
+    write_synced(File::create(rt, fresh.as_str()), bytes)?;
+    fs::rename(rt, fresh.as_str(), path)?;
+    File::open(rt, folder)?.sync_all()
 }
 
 /// Writes a file, if it could be opened, and syncs it.

@@ -3,7 +3,7 @@
 use crate::askers::Ask;
 use crate::ledger::Made;
 use nq_asks::Kind;
-use nq_base::{Answer, Call, Name, NoMemory, Who};
+use nq_base::{Answer, Call, FileId, Name, NoMemory, Who};
 use nq_command::prompt::answer_text;
 use nq_script::parse_call;
 use nq_script::words::{Words, is};
@@ -12,6 +12,15 @@ use std::alloc::Global;
 
 /// How often a file is read anew whose bytes were gone.
 const MOST_ANEW: u32 = 1000;
+
+/// The place of nobody.
+pub(crate) const NOBODY: usize = usize::MAX;
+
+/// What is said of a file that was made by calls.
+const NOT_WHOLE: &[u8] = b"the file of this name was not stored as a whole one";
+
+/// What is said where memory was wanting.
+pub(crate) const NO_MEMORY: &[u8] = b"memory: memory was wanting";
 
 /// What is done, call by call.
 #[derive(Drop)]
@@ -33,7 +42,7 @@ pub(crate) enum Came {
     On(Work),
     /// It is over, with this answer.
     Over(Reply),
-    /// Tidying up is over. What was made is on the list again, if it is there or may be there.
+    /// Tidying up is over. What was made is kept on the list, if it is there or may be there.
     Tidied(Option<Made>),
 }
 
@@ -50,6 +59,8 @@ pub(crate) struct Reply {
     pub(crate) text: Vec<u8>,
     /// The bytes behind its line.
     pub(crate) bytes: Vec<u8>,
+    /// The name under which a store was refused.
+    pub(crate) refused: Option<Name>,
 }
 
 /// An ask at work.
@@ -86,17 +97,10 @@ pub(crate) fn own_name(alloc: Global, who: Who, count: u32) -> Option<Name> {
     }
 }
 
-/// The task that an ask names; None where it names none.
-fn task_of(alloc: Global, text: &[u8], body: Vec<u8>, own: Name) -> Option<Task> {
+/// The task that an ask names, beside a store; None where it names none.
+fn task_of(alloc: Global, text: &[u8]) -> Option<Task> {
     let mut words = Words::new(text);
     let verb = words.next()?;
-    if is(verb, b"store") {
-        let name = words.name()?;
-        if body.len() > MOST_BYTES {
-            return None;
-        }
-        return Some(Task::Store(Storing::new(name, own, body)));
-    }
     if is(verb, b"get") {
         let name = words.name()?;
         return Some(Task::Get(Getting::new(alloc, name)));
@@ -108,11 +112,9 @@ fn task_of(alloc: Global, text: &[u8], body: Vec<u8>, own: Name) -> Option<Task>
 }
 
 impl Work {
-    /// The work for an ask; None where it names none. A file that it makes has this name.
-    pub(crate) fn new(alloc: Global, place: usize, ask: Ask, own: Name) -> Option<Work> {
-        let Ask { number, text, body } = ask;
-        let task = task_of(alloc, &text, body, own)?;
-        Some(Work {
+    /// The work of a task.
+    fn of(alloc: Global, place: usize, number: u32, task: Task) -> Work {
+        Work {
             alloc,
             place,
             number,
@@ -120,20 +122,42 @@ impl Work {
             why: Vec::new(alloc),
             anew: 0,
             made: None,
-        })
+        }
+    }
+
+    /// The work for an ask that stores no file; None where it names none.
+    pub(crate) fn new(alloc: Global, place: usize, ask: &Ask) -> Option<Work> {
+        let task = task_of(alloc, &ask.text)?;
+        Some(Work::of(alloc, place, ask.number, task))
+    }
+
+    /// The work of storing the bytes of an ask, of which there are not too many.
+    pub(crate) fn store(alloc: Global, place: usize, ask: Ask, made: Made) -> Option<Work> {
+        let Ask {
+            number,
+            text: _text,
+            body,
+        } = ask;
+        if body.len() > MOST_BYTES {
+            return None;
+        }
+        let storing = Storing::new(made.name, made.own, body);
+        let mut work = Work::of(alloc, place, number, Task::Store(storing));
+        work.made = Some(made);
+        Some(work)
     }
 
     /// The work of tidying up behind a store, which nobody asked for.
     pub(crate) fn tidy(alloc: Global, made: Made) -> Work {
-        Work {
-            alloc,
-            place: usize::MAX,
-            number: 0,
-            task: Task::Tidy(Tidying::new(made.own, made.name)),
-            why: Vec::new(alloc),
-            anew: 0,
-            made: Some(made),
-        }
+        let tidying = Tidying::new(made.own, made.name);
+        let mut work = Work::of(alloc, NOBODY, 0, Task::Tidy(tidying));
+        work.made = Some(made);
+        work
+    }
+
+    /// The work of storing what is delayed of a file, which nobody asked for.
+    pub(crate) fn sync(alloc: Global, file: FileId) -> Work {
+        Work::of(alloc, NOBODY, 0, Task::Call(Call::Sync { file }))
     }
 
     /// The call that comes next.
@@ -148,33 +172,39 @@ impl Work {
 
     /// It is over, with this answer and no bytes.
     fn ends(self, kind: Kind, text: Vec<u8>) -> Came {
-        let bytes = Vec::new(self.alloc);
+        let refused = match self.made {
+            Some(made) if matches!(kind, Kind::Refused) => Some(made.name),
+            _ => None,
+        };
         Came::Over(Reply {
             place: self.place,
             number: self.number,
             kind,
             text,
-            bytes,
+            bytes: Vec::new(self.alloc),
+            refused,
         })
-    }
-
-    /// It is over since memory was wanting.
-    pub(crate) fn lacks(self) -> Came {
-        let text = Vec::new(self.alloc);
-        self.ends(Kind::Refused, text)
-    }
-
-    /// It is refused with an answer in words.
-    fn refused(self, answer: &Answer) -> Came {
-        match answer_text(self.alloc, answer) {
-            Ok(text) => self.ends(Kind::Refused, text),
-            Err(_) => self.lacks(),
-        }
     }
 
     /// It is over, with these words.
     fn says(self, kind: Kind, words: &[u8]) -> Came {
         match words.to_vec(self.alloc) {
+            Ok(text) => self.ends(kind, text),
+            Err(_) => {
+                let text = Vec::new(self.alloc);
+                self.ends(Kind::Refused, text)
+            }
+        }
+    }
+
+    /// It is over since memory was wanting.
+    pub(crate) fn lacks(self) -> Came {
+        self.says(Kind::Refused, NO_MEMORY)
+    }
+
+    /// It is over, with an answer in words.
+    fn tells(self, kind: Kind, answer: &Answer) -> Came {
+        match answer_text(self.alloc, answer) {
             Ok(text) => self.ends(kind, text),
             Err(_) => self.lacks(),
         }
@@ -203,13 +233,9 @@ impl Work {
 
     /// A call has its answer.
     fn answered(self, answer: &Answer) -> Came {
-        let kind = match answer {
-            Answer::Ok(_) => Kind::Done,
-            _ => Kind::Refused,
-        };
-        match answer_text(self.alloc, answer) {
-            Ok(text) => self.ends(kind, text),
-            Err(_) => self.lacks(),
+        match answer {
+            Answer::Ok(_) => self.tells(Kind::Done, answer),
+            _ => self.tells(Kind::Refused, answer),
         }
     }
 
@@ -231,10 +257,8 @@ impl Work {
                 }
                 Came::On(work)
             }
+            Said::Refused if work.why.is_empty() => work.tells(Kind::Refused, answer),
             Said::Refused => {
-                if work.why.is_empty() {
-                    return work.refused(answer);
-                }
                 let text = std::mem::replace(&mut work.why, Vec::new(work.alloc));
                 work.ends(Kind::Refused, text)
             }
@@ -255,9 +279,9 @@ impl Work {
                 }
             }
             Got::Done => work.gives(),
-            Got::Refused => work.refused(answer),
+            Got::Refused => work.tells(Kind::Refused, answer),
             Got::NotWhole => work.says(Kind::Refused, NOT_WHOLE),
-            Got::Memory => work.says(Kind::Refused, b"memory: memory was wanting"),
+            Got::Memory => work.lacks(),
         }
     }
 
@@ -287,9 +311,7 @@ impl Work {
             kind: Kind::Bytes,
             text,
             bytes,
+            refused: None,
         })
     }
 }
-
-/// What is said of a file that was made by calls.
-const NOT_WHOLE: &[u8] = b"the file of this name was not stored as a whole one";

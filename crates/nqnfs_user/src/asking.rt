@@ -6,6 +6,7 @@ use nq_whole::MOST_BYTES;
 use std::alloc::Global;
 use std::io::{self, ErrorKind, Read, Write};
 use std::os::unix::net::UnixStream;
+use std::str;
 use std::time::Duration;
 
 /// After how many seconds without an answer it is said that it is waited for.
@@ -18,9 +19,8 @@ const MOST_READS: u64 = 1 << 40;
 const READ_SIZE: usize = 16384;
 
 // What is said once an answer is waited for.
-const WAITING: &str =
-    "waiting: the host does other asks first, no server runs, it recovers, or another host has a lease on the file; \
-    Ctrl-C ends this program, and the ask goes on at the host";
+const WAITING: &str = "waiting: other asks come first, no server runs, it recovers, or another host has a lease on the file; \
+    Ctrl-C ends this program, and the host goes on with what was asked";
 
 /// What a host answers.
 #[derive(Drop)]
@@ -78,15 +78,22 @@ impl<'a> Asking<'a> {
         self.take_reply()
     }
 
-    /// Waits for the answer.
+    /// Waits for the answer. What the host notes before it is told at once.
     fn take_reply(&mut self) -> io::Result<Reply> {
         for _read in 0..MOST_READS {
-            if let Some(reply) = self.reply_in()? {
-                return Ok(reply);
+            match self.reply_in()? {
+                Some(reply) if matches!(reply.kind, Kind::Note) => self.tell_note(&reply),
+                Some(reply) => return Ok(reply),
+                None => self.read()?,
             }
-            self.read()?;
         }
         Err(gone())
+    }
+
+    /// Tells what the host notes.
+    fn tell_note(&self, note: &Reply) {
+        let words = str::from_utf8(&note.text).unwrap_or("");
+        let _told = println!(self.rt; "{words}");
     }
 
     /// The answer, if all of it has come.

@@ -13,6 +13,9 @@ use std::str;
 /// The most lines that are read.
 const MOST_LINES: u32 = u32::MAX;
 
+// What is said where memory was wanting.
+const NO_MEMORY: &str = "memory: memory was wanting";
+
 // What is said where a path is no text.
 const NO_TEXT: &str = "the path is no text: its bytes are no UTF-8";
 
@@ -24,7 +27,8 @@ write F B VALUE      write a block          put F B VALUE       write it through
 sync F               store all of a file    remove F            take a file away
 store PATH NAME      store a whole file of this machine
 get NAME PATH        get it again, as a new file of this machine
-help, quit           end ends the host
+help, quit           what there is to say, and to leave
+end                  end the host, once all is stored
 ";
 
 /// What came of a line.
@@ -77,9 +81,8 @@ pub(crate) fn serve_line(rt: &HostRuntime, asking: &mut Asking<'_>, text: &[u8])
             let _told = print!(rt; "{HELP}");
             Did::Done
         }
-        Line::Unknown if text == b"end".as_slice() => serve_call(rt, asking, text),
         Line::Unknown => tell_wrong(rt, text),
-        Line::Call(_) => serve_call(rt, asking, text),
+        Line::Call(_) | Line::End => serve_call(rt, asking, text),
         Line::Store { path, name } => match str::from_utf8(path) {
             Ok(path) => serve_store(rt, asking, path, name),
             Err(_) => refuse(rt, NO_TEXT),
@@ -114,10 +117,16 @@ fn tell_wrong(rt: &HostRuntime, text: &[u8]) -> Did {
     Did::Wrong
 }
 
-/// Tells an answer without bytes.
+/// Tells an answer without bytes. A host that had no memory for words says none.
 fn tell(rt: &HostRuntime, reply: &Reply) -> Did {
-    let words = str::from_utf8(&reply.text).unwrap_or("");
-    let _told = println!(rt; "{words}");
+    match str::from_utf8(&reply.text) {
+        Ok(words) if !words.is_empty() => {
+            let _told = println!(rt; "{words}");
+        }
+        _ => {
+            let _told = println!(rt; "{NO_MEMORY}");
+        }
+    }
     match reply.kind {
         Kind::Refused => Did::Refused,
         _ => Did::Done,
@@ -157,7 +166,7 @@ fn store_bytes(rt: &HostRuntime, asking: &mut Asking<'_>, name: Name, bytes: &[u
     }
     let name = str::from_utf8(name.as_bytes()).unwrap_or("");
     let Ok(line) = format!(in rt.alloc(); "store {name} {count}") else {
-        return refuse(rt, "memory: memory was wanting");
+        return refuse(rt, NO_MEMORY);
     };
     match asking.ask(line.as_str().as_bytes(), bytes) {
         Ok(reply) => tell(rt, &reply),
@@ -169,7 +178,7 @@ fn store_bytes(rt: &HostRuntime, asking: &mut Asking<'_>, name: Name, bytes: &[u
 fn serve_get(rt: &HostRuntime, asking: &mut Asking<'_>, name: Name, path: &str) -> Did {
     let name = str::from_utf8(name.as_bytes()).unwrap_or("");
     let Ok(line) = format!(in rt.alloc(); "get {name}") else {
-        return refuse(rt, "memory: memory was wanting");
+        return refuse(rt, NO_MEMORY);
     };
     match asking.ask(line.as_str().as_bytes(), &[]) {
         Ok(reply) => match reply.kind {
@@ -180,21 +189,28 @@ fn serve_get(rt: &HostRuntime, asking: &mut Asking<'_>, name: Name, path: &str) 
     }
 }
 
-/// Writes these bytes as a new file of the machine.
+/// Writes these bytes as a new file of the machine. Where that goes wrong no part of it is left.
 fn write_new(rt: &HostRuntime, path: &str, bytes: &[u8]) -> Did {
-    match write_synced(File::create_new(rt, path), bytes) {
+    let file = match File::create_new(rt, path) {
+        Ok(file) => file,
+        Err(error) => return tell_machine(rt, path, error.kind()),
+    };
+    match write_synced(file, bytes) {
         Ok(()) => {
             let count = bytes.len();
             let _told = println!(rt; "ok, {count} bytes");
             Did::Done
         }
-        Err(error) => tell_machine(rt, path, error.kind()),
+        Err(error) => {
+            let _gone = fs::remove_file(rt, path);
+            tell_machine(rt, path, error.kind())
+        }
     }
 }
 
-/// Writes a file, if it could be opened, and syncs it.
-fn write_synced(file: io::Result<File>, bytes: &[u8]) -> io::Result<()> {
-    let mut file = file?;
+/// Writes a file, and syncs it.
+fn write_synced(file: File, bytes: &[u8]) -> io::Result<()> {
+    let mut file = file;
     file.write_all(bytes)?;
     file.sync_all()
 }
@@ -202,9 +218,11 @@ fn write_synced(file: io::Result<File>, bytes: &[u8]) -> io::Result<()> {
 /// Tells why the machine did not do something with a file.
 fn tell_machine(rt: &HostRuntime, path: &str, kind: ErrorKind) -> Did {
     let why = match kind {
-        ErrorKind::NotFound => "is not there",
+        ErrorKind::NotFound => "is not there, or its folder is not",
         ErrorKind::AlreadyExists => "is there already, and stays as it is",
         ErrorKind::PermissionDenied => "may not be used",
+        ErrorKind::IsADirectory => "is a folder",
+        ErrorKind::StorageFull | ErrorKind::QuotaExceeded => "cannot be written: the disk is full",
         _ => "cannot be read or written",
     };
     let _told = println!(rt; "{path} {why}");

@@ -1,6 +1,6 @@
 use Rattle.std.proofs.Common.{◌++◌, ◌∙◌, ap}
-use Rattle.nq_command.proofs.Joining.{filled-words}
-use Rattle.nq_command.proofs.prompt.pieces.push_filled.Goals as goal
+use Rattle.nq_whole.proofs.Joining.{filled-words}
+use Rattle.nq_whole.proofs.pieces.push_filled.Goals as goal
 use Rattle.nq_xdr.specs.Words.{repeats}
 
 pub returns : goal.returns
