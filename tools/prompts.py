@@ -1,20 +1,22 @@
 #!/usr/bin/env python3
-"""Tries hosts that are left alone, begun in another folder, and asked by many at once.
+"""Tries hosts that are left alone, begun in another folder, told to end, stopped, and asked by many at once.
 
   tools/prompts.py [--host FILE] [--user FILE] [--server FILE] [--seconds N] [SCENE ..]
 
 `idle`: somebody writes and reads two files at host 0 and leaves it alone for 45 seconds, longer than its leases. Host 1 writes one of them then.
 What host 0 reads next has to be what host 1 wrote, and what it writes next has to be stored. `folder`: host 0 makes a file and is killed, and
-begins again in another folder. The file that it makes there has to be another one. `many`: for N seconds (60) four askers store and get whole
-files of two names at two hosts, while askers, hosts and the server are killed. Each file that is got has to be one that was stored, from its
-first byte to its last. Each scene (all, where none is named) has a server of its
-own and says what came. The status is 1 where something else came than has to. Build the three programs before.
+begins again in another folder. The file that it makes there has to be another one. `end`: host 0 is told to end behind a write, which has to be
+stored. `lost`: host 0 is stopped behind a write until host 1 could write. Whoever asks host 0 next has to be told of the loss. `many`: for N
+seconds (60) four askers store and get whole files of two names at two hosts, while askers, hosts and the server are killed. Each file that is
+got has to be one that was stored and that no later one had replaced. Each scene (all, where none is named) has a server of its own and says
+what came. The status is 1 where something else came than has to. Build the three programs before.
 """
 
 import argparse
 import pathlib
 import random
 import select
+import signal
 import subprocess
 import tempfile
 import threading
@@ -41,6 +43,10 @@ class Host:
     def asks(self, line, wanted):
         """Whether a line is answered so."""
         self.prompt.stdin.write(line.encode() + b"\n")
+        return self.hears(wanted, line)
+
+    def hears(self, wanted, line="next"):
+        """Whether the next line of the prompt is this one."""
         ready, _, _ = select.select([self.prompt.stdout], [], [], PATIENCE)
         answer = self.prompt.stdout.readline().decode().strip() if ready else "nothing"
         if answer != wanted:
@@ -80,95 +86,163 @@ def folder(programs, folder, _seconds):
     return all(went)
 
 
+def end(programs, folder, _seconds):
+    """Whether a host that is told to end stores what it delays."""
+    one, other = Host(programs, 0, folder / "one"), Host(programs, 1, folder / "other")
+    try:
+        went = [one.asks("create paper 1", "ok, file 1"), one.asks("write 1 0 5", "ok"), one.asks("end", "ok")]
+        went += [one.process.wait(PATIENCE) == 0, other.asks("fetch 1 0", "ok, value 5")]
+        return all(went)
+    finally:
+        one.ends()
+        other.ends()
+
+
+def lost(programs, folder, _seconds):
+    """Whether a write that came too late is told, with its file and its block, to whoever asks next."""
+    one, other = Host(programs, 0, folder / "one"), Host(programs, 1, folder / "other")
+    try:
+        went = [one.asks("create paper 2", "ok, file 1"), one.asks("write 1 1 5", "ok")]
+        one.process.send_signal(signal.SIGSTOP)
+        went += [other.asks("write 1 1 6", "ok"), other.asks("sync 1", "ok")]
+        one.process.send_signal(signal.SIGCONT)
+        time.sleep(3)
+        went += [one.asks("lookup paper", "lost: delayed writes came too late: (file 1, block 1)"), one.hears("ok, file 1"),
+                 one.asks("lookup paper", "ok, file 1"), one.asks("fetch 1 1", "ok, value 6")]
+        return all(went)
+    finally:
+        one.process.send_signal(signal.SIGCONT)
+        one.ends()
+        other.ends()
+
+
+class Store:
+    """A file that somebody stored under a name, or tried to. Its content is its number, over and over."""
+
+    def __init__(self, number):
+        self.number, self.begun = number, time.monotonic()
+        self.ended, self.done = float("inf"), False
+
+
 class Tries:
     """What four askers do at once, and what they know of the files."""
 
     def __init__(self, programs, folder, seconds):
         self.programs, self.folder, self.until = programs, folder, time.monotonic() + seconds
         self.lock = threading.Lock()
+        self.stores = {"left": [], "right": []}
         self.count = 0
         self.faults, self.did = [], {"stored": 0, "got": 0, "refused": 0, "killed": 0}
 
     def notes(self, what, fault=None):
         with self.lock:
-            self.did[what] = self.did.get(what, 0) + 1
+            self.did[what] += 1
             if fault:
                 self.faults.append(fault)
 
     def runs(self, chance, host, words):
-        """The status of a command, which is killed now and then."""
-        asker = subprocess.Popen([self.programs.user, str(host), *words], cwd=self.folder, stdout=subprocess.DEVNULL, stderr=subprocess.DEVNULL)
-        if chance.random() < 0.05:
+        """The status of a command and what it said. Now and then it is killed, and then there is no status."""
+        asker = subprocess.Popen([self.programs.user, str(host), *words], cwd=self.folder, stdout=subprocess.PIPE, stderr=subprocess.DEVNULL)
+        is_killed = chance.random() < 0.05
+        if is_killed:
             time.sleep(chance.random() / 4)
             asker.kill()
         try:
-            return asker.wait(PATIENCE * 2)
+            said, _ = asker.communicate(timeout=PATIENCE * 2)
+            return None if is_killed else asker.returncode, said.decode()
         except subprocess.TimeoutExpired:
             asker.kill()
-            asker.wait()
-            return None
+            asker.communicate()
+            return None, ""
+
+    def stores_one(self, chance, host, name, path):
+        with self.lock:
+            self.count += 1
+            store = Store(self.count)
+            self.stores[name].append(store)
+        path.write_bytes(b"%08d" % store.number * chance.randrange(1, 5000))
+        status, _ = self.runs(chance, host, ["store", path.name, name])
+        with self.lock:
+            store.done = status == 0
+            # A host goes on with what a killed asker asked, and what a killed host sent may come later.
+            store.ended = time.monotonic() if status in (0, 13) else float("inf")
+        self.notes("stored" if status == 0 else "refused")
+
+    def gets_one(self, chance, host, name, path):
+        begun = time.monotonic()
+        status, said = self.runs(chance, host, ["get", name, path.name])
+        with self.lock:
+            done = [store for store in self.stores[name] if store.done and store.ended <= begun]
+        if status != 0:
+            is_gone = status == 13 and said.startswith("noentry") and done
+            self.notes("refused", f"{name}: {said.strip()}, though a file was stored" if is_gone else None)
+            return False
+        self.notes("got", self.wrong(name, path.read_bytes(), done))
+        return True
+
+    def wrong(self, name, body, done):
+        """What is wrong with a file that was got, if anything is."""
+        number = int(body[:8]) if body[:8].isdigit() else 0
+        store = next((one for one in self.stores[name] if one.number == number), None)
+        if store is None or body != b"%08d" % number * (len(body) // 8):
+            return f"{name}: a file of {len(body)} bytes that nobody stored"
+        later = [one.number for one in done if one.begun >= store.ended]
+        return f"{name}: file {number}, which file {later[0]} had replaced" if later else None
 
     def works(self, place):
-        """Stores and gets until the time is over. The content of a file is its number, over and over."""
+        """Stores and gets until the time is over."""
         chance = random.Random(place)
         while time.monotonic() < self.until:
             name, host = chance.choice(["left", "right"]), chance.randrange(2)
             path = self.folder / f"file{place}"
             path.unlink(missing_ok=True)
-            if chance.random() < 0.5:
-                with self.lock:
-                    self.count += 1
-                    number = self.count
-                path.write_bytes(b"%08d" % number * chance.randrange(1, 5000))
-                if self.runs(chance, host, ["store", path.name, name]) == 0:
-                    self.notes("stored")
-                else:
-                    self.notes("refused")
-            elif self.runs(chance, host, ["get", name, path.name]) == 0:
-                body = path.read_bytes()
-                is_whole = len(body) % 8 == 0 and body == body[:8] * (len(body) // 8) and 1 <= int(body[:8]) <= self.count
-                self.notes("got", None if is_whole else f"{name}: a file of {len(body)} bytes that nobody stored")
-            else:
-                self.notes("refused")
+            (self.stores_one if chance.random() < 0.5 else self.gets_one)(chance, host, name, path)
 
-    def kills(self, started, hosts):
+    def kills(self, hosts):
         """Kills hosts and the server at random, and starts them again."""
         chance = random.Random(99)
         while time.monotonic() < self.until:
             time.sleep(chance.uniform(4, 9))
-            which = chance.randrange(3)
-            if which < 2:
+            if chance.random() < 0.75:
+                which = chance.randrange(2)
                 hosts[which].ends()
                 hosts[which] = Host(self.programs, which, self.folder)
             else:
-                started[0].kill()
-                started[0].wait()
-                started[0] = begun(self.programs.server, self.folder)
+                self.programs.started.kill()
+                self.programs.started.wait()
+                self.programs.started = begun(self.programs.server, self.folder, 5)
             self.notes("killed")
 
 
 def many(programs, folder, seconds):
-    """Whether whole files stay whole though many store them at once and are killed."""
+    """Whether whole files stay whole though many store them at once and are killed, and are there in the end."""
     hosts = [Host(programs, number, folder) for number in range(2)]
     tries = Tries(programs, folder, seconds)
     workers = [threading.Thread(target=tries.works, args=[place]) for place in range(4)]
     for worker in workers:
         worker.start()
-    tries.kills(programs.started, hosts)
+    tries.kills(hosts)
     for worker in workers:
         worker.join()
+    calm = random.Random()
+    calm.random = lambda: 1.0
+    for host in range(2):
+        for name in tries.stores:
+            path = folder / f"last{host}{name}"
+            if any(store.done for store in tries.stores[name]) and not tries.gets_one(calm, host, name, path):
+                tries.faults.append(f"{name}: not there in the end, at host {host}")
     for host in hosts:
         host.ends()
     print(f"many: {tries.did}", *tries.faults, sep="\n", flush=True)
     return not tries.faults and tries.did["stored"] > 0 and tries.did["got"] > 0
 
 
-SCENES = {"idle": idle, "folder": folder, "many": many}
+SCENES = {"idle": idle, "folder": folder, "end": end, "lost": lost, "many": many}
 
 
-def begun(server, folder):
-    """A server over an image in this folder."""
-    serving = subprocess.Popen([server, "nqnfs.img", "--longest", "30"], cwd=folder, stdout=subprocess.DEVNULL)
+def begun(server, folder, longest):
+    """A server over an image in this folder, with leases of so many seconds at most."""
+    serving = subprocess.Popen([server, "nqnfs.img", "--longest", str(longest)], cwd=folder, stdout=subprocess.DEVNULL)
     time.sleep(1)
     return serving
 
@@ -177,12 +251,12 @@ def tried(scene, programs, seconds):
     """Whether a scene goes well over a server of its own."""
     with tempfile.TemporaryDirectory(prefix="nqnfs-prompts-") as place:
         place = pathlib.Path(place)
-        programs.started = [begun(programs.server, place)]
+        programs.started = begun(programs.server, place, 30 if scene == "idle" else 5)
         try:
             return SCENES[scene](programs, place, seconds)
         finally:
-            programs.started[0].kill()
-            programs.started[0].wait()
+            programs.started.kill()
+            programs.started.wait()
 
 
 def main():
