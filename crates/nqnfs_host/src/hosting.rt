@@ -201,14 +201,18 @@ impl<'a> Hosting<'a> {
 
     /// Hears who wants it to end, also while a call is under way.
     fn hear_end(&mut self) {
+        let mut ender = None;
         for (place, asker) in self.askers.iter_mut().enumerate() {
             if let Some(asker) = asker {
                 if asker.says_end() {
                     if let Some(ask) = asker.next_ask() {
-                        self.ender = Some((place, ask.number));
+                        ender = Some((place, ask.number));
                     }
                 }
             }
+        }
+        if ender.is_some() {
+            self.ender = ender;
         }
     }
 

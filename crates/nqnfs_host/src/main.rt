@@ -147,10 +147,12 @@ fn told_port(rt: &HostRuntime, number: u32, error: &io::Error) -> Ending {
 fn make_folder(rt: &HostRuntime, folder: &str) -> io::Result<()> {
     let mut maker = DirBuilder::new();
     maker.mode(0o700);
-    match maker.create(rt, folder) {
-        Err(error) if error.kind() != ErrorKind::AlreadyExists => Err(error),
-        _ => fs::set_permissions(rt, folder, Permissions::from_mode(0o700)),
+    if let Err(error) = maker.create(rt, folder) {
+        if error.kind() != ErrorKind::AlreadyExists {
+            return Err(error);
+        }
     }
+    fs::set_permissions(rt, folder, Permissions::from_mode(0o700))
 }
 
 /// Makes the socket that askers connect to, in place of one that is left there.

@@ -169,6 +169,10 @@ fn store_bytes(rt: &HostRuntime, asking: &mut Asking<'_>, name: Name, bytes: &[u
         return refuse(rt, NO_MEMORY);
     };
     match asking.ask(line.as_str().as_bytes(), bytes) {
+        Ok(reply) if matches!(reply.kind, Kind::Done) => {
+            let _told = println!(rt; "ok, {count} bytes stored");
+            Did::Done
+        }
         Ok(reply) => tell(rt, &reply),
         Err(_) => tell_gone(rt),
     }
