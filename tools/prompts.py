@@ -5,11 +5,12 @@
 
 `idle`: somebody writes and reads two files at host 0 and leaves it alone for 45 seconds, longer than its leases. Host 1 writes one of them then.
 What host 0 reads next has to be what host 1 wrote, and what it writes next has to be stored. `folder`: host 0 makes a file and is killed, and
-begins again in another folder. The file that it makes there has to be another one. `end`: host 0 is told to end behind a write, which has to be
-stored. `lost`: host 0 is stopped behind a write until host 1 could write. Whoever asks host 0 next has to be told of the loss. `many`: for N
-seconds (60) four askers store and get whole files of two names at two hosts, while askers, hosts and the server are killed. Each file that is
-got has to be one that was stored and that no later one had replaced. Each scene (all, where none is named) has a server of its own and says
-what came. The status is 1 where something else came than has to. Build the three programs before.
+begins again in another folder. The file that it makes there has to be another one. `shared`: two hosts write and read one file in turn, without
+waiting for leases to run out. `words`: each line that cannot be done is answered with what is wrong. `end`: host 0 is told to end behind a
+write, which has to be stored. `lost`: host 0 is stopped behind a write until host 1 could write. Whoever asks host 0 next has to be told of
+the loss. `many`: for N seconds (60) four askers store and get whole files of two names at two hosts, while askers, hosts and the server are
+killed. Each file that is got has to be one that was stored and that no later one had replaced. Each scene (all, where none is named) has a
+server of its own and says what came. The status is 1 where something else came than has to. Build the three programs before.
 """
 
 import argparse
@@ -42,7 +43,7 @@ class Host:
 
     def asks(self, line, wanted):
         """Whether a line is answered so."""
-        self.prompt.stdin.write(line.encode() + b"\n")
+        self.prompt.stdin.write(line.encode(errors="surrogateescape") + b"\n")
         return self.hears(wanted, line)
 
     def hears(self, wanted, line="next"):
@@ -84,6 +85,40 @@ def folder(programs, folder, _seconds):
     went += [second.asks("create notes 1", "ok, file 2"), second.asks("put 2 0 6", "ok"), second.asks("fetch 1 0", "ok, value 5")]
     second.ends()
     return all(went)
+
+
+def shared(programs, folder, _seconds):
+    """Whether two who write one file in turn do not wait for each other's leases to run out."""
+    one, other = Host(programs, 0, folder / "one"), Host(programs, 1, folder / "other")
+    try:
+        went = [one.asks("create paper 1", "ok, file 1")]
+        begun = time.monotonic()
+        for value in range(1, 11):
+            writer, reader = (one, other) if value % 2 else (other, one)
+            went += [writer.asks(f"write 1 0 {value}", "ok"), reader.asks("read 1 0", f"ok, value {value}")]
+        took = time.monotonic() - begun
+        print(f"shared: 20 calls in {took:.1f} seconds", flush=True)
+        return all(went) and took < 10
+    finally:
+        one.ends()
+        other.ends()
+
+
+def words(programs, folder, _seconds):
+    """Whether each line that cannot be done gets one that says why, and the prompt goes on."""
+    one = Host(programs, 0, folder / "one")
+    try:
+        went = [one.asks("exit", "no line begins so; help tells what there is, and quit ends"),
+                one.asks("\udcff", "no line begins so; help tells what there is, and quit ends"),
+                one.asks("create a/b 1", "that is no name: it has 1 to 64 printable bytes of ASCII, without blanks and without /"),
+                one.asks("read 4294967296 0", "that is no number: it is 0 to 4294967295, without a sign and without zeros in front"),
+                one.asks("read 1", "a word is missing; help tells what stands where, with one blank between two words"),
+                one.asks("sync 1 1", "there is a word too many; help tells what stands where, with one blank between two words"),
+                one.asks("store none paper", "none is not there, or its folder is not"), one.asks("get none copy", "noentry: no file has this name"),
+                one.asks("sync 9", "ok"), one.asks("create paper 1", "ok, file 1")]
+        return all(went)
+    finally:
+        one.ends()
 
 
 def end(programs, folder, _seconds):
@@ -237,7 +272,7 @@ def many(programs, folder, seconds):
     return not tries.faults and tries.did["stored"] > 0 and tries.did["got"] > 0
 
 
-SCENES = {"idle": idle, "folder": folder, "end": end, "lost": lost, "many": many}
+SCENES = {"idle": idle, "folder": folder, "shared": shared, "words": words, "end": end, "lost": lost, "many": many}
 
 
 def begun(server, folder, longest):

@@ -141,5 +141,5 @@ runs name own bytes (answer ∷ answers) step calls is =
     let call = (asked_at name own bytes step, answer) in
     let next = (store_at step answer bytes).step in
     subst (λ (c : Made). StandsBefore c bytes (step_after bytes answers next))
-        (append_assoc calls (call ∷ []) (made_from name own bytes answers next))
-        (runs name own bytes answers next (calls ++ call ∷ []) (step-stands name own bytes step answer calls is))
+    (append_assoc calls (call ∷ []) (made_from name own bytes answers next))
+    (runs name own bytes answers next (calls ++ call ∷ []) (step-stands name own bytes step answer calls is))

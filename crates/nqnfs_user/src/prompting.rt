@@ -24,7 +24,7 @@ const HELP: &str =
 attr F               how long a file is     resize F BLOCKS     another length
 read F B             read a block           fetch F B           read it from the server
 write F B VALUE      write a block          put F B VALUE       write it through
-sync F               store all of a file    remove F            take a file away
+sync F               store what is delayed  remove F            take a file away
 store PATH NAME      store a whole file of this machine
 get NAME PATH        get it again, as a new file of this machine
 help, quit           what there is to say, and to leave
