@@ -84,7 +84,7 @@ answer-spelled line v e =
     let both : (told.0, cut.0.1) ≡ v.1 = same_Some (told.0, cut.0.1) kinded.0 told.2 ∙ same.1 in
     (then-found line numbered.0.0 numbered.0.1 numbered.1).0
     ∙ ap (λ r. decimal numbered.0.0 ++ 32 ∷ r) ((cut-found 32 numbered.0.1 cut.0.0 cut.0.1 cut.1).0
-        ∙ ap (λ w. w ++ 32 ∷ cut.0.1) (kind-found cut.0.0 told.0 told.1))
+    ∙ ap (λ w. w ++ 32 ∷ cut.0.1) (kind-found cut.0.0 told.0 told.1))
     ∙ ap (λ n. decimal n ++ 32 ∷ (kind_word told.0 ++ 32 ∷ cut.0.1)) same.0
     ∙ ap (λ (b : Kind × List ℕ). decimal v.0 ++ 32 ∷ (kind_word b.0 ++ 32 ∷ b.1)) both
 

@@ -22,7 +22,7 @@ fits : (n most : ℕ) → n ≤ most → nat_le n most ≡ true
 fits n most small = grind (arith, nat_tests)
 
 -- a head of two numbers, where the second is one of bytes
-told : (file size : ℕ) → Option Head
+abbrev told : (file size : ℕ) → Option Head
 told file size = if nat_le size most_bytes then Some (record { file = file; size = size }) else None
 
 told-same : (file size : ℕ) (head : Head) → file ≡ head.file → size ≡ head.size → head.size ≤ most_bytes → told file size ≡ Some head

@@ -1,6 +1,7 @@
 -- The head is written behind all the bytes that it tells.
 use Rattle.std.proofs.Common.{◌≡◌, ◌≤◌, ◌<◌, ℕ, suc, ◌+◌, ◌*◌, Bool, true, false, nat_le, List, [], ◌∷◌, ◌++◌, Option, Some, None, length, if◌then◌else◌, refl, sym, subst, ap, ◌∙◌, append_assoc, append-nil, arith}
-use Rattle.std.specs.Prelude.{Contains}
+use Rattle.std.specs.Prelude.{Contains, ◌==◌}
+use Rattle.nq_base.specs.Block.{value_of}
 use Rattle.std.proofs.lemmas.Bool.Decides.{nat_tests}
 use Rattle.std.proofs.lemmas.List.Elements.{Contains-append_left, Contains-push}
 use Rattle.nq_base.specs.declared.Answer.{Answer}
@@ -10,7 +11,7 @@ use Rattle.nq_whole.specs.Pieces.{piece_of}
 use Rattle.nq_whole.specs.Answers.{body_in, file_in, is_done}
 use Rattle.nq_whole.specs.Heads.{head_in}
 use Rattle.nq_whole.specs.Storing.{AreStored, IsWhole, KeepsOrder, Made, StandsBefore, Stores, asked_at, cleared, filled_to, found, headed, made, old_head}
-use Rattle.nq_whole.specs.Storing.{made_from, step_after, store_at, stored, synced, written}
+use Rattle.nq_whole.specs.Storing.{goes, made_from, step_after, store_at, stored, synced, written}
 use Rattle.nq_whole.specs.declared.heads.Head.{Head}
 use Rattle.nq_whole.specs.declared.storing.Said.{Said}
 use Rattle.nq_whole.specs.declared.storing.Step.{Step}
@@ -83,7 +84,9 @@ found-stands calls Answer.Spent file bytes is = tt
 old-stands : (calls : Made) (body : List ℕ) (head : Option Head) (file at : ℕ) (bytes : List ℕ) → IsWhole calls file bytes
     → StandsBefore calls bytes (old_head body head file at).step
 old-stands calls body (Some head) file at bytes is = is
-old-stands calls body None file at bytes is = choice (λ step. StandsBefore calls bytes step) _ _ _ (λ fresh. is) (λ other. tt)
+old-stands calls body None file at bytes is =
+    choice (λ step. StandsBefore calls bytes step) (value_of body == 0) (goes (Step.Writing file at None))
+    (record { said = Said.NotWhole; step = Step.Dropping file }) (λ fresh. is) (λ other. tt)
 
 headed-stands : (calls : Made) (body : Option (List ℕ)) (file at : ℕ) (bytes : List ℕ) → IsWhole calls file bytes
     → StandsBefore calls bytes (headed body file at).step
@@ -138,7 +141,7 @@ pub runs : (name own bytes : List ℕ) (answers : List Answer) (step : Step) (ca
     → StandsBefore (calls ++ made_from name own bytes answers step) bytes (step_after bytes answers step)
 runs name own bytes [] step calls is = subst (λ (c : Made). StandsBefore c bytes step) (sym (append-nil calls)) is
 runs name own bytes (answer ∷ answers) step calls is =
-    let call = (asked_at name own bytes step, answer) in
+    let call : Call × Answer = (asked_at name own bytes step, answer) in
     let next = (store_at step answer bytes).step in
     subst (λ (c : Made). StandsBefore c bytes (step_after bytes answers next))
     (append_assoc calls (call ∷ []) (made_from name own bytes answers next))

@@ -1,12 +1,12 @@
 -- What came so far stays part of one stored file.
-use Rattle.std.proofs.Common.{◌≡◌, ◌≤◌, ℕ, ◌+◌, ◌*◌, Bool, true, false, nat_le, nat_lt, List, [], ◌++◌, Option, Some, None, length, take, ◌∷◌, if◌then◌else◌, refl, sym, subst, ap, ◌∙◌, suc, arith}
+use Rattle.std.proofs.Common.{◌≡◌, ◌≢◌, ◌≤◌, ℕ, ◌+◌, ◌*◌, Bool, true, false, nat_le, nat_lt, List, [], ◌++◌, Option, Some, None, length, take, ◌∷◌, if◌then◌else◌, refl, sym, subst, ap, ◌∙◌, suc, arith}
 use Rattle.std.specs.Prelude.{⊤}
 use Rattle.std.proofs.lemmas.Bool.Decides.{nat_tests}
 use Rattle.nq_base.specs.declared.Answer.{Answer}
 use Rattle.nq_whole.specs.Pieces.{joined_pieces, piece_of}
 use Rattle.nq_whole.proofs.Joining.{whole}
 use Rattle.nq_whole.specs.Getting.{GetStep, Gets, Gives, HasPartAt, IsLawfulAt, IsPiece, IsStored, KeepsPart, TellsStored, found, get_at, headed}
-use Rattle.nq_whole.specs.Getting.{AreLawful, gets_after}
+use Rattle.nq_whole.specs.Getting.{AreLawful, Takes, gets_after}
 use Rattle.nq_whole.specs.Answers.{body_in, is_gone}
 use Rattle.nq_whole.specs.Getting.{missed, reached, read_on, told}
 use Rattle.nq_whole.specs.Heads.{head_in}
@@ -95,6 +95,16 @@ keeps Got.Done answer old new gives = given Got.Done answer old new gives
 keeps Got.Refused answer old new gives = given Got.Refused answer old new gives
 keeps Got.NotWhole answer old new gives = given Got.NotWhole answer old new gives
 keeps Got.Memory answer old new gives = λ stored lawful has. subst (λ (g : Gets). HasPartAt stored g.stage g.bytes) (sym gives) has
+
+-- a step that does not want memory
+pub lifts : (said : Got) (step : GetStep) (old new : Gets) → step ≡ record { said = said; gets = new } → said ≢ Got.Memory
+    → Takes said step old new
+lifts Got.Goes step old new is never = is
+lifts Got.Anew step old new is never = is
+lifts Got.Done step old new is never = is
+lifts Got.Refused step old new is never = is
+lifts Got.NotWhole step old new is never = is
+lifts Got.Memory step old new is never = absurd (never refl)
 
 -- whatever lawful answers come, what is there is part of one stored file
 pub runs : (stored : ℕ → Option (List ℕ)) (answers : List Answer) (g : Gets) → HasPartAt stored g.stage g.bytes → AreLawful stored answers g

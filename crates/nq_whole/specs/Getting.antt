@@ -63,10 +63,14 @@ abbrev pub headed : Option (List ℕ) → Answer → Gets → GetStep
 headed (Some body) answer g = told (head_in body) g
 headed None answer g = missed (is_gone answer) g
 
--- behind a piece. No file has more than 1024
-abbrev pub read_on : Option (List ℕ) → Answer → Head → (place : ℕ) → Gets → GetStep
-read_on (Some body) answer head place g =
+-- behind a piece that came. No file has more than 1024
+abbrev pub added : (body : List ℕ) → Head → (place : ℕ) → Gets → GetStep
+added body head place g =
     if nat_lt place 1024 then reached head (place + 1) (g.bytes ++ body) g.name else ended Got.NotWhole g
+
+-- behind the answer to a piece
+abbrev pub read_on : Option (List ℕ) → Answer → Head → (place : ℕ) → Gets → GetStep
+read_on (Some body) answer head place g = added body head place g
 read_on None answer head place g = missed (is_gone answer) g
 
 -- what an answer makes of getting at a stage
@@ -77,9 +81,13 @@ get_at (Stage.Reading head place) answer g = read_on (body_in answer) answer hea
 get_at (Stage.Whole head) answer g = ended Got.Done g
 
 -- a step of getting, by what it said: where memory was wanting it stands as before
+abbrev pub Takes : Got → GetStep → (old new : Gets) → Type 0
+Takes Got.Memory step old new = new ≡ old
+Takes said step old new = step ≡ record { said = said; gets = new }
+
+-- an answer was taken
 abbrev pub Gives : Got → Answer → (old new : Gets) → Type 0
-Gives Got.Memory answer old new = new ≡ old
-Gives said answer old new = get_at old.stage answer old ≡ record { said = said; gets = new }
+Gives said answer old new = Takes said (get_at old.stage answer old) old new
 
 -- ---- what is got
 

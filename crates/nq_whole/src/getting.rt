@@ -1,8 +1,9 @@
 //! Getting a whole file.
 
-ghost use Rattle.std.specs.Prelude.{◌≡◌, []};
+ghost use Rattle.std.specs.Prelude.{◌≡◌, ◌≢◌, []};
 ghost use Rattle.nq_whole.specs.Answers.{is_gone};
-ghost use Rattle.nq_whole.specs.Getting.{Gives, KeepsPart, asked_at, missed, reached};
+ghost use Rattle.nq_whole.specs.Getting.{Gives, KeepsPart, Takes, added, asked_at, missed, reached, told};
+ghost use Rattle.nq_whole.specs.Heads.{head_in};
 
 use crate::answers::{body_in, file_in, is_gone};
 use crate::heads::{Head, head_in};
@@ -134,40 +135,55 @@ impl Getting {
         ensures { Gives result answer.now self.old self.new }
     {
         match body_in(answer) {
-            Some(body) => match head_in(body) {
-                Some(head) => {
-                    self.bytes.clear();
-                    self.reach(head, 0)
-                }
-                None => Got::NotWhole,
-            },
+            Some(body) => self.tell(body),
             None => self.miss(answer),
         }
     }
 
-    /// Takes a piece.
+    /// Takes the head that a block tells.
+    #[tactic(auto, using(crate::proofs::Parts::lifts))]
+    fn tell(&mut self, body: &Block) -> Got
+        ensures { Takes result (told (head_in body.now) self.old) self.old self.new }
+    {
+        match head_in(body) {
+            Some(head) => {
+                self.bytes.clear();
+                self.reach(head, 0)
+            }
+            None => Got::NotWhole,
+        }
+    }
+
+    /// Takes the answer to a piece.
     fn read(&mut self, answer: &Answer, head: Head, place: u32) -> Got
         requires { self.old.stage ≡ Stage.Reading head place }
         ensures { Gives result answer.now self.old self.new }
     {
         match body_in(answer) {
-            Some(body) => {
-                if place >= MOST_PIECES {
-                    return Got::NotWhole;
-                }
-                if push_body(&mut self.bytes, body).is_err() {
-                    return Got::Memory;
-                }
-                self.reach(head, place + 1)
-            }
+            Some(body) => self.add(body, head, place),
             None => self.miss(answer),
         }
+    }
+
+    /// Adds a piece.
+    #[tactic(auto, using(crate::proofs::Parts::lifts))]
+    fn add(&mut self, body: &Block, head: Head, place: u32) -> Got
+        ensures { Takes result (added body.now head place self.old) self.old self.new }
+    {
+        if place >= MOST_PIECES {
+            return Got::NotWhole;
+        }
+        if push_body(&mut self.bytes, body).is_err() {
+            return Got::Memory;
+        }
+        self.reach(head, place + 1)
     }
 
     /// So many pieces have come.
     #[tactic(auto, unfolding(crate::specs::Getting::reached))]
     fn reach(&mut self, head: Head, place: u32) -> Got
-        ensures { reached head place self.old.bytes self.old.name ≡ record { said = result; gets = self.new } }
+        ensures is { reached head place self.old.bytes self.old.name ≡ record { said = result; gets = self.new } }
+        ensures goes { result ≢ Got.Memory }
     {
         let size = head.size as usize;
         if size <= Block::SIZE * place as usize {
@@ -182,7 +198,7 @@ impl Getting {
 
     /// Takes an answer that brings no block.
     fn miss(&mut self, answer: &Answer) -> Got
-        ensures { missed (is_gone answer.now) self.old ≡ record { said = result; gets = self.new } }
+        ensures { Takes result (missed (is_gone answer.now) self.old) self.old self.new }
     {
         if is_gone(answer) {
             self.stage = Stage::Finding;

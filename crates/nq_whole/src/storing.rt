@@ -197,24 +197,31 @@ impl Storing {
         ensures { IfOk result (λ call. call ≡ asked_at self.now.name self.now.own self.now.bytes self.now.step) }
     {
         let block = BlockNo(0);
-        Ok(match self.step {
-            Step::Making => Call::Create {
-                name: self.own,
-                blocks: blocks_for(self.bytes.len()),
-            },
-            Step::Filling(file, place) => self.fills(alloc, file, place)?,
-            Step::Finding(_) => Call::Lookup { name: self.name },
-            Step::Founding(_) => Call::Create {
+        match self.step {
+            Step::Making => Ok(self.makes()),
+            Step::Filling(file, place) => self.fills(alloc, file, place),
+            Step::Finding(_) => Ok(Call::Lookup { name: self.name }),
+            Step::Founding(_) => Ok(Call::Create {
                 name: self.name,
                 blocks: 1,
-            },
-            Step::Heading(_, file) => Call::Read { file, block },
-            Step::Writing(file, at, _) => self.heads(alloc, file, at)?,
-            Step::Syncing(_, file, _) => Call::Sync { file },
-            Step::Clearing(file) => Call::Remove { file },
-            Step::Dropping(file) => Call::Remove { file },
-            Step::Ended => Call::Lookup { name: self.own },
-        })
+            }),
+            Step::Heading(_, file) => Ok(Call::Read { file, block }),
+            Step::Writing(file, at, _) => self.heads(alloc, file, at),
+            Step::Syncing(_, file, _) => Ok(Call::Sync { file }),
+            Step::Clearing(file) => Ok(Call::Remove { file }),
+            Step::Dropping(file) => Ok(Call::Remove { file }),
+            Step::Ended => Ok(Call::Lookup { name: self.own }),
+        }
+    }
+
+    /// The call that makes the file for the bytes.
+    fn makes(&self) -> Call
+        ensures { result ≡ asked_at self.now.name self.now.own self.now.bytes Step.Making }
+    {
+        Call::Create {
+            name: self.own,
+            blocks: blocks_for(self.bytes.len()),
+        }
     }
 
     /// The call that stores a block.

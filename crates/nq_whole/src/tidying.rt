@@ -177,14 +177,21 @@ impl Tidying {
     pub fn take(&mut self, answer: &Answer) -> Told
         ensures { let next = tidy_at self.old.rest answer.now in (result ≡ next.told) × (self.new ≡ record self.old { rest = next.rest }) }
     {
-        let next = match self.rest {
+        let next = self.next(answer);
+        self.rest = next.rest;
+        next.told
+    }
+
+    /// What comes behind an answer.
+    fn next(&self, answer: &Answer) -> TidyStep
+        ensures { result ≡ tidy_at self.now.rest answer.now }
+    {
+        match self.rest {
             Rest::Owning => owned(answer),
             Rest::Naming(file) => named(answer, file),
             Rest::Heading(file, _) => headed(answer, file),
             Rest::Removing(_) => removed(answer),
             Rest::Ended => ends(Told::Unsure),
-        };
-        self.rest = next.rest;
-        next.told
+        }
     }
 }
