@@ -29,7 +29,7 @@ pub fn call_now<L: Link, C: Clock>(
     call: &Call,
 ) -> Answer
     ensures { CallsNow call.now result next.old next.new
-        (clock_told C.floor C.readings clock.old) (clock_told C.floor C.readings clock.new)
+        (clock_told C.floor C.readings C.reads clock.old) (clock_told C.floor C.readings C.reads clock.new)
         (link_told L.sent L.waiting L.faults L.receives link.old)
         (link_told L.sent L.waiting L.faults L.receives link.new)
         client.old client.new log.old log.new }
