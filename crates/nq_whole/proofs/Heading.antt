@@ -1,5 +1,5 @@
 -- A head is read as it was written.
-use Rattle.std.proofs.Common.{◌≡◌, ◌≤◌, ℕ, Bool, true, false, nat_le, List, ◌++◌, Option, Some, None, take, drop, codes, if◌then◌else◌, refl, sym, ap, ◌∙◌, arith}
+use Rattle.std.proofs.Common.{◌≡◌, ◌≤◌, ℕ, Bool, true, false, nat_le, List, [], ◌++◌, Option, Some, None, take, drop, codes, if◌then◌else◌, refl, sym, ap, ◌∙◌, arith}
 use Rattle.std.specs.Prelude.{bytes_eq, ◌&&◌}
 use Rattle.std.proofs.lemmas.Bool.Decides.{nat_tests}
 use Rattle.std.proofs.lemmas.Slice.Eq.{bytes_eq-Decides}
@@ -34,7 +34,7 @@ told-same file size head same also small =
 pub read-again : (head : Head) → head.size ≤ most_bytes → head_in (block_of head) ≡ Some head
 unfolding head_in block_of
 read-again head small =
-    told-same (value_of (block_of head)) (value_of (drop 4 (block_of head))) head (value-word head.file _) (value-word head.size _) small
+    told-same (value_of (block_of head)) (value_of (drop 4 (block_of head))) head (value-word head.file []) (value-word head.size []) small
 
 -- the mark repeats no word
 no-mark : (v : ℕ) → take 10 (drop 8 (filled v)) ≡ codes "whole file" → ⊥

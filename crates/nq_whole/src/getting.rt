@@ -106,12 +106,19 @@ impl Getting {
     fn step(&mut self, answer: &Answer) -> Got
         ensures { Gives result answer.now self.old self.new }
     {
-        match self.stage {
+        match self.standing() {
             Stage::Finding => self.find(answer),
             Stage::Heading(file) => self.head(answer, file),
             Stage::Reading(head, place) => self.read(answer, head, place),
             Stage::Whole(_) => Got::Done,
         }
+    }
+
+    /// Where it stands.
+    fn standing(&self) -> Stage
+        ensures { result ≡ self.now.stage }
+    {
+        self.stage
     }
 
     /// Takes the answer to what the file of the name is.

@@ -1,8 +1,9 @@
 //! Storing a whole file.
 
 ghost use Rattle.std.specs.Prelude.{◌≡◌, ◌*◌, ◌≤◌, ◌<◌, ℕ, Option, IfOk, length};
+ghost use Rattle.nq_base.specs.declared.Call.{Call};
 ghost use Rattle.nq_whole.specs.Answers.{body_in, file_in};
-ghost use Rattle.nq_whole.specs.Heads.{head_in, most_bytes};
+ghost use Rattle.nq_whole.specs.Heads.{block_of, head_in, most_bytes};
 ghost use Rattle.nq_whole.specs.Storing.{KeepsOrder, asked_at, blocks_for, filled_to, found, headed, head_of, needs, old_head, store_at, synced};
 
 use crate::answers::{body_in, file_in, is_done};
@@ -236,7 +237,7 @@ impl Storing {
 
     /// The call that writes the head.
     fn heads(&self, alloc: Global, file: FileId, at: FileId) -> Result<Call, NoMemory>
-        ensures { (old : Option ℕ) → IfOk result (λ call. call ≡ asked_at self.now.name self.now.own self.now.bytes (Step.Writing file at old)) }
+        ensures { IfOk result (λ call. call ≡ Call.Write at 0 (block_of (head_of file self.now.bytes))) }
     {
         let size = self.bytes.len() as u32;
         let body = head_block(alloc, Head { file, size })?;

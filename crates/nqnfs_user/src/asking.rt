@@ -19,7 +19,8 @@ const MOST_READS: u64 = 1 << 40;
 const READ_SIZE: usize = 16384;
 
 // What is said once an answer is waited for.
-const WAITING: &str = "waiting: other asks come first, no server runs, it recovers, or another host has a lease on the file; \
+const WAITING: &str =
+    "waiting: other asks come first, no server runs, it recovers, or another host has a lease on the file; \
     Ctrl-C ends this program, and the host goes on with what was asked";
 
 /// What a host answers.
