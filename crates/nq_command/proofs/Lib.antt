@@ -1,4 +1,3 @@
-pub mod Joining
 pub mod Ranges
 pub mod Rounds
 pub mod Wrongness

@@ -23,7 +23,8 @@ pub record NamesNoFile (text : List ℕ) : Type 0 where
 pub record SaysNothing (text : List ℕ) : Type 0 where
   pub something : text ≡ [] → ⊥
   pub no_help : text ≡ codes "help" → ⊥
-  pub no_end : text ≡ codes "quit" → ⊥
+  pub no_quit : text ≡ codes "quit" → ⊥
+  pub no_end : text ≡ codes "end" → ⊥
   pub no_call : (call : Call) → SpellsCall 2 call text → ⊥
   pub no_file : NamesNoFile text
 
@@ -32,6 +33,7 @@ abbrev pub Says : Line → (text : List ℕ) → Type 0
 Says Line.Empty text = text ≡ []
 Says Line.Help text = text ≡ codes "help"
 Says Line.Quit text = text ≡ codes "quit"
+Says Line.End text = text ≡ codes "end"
 Says (Line.Call call) text = SpellsCall 2 call text
 Says (Line.Store path name) text = TellsToStore path.now name text
 Says (Line.Get name path) text = TellsToGet name path.now text

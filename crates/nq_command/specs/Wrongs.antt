@@ -21,6 +21,7 @@ fields_of verb =
     else if bytes_eq verb (codes "get") then Some (Field.Name ∷ Field.Path ∷ [])
     else if bytes_eq verb (codes "help") then Some []
     else if bytes_eq verb (codes "quit") then Some []
+    else if bytes_eq verb (codes "end") then Some []
     else None
 
 -- what is wrong with a word that stands for this, if anything is

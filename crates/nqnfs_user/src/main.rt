@@ -1,140 +1,98 @@
-//! The program `nqnfs_user`: a host at a prompt. It answers each line as it comes, and takes the next incarnation by itself.
+//! The program `nqnfs_user`: asks a host on this machine, line by line at a prompt, or once.
 #![tactic(auto)]
 
-mod desk;
-mod files;
+mod asking;
 mod prompting;
-mod starts;
 
-use crate::desk::UserDesk;
-use crate::prompting::serve_lines;
-use crate::starts::{let_second_pass, next_inc};
-use nq_base::ending::{Ending, Halt};
-use nq_base::{Host, Party, Who};
-use nq_clock::StdClock;
-use nq_link::{Came, Link, UdpLink};
+use crate::asking::Asking;
+use crate::prompting::{Did, serve_line, serve_lines};
+use nq_base::ending::Ending;
 use nq_script::words::number;
+use std::alloc::AllocError;
 use std::env;
 use std::process::ExitCode;
 
-const HELP: &str = "nqnfs_user HOST
+// What `--version` says.
+const VERSION: &str = "nqnfs_user 2";
 
-Is host HOST, 0 to 63, of the server on this machine. Reads lines and answers each; `help` tells which.
-The file nqnfs-host-HOST in this folder keeps how often the host was started.
+const HELP: &str = "nqnfs_user HOST [COMMAND]
+
+Asks host HOST, 0 to 63, which `nqnfs_host HOST` is in this folder. Reads lines and answers each; `help` tells which.
+With a COMMAND it does that one line, and ends with status 0 where it was done, and 13 where it was refused.
+
+--help       prints this
+--version    prints the version
 ";
 
+/// The status behind a command that was refused.
+const REFUSED: u8 = 13;
+
 fn main(rt: HostRuntime) -> ExitCode {
-    ExitCode::from(obey(&rt).status())
+    ExitCode::from(obey(&rt))
 }
 
-/// Does what the words behind the program's name say; how that ends.
-fn obey(rt: &HostRuntime) -> Ending {
+/// Does what the words behind the program's name say; the status then.
+fn obey(rt: &HostRuntime) -> u8 {
     let Ok(args) = env::args(rt) else {
-        return Ending::Memory;
+        return Ending::Memory.status();
     };
     let mut words = args;
     let _program = words.next();
     let Some(word) = words.next() else {
-        return usage(rt);
+        let _told = eprintln!(rt;
+            "nqnfs_user: the number of a host is missing; usage: nqnfs_user HOST [COMMAND]"
+        );
+        return Ending::Usage.status();
     };
-    if words.next().is_some() {
-        return usage(rt);
-    }
-    obey_word(rt, word.as_str())
-}
-
-/// Does what a word says; how that ends.
-fn obey_word(rt: &HostRuntime, word: &str) -> Ending {
-    if word == "--help" {
+    if word.as_str() == "--help" {
         let _told = print!(rt; "{HELP}");
-        return Ending::Done;
+        return Ending::Done.status();
     }
-    match number(word.as_bytes(), 63) {
-        Some(host) => be_host(rt, Host(host as u32)),
-        None => usage(rt),
+    if word.as_str() == "--version" {
+        let _told = println!(rt; "{VERSION}");
+        return Ending::Done.status();
+    }
+    let mut line = String::new(rt.alloc());
+    for more in words {
+        if push_word(&mut line, more.as_str()).is_err() {
+            return Ending::Memory.status();
+        }
+    }
+    match number(word.as_str().as_bytes(), 63) {
+        Some(host) => ask_host(rt, host, line.as_str()),
+        None => {
+            let _told = eprintln!(rt; "nqnfs_user: {word} is no host: 0 to 63");
+            Ending::Usage.status()
+        }
     }
 }
 
-/// Tells which words there are.
-fn usage(rt: &HostRuntime) -> Ending {
-    let _told = eprintln!(rt; "usage: nqnfs_user HOST");
-    Ending::Usage
+/// Adds a word, with a blank before it where it is not the first.
+fn push_word(line: &mut String, word: &str) -> Result<(), AllocError> {
+    if !line.is_empty() {
+        line.push_str(" ")?;
+    }
+    line.push_str(word)
 }
 
-/// Is this host until its input ends.
-fn be_host(rt: &HostRuntime, host: Host) -> Ending {
-    let Ok(net) = rt.clone() else {
-        return Ending::Memory;
+/// Asks a host: one line, or all lines of the input where that one is empty.
+fn ask_host(rt: &HostRuntime, host: u64, line: &str) -> u8 {
+    let Ok(path) = format!(in rt.alloc(); "nqnfs-{host}/asks") else {
+        return Ending::Memory.status();
     };
-    let Ok(watch) = rt.clone() else {
-        return Ending::Memory;
-    };
-    let number = host.0;
-    let mut link = UdpLink::new(net, Party::Client(host));
-    if matches!(link.receive(&mut [0]), Came::Failed) {
+    let Ok(mut asking) = Asking::open(rt, path.as_str()) else {
         let _told = eprintln!(rt;
-            "nqnfs_user: the port of host {number} is taken or cannot be bound"
+            "nqnfs_user: no host answers at {path}; `nqnfs_host {host}` in this folder begins it"
         );
-        return Ending::LinkFault;
-    }
-    let_second_pass(rt);
-    let Some(inc) = next_inc(rt, host) else {
-        let _told = eprintln!(rt;
-            "nqnfs_user: the file nqnfs-host-{number} cannot be read or written, or holds no number"
-        );
-        return Ending::KeepFault;
+        return Ending::LinkFault.status();
     };
-    match UserDesk::open(rt, Who { host, inc }, link, StdClock::new(watch)) {
-        Some(desk) => sit(rt, host, desk),
-        None => told(rt, Halt::Memory),
+    if line.is_empty() {
+        return serve_lines(rt, &mut asking).status();
     }
-}
-
-/// Reads lines at a desk to their end, and gives the leases back behind them. It is said where that did not go well.
-fn sit(rt: &HostRuntime, host: Host, desk: UserDesk<'_>) -> Ending {
-    let mut desk = desk;
-    let mut is_read = true;
-    if desk.halt.is_none() {
-        is_read = serve_lines(rt, &mut desk);
+    match serve_line(rt, &mut asking, line.as_bytes()) {
+        Did::Done | Did::Quit => Ending::Done.status(),
+        Did::Refused => REFUSED,
+        Did::Wrong => Ending::Usage.status(),
+        Did::Gone => Ending::LinkFault.status(),
     }
-    let ending = match desk.halt {
-        Some(why) => told(rt, why),
-        None => give_back(rt, host, &mut desk, is_read),
-    };
-    desk.close();
-    ending
-}
-
-/// Gives the leases back, and ends a run whose input could be read, or could not.
-fn give_back(rt: &HostRuntime, host: Host, desk: &mut UserDesk<'_>, is_read: bool) -> Ending {
-    let is_given = match next_inc(rt, host) {
-        Some(inc) => desk.give_back(inc),
-        None => false,
-    };
-    if !is_given {
-        let _told = eprintln!(rt;
-            "nqnfs_user: the leases were not given back; whoever comes next may wait for 38 seconds"
-        );
-    }
-    if is_read {
-        Ending::Done
-    } else {
-        let _told = eprintln!(rt; "nqnfs_user: the input cannot be read");
-        Ending::ReadFault
-    }
-}
-
-/// Tells why a run has ended before its input; how it ends.
-fn told(rt: &HostRuntime, why: Halt) -> Ending {
-    let (words, ending) = match why {
-        Halt::NoAnswer => ("there was no answer for too long", Ending::NoAnswer),
-        Halt::Memory => ("memory was wanting", Ending::Memory),
-        Halt::Spent => (
-            "this start takes in no more calls; start again",
-            Ending::Limit,
-        ),
-        Halt::Link | Halt::Keep => ("the link failed", Ending::LinkFault),
-    };
-    let _told = eprintln!(rt; "nqnfs_user: {words}");
-    ending
 }

@@ -1,16 +1,20 @@
 //! Lines at the prompt, each answered at once.
 
-use crate::desk::UserDesk;
-use crate::files::{get_file, put_file};
-use crate::starts::write_synced;
-use nq_base::{Answer, Call, FileId, Name};
-use nq_command::prompt::{Line, MOST_BYTES, Wrong, answer_text, line_of, wrong_of};
+use crate::asking::{Asking, Reply};
+use nq_asks::Kind;
+use nq_base::Name;
+use nq_base::ending::Ending;
+use nq_command::prompt::{Line, Wrong, line_of, wrong_of};
+use nq_whole::MOST_BYTES;
 use std::fs::{self, File};
-use std::io::{BufRead, BufReader, ErrorKind};
+use std::io::{self, BufRead, BufReader, ErrorKind, Write};
 use std::str;
 
 /// The most lines that are read.
 const MOST_LINES: u32 = u32::MAX;
+
+// What is said where memory was wanting.
+const NO_MEMORY: &str = "memory: memory was wanting";
 
 // What is said where a path is no text.
 const NO_TEXT: &str = "the path is no text: its bytes are no UTF-8";
@@ -20,69 +24,84 @@ const HELP: &str =
 attr F               how long a file is     resize F BLOCKS     another length
 read F B             read a block           fetch F B           read it from the server
 write F B VALUE      write a block          put F B VALUE       write it through
-sync F               store all of a file    remove F            take a file away
+sync F               store what is delayed  remove F            take a file away
 store PATH NAME      store a whole file of this machine
 get NAME PATH        get it again, as a new file of this machine
-help, quit
+help, quit           what there is to say, and to leave
+end                  end the host, once all is stored
 ";
 
-/// Reads lines to the end of the input and does what each says, as long as the desk can ask. The answer stands behind a line before the
-/// next is read. Whether the input could be read.
-pub(crate) fn serve_lines(rt: &HostRuntime, desk: &mut UserDesk<'_>) -> bool {
+/// What came of a line.
+#[derive(Clone, Copy)]
+pub(crate) enum Did {
+    /// It was done.
+    Done,
+    /// The host or this machine refused it.
+    Refused,
+    /// It says nothing that can be done.
+    Wrong,
+    /// It says that this was the last one.
+    Quit,
+    /// The host is gone.
+    Gone,
+}
+
+/// Reads lines to the end of the input and asks what each says; how that ends. The answer stands behind a line before the next is read.
+pub(crate) fn serve_lines(rt: &HostRuntime, asking: &mut Asking<'_>) -> Ending {
     let Ok(mut reader) = BufReader::new(rt.alloc(), rt.reader()) else {
-        desk.lack_memory();
-        return true;
+        return Ending::Memory;
     };
     let mut line = Vec::new(rt.alloc());
     for _line in 0..MOST_LINES {
-        ask(rt);
+        let _told = eprint!(rt; "nqnfs> ");
         line.clear();
         match reader.read_until(b'\n', &mut line) {
-            Ok(0) => return true,
+            Ok(0) => return Ending::Done,
             Ok(_) => {}
-            Err(_) => return false,
+            Err(_) => {
+                let _told = eprintln!(rt; "nqnfs_user: the input cannot be read");
+                return Ending::ReadFault;
+            }
         }
-        match line_of(rt.alloc(), line.trim_ascii()) {
-            Line::Quit => return true,
-            other => serve_line(rt, desk, other, line.trim_ascii()),
-        }
-        if desk.halt.is_some() {
-            return true;
+        match serve_line(rt, asking, line.trim_ascii()) {
+            Did::Quit => return Ending::Done,
+            Did::Gone => return Ending::LinkFault,
+            Did::Done | Did::Refused | Did::Wrong => {}
         }
     }
-    true
-}
-
-/// Shows that a line can be written.
-fn ask(rt: &HostRuntime) {
-    let _told = eprint!(rt; "nqnfs> ");
+    Ending::Done
 }
 
 /// Does what a line says.
-fn serve_line(rt: &HostRuntime, desk: &mut UserDesk<'_>, line: Line<'_>, text: &[u8]) {
-    if !desk.hear() {
-        return;
-    }
-    match line {
-        Line::Empty | Line::Quit => {}
+pub(crate) fn serve_line(rt: &HostRuntime, asking: &mut Asking<'_>, text: &[u8]) -> Did {
+    match line_of(rt.alloc(), text) {
+        Line::Empty => Did::Done,
+        Line::Quit => Did::Quit,
         Line::Help => {
             let _told = print!(rt; "{HELP}");
+            Did::Done
         }
         Line::Unknown => tell_wrong(rt, text),
-        Line::Call(call) => serve_call(rt, desk, call),
+        Line::Call(_) | Line::End => serve_call(rt, asking, text),
         Line::Store { path, name } => match str::from_utf8(path) {
-            Ok(path) => serve_store(rt, desk, path, name),
-            Err(_) => say(rt, NO_TEXT),
+            Ok(path) => serve_store(rt, asking, path, name),
+            Err(_) => refuse(rt, NO_TEXT),
         },
         Line::Get { name, path } => match str::from_utf8(path) {
-            Ok(path) => serve_get(rt, desk, name, path),
-            Err(_) => say(rt, NO_TEXT),
+            Ok(path) => serve_get(rt, asking, name, path),
+            Err(_) => refuse(rt, NO_TEXT),
         },
     }
 }
 
+/// Tells words on a line of their own, of what was refused.
+fn refuse(rt: &HostRuntime, words: &str) -> Did {
+    let _told = println!(rt; "{words}");
+    Did::Refused
+}
+
 /// Tells what is wrong with a line.
-fn tell_wrong(rt: &HostRuntime, text: &[u8]) {
+fn tell_wrong(rt: &HostRuntime, text: &[u8]) -> Did {
     let why = match wrong_of(text) {
         None | Some(Wrong::Verb) => "no line begins so; help tells what there is, and quit ends",
         Some(Wrong::Few) =>
@@ -94,115 +113,122 @@ fn tell_wrong(rt: &HostRuntime, text: &[u8]) {
         Some(Wrong::Number) =>
             "that is no number: it is 0 to 4294967295, without a sign and without zeros in front",
     };
-    say(rt, why);
+    let _told = println!(rt; "{why}");
+    Did::Wrong
 }
 
-/// These bytes as text; nothing where they are none.
-fn text_in(bytes: &[u8]) -> &str {
-    str::from_utf8(bytes).unwrap_or("")
-}
-
-/// Makes a call and tells its answer. What a write delays is stored before the next line, and where that does not go well it is told.
-fn serve_call(rt: &HostRuntime, desk: &mut UserDesk<'_>, call: Call) {
-    let written = match &call {
-        Call::Write { file, .. } => Some(*file),
-        _ => None,
-    };
-    if let Some(answer) = desk.ask(call) {
-        tell_answer(rt, &answer);
-        if let (Some(file), Answer::Ok(_)) = (written, &answer) {
-            sync(rt, desk, file);
+/// Tells an answer without bytes. A host that had no memory for words says none.
+fn tell(rt: &HostRuntime, reply: &Reply) -> Did {
+    match str::from_utf8(&reply.text) {
+        Ok(words) if !words.is_empty() => {
+            let _told = println!(rt; "{words}");
+        }
+        _ => {
+            let _told = println!(rt; "{NO_MEMORY}");
         }
     }
-}
-
-/// Stores what is delayed of a file, and tells where that does not go well.
-fn sync(rt: &HostRuntime, desk: &mut UserDesk<'_>, file: FileId) {
-    let _stored = desk.step(Call::Sync { file });
-    if let Some(refusal) = desk.refusal.take() {
-        let _told = print!(rt; "file {}: ", file.0);
-        tell_answer(rt, &refusal);
+    match reply.kind {
+        Kind::Refused => Did::Refused,
+        _ => Did::Done,
     }
 }
 
-/// Tells an answer.
-fn tell_answer(rt: &HostRuntime, answer: &Answer) {
-    if let Ok(words) = answer_text(rt.alloc(), answer) {
-        say(rt, text_in(&words));
-    }
+/// Tells that the host is gone.
+fn tell_gone(rt: &HostRuntime) -> Did {
+    let _told = eprintln!(rt;
+        "nqnfs_user: the host is gone; what was asked last may have been done, or not"
+    );
+    Did::Gone
 }
 
-/// Tells words on a line of their own.
-fn say(rt: &HostRuntime, words: &str) {
-    let _told = println!(rt; "{words}");
-}
-
-/// Tells why a file was not put or got: what refused a step, or else these words. A halt is told at the end of the run.
-fn tell_fault(rt: &HostRuntime, desk: &mut UserDesk<'_>, words: &str) {
-    match desk.refusal.take() {
-        Some(refusal) => tell_answer(rt, &refusal),
-        None if desk.halt.is_none() => say(rt, words),
-        None => {}
+/// Asks for a call, and tells its answer.
+fn serve_call(rt: &HostRuntime, asking: &mut Asking<'_>, text: &[u8]) -> Did {
+    match asking.ask(text, &[]) {
+        Ok(reply) => tell(rt, &reply),
+        Err(_) => tell_gone(rt),
     }
 }
 
 /// Stores a file of the machine.
-fn serve_store(rt: &HostRuntime, desk: &mut UserDesk<'_>, path: &str, name: Name) {
+fn serve_store(rt: &HostRuntime, asking: &mut Asking<'_>, path: &str, name: Name) -> Did {
     match fs::read(rt, path) {
-        Ok(bytes) => put_bytes(rt, desk, name, &bytes),
+        Ok(bytes) => store_bytes(rt, asking, name, &bytes),
         Err(error) => tell_machine(rt, path, error.kind()),
     }
 }
 
 /// Stores these bytes as a file.
-fn put_bytes(rt: &HostRuntime, desk: &mut UserDesk<'_>, name: Name, bytes: &[u8]) {
+fn store_bytes(rt: &HostRuntime, asking: &mut Asking<'_>, name: Name, bytes: &[u8]) -> Did {
     let count = bytes.len();
     if count > MOST_BYTES {
         let _told = println!(rt; "the file has more than {MOST_BYTES} bytes");
-        return;
+        return Did::Refused;
     }
-    match put_file(desk, name, bytes) {
-        Some(FileId(file)) => {
-            let _told = println!(rt; "ok, file {file}, {count} bytes stored and read back");
+    let name = str::from_utf8(name.as_bytes()).unwrap_or("");
+    let Ok(line) = format!(in rt.alloc(); "store {name} {count}") else {
+        return refuse(rt, NO_MEMORY);
+    };
+    match asking.ask(line.as_str().as_bytes(), bytes) {
+        Ok(reply) if matches!(reply.kind, Kind::Done) => {
+            let _told = println!(rt; "ok, {count} bytes stored");
+            Did::Done
         }
-        None => tell_fault(
-            rt,
-            desk,
-            "what was read back differs: somebody else wrote meanwhile",
-        ),
+        Ok(reply) => tell(rt, &reply),
+        Err(_) => tell_gone(rt),
     }
 }
 
 /// Gets a file, as a new one of the machine.
-fn serve_get(rt: &HostRuntime, desk: &mut UserDesk<'_>, name: Name, path: &str) {
-    match get_file(desk, name) {
-        Some(bytes) => write_new(rt, path, &bytes),
-        None => tell_fault(
-            rt,
-            desk,
-            "it was not put as a whole file, or not to its end",
-        ),
+fn serve_get(rt: &HostRuntime, asking: &mut Asking<'_>, name: Name, path: &str) -> Did {
+    let name = str::from_utf8(name.as_bytes()).unwrap_or("");
+    let Ok(line) = format!(in rt.alloc(); "get {name}") else {
+        return refuse(rt, NO_MEMORY);
+    };
+    match asking.ask(line.as_str().as_bytes(), &[]) {
+        Ok(reply) => match reply.kind {
+            Kind::Bytes => write_new(rt, path, &reply.bytes),
+            _ => tell(rt, &reply),
+        },
+        Err(_) => tell_gone(rt),
     }
 }
 
-/// Writes these bytes as a new file of the machine.
-fn write_new(rt: &HostRuntime, path: &str, bytes: &[u8]) {
-    match write_synced(File::create_new(rt, path), bytes) {
+/// Writes these bytes as a new file of the machine. Where that goes wrong no part of it is left.
+fn write_new(rt: &HostRuntime, path: &str, bytes: &[u8]) -> Did {
+    let file = match File::create_new(rt, path) {
+        Ok(file) => file,
+        Err(error) => return tell_machine(rt, path, error.kind()),
+    };
+    match write_synced(file, bytes) {
         Ok(()) => {
             let count = bytes.len();
             let _told = println!(rt; "ok, {count} bytes");
+            Did::Done
         }
-        Err(error) => tell_machine(rt, path, error.kind()),
+        Err(error) => {
+            let _gone = fs::remove_file(rt, path);
+            tell_machine(rt, path, error.kind())
+        }
     }
 }
 
+/// Writes a file, and syncs it.
+fn write_synced(file: File, bytes: &[u8]) -> io::Result<()> {
+    let mut file = file;
+    file.write_all(bytes)?;
+    file.sync_all()
+}
+
 /// Tells why the machine did not do something with a file.
-fn tell_machine(rt: &HostRuntime, path: &str, kind: ErrorKind) {
+fn tell_machine(rt: &HostRuntime, path: &str, kind: ErrorKind) -> Did {
     let why = match kind {
-        ErrorKind::NotFound => "is not there",
+        ErrorKind::NotFound => "is not there, or its folder is not",
         ErrorKind::AlreadyExists => "is there already, and stays as it is",
         ErrorKind::PermissionDenied => "may not be used",
+        ErrorKind::IsADirectory => "is a folder",
+        ErrorKind::StorageFull | ErrorKind::QuotaExceeded => "cannot be written: the disk is full",
         _ => "cannot be read or written",
     };
     let _told = println!(rt; "{path} {why}");
+    Did::Refused
 }

@@ -15,8 +15,10 @@ pub enum Line<'a> {
     Empty,
     /// Say what there is to say.
     Help,
-    /// End.
+    /// Leave the prompt.
     Quit,
+    /// End the host.
+    End,
     /// Make this call.
     Call(Call),
     /// Store the file of the machine at this path under this name.
@@ -27,8 +29,8 @@ pub enum Line<'a> {
     Unknown,
 }
 
-/// What this line says, which has no end of line: the words of a call of version 2, `store PATH NAME`, `get NAME PATH`, `help`, `quit`, or
-/// nothing. One blank stands between two words.
+/// What this line says, which has no end of line: the words of a call of version 2, `store PATH NAME`, `get NAME PATH`, `help`, `quit`,
+/// `end`, or nothing. One blank stands between two words.
 pub fn line_of(alloc: Global, text: &[u8]) -> Line<'_>
     ensures { Says result text.now }
 {
@@ -38,6 +40,8 @@ pub fn line_of(alloc: Global, text: &[u8]) -> Line<'_>
         Line::Help
     } else if is(text, b"quit") {
         Line::Quit
+    } else if is(text, b"end") {
+        Line::End
     } else {
         match parse_call(alloc, text, 2) {
             Ok(call) => Line::Call(call),

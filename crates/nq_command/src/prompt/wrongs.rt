@@ -64,6 +64,8 @@ fn fields_of(verb: &[u8]) -> Option<&'static [Field]>
         Some(&[])
     } else if is(verb, b"quit") {
         Some(&[])
+    } else if is(verb, b"end") {
+        Some(&[])
     } else {
         None
     }

@@ -1,0 +1,14 @@
+use Rattle.nq_link.specs.Links.{link_told}
+use Rattle.nq_calling.proofs.calls.call_now.Goals as goal
+
+pub returns : goal.returns
+returns g c =
+    let link_of = link_told g.L.Link.sent g.L.Link.waiting g.L.Link.faults g.L.Link.receives in
+    record {
+      turn = c.client_turn.result;
+      between = c.client_turn.new.client;
+      noted = c.client_turn.new.log;
+      heard = link_of c.client_turn.new.link;
+      turns = c.client_turn.ensures.turn;
+      makes = c.make.ensures;
+    }

@@ -1,0 +1,33 @@
+-- A call that is made behind a turn.
+use Rattle.std.specs.Prelude.{◌≡◌, ℕ, []}
+use Rattle.nq_base.specs.Entries.{EntryList}
+use Rattle.nq_base.specs.declared.Answer.{Answer}
+use Rattle.nq_base.specs.declared.Call.{Call}
+use Rattle.nq_client.specs.Counted.{Counted}
+use Rattle.nq_client.specs.Outcome.{Called}
+use Rattle.nq_clock.specs.Clocks.{ClockTold}
+use Rattle.nq_hosts.specs.ClientTurn.{AttendsTurn}
+use Rattle.nq_hosts.specs.declared.node.turns.ClientTurn.{ClientTurn}
+use Rattle.nq_link.specs.Links.{LinkTold, Posts}
+use Rattle.nq_link.specs.declared.Sent.{Sent}
+use Rattle.nq_model.specs.ClientStep.{client_call}
+use Rattle.nq_wire.specs.Outbox.{Datagrams}
+
+-- a call was made of a client with an outbox that was empty at first, and what it pushed was sent, up to the first that the link refused
+pub record Makes (call : Call) (answer : Answer) (client client' : Counted) (log log' : EntryList) (link link' : LinkTold) : Type 0 where
+  pub out : Datagrams
+  pub out' : Datagrams
+  pub empty : out.datagrams ≡ []
+  pub called : Called answer (client_call client.client call) client client' out out' log log'
+  pub sent : Sent
+  pub posts : Posts sent out'.datagrams link link'
+
+-- a turn was taken, which read the clock exactly once, and then a call was made
+pub record CallsNow (call : Call) (answer : Answer) (next next' : ℕ) (clock clock' : ClockTold) (link link' : LinkTold)
+    (client client' : Counted) (log log' : EntryList) : Type 0 where
+  pub turn : ClientTurn
+  pub between : Counted
+  pub noted : EntryList
+  pub heard : LinkTold
+  pub turns : AttendsTurn turn next next' clock clock' link heard client between log noted
+  pub makes : Makes call answer between client' noted log' heard link'

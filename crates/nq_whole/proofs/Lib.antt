@@ -1,0 +1,4 @@
+pub mod Heading
+pub mod Joining
+pub mod Orders
+pub mod Parts

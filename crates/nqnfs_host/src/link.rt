@@ -1,0 +1,132 @@
+//! The socket of a host, for one wait with other sockets.
+
+ghost use Rattle.std.specs.Prelude.{◌≡◌, None};
+ghost use Rattle.nq_io.specs.Faults.{Rose, count_up};
+ghost use Rattle.nq_link.specs.Link.{Comes, CountsReceive, CountsSend, Sends};
+
+use mio::net::UdpSocket;
+use nq_base::Host;
+use nq_link::{Came, Link, Party, Sent};
+use std::io::{self, ErrorKind};
+use std::marker::Model;
+use std::net::{IpAddr, Ipv4Addr, Net, SocketAddr};
+
+/// The port of the server.
+const SERVER_PORT: u16 = 20560;
+
+/// The port of host 0; host h has the port that is h further on.
+const FIRST_HOST_PORT: u16 = 20561;
+
+/// A host's UDP socket on 127.0.0.1, whose receives do not wait. A datagram that another party than the server sent is taken and counts as
+/// nothing. Each error of the socket is a fault. Contracts see its counts.
+#[derive(Drop)]
+pub(crate) struct HostLink {
+    /// The socket.
+    pub(crate) socket: UdpSocket,
+    is_dry: bool,
+    faults: u64,
+    receives: u64,
+}
+
+impl Model for HostLink {
+    ghost use Rattle.std.specs.Prelude.{ℕ};
+
+    ghost Value = { ℕ × ℕ };
+
+    ghost view = { λ l. (l.faults, l.receives) };
+}
+
+/// An address on this machine.
+fn local(port: u16) -> SocketAddr {
+    SocketAddr::new(IpAddr::V4(Ipv4Addr::new(127, 0, 0, 1)), port)
+}
+
+/// Whether an address is the server's.
+fn is_server(address: SocketAddr) -> bool {
+    match address.ip() {
+        IpAddr::V4(v4) => v4.octets() == [127, 0, 0, 1] && address.port() == SERVER_PORT,
+        IpAddr::V6(_) => false,
+    }
+}
+
+/// Whether an error says only that nothing is there.
+fn is_silence(error: &io::Error) -> bool {
+    matches!(error.kind(), ErrorKind::WouldBlock | ErrorKind::Interrupted)
+}
+
+impl HostLink {
+    /// The link of a host below 64, if its port can be bound.
+    pub(crate) fn bind(net: &impl Net, host: Host) -> io::Result<HostLink> {
+        let port = FIRST_HOST_PORT.saturating_add(host.0.min(63) as u16);
+        Ok(HostLink {
+            socket: UdpSocket::bind(net, local(port))?,
+            is_dry: true,
+            faults: 0,
+            receives: 0,
+        })
+    }
+
+    /// Whether the last receive found nothing.
+    pub(crate) fn is_dry(&self) -> bool {
+        self.is_dry
+    }
+
+    /// Counts a fault.
+    fn count_fault(&mut self)
+        ensures counted { self.new ≡ (count_up self.old.0, self.old.1) }
+        ensures rose { Rose self.old.0 self.new.0 }
+    {
+        self.faults = self.faults.saturating_add(1);
+    }
+
+    /// Counts a receive.
+    fn count_receive(&mut self)
+        ensures { self.new ≡ (self.old.0, count_up self.old.1) }
+    {
+        self.receives = self.receives.saturating_add(1);
+    }
+}
+
+impl Link for HostLink {
+    ghost sent = { λ _. None };
+
+    ghost waiting = { λ _. None };
+
+    ghost faults = { λ link. link.0 };
+
+    ghost receives = { λ link. link.1 };
+
+    fn send(&mut self, to: Party, bytes: &[u8]) -> Sent {
+        let sent = match to {
+            Party::Server => self.socket.send_to(bytes, local(SERVER_PORT)),
+            Party::Client(_) => Err(io::Error::from(ErrorKind::InvalidInput)),
+        };
+        match sent {
+            Ok(count) if count == bytes.len() => Sent::All,
+            _ => {
+                self.count_fault();
+                Sent::Failed
+            }
+        }
+    }
+
+    fn receive(&mut self, into: &mut [u8]) -> Came {
+        self.count_receive();
+        self.is_dry = false;
+        match self.socket.recv_from(into) {
+            Ok((length, address)) if is_server(address) => Came::Datagram {
+                length,
+                sender: Party::Server,
+            },
+            Ok(_) => Came::Nothing,
+            Err(error) if is_silence(&error) => {
+                self.is_dry = true;
+                Came::Nothing
+            }
+            Err(_) => {
+                self.count_fault();
+                Came::Failed
+            }
+        }
+    }
+}

@@ -1,0 +1,238 @@
+//! The program `nqnfs_host`: a host that lives until it is told to end. Whoever may use its socket asks it.
+#![tactic(auto)]
+
+mod askers;
+mod desk;
+mod hosting;
+mod ledger;
+mod link;
+mod starts;
+mod work;
+
+use crate::desk::HostDesk;
+use crate::hosting::Hosting;
+use crate::ledger::Ledger;
+use crate::link::HostLink;
+use crate::starts::{NoStart, let_second_pass, next_inc, pause};
+use mio::net::UnixListener;
+use nq_base::ending::{Ending, Halt};
+use nq_base::{Host, Who};
+use nq_clock::StdClock;
+use nq_script::words::number;
+use std::env;
+use std::fs::{self, DirBuilder, Permissions};
+use std::io::{self, ErrorKind};
+use std::os::unix::fs::{DirBuilderExt, PermissionsExt};
+use std::process::ExitCode;
+
+// What `--version` says.
+const VERSION: &str = "nqnfs_host 1";
+
+const HELP: &str = "nqnfs_host HOST
+
+Is host HOST, 0 to 63, of the server on this machine, until `nqnfs_user HOST end` or a signal ends it.
+The folder nqnfs-HOST, which it makes in this one, has its socket and its incarnation. Only this user may ask it.
+
+--help       prints this
+--version    prints the version
+";
+
+/// How often it is looked at most whether the leases are given back.
+const FAREWELL: u32 = 400;
+
+fn main(rt: HostRuntime) -> ExitCode {
+    ExitCode::from(obey(&rt).status())
+}
+
+/// Does what the words behind the program's name say; how that ends.
+fn obey(rt: &HostRuntime) -> Ending {
+    let Ok(args) = env::args(rt) else {
+        return Ending::Memory;
+    };
+    let mut words = args;
+    let _program = words.next();
+    let Some(word) = words.next() else {
+        return usage(rt, "the number of a host is missing");
+    };
+    if words.next().is_some() {
+        return usage(rt, "there is a word too many");
+    }
+    obey_word(rt, word.as_str())
+}
+
+/// Does what a word says; how that ends.
+fn obey_word(rt: &HostRuntime, word: &str) -> Ending {
+    if word == "--help" {
+        let _told = print!(rt; "{HELP}");
+        return Ending::Done;
+    }
+    if word == "--version" {
+        let _told = println!(rt; "{VERSION}");
+        return Ending::Done;
+    }
+    match number(word.as_bytes(), 63) {
+        Some(host) => be_host(rt, Host(host as u32)),
+        None => {
+            let _told = eprintln!(rt; "nqnfs_host: {word} is no host: 0 to 63");
+            Ending::Usage
+        }
+    }
+}
+
+/// Tells which words there are, and what is wrong.
+fn usage(rt: &HostRuntime, wrong: &str) -> Ending {
+    let _told = eprintln!(rt; "nqnfs_host: {wrong}; usage: nqnfs_host HOST");
+    Ending::Usage
+}
+
+/// Is this host.
+fn be_host(rt: &HostRuntime, host: Host) -> Ending {
+    let number = host.0;
+    let Ok(folder) = format!(in rt.alloc(); "nqnfs-{number}") else {
+        return Ending::Memory;
+    };
+    let link = match HostLink::bind(rt, host) {
+        Ok(link) => link,
+        Err(error) => return told_port(rt, number, &error),
+    };
+    if make_folder(rt, folder.as_str()).is_err() {
+        let _told = eprintln!(rt; "nqnfs_host: the folder {folder} cannot be made");
+        return Ending::KeepFault;
+    }
+    let_second_pass(rt);
+    let inc = match next_inc(rt, folder.as_str()) {
+        Ok(inc) => inc,
+        Err(why) => return told_start(rt, folder.as_str(), why),
+    };
+    match open_door(rt, folder.as_str()) {
+        Ok(door) => live(rt, folder.as_str(), Who { host, inc }, link, door),
+        Err(_) => {
+            let _told = eprintln!(rt; "nqnfs_host: the socket {folder}/asks cannot be made");
+            Ending::LinkFault
+        }
+    }
+}
+
+/// Tells why there is no next incarnation.
+fn told_start(rt: &HostRuntime, folder: &str, why: NoStart) -> Ending {
+    let words = match why {
+        NoStart::Memory => return told_memory(rt),
+        NoStart::Read => "cannot be read",
+        NoStart::Number => "holds no number of a start, or the last one that there is",
+        NoStart::Full => "cannot be written: the disk is full",
+        NoStart::Write => "cannot be written",
+    };
+    let _told = eprintln!(rt; "nqnfs_host: the file {folder}/incarnation {words}");
+    Ending::KeepFault
+}
+
+/// Tells that memory was wanting.
+fn told_memory(rt: &HostRuntime) -> Ending {
+    let _told = eprintln!(rt; "nqnfs_host: memory was wanting");
+    Ending::Memory
+}
+
+/// Tells that a port cannot be bound.
+fn told_port(rt: &HostRuntime, number: u32, error: &io::Error) -> Ending {
+    let _told = match error.kind() {
+        ErrorKind::AddrInUse => eprintln!(rt;
+            "nqnfs_host: host {number} runs already: its port is taken"
+        ),
+        _ => eprintln!(rt; "nqnfs_host: the port of host {number} cannot be bound"),
+    };
+    Ending::LinkFault
+}
+
+/// Makes the folder of a host, if it is not there, and sees to it that it is for its user alone.
+fn make_folder(rt: &HostRuntime, folder: &str) -> io::Result<()> {
+    let mut maker = DirBuilder::new();
+    maker.mode(0o700);
+    if let Err(error) = maker.create(rt, folder) {
+        if error.kind() != ErrorKind::AlreadyExists {
+            return Err(error);
+        }
+    }
+    fs::set_permissions(rt, folder, Permissions::from_mode(0o700))
+}
+
+/// Makes the socket that askers connect to, in place of one that is left there.
+fn open_door(rt: &HostRuntime, folder: &str) -> io::Result<UnixListener> {
+    let path = format!(in rt.alloc(); "{folder}/asks")?;
+    let _gone = fs::remove_file(rt, path.as_str());
+    let door = UnixListener::bind(rt, path.as_str())?;
+    fs::set_permissions(rt, path.as_str(), Permissions::from_mode(0o600))?;
+    Ok(door)
+}
+
+/// Lives until it is told to end.
+fn live(rt: &HostRuntime, folder: &str, who: Who, link: HostLink, door: UnixListener) -> Ending {
+    let Ok(watch) = rt.clone() else {
+        return told_memory(rt);
+    };
+    let Some(desk) = HostDesk::open(rt.alloc(), who, link, StdClock::new(watch)) else {
+        return told_memory(rt);
+    };
+    let Some(ledger) = Ledger::open(rt, folder) else {
+        let _told = eprintln!(rt; "nqnfs_host: the file {folder}/made cannot be read");
+        desk.close();
+        return Ending::KeepFault;
+    };
+    match Hosting::open(rt, desk, door, ledger) {
+        Ok(hosting) => attend(rt, folder, who, hosting),
+        Err(desk) => {
+            let _told = eprintln!(rt; "nqnfs_host: its sockets cannot be waited for");
+            desk.close();
+            Ending::LinkFault
+        }
+    }
+}
+
+/// Works, and gives the leases back in the end.
+fn attend(rt: &HostRuntime, folder: &str, who: Who, hosting: Hosting<'_>) -> Ending {
+    let mut hosting = hosting;
+    let (number, inc) = (who.host.0, who.inc.0);
+    let _told = println!(rt;
+        "nqnfs_host 1: host {number}, incarnation {inc}, asked at {folder}/asks"
+    );
+    let ran = hosting.run(rt);
+    let mut desk = hosting.close();
+    let ending = match desk.halt {
+        Some(Halt::Memory) => told_memory(rt),
+        Some(_) => told(rt, Ending::Limit, "a start takes in no more; begin another one"),
+        None if ran.is_err() => told(rt, Ending::LinkFault, "its sockets cannot be waited for"),
+        None => Ending::Done,
+    };
+    if desk.is_delaying() {
+        let _lost = told(rt, ending, "delayed writes that were not stored are lost");
+    }
+    if !give_back(rt, folder, who.host, &mut desk) {
+        let _told = told(rt, ending, "its leases run on, so others may wait for 38 seconds");
+    }
+    desk.close();
+    ending
+}
+
+/// Tells words on a line, and ends so.
+fn told(rt: &HostRuntime, ending: Ending, words: &str) -> Ending {
+    let _told = eprintln!(rt; "nqnfs_host: {words}");
+    ending
+}
+
+/// Gives all leases back: the host begins one incarnation more, and the server ends the leases of those before as it attaches it. Whether
+/// it did.
+fn give_back(rt: &HostRuntime, folder: &str, host: Host, desk: &mut HostDesk) -> bool {
+    let Ok(inc) = next_inc(rt, folder) else {
+        return false;
+    };
+    if !desk.begin_again(Who { host, inc }) {
+        return false;
+    }
+    for _look in 0..FAREWELL {
+        desk.hear();
+        if desk.is_ready() {
+            return true;
+        }
+        pause(rt);
+    }
+    false
+}

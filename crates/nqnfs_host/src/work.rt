@@ -1,0 +1,317 @@
+//! What a host does for one ask, call by call.
+
+use crate::askers::Ask;
+use crate::ledger::Made;
+use nq_asks::Kind;
+use nq_base::{Answer, Call, FileId, Name, NoMemory, Who};
+use nq_command::prompt::answer_text;
+use nq_script::parse_call;
+use nq_script::words::{Words, is};
+use nq_whole::{Getting, Got, MOST_BYTES, Said, Storing, Tidying, Told};
+use std::alloc::Global;
+
+/// How often a file is read anew whose bytes were gone.
+const MOST_ANEW: u32 = 1000;
+
+/// The place of nobody.
+pub(crate) const NOBODY: usize = usize::MAX;
+
+/// What is said of a file that was made by calls.
+const NOT_WHOLE: &[u8] = b"the file of this name was not stored as a whole one";
+
+/// What is said where memory was wanting.
+pub(crate) const NO_MEMORY: &[u8] = b"memory: memory was wanting";
+
+/// What is done, call by call.
+#[derive(Drop)]
+enum Task {
+    /// A call.
+    Call(Call),
+    /// Storing a whole file.
+    Store(Storing),
+    /// Getting a whole file.
+    Get(Getting),
+    /// Tidying up behind a store that was cut off.
+    Tidy(Tidying),
+}
+
+/// What came of a step.
+#[derive(Drop)]
+pub(crate) enum Came {
+    /// It goes on.
+    On(Work),
+    /// It is over, with this answer.
+    Over(Reply),
+    /// Tidying up is over. What was made is kept on the list, if it is there or may be there.
+    Tidied(Option<Made>),
+}
+
+/// The answer to an ask.
+#[derive(Drop)]
+pub(crate) struct Reply {
+    /// Who asked.
+    pub(crate) place: usize,
+    /// The number of the ask.
+    pub(crate) number: u32,
+    /// Its kind.
+    pub(crate) kind: Kind,
+    /// Its words.
+    pub(crate) text: Vec<u8>,
+    /// The bytes behind its line.
+    pub(crate) bytes: Vec<u8>,
+    /// The name under which a store was refused.
+    pub(crate) refused: Option<Name>,
+}
+
+/// An ask at work.
+#[derive(Drop)]
+pub(crate) struct Work {
+    alloc: Global,
+    /// Who asked.
+    pub(crate) place: usize,
+    number: u32,
+    task: Task,
+    /// Why it was refused, once that is known.
+    why: Vec<u8>,
+    anew: u32,
+    made: Option<Made>,
+}
+
+/// The name under which an ask stores a file, if it does.
+pub(crate) fn name_stored(text: &[u8]) -> Option<Name> {
+    let mut words = Words::new(text);
+    let verb = words.next()?;
+    if is(verb, b"store") {
+        words.name()
+    } else {
+        None
+    }
+}
+
+/// A name for a file with the bytes of a whole one: no host takes it a second time, since an incarnation is taken once.
+pub(crate) fn own_name(alloc: Global, who: Who, count: u32) -> Option<Name> {
+    let (host, inc) = (who.host.0, who.inc.0);
+    match format!(in alloc; "~{host}.{inc}.{count}") {
+        Ok(text) => Name::new(text.as_str().as_bytes()),
+        Err(_) => None,
+    }
+}
+
+/// The task that an ask names, beside a store; None where it names none.
+fn task_of(alloc: Global, text: &[u8]) -> Option<Task> {
+    let mut words = Words::new(text);
+    let verb = words.next()?;
+    if is(verb, b"get") {
+        let name = words.name()?;
+        return Some(Task::Get(Getting::new(alloc, name)));
+    }
+    match parse_call(alloc, text, 2) {
+        Ok(call) => Some(Task::Call(call)),
+        Err(_) => None,
+    }
+}
+
+impl Work {
+    /// The work of a task.
+    fn of(alloc: Global, place: usize, number: u32, task: Task) -> Work {
+        Work {
+            alloc,
+            place,
+            number,
+            task,
+            why: Vec::new(alloc),
+            anew: 0,
+            made: None,
+        }
+    }
+
+    /// The work for an ask that stores no file; None where it names none.
+    pub(crate) fn new(alloc: Global, place: usize, ask: &Ask) -> Option<Work> {
+        let task = task_of(alloc, &ask.text)?;
+        Some(Work::of(alloc, place, ask.number, task))
+    }
+
+    /// The work of storing the bytes of an ask, of which there are not too many.
+    pub(crate) fn store(alloc: Global, place: usize, ask: Ask, made: Made) -> Option<Work> {
+        let Ask {
+            number,
+            text: _text,
+            body,
+        } = ask;
+        if body.len() > MOST_BYTES {
+            return None;
+        }
+        let storing = Storing::new(made.name, made.own, body);
+        let mut work = Work::of(alloc, place, number, Task::Store(storing));
+        work.made = Some(made);
+        Some(work)
+    }
+
+    /// The work of tidying up behind a store, which nobody asked for.
+    pub(crate) fn tidy(alloc: Global, made: Made) -> Work {
+        let tidying = Tidying::new(made.own, made.name);
+        let mut work = Work::of(alloc, NOBODY, 0, Task::Tidy(tidying));
+        work.made = Some(made);
+        work
+    }
+
+    /// The work of storing what is delayed of a file, which nobody asked for.
+    pub(crate) fn sync(alloc: Global, file: FileId) -> Work {
+        Work::of(alloc, NOBODY, 0, Task::Call(Call::Sync { file }))
+    }
+
+    /// The call that comes next.
+    pub(crate) fn asks(&self) -> Result<Call, NoMemory> {
+        match &self.task {
+            Task::Call(call) => call.copied(self.alloc),
+            Task::Store(storing) => storing.asks(self.alloc),
+            Task::Get(getting) => Ok(getting.asks()),
+            Task::Tidy(tidying) => Ok(tidying.asks()),
+        }
+    }
+
+    /// It is over, with this answer and no bytes.
+    fn ends(self, kind: Kind, text: Vec<u8>) -> Came {
+        let refused = match self.made {
+            Some(made) if matches!(kind, Kind::Refused) => Some(made.name),
+            _ => None,
+        };
+        Came::Over(Reply {
+            place: self.place,
+            number: self.number,
+            kind,
+            text,
+            bytes: Vec::new(self.alloc),
+            refused,
+        })
+    }
+
+    /// It is over, with these words.
+    fn says(self, kind: Kind, words: &[u8]) -> Came {
+        match words.to_vec(self.alloc) {
+            Ok(text) => self.ends(kind, text),
+            Err(_) => {
+                let text = Vec::new(self.alloc);
+                self.ends(Kind::Refused, text)
+            }
+        }
+    }
+
+    /// It is over since memory was wanting.
+    pub(crate) fn lacks(self) -> Came {
+        self.says(Kind::Refused, NO_MEMORY)
+    }
+
+    /// It is over, with an answer in words.
+    fn tells(self, kind: Kind, answer: &Answer) -> Came {
+        match answer_text(self.alloc, answer) {
+            Ok(text) => self.ends(kind, text),
+            Err(_) => self.lacks(),
+        }
+    }
+
+    /// Takes the answer to the call.
+    pub(crate) fn take(self, answer: &Answer) -> Came {
+        let mut work = self;
+        match &mut work.task {
+            Task::Call(_) => work.answered(answer),
+            Task::Store(storing) => {
+                let said = storing.take(answer);
+                work.stored(said, answer)
+            }
+            Task::Get(getting) => {
+                let got = getting.take(answer);
+                work.got(got, answer)
+            }
+            Task::Tidy(tidying) => match tidying.take(answer) {
+                Told::Goes => Came::On(work),
+                Told::Gone => Came::Tidied(None),
+                Told::Kept | Told::Unsure => Came::Tidied(work.made),
+            },
+        }
+    }
+
+    /// A call has its answer.
+    fn answered(self, answer: &Answer) -> Came {
+        match answer {
+            Answer::Ok(_) => self.tells(Kind::Done, answer),
+            _ => self.tells(Kind::Refused, answer),
+        }
+    }
+
+    /// What storing says.
+    fn stored(self, said: Said, answer: &Answer) -> Came {
+        let mut work = self;
+        match said {
+            Said::Goes => Came::On(work),
+            Said::Done => work.says(Kind::Done, b"ok, stored"),
+            Said::Drops => {
+                if let Ok(text) = answer_text(work.alloc, answer) {
+                    work.why = text;
+                }
+                Came::On(work)
+            }
+            Said::NotWhole => {
+                if let Ok(text) = NOT_WHOLE.to_vec(work.alloc) {
+                    work.why = text;
+                }
+                Came::On(work)
+            }
+            Said::Refused if work.why.is_empty() => work.tells(Kind::Refused, answer),
+            Said::Refused => {
+                let text = std::mem::replace(&mut work.why, Vec::new(work.alloc));
+                work.ends(Kind::Refused, text)
+            }
+        }
+    }
+
+    /// What getting says.
+    fn got(self, got: Got, answer: &Answer) -> Came {
+        let mut work = self;
+        match got {
+            Got::Goes => Came::On(work),
+            Got::Anew => {
+                work.anew = work.anew.saturating_add(1);
+                if work.anew > MOST_ANEW {
+                    work.says(Kind::Refused, b"others store it again and again")
+                } else {
+                    Came::On(work)
+                }
+            }
+            Got::Done => work.gives(),
+            Got::Refused => work.tells(Kind::Refused, answer),
+            Got::NotWhole => work.says(Kind::Refused, NOT_WHOLE),
+            Got::Memory => work.lacks(),
+        }
+    }
+
+    /// All bytes are there.
+    fn gives(self) -> Came {
+        let Work {
+            alloc,
+            place,
+            number,
+            task,
+            why: _why,
+            anew: _,
+            made: _,
+        } = self;
+        let bytes = match task {
+            Task::Get(getting) => getting.into_bytes(),
+            _ => Vec::new(alloc),
+        };
+        let size = bytes.len();
+        let text = match format!(in alloc; "{size}") {
+            Ok(text) => text.into_bytes(),
+            Err(_) => Vec::new(alloc),
+        };
+        Came::Over(Reply {
+            place,
+            number,
+            kind: Kind::Bytes,
+            text,
+            bytes,
+            refused: None,
+        })
+    }
+}
