@@ -2,19 +2,27 @@
 
 ghost use Rattle.nq_clock.specs.Clocks.{clock_told};
 ghost use Rattle.nq_link.specs.Links.{link_told};
+ghost use Rattle.nq_lister.specs.Listing.{is_lookup, reply_in};
+ghost use Rattle.nq_serving.specs.Extending.{extension_told};
 ghost use Rattle.nq_store.specs.Opening.{back_of};
 ghost use Rattle.nqnfsd.specs.Statuses.{EndsSo, end_of_turns, end_unopened};
 ghost use Rattle.std.specs.Prelude.{◌≡◌, ◌≤◌};
 
 use nq_base::ending::{Ending, Halt};
-use nq_base::{Journal, Party, Ticks};
+use nq_base::{Host, Journal, Party, Ticks};
 use nq_clock::{Clock, StdClock};
 use nq_disk::{Disk, FileDisk};
+use nq_keeper::{KeepFault, Keeper};
 use nq_link::{Came, Link, UdpLink};
+use nq_lister::Lister;
+use nq_server::Server;
 use nq_service::mount::{Greeter, Survey, serve_image};
+use nq_serving::Extension;
 use nq_serving::daemon::{MOST_TURNS, Watcher};
 use nq_serving::traffic::CountedLink;
 use nq_store::OpenFault;
+use nq_wire::Outbox;
+use std::alloc::Global;
 
 // The port of the server.
 const PORT: u16 = 20560;
@@ -22,7 +30,7 @@ const PORT: u16 = 20560;
 // By how many seconds a recovery is longer than the longest term of the boot before it: the skew and the write slack.
 const BEYOND: u32 = 8;
 
-/// A watcher who also says what the server begins with.
+/// A watcher who also says what the server begins with, and lists names.
 #[derive(Drop)]
 pub(crate) struct Teller<'a, R> {
     pub(crate) rt: &'a HostRuntime,
@@ -39,6 +47,27 @@ impl<R> Greeter for Teller<'_, R> {
 impl<L, R: Watcher<L>> Watcher<L> for Teller<'_, R> {
     fn turned(&mut self, link: &L, now: Ticks, rows: usize, log: &Journal) {
         self.report.turned(link, now, rows, log);
+    }
+}
+
+impl<R> Extension for Teller<'_, R> {
+    ghost owns = { is_lookup };
+
+    ghost replies = { reply_in };
+
+    fn is_own(&self, datagram: &[u8]) -> bool {
+        Lister.is_own(datagram)
+    }
+
+    fn answer<K: Keeper>(
+        &self,
+        alloc: Global,
+        server: &mut Server<K>,
+        host: Host,
+        datagram: &[u8],
+        out: &mut Outbox,
+    ) -> Result<(), KeepFault> {
+        Lister.answer(alloc, server, host, datagram, out)
     }
 }
 
@@ -83,7 +112,7 @@ pub(crate) fn parts_of(rt: &HostRuntime, image: &str) -> Result<Parts, Ending> {
 }
 
 /// Serves over the image on a disk until something stops it, and says why that ended.
-pub(crate) fn serve_disk<D: Disk + Drop, L: Link, C: Clock, W: Watcher<L> + Greeter>(
+pub(crate) fn serve_disk<D: Disk + Drop, L: Link, C: Clock, W: Watcher<L> + Greeter + Extension>(
     rt: &HostRuntime,
     image: &str,
     disk: D,
@@ -94,7 +123,7 @@ pub(crate) fn serve_disk<D: Disk + Drop, L: Link, C: Clock, W: Watcher<L> + Gree
 ) -> Ended<D>
     requires long { 5 ≤ longest }
     requires short { longest ≤ 600 }
-    ensures ends { EndsSo D.told D.faults D.may_leave D.follows D.leaves longest result.end disk result.disk
+    ensures ends { EndsSo D.told D.faults D.may_leave D.follows D.leaves (extension_told W.owns W.replies) longest result.end disk result.disk
         (clock_told C.floor C.readings C.reads clock.old) (clock_told C.floor C.readings C.reads clock.new)
         (link_told L.sent L.waiting L.faults L.receives link.old)
         (link_told L.sent L.waiting L.faults L.receives link.new) }

@@ -1,0 +1,4 @@
+pub mod Files
+pub mod GoingOn
+pub mod Keeping
+pub mod Telling
