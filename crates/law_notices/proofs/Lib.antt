@@ -1,0 +1,4 @@
+pub mod Told
+pub mod Attached
+pub mod GivenUp
+pub mod RowsGo
