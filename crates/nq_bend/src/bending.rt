@@ -1,7 +1,7 @@
 //! Bending a schedule.
 
 ghost use Rattle.std.specs.List.{AllByRecursion};
-ghost use Rattle.std.specs.Prelude.{◌≡◌, ◌≤◌, ◌<◌, ◌+◌, ℕ, IfOk, OnOk, Some, length, map, slice_get};
+ghost use Rattle.std.specs.Prelude.{◌≡◌, ◌≤◌, ◌<◌, ◌+◌, ℕ, IfOk, OnOk, Some, false, length, map, slice_get};
 ghost use Rattle.nq_base.specs.declared.Event.{Event};
 ghost use Rattle.nq_bend.specs.Bending.{IsSpared, KeepsActs};
 ghost use Rattle.nq_bend.specs.Course.{HasHead, IsCourse, IsOn};
@@ -34,7 +34,8 @@ pub fn bend(alloc: Global, script: &Script, bends: &[Bend], then: Then) -> Resul
     requires { IsReady script.now }
     ensures spells { IfOk result (λ bent. SpellsSchedule script.now.head (map once bent.ran) bent.text.items) }
     ensures keeps { IfOk result (λ bent. (length bent.origins.items ≡ length bent.ran)
-        × ((count : ℕ) × (count ≤ length bent.old) × KeepsActs bent.old count bent.ran bent.origins.items)) }
+        × ((count : ℕ) × (count ≤ length bent.old) × KeepsActs bent.old count bent.ran bent.origins.items
+        × (bent.is_over ≡ false → count ≡ length bent.old))) }
     ensures spares { IfOk result (λ bent. AllByRecursion (IsSpared bends.now bent.matches.items) bent.ran) }
 {
     let old = run_of(alloc, script)?;
@@ -52,6 +53,7 @@ fn whole(text: Vec<u8>, old: Old, course: Course) -> Bent
       origins = course.origins;
       matches = course.lanes.olds;
       left = course.left;
+      is_over = course.is_over;
     } }
 {
     let Old { events, .. } = old;
@@ -60,6 +62,7 @@ fn whole(text: Vec<u8>, old: Old, course: Course) -> Bent
         origins,
         left,
         lanes,
+        is_over,
         ..
     } = course;
     Bent {
@@ -69,6 +72,7 @@ fn whole(text: Vec<u8>, old: Old, course: Course) -> Bent
         origins,
         matches: lanes.into_olds(),
         left,
+        is_over,
     }
 }
 
@@ -84,7 +88,12 @@ fn run_bent(
     requires told { AllByRecursion (IsTellable head.now) old.now.events }
     ensures { IfOk result (IsCourse head.now old.now.events bends.now (length old.now.events)) }
 {
-    let plan = Plan { head, old, bends };
+    let plan = Plan {
+        head,
+        old,
+        bends,
+        then,
+    };
     if let Some(place) = plan.first_bad() {
         return Err(BendFault::Bad(place));
     }
@@ -94,7 +103,7 @@ fn run_bent(
         Err(NewFault::Memory(_keeper)) => return Err(BendFault::Memory),
         Err(NewFault::Failed(_keeper)) => return Err(BendFault::Memory),
     };
-    let played = play(alloc, &mut world, &plan, then);
+    let played = play(alloc, &mut world, &plan);
     let _keeper = world.into_keeper();
     played
 }
@@ -104,7 +113,6 @@ fn play<K: Keeper>(
     alloc: Global,
     world: &mut World<K>,
     plan: &Plan<'_>,
-    then: Then,
 ) -> Result<Course, BendFault>
     requires fits { FitsHead plan.now.head.now }
     requires told { AllByRecursion (IsTellable plan.now.head.now) plan.now.old.now.events }
@@ -116,7 +124,7 @@ fn play<K: Keeper>(
         change(alloc, world, &mut course, plan, place)?;
         keep(world, &mut course, plan, place)?;
     }
-    finish(alloc, world, &mut course, plan, then)?;
+    finish(alloc, world, &mut course, plan)?;
     Ok(course)
 }
 
@@ -126,24 +134,23 @@ fn finish<K: Keeper>(
     world: &mut World<K>,
     course: &mut Course,
     plan: &Plan<'_>,
-    then: Then,
 ) -> Result<(), BendFault>
     requires fits { FitsHead plan.now.head.now }
     requires settings { HasHead plan.now world.old }
     ensures goes { (count : ℕ) → IsOn plan.now count course.old → OnOk result (IsOn plan.now count course.new) }
 {
     change(alloc, world, course, plan, plan.old.events.len())?;
-    match then {
+    match plan.then {
         Then::Stop => Ok(()),
         Then::GoOn => {
-            drain(world, course, plan)?;
+            drain(world, course, plan, None)?;
             Ok(())
         }
     }
 }
 
-/// What happens before the event at a place of the old run: where a flow ended there, all that is under way arrives, and then the
-/// changes are made.
+/// What happens before the event at a place of the old run: what is under way arrives, as far as it is to, and then the changes are
+/// made.
 fn change<K: Keeper>(
     alloc: Global,
     world: &mut World<K>,
@@ -156,15 +163,15 @@ fn change<K: Keeper>(
     ensures settings { HasHead plan.now world.new }
     ensures goes { (count : ℕ) → IsOn plan.now count course.old → OnOk result (IsOn plan.now count course.new) }
 {
-    drain_behind_flow(world, course, plan, place)?;
+    settle(world, course, plan, place)?;
     for number in 0..plan.bends.len() {
         make(alloc, world, course, plan, place, number)?;
     }
     Ok(())
 }
 
-/// All that is under way arrives, if a flow ended before the event at a place of the old run.
-fn drain_behind_flow<K: Keeper>(
+/// All that is under way arrives, if a flow ended before the event at a place of the old run, and what is late, if a clock ticks in it.
+fn settle<K: Keeper>(
     world: &mut World<K>,
     course: &mut Course,
     plan: &Plan<'_>,
@@ -175,7 +182,10 @@ fn drain_behind_flow<K: Keeper>(
     ensures goes { (count : ℕ) → IsOn plan.now count course.old → OnOk result (IsOn plan.now count course.new) }
 {
     if plan.old.is_behind_flow(place) {
-        return drain(world, course, plan);
+        return drain(world, course, plan, None);
+    }
+    if plan.waits_at(place) {
+        return drain(world, course, plan, Some(place));
     }
     Ok(())
 }

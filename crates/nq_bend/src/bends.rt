@@ -24,7 +24,8 @@ pub enum Bend {
 /// What happens behind the last event.
 #[derive(Clone, Copy, PartialEq, Eq)]
 pub enum Then {
-    /// All that is under way arrives, until nothing is.
+    /// All that is under way arrives, until nothing is. Before each tick of the old run what is late arrives, too: packets that it did not
+    /// send, and packets that had arrived there by then.
     GoOn,
     /// Nothing.
     Stop,
@@ -69,6 +70,8 @@ pub struct Bent {
     pub matches: Vec<Option<u64>>,
     /// What of the old run is left out.
     pub left: Vec<LeftOut>,
+    /// Whether the last event breaks the rule on skew, or passes a limit, so that what stands behind it in the old run did not happen.
+    pub is_over: bool,
 }
 
 /// Why nothing is bent.

@@ -108,14 +108,25 @@ impl Course {
         }
     }
 
-    /// The first packet under way that can arrive.
-    fn next_waiting(&self) -> Option<u64> {
+    /// The first packet under way that can arrive: any, or one that is late at a place of the old run.
+    fn next_waiting(&self, plan: &Plan<'_>, late: Option<usize>) -> Option<u64> {
         for packet in &self.waiting {
-            if !self.is_cut(*packet) {
+            if !self.is_cut(*packet) && self.is_late(plan, *packet, late) {
                 return Some(*packet);
             }
         }
         None
+    }
+
+    /// Whether a packet is none of the old run, or one that is to arrive before this place there, if there is a place.
+    fn is_late(&self, plan: &Plan<'_>, packet: u64, late: Option<usize>) -> bool {
+        let Some(place) = late else {
+            return true;
+        };
+        match self.lanes.olds.get(packet as usize) {
+            Some(Some(old)) => plan.is_due(*old, place),
+            _ => true,
+        }
     }
 
     /// Whether an event is no delivery, or that of a packet that was sent and is not lost.
@@ -268,11 +279,12 @@ pub(crate) fn happen<K: Keeper>(
     course.close(world, plan, event, stepped)
 }
 
-/// All that is under way arrives, until nothing is.
+/// All that is under way arrives, or all that is late at a place of the old run, until nothing is.
 pub(crate) fn drain<K: Keeper>(
     world: &mut World<K>,
     course: &mut Course,
     plan: &Plan<'_>,
+    late: Option<usize>,
 ) -> Result<(), NoMemory>
     requires settings { HasHead plan.now world.old }
     ensures settings { HasHead plan.now world.new }
@@ -283,7 +295,7 @@ pub(crate) fn drain<K: Keeper>(
         if course.is_over {
             return Ok(());
         }
-        let Some(packet) = course.next_waiting() else {
+        let Some(packet) = course.next_waiting(plan, late) else {
             return Ok(());
         };
         happen(world, course, plan, &Event::Deliver(packet), None)?;

@@ -61,6 +61,22 @@ impl Old {
         }
     }
 
+    /// Whether a packet first arrives before the event at a place.
+    pub(crate) fn arrives_before(&self, packet: u64, place: usize) -> bool {
+        match self.arrivals.get(packet as usize) {
+            Some(Some(first)) => *first < place,
+            _ => false,
+        }
+    }
+
+    /// Whether a clock ticks in the event at a place.
+    pub(crate) fn is_tick(&self, place: usize) -> bool {
+        matches!(
+            self.events.get(place),
+            Some(Event::ServerTick) | Some(Event::ClientTick(_))
+        )
+    }
+
     /// Whether a packet never arrives, though one that was sent later does.
     pub(crate) fn is_overtaken(&self, packet: u64) -> bool {
         match self.arrivals.get(packet as usize) {
