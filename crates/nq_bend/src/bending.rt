@@ -1,9 +1,10 @@
 //! Bending a schedule.
 
 ghost use Rattle.std.specs.List.{AllByRecursion};
-ghost use Rattle.std.specs.Prelude.{◌≡◌, ◌≤◌, ◌<◌, ◌+◌, ℕ, IfOk, OnOk, Some, false, length, map, slice_get};
+ghost use Rattle.std.specs.Prelude.{◌≡◌, ◌≤◌, ◌<◌, ◌+◌, ℕ, List, IfOk, IfSome, None, OnOk, Option, Some, length, map, slice_get};
 ghost use Rattle.nq_base.specs.declared.Event.{Event};
-ghost use Rattle.nq_bend.specs.Bending.{IsSpared, KeepsActs};
+ghost use Rattle.nq_bend.specs.Bending.{Follows, IsSpared};
+ghost use Rattle.nq_bend.specs.declared.bends.Bend.{Bend};
 ghost use Rattle.nq_bend.specs.Course.{HasHead, IsCourse, IsOn};
 ghost use Rattle.nq_observe.specs.Told.{TellsEvent};
 ghost use Rattle.nq_replay.specs.Schedules.{IsReady};
@@ -13,7 +14,7 @@ ghost use Rattle.nq_script.specs.Lines.{once};
 ghost use Rattle.nq_script.specs.Schedule.{SpellsSchedule};
 
 use crate::bends::{Bend, BendFault, Bent, Then};
-use crate::course::{Course, drain, happen};
+use crate::course::{Course, come, drain, happen};
 use crate::old::{Old, run_of};
 use crate::plan::Plan;
 use crate::puts::read_put;
@@ -33,9 +34,7 @@ use std::alloc::Global;
 pub fn bend(alloc: Global, script: &Script, bends: &[Bend], then: Then) -> Result<Bent, BendFault>
     requires { IsReady script.now }
     ensures spells { IfOk result (λ bent. SpellsSchedule script.now.head (map once bent.ran) bent.text.items) }
-    ensures keeps { IfOk result (λ bent. (length bent.origins.items ≡ length bent.ran)
-        × ((count : ℕ) × (count ≤ length bent.old) × KeepsActs bent.old count bent.ran bent.origins.items
-        × (bent.is_over ≡ false → count ≡ length bent.old))) }
+    ensures follows { IfOk result Follows }
     ensures spares { IfOk result (λ bent. AllByRecursion (IsSpared bends.now bent.matches.items) bent.ran) }
 {
     let old = run_of(alloc, script)?;
@@ -274,7 +273,7 @@ fn repeat<K: Keeper>(
     ensures goes { (count : ℕ) → IsOn plan.now count course.old → OnOk result (IsOn plan.now count course.new) }
 {
     for turn in 0..times {
-        happen(world, course, plan, event, None)?;
+        come(world, course, plan, event)?;
     }
     Ok(())
 }
@@ -296,7 +295,7 @@ fn deliver<K: Keeper>(
     if course.is_cut(new) {
         return Ok(());
     }
-    happen(world, course, plan, &Event::Deliver(new), None)
+    come(world, course, plan, &Event::Deliver(new))
 }
 
 /// Lets the event at a place of the old run happen, or leaves it out.
@@ -313,10 +312,27 @@ fn keep<K: Keeper>(
     ensures settings { HasHead plan.now world.new }
     ensures goes { IsOn plan.now place course.old → OnOk result (IsOn plan.now (place + 1) course.new) }
 {
-    match plan.old.events.get(place) {
-        Some(Event::Deliver(packet)) => keep_delivery(world, course, plan, place, *packet),
-        Some(event) => happen(world, course, plan, event, Some(place)),
-        None => Ok(()),
+    let Some(event) = plan.old.events.get(place) else {
+        return Ok(());
+    };
+    match packet_of(event) {
+        Some(packet) => keep_delivery(world, course, plan, place, packet),
+        None => happen(world, course, plan, event, Some(place)),
+    }
+}
+
+/// The packet that an event delivers; None where it is no delivery.
+fn packet_of(event: &Event) -> Option<u64>
+    ensures delivers { IfSome result (λ packet. event.now ≡ Event.Deliver packet) }
+    ensures acts { result ≡ None → (bends : List Bend) (matches : List (Option ℕ)) → IsSpared bends matches event.now }
+{
+    match event {
+        Event::Deliver(packet) => Some(*packet),
+        Event::Call { .. } => None,
+        Event::ServerTick => None,
+        Event::ClientTick(_) => None,
+        Event::Restart(_) => None,
+        Event::Crash { .. } => None,
     }
 }
 
@@ -358,7 +374,7 @@ fn double<K: Keeper>(
     ensures goes { (count : ℕ) → IsOn plan.now count course.old → OnOk result (IsOn plan.now count course.new) }
 {
     if plan.is_doubled(packet) && plan.old.arrives_first(packet, place) {
-        return happen(world, course, plan, event, None);
+        return come(world, course, plan, event);
     }
     Ok(())
 }

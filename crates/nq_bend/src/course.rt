@@ -1,9 +1,9 @@
 //! The new run, as far as it has come.
 
-ghost use Rattle.std.specs.Prelude.{◌≡◌, ◌+◌, ℕ, List, Option, Some, None, IfOk, IsFalse, IsTrue, OnOk, slice_get};
+ghost use Rattle.std.specs.Prelude.{◌≡◌, ◌+◌, ℕ, List, Option, Some, None, IfOk, IsTrue, OnOk, slice_get};
 ghost use Rattle.nq_base.specs.declared.Event.{Event};
 ghost use Rattle.nq_bend.specs.Bending.{IsSpared};
-ghost use Rattle.nq_bend.specs.Course.{HasHead, IsCourse, IsDelivery, IsOn, IsWith, StandsFor};
+ghost use Rattle.nq_bend.specs.Course.{HasHead, IsCourse, IsOn, IsWith, IsWithout, StandsFor};
 ghost use Rattle.nq_bend.specs.declared.bends.Bend.{Bend};
 ghost use Rattle.nq_replay.specs.Texts.{IsTellable};
 ghost use Rattle.nq_script.specs.Lines.{IsFilledEvent};
@@ -63,18 +63,29 @@ impl Course {
         ensures { (head : Head) (old : List Event) (bends : List Bend) → slice_get old event ≡ Some (Event.Deliver packet)
             → IsCourse head old bends event self.old → OnOk result (IsCourse head old bends (event + 1) self.new) }
     {
-        self.left.push(LeftOut { event, packet, why })?;
+        self.leave_out(LeftOut { event, packet, why })?;
+        Ok(())
+    }
+
+    /// Notes what is left out.
+    fn leave_out(&mut self, out: LeftOut) -> Result<(), NoMemory>
+        ensures { OnOk result (IsWithout out self.old self.new) }
+    {
+        self.left.push(out)?;
         Ok(())
     }
 
     /// The packet of the new run that arrives where one of the old arrived in the event at a place; else why none does.
-    pub(crate) fn fate_of(&self, plan: &Plan<'_>, packet: u64, place: usize) -> Result<u64, Why> {
+    pub(crate) fn fate_of(&self, plan: &Plan<'_>, packet: u64, place: usize) -> Result<u64, Why>
+        ensures { IfOk result (λ new. IsSpared plan.now.bends.now self.now.lanes.olds.items (Event.Deliver new)) }
+    {
         if let Some(why) = plan.leaves(packet, place) {
             return Err(why);
         }
         match self.lanes.new_of(packet) {
             Some(new) if self.is_cut(new) => Err(Why::CutOff),
-            Some(new) => Ok(new),
+            Some(new) if self.spares_packet(plan, new) => Ok(new),
+            Some(_) => Err(Why::Lost),
             None => Err(Why::NoMatch),
         }
     }
@@ -131,8 +142,7 @@ impl Course {
 
     /// Whether an event is no delivery, or that of a packet that was sent and is not lost.
     fn spares(&self, plan: &Plan<'_>, event: &Event) -> bool
-        ensures spared { IsTrue result → IsSpared plan.now.bends.now self.now.lanes.olds.items event.now }
-        ensures only { IsFalse result → IsDelivery event.now }
+        ensures { IsTrue result → IsSpared plan.now.bends.now self.now.lanes.olds.items event.now }
     {
         match event {
             Event::Deliver(packet) => self.spares_packet(plan, *packet),
@@ -155,24 +165,17 @@ impl Course {
         }
     }
 
-    /// Keeps an event at the end of the new run, with its place in the old one, unless the run is over, or the event is the delivery
-    /// of a packet that is lost; whether it is kept.
-    #[tactic(auto, using(crate::proofs::Coming::filled))]
-    fn enter(
-        &mut self,
-        plan: &Plan<'_>,
-        event: &Event,
-        origin: Option<usize>,
-    ) -> Result<bool, NoMemory>
-        requires told { IsTellable plan.now.head.now event.now }
-        ensures beside { (count : ℕ) → origin ≡ None → IsOn plan.now count self.old → OnOk result (IsOn plan.now count self.new) }
-        ensures along { (count : ℕ) (was : Event) → origin ≡ Some count → slice_get plan.now.old.now.events count ≡ Some was
-            → StandsFor was event.now → IsOn plan.now count self.old → OnOk result (IsOn plan.now (count + 1) self.new) }
+    /// Keeps an event at the end of the new run, with its place in the old one, unless the run is over; whether it is kept.
+    fn enter(&mut self, event: &Event, origin: Option<usize>) -> Result<bool, NoMemory>
+        requires { IsFilledEvent event.now }
+        ensures beside { (head : Head) (old : List Event) (bends : List Bend) (count : ℕ) → IsTellable head event.now
+            → IsSpared bends self.old.lanes.olds.items event.now → origin ≡ None
+            → IsCourse head old bends count self.old → OnOk result (IsCourse head old bends count self.new) }
+        ensures along { (head : Head) (old : List Event) (bends : List Bend) (count : ℕ) (was : Event) → IsTellable head event.now
+            → IsSpared bends self.old.lanes.olds.items event.now → origin ≡ Some count → slice_get old count ≡ Some was → StandsFor was event.now
+            → IsCourse head old bends count self.old → OnOk result (IsCourse head old bends (count + 1) self.new) }
     {
         if self.is_over {
-            return Ok(false);
-        }
-        if !self.spares(plan, event) {
             return Ok(false);
         }
         self.add(event, origin)?;
@@ -253,9 +256,9 @@ impl Course {
     }
 }
 
-/// Lets an event happen in the new run, unless that is over, or the event is the delivery of a packet that is lost. The run is over
-/// where the world refuses the event, which then is its last.
-#[tactic(auto, using(crate::proofs::Coming::can_come, crate::proofs::Coming::settings_on))]
+/// Lets an event happen in the new run, with its place in the old one, unless the new run is over. It is over where the world refuses
+/// the event, which then is its last.
+#[tactic(auto, using(crate::proofs::Coming::can_come, crate::proofs::Coming::filled, crate::proofs::Coming::settings_on))]
 pub(crate) fn happen<K: Keeper>(
     world: &mut World<K>,
     course: &mut Course,
@@ -265,6 +268,7 @@ pub(crate) fn happen<K: Keeper>(
 ) -> Result<(), NoMemory>
     requires settings { HasHead plan.now world.old }
     requires told { IsTellable plan.now.head.now event.now }
+    requires spared { IsSpared plan.now.bends.now course.old.lanes.olds.items event.now }
     ensures settings { HasHead plan.now world.new }
     ensures beside { (count : ℕ) → origin ≡ None → IsOn plan.now count course.old
         → OnOk result (IsOn plan.now count course.new) }
@@ -272,11 +276,29 @@ pub(crate) fn happen<K: Keeper>(
         → IsOn plan.now count course.old
         → OnOk result (IsOn plan.now (count + 1) course.new) }
 {
-    if !course.enter(plan, event, origin)? {
+    if !course.enter(event, origin)? {
         return Ok(());
     }
     let stepped = world.step(event);
     course.close(world, plan, event, stepped)
+}
+
+/// Lets an event happen that is not in the old run, unless it is the delivery of a packet that is lost.
+pub(crate) fn come<K: Keeper>(
+    world: &mut World<K>,
+    course: &mut Course,
+    plan: &Plan<'_>,
+    event: &Event,
+) -> Result<(), NoMemory>
+    requires settings { HasHead plan.now world.old }
+    requires told { IsTellable plan.now.head.now event.now }
+    ensures settings { HasHead plan.now world.new }
+    ensures goes { (count : ℕ) → IsOn plan.now count course.old → OnOk result (IsOn plan.now count course.new) }
+{
+    if !course.spares(plan, event) {
+        return Ok(());
+    }
+    happen(world, course, plan, event, None)
 }
 
 /// All that is under way arrives, or all that is late at a place of the old run, until nothing is.
@@ -298,7 +320,7 @@ pub(crate) fn drain<K: Keeper>(
         let Some(packet) = course.next_waiting(plan, late) else {
             return Ok(());
         };
-        happen(world, course, plan, &Event::Deliver(packet), None)?;
+        come(world, course, plan, &Event::Deliver(packet))?;
     }
     Ok(())
 }
