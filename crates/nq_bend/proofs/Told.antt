@@ -13,15 +13,15 @@ get-last : {X : Type 0} (xs : List X) (x : X) → slice_get (xs ++ x ∷ []) (le
 get-last [] x = refl
 get-last (y ∷ xs) x = get-last xs x
 
-suc-split : (n k : ℕ) → (k < n) ⊎ (k ≡ n) → (suc k < suc n) ⊎ (suc k ≡ suc n)
-suc-split n k (inl less) = inl (omega arith)
-suc-split n k (inr is) = inr (ap suc is)
+suc-or : (n k : ℕ) → (k < n) ⊎ (k ≡ n) → (suc k < suc n) ⊎ (suc k ≡ suc n)
+suc-or n k (inl less) = inl (omega arith)
+suc-or n k (inr is) = inr (ap suc is)
 
-split : (n k : ℕ) → k < n + 1 → (k < n) ⊎ (k ≡ n)
-split zero zero less = inr refl
-split zero (suc k) less = absurd (omega arith)
-split (suc n) zero less = inl (omega arith)
-split (suc n) (suc k) less = suc-split n k (split n k (omega arith))
+next-or : (n k : ℕ) → k < n + 1 → (k < n) ⊎ (k ≡ n)
+next-or zero zero less = inr refl
+next-or zero (suc k) less = absurd (omega arith)
+next-or (suc n) zero less = inl (omega arith)
+next-or (suc n) (suc k) less = suc-or n k (next-or n k (omega arith))
 
 beside-one : (origins : List (Option ℕ)) (origin : Option ℕ) (left : List LeftOut) (place : ℕ) → IsTold origins left place
     → IsTold (origins ++ origin ∷ []) left place
@@ -52,7 +52,7 @@ told-beside origins origin left count told = λ place less. beside-one origins o
 -- the next event of the old run is kept
 pub told-along : (origins : List (Option ℕ)) (left : List LeftOut) (count : ℕ) → TellsAll count origins left
     → TellsAll (count + 1) (origins ++ Some count ∷ []) left
-told-along origins left count told = λ place less. along-one origins left count place told (split count place less)
+told-along origins left count told = λ place less. along-one origins left count place told (next-or count place less)
 
 -- an event of the old run is left out
 pub told-left : (origins : List (Option ℕ)) (left : List LeftOut) (out : LeftOut) (count : ℕ) → TellsAll count origins left
@@ -62,7 +62,7 @@ told-left origins left out count told = λ place less. left-one origins left out
 -- the next event of the old run is left out
 pub told-out : (origins : List (Option ℕ)) (left : List LeftOut) (out : LeftOut) → TellsAll out.event origins left
     → TellsAll (out.event + 1) origins (left ++ out ∷ [])
-told-out origins left out told = λ place less. out-one origins left out place told (split out.event place less)
+told-out origins left out told = λ place less. out-one origins left out place told (next-or out.event place less)
 
 pub told-same : (count : ℕ) (origins origins' : List (Option ℕ)) (left left' : List LeftOut) → origins' ≡ origins → left' ≡ left
     → TellsAll count origins left → TellsAll count origins' left'

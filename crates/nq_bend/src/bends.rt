@@ -24,8 +24,8 @@ pub enum Bend {
 /// What happens behind the last event.
 #[derive(Clone, Copy, PartialEq, Eq)]
 pub enum Then {
-    /// All that is under way arrives, until nothing is. Before each tick of the old run what is late arrives, too: packets that it did not
-    /// send, and packets that had arrived there by then.
+    /// All that is under way arrives, until nothing is. Before each tick of the old run what is late arrives, too: packets that had arrived
+    /// there by then, and packets that it did not send, unless it lost the last one of that kind on that link.
     GoOn,
     /// Nothing.
     Stop,

@@ -129,15 +129,25 @@ impl Course {
         None
     }
 
-    /// Whether a packet is none of the old run, or one that is to arrive before this place there, if there is a place.
+    /// Whether a packet is to arrive before this place of the old run, if there is a place. One that is none of the old run is, unless the
+    /// old run lost the last of its kind.
     fn is_late(&self, plan: &Plan<'_>, packet: u64, late: Option<usize>) -> bool {
         let Some(place) = late else {
             return true;
         };
-        match self.lanes.olds.get(packet as usize) {
-            Some(Some(old)) => plan.is_due(*old, place),
-            _ => true,
+        if let Some(Some(old)) = self.lanes.olds.get(packet as usize) {
+            return plan.is_due(*old, place);
         }
+        match self.last_like(packet) {
+            Some(last) => !plan.old.is_overtaken(last),
+            None => true,
+        }
+    }
+
+    /// The last packet of the old run on the link of a packet of the new run and of its kind.
+    fn last_like(&self, packet: u64) -> Option<u64> {
+        let sent = self.post.sent().get(packet as usize)?;
+        self.lanes.last_like(sent)
     }
 
     /// Whether an event is no delivery, or that of a packet that was sent and is not lost.

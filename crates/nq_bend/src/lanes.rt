@@ -68,6 +68,16 @@ impl Lanes {
         }
     }
 
+    /// The last packet of the old run on the link of a packet and of its kind.
+    pub(crate) fn last_like(&self, packet: &Sent) -> Option<u64> {
+        for lane in &self.lanes {
+            if lane.is_of(packet) {
+                return lane.last();
+            }
+        }
+        None
+    }
+
     /// Adds a packet of the old run.
     fn add(&mut self, number: u64, packet: &Sent) -> Result<(), NoMemory>
         ensures { self.new.olds ≡ self.old.olds }
@@ -110,6 +120,14 @@ impl Lane {
     /// Whether a packet is of this link and kind.
     fn is_of(&self, packet: &Sent) -> bool {
         self.from == packet.from && self.to == packet.to && self.kind.as_str() == kind_of(packet)
+    }
+
+    /// The last packet of the old run.
+    fn last(&self) -> Option<u64> {
+        match self.old.last() {
+            Some(packet) => Some(*packet),
+            None => None,
+        }
     }
 
     /// The packet of the old run that the next one of the new run is.
