@@ -87,7 +87,13 @@ impl Quiet {
     }
 
     /// One more.
-    pub(crate) fn add(&mut self, maker: &mut Maker, record: &Record, place: usize, moment: &Moment) {
+    pub(crate) fn add(
+        &mut self,
+        maker: &mut Maker,
+        record: &Record,
+        place: usize,
+        moment: &Moment,
+    ) {
         if self.count == 0 {
             self.first = place;
             self.party = moment.party;
@@ -124,7 +130,13 @@ impl Quiet {
     }
 
     /// Gives them a row, if there are any; then there are none.
-    pub(crate) fn end(&mut self, maker: &mut Maker, record: &Record, rows: &mut Rows, clocks: &mut Clocks) {
+    pub(crate) fn end(
+        &mut self,
+        maker: &mut Maker,
+        record: &Record,
+        rows: &mut Rows,
+        clocks: &mut Clocks,
+    ) {
         if self.count > 0 {
             let row = self.row(maker, record, clocks);
             rows.add(maker, self.count, row);
@@ -134,12 +146,17 @@ impl Quiet {
         self.again.clear();
     }
 
-    /// Their row: beside whoever sends, if one does.
-    fn row(&self, maker: &mut Maker, record: &Record, clocks: &mut Clocks) -> Row {
-        let party = match self.sender {
+    /// Whoever sends, or else whose clock ticks.
+    fn place(&self) -> &Party {
+        match &self.sender {
             Some(sender) => sender,
-            None => self.party,
-        };
+            None => &self.party,
+        }
+    }
+
+    /// Their row.
+    fn row(&self, maker: &mut Maker, record: &Record, clocks: &mut Clocks) -> Row {
+        let party = self.place();
         let (name, text) = if self.count == 1 {
             ("#", "tick")
         } else {
@@ -148,23 +165,23 @@ impl Quiet {
         let last = self.first.saturating_add(self.count).saturating_sub(1);
         let text = maker.filled(text, &[self.count as u64]);
         let mut notes = self.losses(maker, record, party);
-        let side = outer(record.hosts, party);
+        let side = outer(record.hosts, *party);
         let sign = Sign::Plain;
         maker.push(&mut notes, Note { side, sign, text });
         Row {
             name: maker.filled(name, &[self.first as u64, last as u64]),
             clocks: taken(maker, clocks),
-            party: place_of(record.hosts, party),
+            party: place_of(record.hosts, *party),
             notes,
         }
     }
 
     /// The notes of what this party sends.
-    fn losses(&self, maker: &mut Maker, record: &Record, party: Party) -> Vec<Note> {
+    fn losses(&self, maker: &mut Maker, record: &Record, party: &Party) -> Vec<Note> {
         let mut notes = Vec::new(maker.alloc);
         for again in &self.again {
             if let Some(sent) = record.packets.get(again.first as usize) {
-                let side = toward(record.hosts, party, sent.to);
+                let side = toward(record.hosts, *party, sent.to);
                 let sign = Sign::Loss;
                 let text = again_words(maker, again, sent);
                 maker.push(&mut notes, Note { side, sign, text });
@@ -180,8 +197,13 @@ fn again_words(maker: &mut Maker, again: &Again, sent: &Sent) -> String {
         return packet_words(maker, again.first, sent, ", lost");
     }
     let numbers = maker.filled("# to #, # times: ", &[again.first, again.last, again.count]);
+    lost_words(maker, numbers.as_str(), sent)
+}
+
+/// What packets say that are lost, behind their numbers.
+fn lost_words<'a>(maker: &mut Maker, numbers: &'a str, sent: &'a Sent) -> String {
     maker.text(&[
-        Part::Text(numbers.as_str()),
+        Part::Text(numbers),
         Part::Text(sent.words.as_str()),
         Part::Text(", lost"),
     ])
