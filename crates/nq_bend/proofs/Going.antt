@@ -60,12 +60,12 @@ beside-with head old bends count event c d told spared w is = record {
     few = is.keeps.few;
     acts = ap (λ es. acts (kept es d.origins.items)) w.ran ∙ ap (λ os. acts (kept (c.ran ++ event ∷ []) os)) w.origins
         ∙ ap acts (kept-beside c.ran c.origins.items event is.many) ∙ is.keeps.acts;
-    whole = told-same is.keeps.reached (c.origins.items ++ None ∷ []) d.origins.items c.left.items d.left.items w.origins w.out
+    whole = told-same is.keeps.reached (c.origins.items ++ None ∷ []) d.origins.items c.left.items d.left.items w.origins w.leaves
         (told-beside c.origins.items None c.left.items is.keeps.reached is.keeps.whole);
     all = λ going. is.keeps.all (sym w.over ∙ going);
   };
   spared = spared-last bends event c d w spared is.spared;
-  out = subst (AllByRecursion (IsLeftOut old)) (sym w.out) is.out;
+  leaves = subst (AllByRecursion (IsLeftOut old)) (sym w.leaves) is.leaves;
 }
 
 -- the event of the old run that is next
@@ -81,12 +81,12 @@ along-with head old bends count was event c d told spared going here stands w is
     acts = ap (λ es. acts (kept es d.origins.items)) w.ran ∙ ap (λ os. acts (kept (c.ran ++ event ∷ []) os)) w.origins
         ∙ more-acts old c.ran c.origins.items count was event here stands is.many
         (subst (λ n. KeepsActs old n c.ran c.origins.items) (is.keeps.all going) is.keeps.acts);
-    whole = told-same (count + 1) (c.origins.items ++ Some count ∷ []) d.origins.items c.left.items d.left.items w.origins w.out
+    whole = told-same (count + 1) (c.origins.items ++ Some count ∷ []) d.origins.items c.left.items d.left.items w.origins w.leaves
         (told-along c.origins.items c.left.items count (subst (λ n. TellsAll n c.origins.items c.left.items) (is.keeps.all going) is.keeps.whole));
     all = λ on. refl;
   };
   spared = spared-last bends event c d w spared is.spared;
-  out = subst (AllByRecursion (IsLeftOut old)) (sym w.out) is.out;
+  leaves = subst (AllByRecursion (IsLeftOut old)) (sym w.leaves) is.leaves;
 }
 
 -- the run is over: what is next in the old run does not happen
@@ -103,7 +103,7 @@ over-skips head old bends count c over is = record {
     all = λ going. absurd (cc);
   };
   spared = is.spared;
-  out = is.out;
+  leaves = is.leaves;
 }
 
 out-keeps : (old : List Event) (out : LeftOut) (c d : Course) → IsLeftOut old out → IsWithout out c d → (over : Bool) → c.is_over ≡ over
@@ -112,7 +112,7 @@ out-keeps old out c d left w true is k = record {
   reached = k.reached;
   few = let few : k.reached ≤ out.event = k.few in omega arith;
   acts = kept-same c.ran d.ran c.origins.items d.origins.items w.ran w.origins ∙ k.acts;
-  whole = told-same k.reached c.origins.items d.origins.items (c.left.items ++ out ∷ []) d.left.items w.origins w.out
+  whole = told-same k.reached c.origins.items d.origins.items (c.left.items ++ out ∷ []) d.left.items w.origins w.leaves
       (told-left c.origins.items c.left.items out k.reached k.whole);
   all = λ going. let over : d.is_over ≡ true = w.over ∙ is in absurd (cc);
 }
@@ -122,7 +122,7 @@ out-keeps old out c d left w false is k = record {
   acts = kept-same c.ran d.ran c.origins.items d.origins.items w.ran w.origins
       ∙ subst (λ n. KeepsActs old n c.ran c.origins.items) (k.all is) k.acts
       ∙ sym (same-acts old out.event (Event.Deliver out.packet) left refl);
-  whole = told-same (out.event + 1) c.origins.items d.origins.items (c.left.items ++ out ∷ []) d.left.items w.origins w.out
+  whole = told-same (out.event + 1) c.origins.items d.origins.items (c.left.items ++ out ∷ []) d.left.items w.origins w.leaves
       (told-out c.origins.items c.left.items out (subst (λ n. TellsAll n c.origins.items c.left.items) (k.all is) k.whole));
   all = λ going. refl;
 }
@@ -136,7 +136,7 @@ out-on head old bends out c d left w is = record {
   keeps = out-keeps old out c d left w c.is_over refl is.keeps;
   spared = subst (λ es. AllByRecursion (IsSpared bends d.lanes.olds.items) es) (sym w.ran)
       (subst (λ ms. AllByRecursion (IsSpared bends ms) c.ran) (sym w.sent) is.spared);
-  out = subst (AllByRecursion (IsLeftOut old)) (sym w.out) (all_last (IsLeftOut old) c.left.items out is.out left);
+  leaves = subst (AllByRecursion (IsLeftOut old)) (sym w.leaves) (all_last (IsLeftOut old) c.left.items out is.leaves left);
 }
 
 -- packets are sent
@@ -149,12 +149,12 @@ sent-on head old bends count c d same is = record {
     reached = is.keeps.reached;
     few = is.keeps.few;
     acts = kept-same c.ran d.ran c.origins.items d.origins.items same.ran same.origins ∙ is.keeps.acts;
-    whole = told-same is.keeps.reached c.origins.items d.origins.items c.left.items d.left.items same.origins same.out is.keeps.whole;
+    whole = told-same is.keeps.reached c.origins.items d.origins.items c.left.items d.left.items same.origins same.leaves is.keeps.whole;
     all = λ going. is.keeps.all (sym same.over ∙ going);
   };
   spared = subst (λ es. AllByRecursion (IsSpared bends d.lanes.olds.items) es) (sym same.ran)
       (subst (λ ms. AllByRecursion (IsSpared bends ms) c.ran) (sym same.sent)
       (all-more (IsSpared bends c.lanes.olds.items) (IsSpared bends (c.lanes.olds.items ++ same.more)) c.ran
       (λ e. spared-more bends c.lanes.olds.items same.more e) is.spared));
-  out = subst (AllByRecursion (IsLeftOut old)) (sym same.out) is.out;
+  leaves = subst (AllByRecursion (IsLeftOut old)) (sym same.leaves) is.leaves;
 }

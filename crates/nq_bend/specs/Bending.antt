@@ -43,9 +43,9 @@ pub record Follows (bent : Bent) : Type 0 where
   pub many : length bent.origins.items ≡ length bent.ran
   pub count : ℕ
   pub few : count ≤ length bent.old
-  pub acts : KeepsActs bent.old count bent.ran bent.origins.items
+  pub order : KeepsActs bent.old count bent.ran bent.origins.items
   pub told : TellsAll count bent.origins.items bent.left.items
-  pub out : AllByRecursion (IsLeftOut bent.old) bent.left.items
+  pub leaves : AllByRecursion (IsLeftOut bent.old) bent.left.items
   pub all : bent.is_over ≡ false → count ≡ length bent.old
 
 -- a change loses this packet of the old run

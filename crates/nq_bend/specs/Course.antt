@@ -25,7 +25,7 @@ pub record IsCourse (head : Head) (old : List Event) (bends : List Bend) (count 
   pub many : length c.origins.items ≡ length c.ran
   pub keeps : Keeps old count c.is_over c
   pub spared : AllByRecursion (IsSpared bends c.lanes.olds.items) c.ran
-  pub out : AllByRecursion (IsLeftOut old) c.left.items
+  pub leaves : AllByRecursion (IsLeftOut old) c.left.items
 
 -- a new run of a plan behind so many events of the old one
 abbrev pub IsOn : Plan → (count : ℕ) → Course → Type 0
@@ -46,7 +46,7 @@ pub record IsWithout (out : LeftOut) (old new : Course) : Type 0 where
   pub origins : new.origins.items ≡ old.origins.items
   pub over : new.is_over ≡ old.is_over
   pub sent : new.lanes.olds.items ≡ old.lanes.olds.items
-  pub out : new.left.items ≡ old.left.items ++ out ∷ []
+  pub leaves : new.left.items ≡ old.left.items ++ out ∷ []
 
 -- the new run is the same, but for packets that were sent behind the others
 pub record IsSameButSent (old new : Course) : Type 0 where
@@ -55,7 +55,7 @@ pub record IsSameButSent (old new : Course) : Type 0 where
   pub over : new.is_over ≡ old.is_over
   pub more : List (Option ℕ)
   pub sent : new.lanes.olds.items ≡ old.lanes.olds.items ++ more
-  pub out : new.left.items ≡ old.left.items
+  pub leaves : new.left.items ≡ old.left.items
 
 -- the new run has one event more, with its place in the old one
 pub record IsWith (event : Event) (origin : Option ℕ) (old new : Course) : Type 0 where
@@ -63,4 +63,4 @@ pub record IsWith (event : Event) (origin : Option ℕ) (old new : Course) : Typ
   pub origins : new.origins.items ≡ old.origins.items ++ origin ∷ []
   pub over : new.is_over ≡ old.is_over
   pub sent : new.lanes.olds.items ≡ old.lanes.olds.items
-  pub out : new.left.items ≡ old.left.items
+  pub leaves : new.left.items ≡ old.left.items
