@@ -20,6 +20,7 @@ use crate::plan::Plan;
 use crate::puts::read_put;
 use nq_base::{Event, NoMemory};
 use nq_keeper::{Keeper, ListKeeper};
+use nq_observe::Patience;
 use nq_replay::schedule_text;
 use nq_script::{Head, Line, Lines, Script};
 use nq_world::{NewFault, World, begin};
@@ -31,14 +32,21 @@ use std::alloc::Global;
 ///
 /// - `Bad`: with the place of the first change that says nothing that can be done.
 /// - `Memory`: memory was wanting.
-pub fn bend(alloc: Global, script: &Script, bends: &[Bend], then: Then) -> Result<Bent, BendFault>
+/// - `Time`: no time was left before an event.
+pub fn bend<P: Patience>(
+    alloc: Global,
+    script: &Script,
+    bends: &[Bend],
+    then: Then,
+    patience: &mut P,
+) -> Result<Bent, BendFault>
     requires { IsReady script.now }
     ensures spells { IfOk result (λ bent. SpellsSchedule script.now.head (map once bent.ran) bent.text.items) }
     ensures follows { IfOk result Follows }
     ensures spares { IfOk result (λ bent. AllByRecursion (IsSpared bends.now bent.matches.items) bent.ran) }
 {
-    let old = run_of(alloc, script)?;
-    let course = run_bent(alloc, &script.head, &old, bends, then)?;
+    let old = run_of(alloc, script, patience)?;
+    let course = run_bent(alloc, &script.head, &old, bends, then, patience)?;
     let text = schedule_text(alloc, &script.head, &course.ran)?;
     Ok(whole(text, old, course))
 }
@@ -76,12 +84,13 @@ fn whole(text: Vec<u8>, old: Old, course: Course) -> Bent
 }
 
 /// The run of a schedule with these changes.
-fn run_bent(
+fn run_bent<P: Patience>(
     alloc: Global,
     head: &Head,
     old: &Old,
     bends: &[Bend],
     then: Then,
+    patience: &mut P,
 ) -> Result<Course, BendFault>
     requires fits { FitsHead head.now }
     requires told { AllByRecursion (IsTellable head.now) old.now.events }
@@ -102,16 +111,17 @@ fn run_bent(
         Err(NewFault::Memory(_keeper)) => return Err(BendFault::Memory),
         Err(NewFault::Failed(_keeper)) => return Err(BendFault::Memory),
     };
-    let played = play(alloc, &mut world, &plan);
+    let played = play(alloc, &mut world, &plan, patience);
     let _keeper = world.into_keeper();
     played
 }
 
 /// Plays the run of a schedule with these changes over a world.
-fn play<K: Keeper>(
+fn play<K: Keeper, P: Patience>(
     alloc: Global,
     world: &mut World<K>,
     plan: &Plan<'_>,
+    patience: &mut P,
 ) -> Result<Course, BendFault>
     requires fits { FitsHead plan.now.head.now }
     requires told { AllByRecursion (IsTellable plan.now.head.now) plan.now.old.now.events }
@@ -120,29 +130,31 @@ fn play<K: Keeper>(
 {
     let mut course = Course::new(alloc, plan.head.hosts, plan.old)?;
     for place in 0..plan.old.events.len() {
-        change(alloc, world, &mut course, plan, place)?;
+        change(alloc, world, &mut course, plan, place, patience)?;
         keep(world, &mut course, plan, place)?;
     }
-    finish(alloc, world, &mut course, plan)?;
+    finish(alloc, world, &mut course, plan, patience)?;
     Ok(course)
 }
 
 /// What happens behind the last event of the old run.
-fn finish<K: Keeper>(
+fn finish<K: Keeper, P: Patience>(
     alloc: Global,
     world: &mut World<K>,
     course: &mut Course,
     plan: &Plan<'_>,
+    patience: &mut P,
 ) -> Result<(), BendFault>
     requires fits { FitsHead plan.now.head.now }
     requires settings { HasHead plan.now world.old }
     ensures goes { (count : ℕ) → IsOn plan.now count course.old → OnOk result (IsOn plan.now count course.new) }
 {
-    change(alloc, world, course, plan, plan.old.events.len())?;
+    let end = plan.old.events.len();
+    change(alloc, world, course, plan, end, patience)?;
     match plan.then {
         Then::Stop => Ok(()),
         Then::GoOn => {
-            drain(world, course, plan, None)?;
+            drain(world, course, plan, None, patience)?;
             Ok(())
         }
     }
@@ -150,19 +162,20 @@ fn finish<K: Keeper>(
 
 /// What happens before the event at a place of the old run: what is under way arrives, as far as it is to, and then the changes are
 /// made.
-fn change<K: Keeper>(
+fn change<K: Keeper, P: Patience>(
     alloc: Global,
     world: &mut World<K>,
     course: &mut Course,
     plan: &Plan<'_>,
     place: usize,
+    patience: &mut P,
 ) -> Result<(), BendFault>
     requires fits { FitsHead plan.now.head.now }
     requires settings { HasHead plan.now world.old }
     ensures settings { HasHead plan.now world.new }
     ensures goes { (count : ℕ) → IsOn plan.now count course.old → OnOk result (IsOn plan.now count course.new) }
 {
-    settle(world, course, plan, place)?;
+    settle(world, course, plan, place, patience)?;
     for number in 0..plan.bends.len() {
         make(alloc, world, course, plan, place, number)?;
     }
@@ -170,21 +183,22 @@ fn change<K: Keeper>(
 }
 
 /// All that is under way arrives, if a flow ended before the event at a place of the old run, and what is late, if a clock ticks in it.
-fn settle<K: Keeper>(
+fn settle<K: Keeper, P: Patience>(
     world: &mut World<K>,
     course: &mut Course,
     plan: &Plan<'_>,
     place: usize,
-) -> Result<(), NoMemory>
+    patience: &mut P,
+) -> Result<(), BendFault>
     requires settings { HasHead plan.now world.old }
     ensures settings { HasHead plan.now world.new }
     ensures goes { (count : ℕ) → IsOn plan.now count course.old → OnOk result (IsOn plan.now count course.new) }
 {
     if plan.old.is_behind_flow(place) {
-        return drain(world, course, plan, None);
+        return drain(world, course, plan, None, patience);
     }
     if plan.waits_at(place) {
-        return drain(world, course, plan, Some(place));
+        return drain(world, course, plan, Some(place), patience);
     }
     Ok(())
 }

@@ -1,6 +1,7 @@
 //! What is changed in a run, and what comes of it.
 
 use nq_base::{Host, NoMemory};
+use nq_observe::Unseen;
 use nq_script::Schedule;
 
 /// A change. Packets are meant by their numbers in the old run, events by their places in it, counted from 0; the place behind the
@@ -82,10 +83,21 @@ pub enum BendFault {
     Bad(usize),
     /// Memory was wanting.
     Memory,
+    /// No time was left.
+    Time,
 }
 
 impl From<NoMemory> for BendFault {
     fn from(_: NoMemory) -> BendFault {
         BendFault::Memory
+    }
+}
+
+impl From<Unseen> for BendFault {
+    fn from(unseen: Unseen) -> BendFault {
+        match unseen {
+            Unseen::Memory => BendFault::Memory,
+            Unseen::Time => BendFault::Time,
+        }
     }
 }

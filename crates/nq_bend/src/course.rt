@@ -9,13 +9,14 @@ ghost use Rattle.nq_replay.specs.Texts.{IsTellable};
 ghost use Rattle.nq_script.specs.Lines.{IsFilledEvent};
 ghost use Rattle.nq_script.specs.declared.heads.Head.{Head};
 
-use crate::bends::{LeftOut, Why};
+use crate::bends::{BendFault, LeftOut, Why};
 use crate::lanes::Lanes;
 use crate::old::Old;
 use crate::plan::Plan;
 use nq_base::{Event, Host, NoMemory, Party};
 use nq_keeper::Keeper;
-use nq_observe::Post;
+use nq_observe::{Patience, Post};
+use nq_record::Sent;
 use nq_script::Schedule;
 use nq_world::{MOST_EVENTS, Stepped, World};
 use std::alloc::Global;
@@ -33,8 +34,12 @@ pub(crate) struct Course {
     post: Post,
     /// The packets of both runs.
     pub(crate) lanes: Lanes,
-    /// The packets that are under way.
-    waiting: Vec<u64>,
+    /// Of each packet whether it is under way.
+    waiting: Vec<bool>,
+    /// No packet before this one is under way.
+    oldest: usize,
+    /// Packets that may be late: all others of the old run never arrive there.
+    hasty: Vec<u64>,
     /// Which hosts are cut off.
     cut: Vec<bool>,
     /// Whether the world refused the last event.
@@ -53,6 +58,8 @@ impl Course {
             post: Post::new(alloc),
             lanes: Lanes::new(alloc, old.post.sent())?,
             waiting: Vec::new(alloc),
+            oldest: 0,
+            hasty: Vec::new(alloc),
             cut: vec![in alloc; false; hosts as usize]?,
             is_over: false,
         })
@@ -121,33 +128,68 @@ impl Course {
 
     /// The first packet under way that can arrive: any, or one that is late at a place of the old run.
     fn next_waiting(&self, plan: &Plan<'_>, late: Option<usize>) -> Option<u64> {
-        for packet in &self.waiting {
-            if !self.is_cut(*packet) && self.is_late(plan, *packet, late) {
+        match late {
+            Some(place) => self.next_late(plan, place),
+            None => self.next_of_all(),
+        }
+    }
+
+    /// The first packet under way that can arrive.
+    fn next_of_all(&self) -> Option<u64> {
+        for number in self.oldest..self.waiting.len() {
+            let packet = number as u64;
+            if self.is_waiting(packet) && !self.is_cut(packet) {
+                return Some(packet);
+            }
+        }
+        None
+    }
+
+    /// The first packet under way that can arrive and was to arrive before this place of the old run.
+    fn next_late(&self, plan: &Plan<'_>, place: usize) -> Option<u64> {
+        for packet in &self.hasty {
+            if !self.is_cut(*packet) && self.is_late(plan, *packet, place) {
                 return Some(*packet);
             }
         }
         None
     }
 
-    /// Whether a packet is to arrive before this place of the old run, if there is a place. One that is none of the old run is, unless the
-    /// old run lost the last of its kind.
-    fn is_late(&self, plan: &Plan<'_>, packet: u64, late: Option<usize>) -> bool {
-        let Some(place) = late else {
-            return true;
-        };
-        if let Some(Some(old)) = self.lanes.olds.get(packet as usize) {
-            return plan.is_due(*old, place);
-        }
-        match self.last_like(packet) {
-            Some(last) => !plan.old.is_overtaken(last),
-            None => true,
+    /// Whether a packet is none of the old run, or one that was to arrive before this place there.
+    fn is_late(&self, plan: &Plan<'_>, packet: u64, place: usize) -> bool {
+        match self.lanes.olds.get(packet as usize) {
+            Some(Some(old)) => match plan.moment_of(*old) {
+                Some(moment) => moment < place,
+                None => false,
+            },
+            _ => true,
         }
     }
 
-    /// The last packet of the old run on the link of a packet of the new run and of its kind.
-    fn last_like(&self, packet: u64) -> Option<u64> {
-        let sent = self.post.sent().get(packet as usize)?;
-        self.lanes.last_like(sent)
+    /// Whether a packet is under way.
+    fn is_waiting(&self, packet: u64) -> bool {
+        match self.waiting.get(packet as usize) {
+            Some(waits) => *waits,
+            None => false,
+        }
+    }
+
+    /// The first packet that is under way; the number of all where none is.
+    fn first_waiting(&self) -> usize {
+        for number in self.oldest..self.waiting.len() {
+            if self.is_waiting(number as u64) {
+                return number;
+            }
+        }
+        self.waiting.len()
+    }
+
+    /// Whether a packet that is sent may be late, where it is this one of the old run, if it is one.
+    fn may_be_late(&self, plan: &Plan<'_>, sent: &Sent, old: Option<u64>) -> bool {
+        match old {
+            Some(old) => plan.moment_of(old).is_some(),
+            None => self.lanes.was_heard(sent, plan.old),
+        }
     }
 
     /// Whether an event is no delivery, or that of a packet that was sent and is not lost.
@@ -239,14 +281,26 @@ impl Course {
     ) -> Result<(), NoMemory>
         ensures { (count : ℕ) → IsOn plan.now count self.old → OnOk result (IsOn plan.now count self.new) }
     {
-        if let Event::Deliver(packet) = event {
-            let arrived = *packet;
-            self.waiting.retain(|other: &u64| *other != arrived);
-        }
-        self.post.see(world.packets(), event)?;
+        self.take_in(world, event)?;
         for number in self.lanes.sent()..self.post.sent().len() {
             self.note_sent(plan, number)?;
         }
+        Ok(())
+    }
+
+    /// Notes the packets behind an event that a world took in. One that arrives is not under way any more.
+    fn take_in<K: Keeper>(&mut self, world: &World<K>, event: &Event) -> Result<(), NoMemory>
+        ensures { (head : Head) (old : List Event) (bends : List Bend) (count : ℕ) → IsCourse head old bends count self.old
+            → OnOk result (IsCourse head old bends count self.new) }
+    {
+        self.post.see(world.packets(), event)?;
+        let Event::Deliver(packet) = event else {
+            return Ok(());
+        };
+        let arrived = *packet;
+        clear(&mut self.waiting, arrived);
+        self.hasty.retain(|other: &u64| *other != arrived);
+        self.oldest = self.first_waiting();
         Ok(())
     }
 
@@ -258,11 +312,29 @@ impl Course {
             return Ok(());
         };
         let old = self.lanes.note(sent)?;
-        if plan.bars(old) {
+        let may_be_late = self.may_be_late(plan, sent, old);
+        self.set_out(plan.bars(old), may_be_late)
+    }
+
+    /// Notes that the next packet gets under way, if it is not barred, and whether it may be late.
+    fn set_out(&mut self, is_barred: bool, may_be_late: bool) -> Result<(), NoMemory>
+        ensures { (head : Head) (old : List Event) (bends : List Bend) (count : ℕ) → IsCourse head old bends count self.old
+            → OnOk result (IsCourse head old bends count self.new) }
+    {
+        let number = self.waiting.len() as u64;
+        self.waiting.push(!is_barred)?;
+        if is_barred || !may_be_late {
             return Ok(());
         }
-        self.waiting.push(number as u64)?;
+        self.hasty.push(number)?;
         Ok(())
+    }
+}
+
+/// Notes that a packet is not under way.
+fn clear(waiting: &mut Vec<bool>, packet: u64) {
+    if let Some(waits) = waiting.get_mut(packet as usize) {
+        *waits = false;
     }
 }
 
@@ -312,12 +384,13 @@ pub(crate) fn come<K: Keeper>(
 }
 
 /// All that is under way arrives, or all that is late at a place of the old run, until nothing is.
-pub(crate) fn drain<K: Keeper>(
+pub(crate) fn drain<K: Keeper, P: Patience>(
     world: &mut World<K>,
     course: &mut Course,
     plan: &Plan<'_>,
     late: Option<usize>,
-) -> Result<(), NoMemory>
+    patience: &mut P,
+) -> Result<(), BendFault>
     requires settings { HasHead plan.now world.old }
     ensures settings { HasHead plan.now world.new }
     ensures goes { (count : ℕ) → IsOn plan.now count course.old
@@ -326,6 +399,9 @@ pub(crate) fn drain<K: Keeper>(
     for turn in 0..MOST_EVENTS {
         if course.is_over {
             return Ok(());
+        }
+        if patience.is_over() {
+            return Err(BendFault::Time);
         }
         let Some(packet) = course.next_waiting(plan, late) else {
             return Ok(());

@@ -3,6 +3,7 @@
 ghost use Rattle.std.specs.Prelude.{◌≡◌, [], IfOk};
 ghost use Rattle.nq_bend.specs.Bending.{IsLonger};
 
+use crate::old::Old;
 use nq_base::{NoMemory, Party};
 use nq_record::Sent;
 use std::alloc::Global;
@@ -68,14 +69,17 @@ impl Lanes {
         }
     }
 
-    /// The last packet of the old run on the link of a packet and of its kind.
-    pub(crate) fn last_like(&self, packet: &Sent) -> Option<u64> {
+    /// Whether the old run did not lose the last packet on the link of a packet and of its kind.
+    pub(crate) fn was_heard(&self, packet: &Sent, old: &Old) -> bool {
         for lane in &self.lanes {
             if lane.is_of(packet) {
-                return lane.last();
+                return match lane.old.last() {
+                    Some(last) => !old.is_overtaken(*last),
+                    None => true,
+                };
             }
         }
-        None
+        true
     }
 
     /// Adds a packet of the old run.
@@ -120,14 +124,6 @@ impl Lane {
     /// Whether a packet is of this link and kind.
     fn is_of(&self, packet: &Sent) -> bool {
         self.from == packet.from && self.to == packet.to && self.kind.as_str() == kind_of(packet)
-    }
-
-    /// The last packet of the old run.
-    fn last(&self) -> Option<u64> {
-        match self.old.last() {
-            Some(packet) => Some(*packet),
-            None => None,
-        }
     }
 
     /// The packet of the old run that the next one of the new run is.

@@ -74,14 +74,14 @@ impl Plan<'_> {
         self.then == Then::GoOn && self.old.is_tick(place)
     }
 
-    /// Whether a packet of the old run is to arrive before the event at a place.
-    pub(crate) fn is_due(&self, packet: u64, place: usize) -> bool {
+    /// The event before which, or in which, a packet of the old run is to arrive first, if it is to.
+    pub(crate) fn moment_of(&self, packet: u64) -> Option<usize> {
         for bend in self.bends.iter() {
             if let Some(event) = moment_in(bend, packet) {
-                return event < place;
+                return Some(event);
             }
         }
-        self.old.arrives_before(packet, place)
+        self.old.first_arrival(packet)
     }
 
     /// Why the delivery of a packet, in the event at a place, is left out whatever happened, if it is.

@@ -61,6 +61,7 @@ impl From<BendFault> for Untold {
         match fault {
             BendFault::Bad(place) => Untold::Bend(place),
             BendFault::Memory => Untold::Memory,
+            BendFault::Time => Untold::Time,
         }
     }
 }
@@ -137,7 +138,7 @@ pub(crate) fn bend_text(
         _ => return Ok(Bending::Faulty(Told::without_journal(alloc, end, printed))),
     };
     watch.check()?;
-    let bent = bend(alloc, &script, bends, then)?;
+    let bent = bend(alloc, &script, bends, then, watch)?;
     if bent.text.len() > MOST_BYTES {
         return Err(Untold::Time);
     }
