@@ -184,14 +184,6 @@ impl Course {
         self.waiting.len()
     }
 
-    /// Whether a packet that is sent may be late, where it is this one of the old run, if it is one.
-    fn may_be_late(&self, plan: &Plan<'_>, sent: &Sent, old: Option<u64>) -> bool {
-        match old {
-            Some(old) => plan.moment_of(old).is_some(),
-            None => self.lanes.was_heard(sent, plan.old),
-        }
-    }
-
     /// Whether an event is no delivery, or that of a packet that was sent and is not lost.
     fn spares(&self, plan: &Plan<'_>, event: &Event) -> bool
         ensures { IsTrue result → IsSpared plan.now.bends.now self.now.lanes.olds.items event.now }
@@ -312,7 +304,7 @@ impl Course {
             return Ok(());
         };
         let old = self.lanes.note(sent)?;
-        let may_be_late = self.may_be_late(plan, sent, old);
+        let may_be_late = may_be_late(plan, &self.lanes, sent, old);
         self.set_out(plan.bars(old), may_be_late)
     }
 
@@ -328,6 +320,14 @@ impl Course {
         }
         self.hasty.push(number)?;
         Ok(())
+    }
+}
+
+/// Whether a packet that is sent may be late, where it is this one of the old run, if it is one.
+fn may_be_late(plan: &Plan<'_>, lanes: &Lanes, sent: &Sent, old: Option<u64>) -> bool {
+    match old {
+        Some(old) => plan.moment_of(old).is_some(),
+        None => lanes.was_heard(sent, plan.old),
     }
 }
 
