@@ -1,13 +1,20 @@
 //! A server that serves on over an image, while somebody looks on.
 
+ghost use Rattle.std.specs.Prelude.{None, false};
+
 use crate::parts::{disk_of, post_of};
 use crate::post::{PostLink, StoryClock};
 use crate::scenes::LAST;
-use nq_base::{Journal, Party, Ticks};
+use nq_base::{Host, Journal, Party, Ticks};
 use nq_io::streams::StdSink;
+use nq_keeper::{KeepFault, Keeper};
+use nq_server::Server;
 use nq_service::mount::{Greeter, Survey, serve_image};
-use nq_serving::daemon::Watcher;
+use nq_serving::Extension;
+use nq_serving::daemon::{Nobody, Watcher};
 use nq_serving::traffic::{CountedLink, Gauge, Report};
+use nq_wire::Outbox;
+use std::alloc::Global;
 use std::cell::RefCell;
 use std::io;
 use std::rc::Rc;
@@ -34,6 +41,27 @@ impl<R> Greeter for Onlooker<'_, R> {
 impl<L, R: Watcher<L>> Watcher<L> for Onlooker<'_, R> {
     fn turned(&mut self, link: &L, now: Ticks, rows: usize, log: &Journal) {
         self.report.turned(link, now, rows, log);
+    }
+}
+
+impl<R> Extension for Onlooker<'_, R> {
+    ghost owns = { λ _. false };
+
+    ghost replies = { λ _ _ _. None };
+
+    fn is_own(&self, datagram: &[u8]) -> bool {
+        Nobody.is_own(datagram)
+    }
+
+    fn answer<K: Keeper>(
+        &self,
+        alloc: Global,
+        server: &mut Server<K>,
+        host: Host,
+        datagram: &[u8],
+        out: &mut Outbox,
+    ) -> Result<(), KeepFault> {
+        Nobody.answer(alloc, server, host, datagram, out)
     }
 }
 
