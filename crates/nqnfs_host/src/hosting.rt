@@ -56,18 +56,19 @@ pub(crate) struct Hosting {
 }
 
 impl Hosting {
-    /// A host that nobody has asked yet.
+    /// A host that nobody has asked yet. None where its sockets cannot be waited for; the client is closed then.
     pub(crate) fn open(
         rt: &HostRuntime,
         desk: HostDesk,
         door: UnixListener,
         ledger: Ledger,
-    ) -> Result<Hosting, HostDesk> {
+    ) -> Option<Hosting> {
         let mut desk = desk;
         let mut door = door;
         let alloc = rt.alloc();
         let Ok(poll) = Poll::new(rt) else {
-            return Err(desk);
+            desk.close();
+            return None;
         };
         let server = poll
             .registry()
@@ -76,9 +77,10 @@ impl Hosting {
             .registry()
             .register(&mut door, DOOR, Interest::READABLE);
         if server.is_err() || askers.is_err() {
-            return Err(desk);
+            desk.close();
+            return None;
         }
-        Ok(Hosting {
+        Some(Hosting {
             alloc,
             desk,
             poll,

@@ -177,14 +177,11 @@ fn live(rt: &HostRuntime, folder: &str, who: Who, link: HostLink, door: UnixList
         desk.close();
         return Ending::KeepFault;
     };
-    match Hosting::open(rt, desk, door, ledger) {
-        Ok(hosting) => attend(rt, folder, who, hosting),
-        Err(desk) => {
-            let _told = eprintln!(rt; "nqnfs_host: its sockets cannot be waited for");
-            desk.close();
-            Ending::LinkFault
-        }
-    }
+    let Some(hosting) = Hosting::open(rt, desk, door, ledger) else {
+        let _told = eprintln!(rt; "nqnfs_host: its sockets cannot be waited for");
+        return Ending::LinkFault;
+    };
+    attend(rt, folder, who, hosting)
 }
 
 /// Works, and gives the leases back in the end.
