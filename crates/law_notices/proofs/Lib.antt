@@ -2,3 +2,4 @@ pub mod Told
 pub mod Attached
 pub mod GivenUp
 pub mod RowsGo
+pub mod SomeGivenUp

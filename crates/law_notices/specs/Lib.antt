@@ -1,1 +1,2 @@
 pub mod RowsAreGivenUp
+pub mod GivenUpIsMet

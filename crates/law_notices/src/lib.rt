@@ -4,4 +4,4 @@
 
 mod notices;
 
-pub use notices::rows_are_given_up;
+pub use notices::{given_up_is_met, rows_are_given_up};
