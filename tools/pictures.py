@@ -17,6 +17,7 @@ import sys
 ROOT = pathlib.Path(__file__).resolve().parent.parent
 PICTURES = ROOT / "docs/pictures"
 TOUR = ROOT / "docs/tour.md"
+QUOTED = re.compile(r"```\n(nqnfs-(?:schedule|journal) .*?)```", re.DOTALL)
 SHOWN = re.compile(r"\(pictures/([a-z0-9-]+)\.svg\)")
 
 
@@ -26,12 +27,12 @@ def drawn(program, schedule):
     return ended.stdout
 
 
-def misquoted(name, tour):
-    """Which of the texts of an example the tour does not show to the letter."""
-    for suffix in ("schedule", "journal"):
-        text = (ROOT / "examples" / f"{name}.{suffix}").read_text()
-        if f"```\n{text}```" not in tour:
-            yield f"{TOUR.name}: not the {suffix} of {name}"
+def misquoted(names, tour):
+    """Which schedules and journals of the tour are not, to the letter, those of the examples that it shows."""
+    texts = [(ROOT / "examples" / f"{name}.{suffix}").read_text() for name in names for suffix in ("schedule", "journal")]
+    for number, text in enumerate(QUOTED.findall(tour), 1):
+        if text not in texts:
+            yield f"{TOUR.name}: text {number} is of none of its examples"
 
 
 def main():
@@ -40,10 +41,9 @@ def main():
     words.add_argument("--write", action="store_true")
     said = words.parse_args()
     tour = TOUR.read_text()
-    faults = []
     names = SHOWN.findall(tour)
+    faults = list(misquoted(names, tour))
     for name in names:
-        faults.extend(misquoted(name, tour))
         picture = drawn(said.program, (ROOT / "examples" / f"{name}.schedule").read_bytes())
         file = PICTURES / f"{name}.svg"
         if file.exists() and file.read_bytes() == picture:
