@@ -166,6 +166,7 @@ fn open_door(rt: &HostRuntime, folder: &str) -> io::Result<UnixListener> {
 
 /// Lives until it is told to end.
 fn live(rt: &HostRuntime, folder: &str, who: Who, link: HostLink, door: UnixListener) -> Ending {
+    let (number, inc) = (who.host.0, who.inc.0);
     let Ok(watch) = rt.clone() else {
         return told_memory(rt);
     };
@@ -181,13 +182,12 @@ fn live(rt: &HostRuntime, folder: &str, who: Who, link: HostLink, door: UnixList
         let _told = eprintln!(rt; "nqnfs_host: its sockets cannot be waited for");
         return Ending::LinkFault;
     };
-    attend(rt, folder, who, hosting)
+    attend(rt, folder, number, inc, hosting)
 }
 
 /// Works, and gives the leases back in the end.
-fn attend(rt: &HostRuntime, folder: &str, who: Who, hosting: Hosting) -> Ending {
+fn attend(rt: &HostRuntime, folder: &str, number: u32, inc: u32, hosting: Hosting) -> Ending {
     let mut hosting = hosting;
-    let (number, inc) = (who.host.0, who.inc.0);
     let _told = println!(rt;
         "nqnfs_host 1: host {number}, incarnation {inc}, asked at {folder}/asks"
     );
@@ -206,7 +206,7 @@ fn attend(rt: &HostRuntime, folder: &str, who: Who, hosting: Hosting) -> Ending 
     if desk.is_delaying() {
         let _lost = told(rt, ending, "delayed writes that were not stored are lost");
     }
-    if !give_back(rt, folder, who.host, &mut desk) {
+    if !give_back(rt, folder, Host(number), &mut desk) {
         let _told = told(
             rt,
             ending,
