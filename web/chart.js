@@ -32,8 +32,9 @@ function strips(rows, pieces, { wide, high }) {
   for (let first = 0; first < rows.length; first += STRIP) {
     const top = first === 0 ? 0 : rows[first].top;
     const end = first + STRIP < rows.length ? rows[first + STRIP].top : high;
-    const own = pieces.filter(({ from, to }) => from < end && to > top);
-    const text = LAYERS.map((layer) => own.filter((piece) => piece.layer === layer).map((piece) => piece.text).join("")).join("");
+    const own = Object.fromEntries(LAYERS.map((layer) => [layer, ""]));
+    for (const { layer, from, to, text } of pieces) if (from < end && to > top) own[layer] += text;
+    const text = LAYERS.map((layer) => own[layer]).join("");
     const size = `width="${wide}" height="${end - top}" style="contain-intrinsic-size:${wide}px ${end - top}px"`;
     drawn.push(`<svg class="strip" ${size} viewBox="0 ${top} ${wide} ${end - top}">${text}</svg>`);
   }

@@ -50,18 +50,19 @@ function answerPromises(words, call) {
 // Each write with its fate, in words; `missing` where it is lost or forgotten. Equal writes of a host are counted.
 function writesOf(entries) {
   const counts = new Map();
+  const fates = entries.filter(({ kind }) => "SLB".includes(kind));
   return entries.filter(({ kind }) => kind === "W").map((write) => {
     const [, host, inc, file, block, , value] = write.words;
     const says = `host ${host}${inc === "1" ? "" : `, start ${inc}`}: ${file}:${block} = ${value}`;
     counts.set(says, (counts.get(says) ?? 0) + 1);
     const key = counts.get(says) === 1 ? says : `${says}, time ${counts.get(says)}`;
-    return { key, ...fateOf(entries, write) };
+    return { key, ...fateOf(entries, fates, write) };
   });
 }
 
-function fateOf(entries, write) {
+function fateOf(entries, fates, write) {
   if (write.words[7] === "through") return { fate: "stored at once", missing: false, line: write.line };
-  const later = entries.slice(write.line - 1);
+  const later = fates.filter(({ line }) => line > write.line);
   const stored = later.find((entry) => entry.kind === "S" && covers(entry, write));
   const again = later.find((entry) => entry.kind === "B" && startsAfter(entry, write));
   const lost = later.find((entry) => entry.kind === "L" && covers(entry, write));
@@ -94,14 +95,16 @@ function causeOf(entries, write, lost) {
 
 // Each call with its answer, in words; `open` where it has none.
 function callsOf(entries) {
-  const reads = new Map(entries.filter(({ kind }) => kind === "R").map((entry) => [entry.words.slice(1, 4).join(" "), entry]));
+  const named = (letter) => new Map(entries.filter(({ kind }) => kind === letter).map((entry) => [entry.words.slice(1, 4).join(" "), entry]));
+  const [reads, answers] = [named("R"), named("A")];
+  const starts = entries.filter(({ kind }) => kind === "B");
   return entries.filter(({ kind }) => kind === "C").map((call) => {
     const [, host, inc, number, ...asks] = call.words;
     const who = `${host} ${inc} ${number}`;
     const key = `host ${host}${inc === "1" ? "" : `, start ${inc}`}, call ${number}: ${asks.join(" ")}`;
-    const answer = entries.find((entry) => entry.kind === "A" && entry.words.slice(1, 4).join(" ") === who);
+    const answer = answers.get(who);
     if (answer) return { key, said: answerWords(answer, reads.get(who)), open: false, line: answer.line };
-    const again = entries.find((entry) => entry.kind === "B" && startsAfter(entry, call));
+    const again = starts.find((entry) => startsAfter(entry, call));
     return { key, said: again ? "never: its host started again" : "not answered yet", open: !again, line: call.line };
   });
 }
