@@ -20,7 +20,8 @@ function drawChart(place, names, rows, packets, hosts) {
   place.style.width = `${layout.wide}px`;
   names.innerHTML = layout.parties.map((name, party) => `<span style="left:${layout.lines[party]}px">${name}</span>`).join("");
   names.style.width = `${layout.wide}px`;
-  return { rows, packets, layout, place, ...found(place) };
+  let parts = null;
+  return { rows, packets, layout, place, bands: [...place.querySelectorAll(".band")], get shows() { return (parts ??= partsOf(place)); } };
 }
 
 const HEADS = `<svg class="heads" width="0" height="0"><defs><marker id="tip" viewBox="0 0 8 8" refX="7.5" refY="4" markerWidth="8" markerHeight="8" ` +
@@ -41,15 +42,15 @@ function strips(rows, pieces, { wide, high }) {
   return drawn.join("");
 }
 
-// The bands of the rows, and what shows packets, for marking.
-function found(place) {
+// What shows each packet, for marking; looked up when it is first wanted.
+function partsOf(place) {
   const shows = new Map();
   for (const part of place.querySelectorAll("[data-packet]")) {
     const number = Number(part.dataset.packet);
     if (shows.has(number)) shows.get(number).push(part);
     else shows.set(number, [part]);
   }
-  return { bands: [...place.querySelectorAll(".band")], shows };
+  return shows;
 }
 
 // A row: its band, the numbers of its events, who acts, and the texts beside the parties.
