@@ -3,6 +3,7 @@ use Rattle.std.proofs.Common.{◌≡◌, ◌⊎◌, ◌<◌, ◌≤◌, ℕ, Lis
 use Rattle.std.specs.Option.{ForSome}
 use Rattle.nq_serving.specs.DaemonLeaving.{IsLeftInRuns}
 use Rattle.nq_serving.specs.DaemonServing.{Runs}
+use Rattle.nq_serving.specs.Extending.{Extension}
 use Rattle.nq_serving.specs.Leaving.{IsSettled}
 use Rattle.nq_base.specs.declared.ending.halt.Halt.{Halt}
 use Rattle.nq_plan.specs.Formatted.{StandsForNothing, TellsNothing}
@@ -28,13 +29,13 @@ left-same kept bytes image before stays same (inl b) = same image b
 left-same kept bytes image before stays same (inr e) = e ∙ same bytes stays
 
 -- what is kept at first is left by the boot
-left-first : {K : Type 0} (content : K → Option Kept) (faults : K → ℕ) (follows : K → K → Type 0) (longest turns time : ℕ) (keeper : K)
+left-first : {K : Type 0} (content : K → Option Kept) (faults : K → ℕ) (extension : Extension) (follows : K → K → Type 0) (longest turns time : ℕ) (keeper : K)
     (ended : Result Unit Halt) (left : K) (clock clock' : ClockTold) (link link' : LinkTold)
-    (runs : Runs content faults follows longest turns time keeper ended left clock clock' link link') (kept : Kept) (found : Option Kept)
-    → found ≡ Some kept → IsLeftInRuns content faults follows longest turns time keeper ended left clock clock' link link' runs kept found
-left-first content faults follows longest turns time keeper (Ok done) left clock clock' link link' runs kept found e = inl (inl e)
-left-first content faults follows longest turns time keeper (Err why) left clock clock' link link' (inl runs) kept found e = inl (inl e)
-left-first content faults follows longest turns time keeper (Err why) left clock clock' link link' (inr none) kept found e = inl e
+    (runs : Runs content faults extension follows longest turns time keeper ended left clock clock' link link') (kept : Kept) (found : Option Kept)
+    → found ≡ Some kept → IsLeftInRuns content faults extension follows longest turns time keeper ended left clock clock' link link' runs kept found
+left-first content faults extension follows longest turns time keeper (Ok done) left clock clock' link link' runs kept found e = inl (inl e)
+left-first content faults extension follows longest turns time keeper (Err why) left clock clock' link link' (inl runs) kept found e = inl (inl e)
+left-first content faults extension follows longest turns time keeper (Err why) left clock clock' link link' (inr none) kept found e = inl e
 
 left-either : {A B : Type 0} (P : Type 0) → (A → P) → (B → P) → A ⊎ B → P
 left-either P f g (inl a) = f a
@@ -49,20 +50,20 @@ all_settled {D = D} told leaves store left is settled =
     (λ kept has image l. settled kept has (kept_on image) (image, l, refl))
 
 module _ {D : Type 0} (told : D → Option (List ℕ)) (faults : D → ℕ) (may_leave : D → List ℕ → Type 0) (follows : D → D → Type 0)
-    (leaves : D → D → List ℕ → Type 0) (longest turns : ℕ) where
+    (leaves : D → D → List ℕ → Type 0) (extension : Extension) (longest turns : ℕ) where
   -- a disk that was ready, from then on
   found-ready : (ready : D) (store : StoredStore D) (ended : Result Unit Halt) (left : D) (clock clock' : ClockTold) (link link' : LinkTold)
-      (ends : EndsServing told faults follows leaves longest turns store ended left clock clock' link link')
+      (ends : EndsServing told faults follows leaves extension longest turns store ended left clock clock' link link')
       → ((bytes : List ℕ) → told ready ≡ Some bytes → may_leave ready bytes)
       → ((last : D) (image : List ℕ) → follows store.disk last → leaves ready last image → leaves ready store.disk image ⊎ leaves store.disk last image)
       → LeavesLike (told ready) (may_leave ready) (leaves ready store.disk)
       → content_of told store ≡ kept_told (told ready)
       → (bytes : List ℕ) (kept : Kept) → told ready ≡ Some bytes → AllStandFor (may_leave ready) kept
-      → Each (leaves ready left) (IsFoundAmong told faults follows leaves longest turns store ended left clock clock' link link' ends kept)
+      → Each (leaves ready left) (IsFoundAmong told faults follows leaves extension longest turns store ended left clock clock' link link' ends kept)
   found-ready ready store ended left clock clock' link link' ends stays parts like keeps bytes kept is same image l =
       let s = ends.serving in
-      left-either (IsFoundAmong told faults follows leaves longest turns store ended left clock clock' link link' ends kept image)
-      (λ first. left-first (content_of told) (faults_of faults) (GoesOn faults follows) longest turns s.serves.time store ended ends.served
+      left-either (IsFoundAmong told faults follows leaves extension longest turns store ended left clock clock' link link' ends kept image)
+      (λ first. left-first (content_of told) (faults_of faults) extension (GoesOn faults follows) longest turns s.serves.time store ended ends.served
       s.serves.between clock' link link' s.serves.runs kept (kept_on image)
       (left-same kept bytes image (may_leave ready) (stays bytes is) same (like bytes is image first)))
       (λ later. s.only kept (keeps ∙ ap kept_told is ∙ same bytes (stays bytes is)) (kept_on image) (image, later, refl))
@@ -70,7 +71,7 @@ module _ {D : Type 0} (told : D → Option (List ℕ)) (faults : D → ℕ) (may
 
   -- a disk with a byte, from the moment on that it is handed in
   found-first : (disk ready : D) (store : StoredStore D) (ended : Result Unit Halt) (left : D) (clock clock' : ClockTold) (link link' : LinkTold)
-      (ends : EndsServing told faults follows leaves longest turns store ended left clock clock' link link')
+      (ends : EndsServing told faults follows leaves extension longest turns store ended left clock clock' link link')
       → ((d : D) (bytes : List ℕ) → told d ≡ Some bytes → may_leave d bytes)
       → ((first last : D) (bytes : List ℕ) → follows first last → may_leave first bytes ⊎ may_leave last bytes → leaves first last bytes)
       → ((first middle last : D) (image : List ℕ) → follows first middle → follows middle last → leaves first last image
@@ -80,11 +81,11 @@ module _ {D : Type 0} (told : D → Option (List ℕ)) (faults : D → ℕ) (may
       → LeavesLike (told ready) (may_leave ready) (leaves ready store.disk)
       → content_of told store ≡ kept_told (told ready)
       → (bytes : List ℕ) (kept : Kept) → told disk ≡ Some bytes → AllStandFor (may_leave disk) kept
-      → Each (leaves disk left) (IsFoundAmong told faults follows leaves longest turns store ended left clock clock' link link' ends kept)
+      → Each (leaves disk left) (IsFoundAmong told faults follows leaves extension longest turns store ended left clock clock' link link' ends kept)
   found-first disk ready store ended left clock clock' link link' ends stays outer parts goes opens on told_on no_more like keeps bytes kept is same image l =
       let s = ends.serving in
-      left-either (IsFoundAmong told faults follows leaves longest turns store ended left clock clock' link link' ends kept image)
-      (λ first. left-first (content_of told) (faults_of faults) (GoesOn faults follows) longest turns s.serves.time store ended ends.served
+      left-either (IsFoundAmong told faults follows leaves extension longest turns store ended left clock clock' link link' ends kept image)
+      (λ first. left-first (content_of told) (faults_of faults) extension (GoesOn faults follows) longest turns s.serves.time store ended ends.served
       s.serves.between clock' link link' s.serves.runs kept (kept_on image) (same image (no_more image first)))
       (λ later. found-ready ready store ended left clock clock' link link' ends (stays ready) (λ last i next. parts ready store.disk last i opens next) like
       keeps bytes kept (told_on ∙ is) (λ i may. same i (no_more i (outer disk ready i goes (inr may)))) image later)
@@ -92,13 +93,13 @@ module _ {D : Type 0} (told : D → Option (List ℕ)) (faults : D → ℕ) (may
 
   -- the same of a disk that became an empty image, from the moment on that it is one
   found-made : (ready : D) (store : StoredStore D) (ended : Result Unit Halt) (left : D) (clock clock' : ClockTold) (link link' : LinkTold)
-      (ends : EndsServing told faults follows leaves longest turns store ended left clock clock' link link')
+      (ends : EndsServing told faults follows leaves extension longest turns store ended left clock clock' link link')
       → ((bytes : List ℕ) → told ready ≡ Some bytes → may_leave ready bytes)
       → ((last : D) (image : List ℕ) → follows store.disk last → leaves ready last image → leaves ready store.disk image ⊎ leaves store.disk last image)
       → LeavesLike (told ready) (may_leave ready) (leaves ready store.disk)
       → content_of told store ≡ kept_told (told ready)
       → TellsNothing (told ready) → Each (may_leave ready) StandsForNothing
-      → Each (leaves ready left) (IsFoundAmong told faults follows leaves longest turns store ended left clock clock' link link' ends nothing_kept)
+      → Each (leaves ready left) (IsFoundAmong told faults follows leaves extension longest turns store ended left clock clock' link link' ends nothing_kept)
   found-made ready store ended left clock clock' link link' ends stays parts like keeps tells each =
       found-ready ready store ended left clock clock' link link' ends stays parts like keeps tells.0 nothing_kept tells.1
       (λ image may. nothing_on image (each image may))
@@ -112,8 +113,8 @@ module _ {D : Type 0} (told : D → Option (List ℕ)) (faults : D → ℕ) (may
       → leaves first middle image ⊎ leaves middle last image)
       → ((first second third : D) → follows first second → follows second third → follows first third)
       → ((first last : D) → follows first last → faults first ≤ faults last)
-      → EndsServing told faults follows leaves longest turns store ended left clock clock' link link'
-      → ServesImage told faults may_leave follows leaves longest turns disk ended left clock clock' link link'
+      → EndsServing told faults follows leaves extension longest turns store ended left clock clock' link link'
+      → ServesImage told faults may_leave follows leaves extension longest turns disk ended left clock clock' link link'
   serves_opened disk store ended left clock clock' link link' opens stays outer parts further rises ends =
       let ready = opens.ready in
       let is_ready = opens.is_ready in

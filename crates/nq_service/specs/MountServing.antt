@@ -1,10 +1,11 @@
 -- What serving on over the image on a disk does. Below, `told` is what a disk tells of its bytes, `faults` is its count of faults, `may_leave` is
 -- what a stop at a moment may leave of its bytes, `follows` says that a disk is another one after some of its calls, and `leaves` is what a
--- stop between two moments may leave.
+-- stop between two moments may leave. An `extension` stands beside the server.
 use Rattle.std.specs.Option.{ForSome}
 use Rattle.std.specs.Prelude.{◌≡◌, ◌⊎◌, ◌<◌, ◌≤◌, ◌^◌, ◌-◌, ℕ, List, [], Option, Some, None, Result, Ok, Err, length}
 use Rattle.nq_serving.specs.DaemonLeaving.{IsLeftInRuns, LeavesServing}
 use Rattle.nq_serving.specs.DaemonServing.{EndsBy}
+use Rattle.nq_serving.specs.Extending.{Extension}
 use Rattle.nq_base.specs.declared.ending.halt.Halt.{Halt}
 use Rattle.nq_plan.specs.Standing.{stands_as}
 use Rattle.nq_image.specs.Nothing.{nothing_kept}
@@ -47,23 +48,23 @@ pub record ServesNot {D : Type 0} (told : D → Option (List ℕ)) (faults : D �
 -- a stop leaves stands for exactly what the server keeps then. This refuses a server that answers `ok` once the gate byte is written and before it
 -- is synced
 pub record EndsServing {D : Type 0} (told : D → Option (List ℕ)) (faults : D → ℕ) (follows : D → D → Type 0) (leaves : D → D → List ℕ → Type 0)
-    (longest turns : ℕ) (store : StoredStore D) (ended : Result Unit Halt) (left : D) (clock clock' : ClockTold) (link link' : LinkTold) : Type 0 where
+    (extension : Extension) (longest turns : ℕ) (store : StoredStore D) (ended : Result Unit Halt) (left : D) (clock clock' : ClockTold) (link link' : LinkTold) : Type 0 where
   pub served : StoredStore D
   pub handed : left ≡ served.disk
   pub same : GoesOn faults follows store served
   pub cause : EndsBy ended (content_of told store) (faults_of faults store) (faults_of faults served)
-  pub serving : LeavesServing (content_of told) (faults_of faults) (GoesOn faults follows) (λ first last. LeavesKept (leaves first.disk last.disk))
+  pub serving : LeavesServing (content_of told) (faults_of faults) extension (GoesOn faults follows) (λ first last. LeavesKept (leaves first.disk last.disk))
       longest turns store ended served clock clock' link link'
   pub settled : ForSome (content_of told served) (λ kept. AllStandFor (leaves left left) kept)
 
 -- this image, which a stop left, opens, and stands for what was kept at first, or after some of the steps: the boot, and the ticks and datagrams of
 -- the turns
 abbrev pub IsFoundAmong : {D : Type 0} → (told : D → Option (List ℕ)) → (faults : D → ℕ) → (follows : D → D → Type 0) → (leaves : D → D → List ℕ
-    → Type 0) → (longest turns : ℕ) → (store : StoredStore D) → (ended : Result Unit Halt) → (left : D) → (clock clock' : ClockTold)
-    → (link link' : LinkTold) → EndsServing told faults follows leaves longest turns store ended left clock clock' link link' → (kept : Kept)
+    → Type 0) → (extension : Extension) → (longest turns : ℕ) → (store : StoredStore D) → (ended : Result Unit Halt) → (left : D) → (clock clock' : ClockTold)
+    → (link link' : LinkTold) → EndsServing told faults follows leaves extension longest turns store ended left clock clock' link link' → (kept : Kept)
     → (image : List ℕ) → Type 0
-IsFoundAmong told faults follows leaves longest turns store ended left clock clock' link link' ends kept image =
-    IsLeftInRuns (content_of told) (faults_of faults) (GoesOn faults follows) longest turns ends.serving.serves.time store ended ends.served
+IsFoundAmong told faults follows leaves extension longest turns store ended left clock clock' link link' ends kept image =
+    IsLeftInRuns (content_of told) (faults_of faults) extension (GoesOn faults follows) longest turns ends.serving.serves.time store ended ends.served
     ends.serving.serves.between clock' link link' ends.serving.serves.runs kept (kept_on image)
 
 -- a count of faults stood still, or it stood at the end of its type before, where it cannot rise
@@ -75,7 +76,7 @@ StoodStill before now = (now ≡ before) ⊎ (2 ^ 64 - 1 ≤ before)
 -- steps. Where it had none, the same is so of a stop at any moment from then on that the image was made, for the state in which nothing is kept. Where
 -- all turns were taken, no call of the disk failed
 pub record ServesImage {D : Type 0} (told : D → Option (List ℕ)) (faults : D → ℕ) (may_leave : D → List ℕ → Type 0) (follows : D → D → Type 0)
-    (leaves : D → D → List ℕ → Type 0) (longest turns : ℕ) (disk : D) (ended : Result Unit Halt) (left : D) (clock clock' : ClockTold)
+    (leaves : D → D → List ℕ → Type 0) (extension : Extension) (longest turns : ℕ) (disk : D) (ended : Result Unit Halt) (left : D) (clock clock' : ClockTold)
     (link link' : LinkTold) : Type 0 where
   pub ready : D
   pub is_ready : IsReady told faults may_leave follows leaves disk ready
@@ -83,10 +84,10 @@ pub record ServesImage {D : Type 0} (told : D → Option (List ℕ)) (faults : D
   pub opened : follows ready store.disk
   pub keeps : content_of told store ≡ kept_told (told ready)
   pub fresh : IsFresh store
-  pub ends : EndsServing told faults follows leaves longest turns store ended left clock clock' link link'
+  pub ends : EndsServing told faults follows leaves extension longest turns store ended left clock clock' link link'
   pub failed : ended ≡ Err Halt.Keep → HasRisen (faults disk) (faults left)
   pub done : ended ≡ Ok tt → StoodStill (faults disk) (faults left)
   pub survives : ForSome (told disk) (λ bytes. 0 < length bytes → (kept : Kept) → AllStandFor (may_leave disk) kept
-      → Each (leaves disk left) (IsFoundAmong told faults follows leaves longest turns store ended left clock clock' link link' ends kept))
+      → Each (leaves disk left) (IsFoundAmong told faults follows leaves extension longest turns store ended left clock clock' link link' ends kept))
   pub survives_made : told disk ≡ Some []
-      → Each (leaves ready left) (IsFoundAmong told faults follows leaves longest turns store ended left clock clock' link link' ends nothing_kept)
+      → Each (leaves ready left) (IsFoundAmong told faults follows leaves extension longest turns store ended left clock clock' link link' ends nothing_kept)

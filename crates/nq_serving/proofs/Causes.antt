@@ -2,6 +2,7 @@
 use Rattle.std.proofs.Common.{◌≡◌, ◌∙◌, ◌+◌, ◌*◌, ◌<◌, ◌≤◌, ℕ, zero, suc, List, Result, Ok, Err, Option, Some, inl, inr, refl, sym, ap, subst, arith}
 use Rattle.nq_base.specs.declared.ending.ending.Ending.{Ending}
 use Rattle.nq_base.specs.declared.ending.halt.Halt.{Halt}
+use Rattle.nq_serving.specs.Extending.{no_extension}
 use Rattle.nq_serving.specs.Serving.{Between, EndsBy, Goes, GoesOn, HaltsBy, RanBooted, Runs, StopsEarly, Tells, TellsTurns, Turns, between, turns_line}
 use Rattle.nq_io.specs.Faults.{Rose}
 use Rattle.nq_model.specs.Kept.{Kept}
@@ -49,15 +50,15 @@ module _ {K : Type 0} (content : K → Option Kept) (faults : K → ℕ) where
   keep-of : (turn : Turn) (at after : Between K) → Turns content faults turn at after
       → TurnKeep turn (faults at.server.keeper) (faults after.server.keeper)
   keep-of turn at after t =
-      turn_keep content faults turn at.next after.next at.clock after.clock at.link after.link at.server after.server at.log after.log t
+      turn_keep content faults no_extension turn at.next after.next at.clock after.clock at.link after.link at.server after.server at.log after.log t
 
   link-of : (turn : Turn) (at after : Between K) → Turns content faults turn at after → TurnLink turn at.link.faults after.link.faults
   link-of turn at after t =
-      turn_link content faults turn at.next after.next at.clock after.clock at.link after.link at.server after.server at.log after.log t
+      turn_link content faults no_extension turn at.next after.next at.clock after.clock at.link after.link at.server after.server at.log after.log t
 
   few-of : (turn : Turn) (at after : Between K) → Turns content faults turn at after → after.server.taken ≤ at.server.taken + 2
   few-of turn at after t =
-      turn_few content faults turn at.next after.next at.clock after.clock at.link after.link at.server after.server at.log after.log t
+      turn_few content faults no_extension turn at.next after.next at.clock after.clock at.link after.link at.server after.server at.log after.log t
 
   goes-counts : (at after : Between K) → GoesOn content faults at after → Counts faults 2 at after
   goes-counts at after (inl t) = (keep-of Turn.Took at after t, link-of Turn.Took at after t, few-of Turn.Took at after t)
@@ -87,7 +88,7 @@ module _ {K : Type 0} (content : K → Option Kept) (faults : K → ℕ) where
   stop-spent most turns at after is few none s =
       let taken = (go-counts s.count at s.between s.before).2 in
       let fewer = s.fewer in
-      let all = turn_spent content faults s.between.next after.next s.between.clock after.clock s.between.link after.link s.between.server after.server
+      let all = turn_spent content faults no_extension s.between.next after.next s.between.clock after.clock s.between.link after.link s.between.server after.server
       s.between.log after.log s.last in
       let same = is ∙ sym all.1 in
       let last = all.2 in omega arith

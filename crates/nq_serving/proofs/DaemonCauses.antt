@@ -3,7 +3,8 @@ use Rattle.std.proofs.Common.{◌≡◌, ◌∙◌, ◌+◌, ◌*◌, ◌<◌, �
 use Rattle.nq_serving.specs.DaemonServing.{EndsBy, RanBooted, Runs}
 use Rattle.nq_serving.specs.Turning.{Goes, Standing, StopsEarly, TakesTurn, borne, standing, with_log}
 use Rattle.nq_base.specs.declared.ending.halt.Halt.{Halt}
-use Rattle.nq_serving.specs.Serving.{Between, Turns}
+use Rattle.nq_serving.specs.Extending.{Extension}
+use Rattle.nq_serving.specs.Serving.{Between, TurnsBeside}
 use Rattle.nq_io.specs.Faults.{Rose}
 use Rattle.nq_model.specs.Kept.{Kept}
 use Rattle.nq_model.specs.Profile.{most_taken_by_server}
@@ -18,15 +19,15 @@ abbrev Counts : {K : Type 0} → (faults : K → ℕ) → (more : ℕ) → (at a
 Counts faults more at after =
     (faults after.server.keeper ≡ faults at.server.keeper) × (after.server.taken ≤ at.server.taken + more)
 
-module _ {K : Type 0} (content : K → Option Kept) (faults : K → ℕ) where
-  keep-of : (turn : Turn) (at after : Between K) → Turns content faults turn at after
+module _ {K : Type 0} (content : K → Option Kept) (faults : K → ℕ) (extension : Extension) where
+  keep-of : (turn : Turn) (at after : Between K) → TurnsBeside content faults extension turn at after
       → TurnKeep turn (faults at.server.keeper) (faults after.server.keeper)
   keep-of turn at after t =
-      turn_keep content faults turn at.next after.next at.clock after.clock at.link after.link at.server after.server at.log after.log t
+      turn_keep content faults extension turn at.next after.next at.clock after.clock at.link after.link at.server after.server at.log after.log t
 
-  few-of : (turn : Turn) (at after : Between K) → Turns content faults turn at after → after.server.taken ≤ at.server.taken + 2
+  few-of : (turn : Turn) (at after : Between K) → TurnsBeside content faults extension turn at after → after.server.taken ≤ at.server.taken + 2
   few-of turn at after t =
-      turn_few content faults turn at.next after.next at.clock after.clock at.link after.link at.server after.server at.log after.log t
+      turn_few content faults extension turn at.next after.next at.clock after.clock at.link after.link at.server after.server at.log after.log t
 
   borne-keep : (turn : Turn) → Ok tt ≡ borne turn → (before now : ℕ) → TurnKeep turn before now → now ≡ before
   borne-keep Turn.Took so before now k = k
@@ -36,7 +37,7 @@ module _ {K : Type 0} (content : K → Option Kept) (faults : K → ℕ) where
   borne-keep Turn.Memory so before now k = absurd (cc)
   borne-keep Turn.Spent so before now k = absurd (cc)
 
-  goes-counts : (at after : Standing K) → TakesTurn content faults (Ok tt) at after → Counts faults 2 at after
+  goes-counts : (at after : Standing K) → TakesTurn content faults extension (Ok tt) at after → Counts faults 2 at after
   goes-counts at after t = (
     borne-keep t.turn t.so (faults at.server.keeper) (faults after.server.keeper)
         (keep-of t.turn (with_log at t.log) (with_log after t.entered) t.took),
@@ -44,7 +45,7 @@ module _ {K : Type 0} (content : K → Option Kept) (faults : K → ℕ) where
   )
 
   -- turns behind which the server serves on raise no count of its keeper's faults, and take in two each at most
-  go-counts : (count : ℕ) (at after : Standing K) → Goes content faults count at after → Counts faults (2 * count) at after
+  go-counts : (count : ℕ) (at after : Standing K) → Goes content faults extension count at after → Counts faults (2 * count) at after
   go-counts zero at after same = rw same (refl, omega arith)
   go-counts (suc count) at after g =
       let first = go-counts count at g.0 g.1 in
@@ -60,7 +61,7 @@ module _ {K : Type 0} (content : K → Option Kept) (faults : K → ℕ) where
   stop-turn why Turn.Memory so before now k is = absurd (cc)
   stop-turn why Turn.Spent so before now k is = absurd (cc)
 
-  stop-keep : (turns : ℕ) (at after : Standing K) → StopsEarly content faults turns Halt.Keep at after
+  stop-keep : (turns : ℕ) (at after : Standing K) → StopsEarly content faults extension turns Halt.Keep at after
       → Rose (faults at.server.keeper) (faults after.server.keeper)
   stop-keep turns at after s =
       subst (λ n. Rose n (faults after.server.keeper)) (go-counts s.count at s.middle s.before).0
@@ -94,46 +95,46 @@ module _ {K : Type 0} (content : K → Option Kept) (faults : K → ℕ) where
 
   -- turns that are too few to take in all never stop for that
   stop-spent : (most turns : ℕ) (at after : Standing K) → most ≡ most_taken_by_server → 2 * turns < most → at.server.taken ≡ 0
-      → StopsEarly content faults turns Halt.Spent at after → ⊥
+      → StopsEarly content faults extension turns Halt.Spent at after → ⊥
   stop-spent most turns at after is few none s =
       let taken = (go-counts s.count at s.middle s.before).1 in
       let fewer = s.fewer in
-      let took : Turns content faults Turn.Spent (with_log s.middle s.last.log) (with_log after s.last.entered) =
-      subst (λ t. Turns content faults t (with_log s.middle s.last.log) (with_log after s.last.entered)) (spent-turn s.last.turn s.last.so) s.last.took in
-      let all = turn_spent content faults s.middle.next after.next s.middle.clock after.clock s.middle.link after.link s.middle.server after.server
+      let took : TurnsBeside content faults extension Turn.Spent (with_log s.middle s.last.log) (with_log after s.last.entered) =
+      subst (λ t. TurnsBeside content faults extension t (with_log s.middle s.last.log) (with_log after s.last.entered)) (spent-turn s.last.turn s.last.so) s.last.took in
+      let all = turn_spent content faults extension s.middle.next after.next s.middle.clock after.clock s.middle.link after.link s.middle.server after.server
       s.last.log s.last.entered took in
       let same = is ∙ sym all.1 in
       let last = all.2 in omega arith
 
-module _ {K : Type 0} (content : K → Option Kept) (faults : K → ℕ) (follows : K → K → Type 0) where
+module _ {K : Type 0} (content : K → Option Kept) (faults : K → ℕ) (extension : Extension) (follows : K → K → Type 0) where
   none-left : (most longest turns time : ℕ) (keeper left : K) (clock clock' : ClockTold) (link link' : LinkTold) → most ≡ most_taken_by_server
       → 2 * turns < most
-      → (kept : Kept) → content keeper ≡ Some kept → RanBooted content faults follows longest turns time keeper (Err Halt.Spent) left clock clock'
+      → (kept : Kept) → content keeper ≡ Some kept → RanBooted content faults extension follows longest turns time keeper (Err Halt.Spent) left clock clock'
       link link' → ⊥
   none-left most longest turns time keeper left clock clock' link link' is few kept told r =
-      stop-spent content faults most turns (standing r.server 0 clock link) r.ran.last is few (r.booted.0 kept told).1.taken r.ran.taken
+      stop-spent content faults extension most turns (standing r.server 0 clock link) r.ran.last is few (r.booted.0 kept told).1.taken r.ran.taken
 
   -- what was to be done ended by its cause
   pub ends_by : (most longest turns time : ℕ) (keeper : K) (ended : Result Unit Halt) (left : K) (clock clock' : ClockTold) (link link' : LinkTold)
-      → most ≡ most_taken_by_server → 2 * turns < most → Runs content faults follows longest turns time keeper ended left clock clock' link link'
+      → most ≡ most_taken_by_server → 2 * turns < most → Runs content faults extension follows longest turns time keeper ended left clock clock' link link'
       → EndsBy ended (content keeper) (faults keeper) (faults left)
   ends_by most longest turns time keeper (Ok tt) left clock clock' link link' is few r =
-      let counts = go-counts content faults turns (standing r.server 0 clock link) r.ran.last r.ran.taken in (
+      let counts = go-counts content faults extension turns (standing r.server 0 clock link) r.ran.last r.ran.taken in (
         λ kept told. (r.booted.0 kept told).0,
         ap faults r.ran.keeper ∙ counts.0 ∙ r.booted.1,
       )
   ends_by most longest turns time keeper (Err Halt.Link) left clock clock' link link' is few (inl r) =
-      stop-link content faults r.ran.taken.last.turn r.ran.taken.last.so
+      stop-link content faults extension r.ran.taken.last.turn r.ran.taken.last.so
   ends_by most longest turns time keeper (Err Halt.Link) left clock clock' link link' is few (inr n) = n.none
   ends_by most longest turns time keeper (Err Halt.Keep) left clock clock' link link' is few (inl r) =
       subst (λ n. Rose n (faults left)) r.booted.1
       (subst (λ k. Rose (faults r.server.keeper) (faults k)) (sym r.ran.keeper)
-      (stop-keep content faults turns (standing r.server 0 clock link) r.ran.last r.ran.taken))
+      (stop-keep content faults extension turns (standing r.server 0 clock link) r.ran.last r.ran.taken))
   ends_by most longest turns time keeper (Err Halt.Keep) left clock clock' link link' is few (inr n) = n.none.1
   ends_by most longest turns time keeper (Err Halt.Memory) left clock clock' link link' is few r = tt
   ends_by most longest turns time keeper (Err Halt.Spent) left clock clock' link link' is few (inl r) =
       λ kept told. absurd (none-left most longest turns time keeper left clock clock' link link' is few kept told r)
   ends_by most longest turns time keeper (Err Halt.Spent) left clock clock' link link' is few (inr n) = n.none.0
   ends_by most longest turns time keeper (Err Halt.NoAnswer) left clock clock' link link' is few (inl r) =
-      stop-answer content faults r.ran.taken.last.turn r.ran.taken.last.so
+      stop-answer content faults extension r.ran.taken.last.turn r.ran.taken.last.so
   ends_by most longest turns time keeper (Err Halt.NoAnswer) left clock clock' link link' is few (inr n) = n.none

@@ -1,14 +1,19 @@
 -- Which counts a turn of a server raises, and how much the server takes in in it.
-use Rattle.std.proofs.Common.{◌≡◌, ◌+◌, ◌≤◌, ◌⊎◌, inl, inr, ◌||◌, nat_lt, ℕ, Bool, true, false, Option, Some, None, Result, Ok, Err, refl, sym, subst, arith}
+use Rattle.std.proofs.Common.{◌≡◌, ◌+◌, ◌≤◌, ◌⊎◌, inl, inr, ◌||◌, nat_lt, ℕ, Bool, true, false, List, Option, Some, None, Result, Ok, Err, refl, sym, subst, arith}
 use Rattle.nq_base.specs.Entries.{EntryList}
 use Rattle.nq_link.specs.Link.{Letters}
 use Rattle.nq_model.specs.Kept.{Kept}
 use Rattle.nq_model.specs.Profile.{most_taken_by_server}
 use Rattle.nq_model.specs.Server.{ServerStep}
 use Rattle.nq_clock.specs.Clocks.{ClockTold}
-use Rattle.nq_link.specs.Links.{LinkTold}
+use Rattle.nq_link.specs.Links.{Letter, LinkTold}
+use Rattle.nq_base.specs.declared.Party.{Party}
+use Rattle.nq_keeper.specs.Keeping.{Reads}
+use Rattle.nq_keeper.specs.declared.KeepFault.{KeepFault}
+use Rattle.nq_keeper.specs.declared.KeepFault.TheVariants as keep
+use Rattle.nq_serving.specs.Extending.{Extension}
 use Rattle.nq_serving.specs.ServerTurn.{CountsKeep, CountsLink, Given, GoesOn, Moment, Receives, Sends, SendsOut, ServesTurn, Stages, Takes, TurnKeep}
-use Rattle.nq_serving.specs.ServerTurn.{TurnLink, given_of, goes_on, step_on, tick_due, turn_of}
+use Rattle.nq_serving.specs.ServerTurn.{TakesCame, TakesLetter, TakesOf, TurnLink, answered, datagram, goes_on, step_on, tick_due, turn_of}
 use Rattle.nq_serving.specs.declared.node.turns.Halt.{Halt}
 use Rattle.nq_serving.specs.declared.node.turns.Turn.{Turn}
 use Rattle.nq_serving.proofs.ServerTurns.{not_link}
@@ -92,6 +97,19 @@ of-spent (Err Halt.Keep) same = absurd (cc)
 of-spent (Err Halt.Memory) same = absurd (cc)
 of-spent (Err Halt.Spent) same = refl
 
+-- ---- what an extension answers
+
+answer-keep : (made : Result Unit KeepFault) (told tells : Option Kept) (before count : ℕ) → Reads made told tells before count
+    → CountsKeep (answered made) before count
+answer-keep (Ok done) told tells before count r = r.1
+answer-keep (Err keep.Memory) told tells before count r = r.1
+answer-keep (Err keep.Failed) told tells before count r = r.1
+
+not-spent : (made : Result Unit KeepFault) → answered made ≡ Err Halt.Spent → ⊥
+not-spent (Ok done) same = absurd (cc)
+not-spent (Err keep.Memory) same = absurd (cc)
+not-spent (Err keep.Failed) same = absurd (cc)
+
 module _ {K : Type 0} (content : K → Option Kept) (faults : K → ℕ) where
   -- ---- what the server is given
 
@@ -115,17 +133,66 @@ module _ {K : Type 0} (content : K → Option Kept) (faults : K → ℕ) where
   given-spent None at after t = let same = t.0 in absurd (cc)
   given-spent (Some given) at after s = s.spent.0 (only-spent s.how (sym s.so))
 
+module _ {K : Type 0} (content : K → Option Kept) (faults : K → ℕ) (extension : Extension) where
+  -- ---- a datagram that came
+
+  own-keep : (own : Bool) (host : ℕ) (bytes : List ℕ) (goes : Result Unit Halt) (at after : Moment K)
+      → TakesOf content faults extension own host bytes goes at after → CountsKeep goes (faults at.server.keeper) (faults after.server.keeper)
+  own-keep true host bytes goes at after a =
+      rw a.so (answer-keep a.made (content at.server.keeper) (content after.server.keeper) (faults at.server.keeper) (faults after.server.keeper) a.reads)
+  own-keep false host bytes goes at after t = given-keep content faults (Some (datagram host bytes)) goes at after t
+
+  letter-keep : (letter : Letter) (goes : Result Unit Halt) (at after : Moment K) → TakesLetter content faults extension letter goes at after
+      → CountsKeep goes (faults at.server.keeper) (faults after.server.keeper)
+  letter-keep (Party.Server, bytes) goes at after t = given-keep content faults None goes at after t
+  letter-keep (Party.Client host, bytes) goes at after t = own-keep (extension.owns bytes) host bytes goes at after t
+
+  came-keep : (came : Option Letter) (goes : Result Unit Halt) (at after : Moment K) → TakesCame content faults extension came goes at after
+      → CountsKeep goes (faults at.server.keeper) (faults after.server.keeper)
+  came-keep None goes at after t = given-keep content faults None goes at after t
+  came-keep (Some letter) goes at after t = letter-keep letter goes at after t
+
+  own-few : (own : Bool) (host : ℕ) (bytes : List ℕ) (goes : Result Unit Halt) (at after : Moment K)
+      → TakesOf content faults extension own host bytes goes at after → after.server.taken ≤ at.server.taken + 1
+  own-few true host bytes goes at after a = let same = a.untouched.taken in omega arith
+  own-few false host bytes goes at after t = given-few content faults (Some (datagram host bytes)) goes at after t
+
+  letter-few : (letter : Letter) (goes : Result Unit Halt) (at after : Moment K) → TakesLetter content faults extension letter goes at after
+      → after.server.taken ≤ at.server.taken + 1
+  letter-few (Party.Server, bytes) goes at after t = given-few content faults None goes at after t
+  letter-few (Party.Client host, bytes) goes at after t = own-few (extension.owns bytes) host bytes goes at after t
+
+  came-few : (came : Option Letter) (goes : Result Unit Halt) (at after : Moment K) → TakesCame content faults extension came goes at after
+      → after.server.taken ≤ at.server.taken + 1
+  came-few None goes at after t = given-few content faults None goes at after t
+  came-few (Some letter) goes at after t = letter-few letter goes at after t
+
+  own-spent : (own : Bool) (host : ℕ) (bytes : List ℕ) (at after : Moment K)
+      → TakesOf content faults extension own host bytes (Err Halt.Spent) at after → at.server.taken ≡ most_taken_by_server
+  own-spent true host bytes at after a = absurd (not-spent a.made (sym a.so))
+  own-spent false host bytes at after t = given-spent content faults (Some (datagram host bytes)) at after t
+
+  letter-spent : (letter : Letter) (at after : Moment K) → TakesLetter content faults extension letter (Err Halt.Spent) at after
+      → at.server.taken ≡ most_taken_by_server
+  letter-spent (Party.Server, bytes) at after t = given-spent content faults None at after t
+  letter-spent (Party.Client host, bytes) at after t = own-spent (extension.owns bytes) host bytes at after t
+
+  came-spent : (came : Option Letter) (at after : Moment K) → TakesCame content faults extension came (Err Halt.Spent) at after
+      → at.server.taken ≡ most_taken_by_server
+  came-spent None at after t = given-spent content faults None at after t
+  came-spent (Some letter) at after t = letter-spent letter at after t
+
   -- ---- receiving
 
-  received-keep : (received : Result Bool Halt) (link link' : LinkTold) (at after : Moment K) → Receives content faults received link link' at after
+  received-keep : (received : Result Bool Halt) (link link' : LinkTold) (at after : Moment K) → Receives content faults extension received link link' at after
       → CountsKeep received (faults at.server.keeper) (faults after.server.keeper)
-  received-keep (Ok some) link link' at after r = given-keep (given_of r.0) (Ok tt) at after r.2.takes
+  received-keep (Ok some) link link' at after r = came-keep r.0 (Ok tt) at after r.2.takes
   received-keep (Err Halt.Link) link link' at after r = rw r.same refl
-  received-keep (Err Halt.Keep) link link' at after r = given-keep (given_of r.0) (Err Halt.Keep) at after r.1.takes
-  received-keep (Err Halt.Memory) link link' at after r = given-keep (given_of r.0) (Err Halt.Memory) at after r.1.takes
-  received-keep (Err Halt.Spent) link link' at after r = given-keep (given_of r.0) (Err Halt.Spent) at after r.1.takes
+  received-keep (Err Halt.Keep) link link' at after r = came-keep r.0 (Err Halt.Keep) at after r.1.takes
+  received-keep (Err Halt.Memory) link link' at after r = came-keep r.0 (Err Halt.Memory) at after r.1.takes
+  received-keep (Err Halt.Spent) link link' at after r = came-keep r.0 (Err Halt.Spent) at after r.1.takes
 
-  received-link : (received : Result Bool Halt) (link link' : LinkTold) (at after : Moment K) → Receives content faults received link link' at after
+  received-link : (received : Result Bool Halt) (link link' : LinkTold) (at after : Moment K) → Receives content faults extension received link link' at after
       → CountsLink received link.faults link'.faults
   received-link (Ok some) link link' at after r = r.2.count
   received-link (Err Halt.Link) link link' at after r = r.count
@@ -133,13 +200,13 @@ module _ {K : Type 0} (content : K → Option Kept) (faults : K → ℕ) where
   received-link (Err Halt.Memory) link link' at after r = r.1.count
   received-link (Err Halt.Spent) link link' at after r = r.1.count
 
-  received-few : (received : Result Bool Halt) (link link' : LinkTold) (at after : Moment K) → Receives content faults received link link' at after
+  received-few : (received : Result Bool Halt) (link link' : LinkTold) (at after : Moment K) → Receives content faults extension received link link' at after
       → after.server.taken ≤ at.server.taken + 1
-  received-few (Ok some) link link' at after r = given-few (given_of r.0) (Ok tt) at after r.2.takes
+  received-few (Ok some) link link' at after r = came-few r.0 (Ok tt) at after r.2.takes
   received-few (Err Halt.Link) link link' at after r = rw r.same (omega arith)
-  received-few (Err Halt.Keep) link link' at after r = given-few (given_of r.0) (Err Halt.Keep) at after r.1.takes
-  received-few (Err Halt.Memory) link link' at after r = given-few (given_of r.0) (Err Halt.Memory) at after r.1.takes
-  received-few (Err Halt.Spent) link link' at after r = given-few (given_of r.0) (Err Halt.Spent) at after r.1.takes
+  received-few (Err Halt.Keep) link link' at after r = came-few r.0 (Err Halt.Keep) at after r.1.takes
+  received-few (Err Halt.Memory) link link' at after r = came-few r.0 (Err Halt.Memory) at after r.1.takes
+  received-few (Err Halt.Spent) link link' at after r = came-few r.0 (Err Halt.Spent) at after r.1.takes
 
   -- ---- behind the receive
 
@@ -158,18 +225,18 @@ module _ {K : Type 0} (content : K → Option Kept) (faults : K → ℕ) where
       subst (λ n. CountsLink ended n link'.faults) counts (sent-link after.out.datagrams (ticked || came) ended between link' s)
 
   sends-spent : (received : Result Bool Halt) (ticked : Bool) (between link link' : LinkTold) (at after : Moment K)
-      → Receives content faults received link between at after → Sends received (Err Halt.Spent) ticked between link' after
+      → Receives content faults extension received link between at after → Sends received (Err Halt.Spent) ticked between link' after
       → at.server.taken ≡ most_taken_by_server
   sends-spent (Ok came) ticked between link link' at after r s = absurd s
   sends-spent (Err Halt.Link) ticked between link link' at after r s = let same = s.0 in absurd (cc)
   sends-spent (Err Halt.Keep) ticked between link link' at after r s = let same = s.0 in absurd (cc)
   sends-spent (Err Halt.Memory) ticked between link link' at after r s = let same = s.0 in absurd (cc)
-  sends-spent (Err Halt.Spent) ticked between link link' at after r s = given-spent (given_of r.0) at after r.1.takes
+  sends-spent (Err Halt.Spent) ticked between link link' at after r s = came-spent r.0 at after r.1.takes
 
   -- ---- behind the tick
 
   rest-keep : (goes : Result Unit Halt) (ended : Result Bool Halt) (ticked : Bool) (link link' : LinkTold) (at after : Moment K) (before : ℕ)
-      → GoesOn content faults goes ended ticked link link' at after → CountsKeep goes before (faults at.server.keeper)
+      → GoesOn content faults extension goes ended ticked link link' at after → CountsKeep goes before (faults at.server.keeper)
       → CountsKeep ended before (faults after.server.keeper)
   rest-keep (Err why) ended ticked link link' at after before g counts =
       rw (g.0, g.2) (as-ended why before (faults at.server.keeper) counts)
@@ -178,7 +245,7 @@ module _ {K : Type 0} (content : K → Option Kept) (faults : K → ℕ) where
       (subst (λ n. CountsKeep g.0 n (faults after.server.keeper)) counts (received-keep g.0 link g.1 at after g.2))
 
   rest-link : (goes : Result Unit Halt) (ended : Result Bool Halt) (ticked : Bool) (link link' : LinkTold) (at after : Moment K)
-      → (goes ≡ Err Halt.Link → ⊥) → GoesOn content faults goes ended ticked link link' at after → CountsLink ended link.faults link'.faults
+      → (goes ≡ Err Halt.Link → ⊥) → GoesOn content faults extension goes ended ticked link link' at after → CountsLink ended link.faults link'.faults
   rest-link (Err Halt.Link) ended ticked link link' at after not g = absurd (not refl)
   rest-link (Err Halt.Keep) ended ticked link link' at after not g = rw (g.0, g.1) refl
   rest-link (Err Halt.Memory) ended ticked link link' at after not g = rw (g.0, g.1) refl
@@ -187,12 +254,12 @@ module _ {K : Type 0} (content : K → Option Kept) (faults : K → ℕ) where
       sends-link g.0 ended ticked link g.1 link' after g.3 (received-link g.0 link g.1 at after g.2)
 
   rest-few : (goes : Result Unit Halt) (ended : Result Bool Halt) (ticked : Bool) (link link' : LinkTold) (at after : Moment K)
-      → GoesOn content faults goes ended ticked link link' at after → after.server.taken ≤ at.server.taken + 1
+      → GoesOn content faults extension goes ended ticked link link' at after → after.server.taken ≤ at.server.taken + 1
   rest-few (Err why) ended ticked link link' at after g = rw g.2 (omega arith)
   rest-few (Ok tt) ended ticked link link' at after g = received-few g.0 link g.1 at after g.2
 
   rest-spent : (goes : Result Unit Halt) (ticked : Bool) (link link' : LinkTold) (at after : Moment K)
-      → GoesOn content faults goes (Err Halt.Spent) ticked link link' at after → (goes ≡ Err Halt.Spent) ⊎ (at.server.taken ≡ most_taken_by_server)
+      → GoesOn content faults extension goes (Err Halt.Spent) ticked link link' at after → (goes ≡ Err Halt.Spent) ⊎ (at.server.taken ≡ most_taken_by_server)
   rest-spent (Err Halt.Link) ticked link link' at after g = let same = g.0 in absurd (cc)
   rest-spent (Err Halt.Keep) ticked link link' at after g = let same = g.0 in absurd (cc)
   rest-spent (Err Halt.Memory) ticked link link' at after g = let same = g.0 in absurd (cc)
@@ -202,42 +269,42 @@ module _ {K : Type 0} (content : K → Option Kept) (faults : K → ℕ) where
   -- ---- the whole turn
 
   stages-keep : (ended : Result Bool Halt) (clock clock' : ClockTold) (link link' : LinkTold) (at after : Moment K)
-      → Stages content faults ended clock clock' link link' at after → CountsKeep ended (faults at.server.keeper) (faults after.server.keeper)
+      → Stages content faults extension ended clock clock' link link' at after → CountsKeep ended (faults at.server.keeper) (faults after.server.keeper)
   stages-keep ended clock clock' link link' at after s =
       rest-keep s.goes ended (nat_lt at.server.beside.time s.reading) link link' s.between after (faults at.server.keeper) s.rest
-      (given-keep (tick_due at.server.beside.time s.reading) s.goes at s.between s.ticks)
+      (given-keep content faults (tick_due at.server.beside.time s.reading) s.goes at s.between s.ticks)
 
   stages-link : (ended : Result Bool Halt) (clock clock' : ClockTold) (link link' : LinkTold) (at after : Moment K)
-      → Stages content faults ended clock clock' link link' at after → CountsLink ended link.faults link'.faults
+      → Stages content faults extension ended clock clock' link link' at after → CountsLink ended link.faults link'.faults
   stages-link ended clock clock' link link' at after s =
       let due = tick_due at.server.beside.time s.reading in
       rest-link s.goes ended (nat_lt at.server.beside.time s.reading) link link' s.between after
       (λ same. not_link content faults due at s.between (subst (λ goes. Takes content faults due goes at s.between) same s.ticks)) s.rest
 
   stages-few : (ended : Result Bool Halt) (clock clock' : ClockTold) (link link' : LinkTold) (at after : Moment K)
-      → Stages content faults ended clock clock' link link' at after → after.server.taken ≤ at.server.taken + 2
+      → Stages content faults extension ended clock clock' link link' at after → after.server.taken ≤ at.server.taken + 2
   stages-few ended clock clock' link link' at after s =
-      let first = given-few (tick_due at.server.beside.time s.reading) s.goes at s.between s.ticks in
+      let first = given-few content faults (tick_due at.server.beside.time s.reading) s.goes at s.between s.ticks in
       let rest = rest-few s.goes ended (nat_lt at.server.beside.time s.reading) link link' s.between after s.rest in
       omega arith
 
   stages-spent : (ended : Result Bool Halt) (clock clock' : ClockTold) (link link' : LinkTold) (at after : Moment K) → ended ≡ Err Halt.Spent
-      → Stages content faults ended clock clock' link link' at after → (taken : ℕ) × (taken ≡ most_taken_by_server) × (taken ≤ at.server.taken + 1)
+      → Stages content faults extension ended clock clock' link link' at after → (taken : ℕ) × (taken ≡ most_taken_by_server) × (taken ≤ at.server.taken + 1)
   stages-spent ended clock clock' link link' at after is s =
       let ticked = nat_lt at.server.beside.time s.reading in
       let due = tick_due at.server.beside.time s.reading in
-      let first = given-few due s.goes at s.between s.ticks in
-      let rest = subst (λ e. GoesOn content faults s.goes e ticked link link' s.between after) is s.rest in
+      let first = given-few content faults due s.goes at s.between s.ticks in
+      let rest = subst (λ e. GoesOn content faults extension s.goes e ticked link link' s.between after) is s.rest in
       elim (rest-spent s.goes ticked link link' s.between after rest) [
         | inl same ↦
-            let all = given-spent due at s.between (subst (λ goes. Takes content faults due goes at s.between) same s.ticks) in
+            let all = given-spent content faults due at s.between (subst (λ goes. Takes content faults due goes at s.between) same s.ticks) in
             (at.server.taken, all, omega arith)
         | inr all ↦ (s.between.server.taken, all, first)
       ]
 
   -- the count of the keeper's faults rises where a turn stops for the keeper, and stays otherwise
   pub turn_keep : (turn : Turn) (next next' : ℕ) (clock clock' : ClockTold) (link link' : LinkTold) (server server' : Holding K) (log log' : EntryList)
-      → ServesTurn content faults turn next next' clock clock' link link' server server' log log'
+      → ServesTurn content faults extension turn next next' clock clock' link link' server server' log log'
       → TurnKeep turn (faults server.keeper) (faults server'.keeper)
   turn_keep turn next next' clock clock' link link' server server' log log' t =
       by-keep turn t.ended (faults server.keeper) (faults server'.keeper) t.answer
@@ -246,7 +313,7 @@ module _ {K : Type 0} (content : K → Option Kept) (faults : K → ℕ) where
 
   -- the count of the link's faults rises where a turn stops for the link, and stays otherwise
   pub turn_link : (turn : Turn) (next next' : ℕ) (clock clock' : ClockTold) (link link' : LinkTold) (server server' : Holding K) (log log' : EntryList)
-      → ServesTurn content faults turn next next' clock clock' link link' server server' log log' → TurnLink turn link.faults link'.faults
+      → ServesTurn content faults extension turn next next' clock clock' link link' server server' log log' → TurnLink turn link.faults link'.faults
   turn_link turn next next' clock clock' link link' server server' log log' t =
       by-link turn t.ended link.faults link'.faults t.answer
       (stages-link t.ended clock clock' link link' (record { server = server; out = t.out; log = log }) (record { server = server'; out = t.out'; log = log' })
@@ -254,14 +321,14 @@ module _ {K : Type 0} (content : K → Option Kept) (faults : K → ℕ) where
 
   -- a turn takes in two at most: a tick and a datagram
   pub turn_few : (turn : Turn) (next next' : ℕ) (clock clock' : ClockTold) (link link' : LinkTold) (server server' : Holding K) (log log' : EntryList)
-      → ServesTurn content faults turn next next' clock clock' link link' server server' log log' → server'.taken ≤ server.taken + 2
+      → ServesTurn content faults extension turn next next' clock clock' link link' server server' log log' → server'.taken ≤ server.taken + 2
   turn_few turn next next' clock clock' link link' server server' log log' t =
       stages-few t.ended clock clock' link link' (record { server = server; out = t.out; log = log }) (record { server = server'; out = t.out'; log = log' })
       t.stages
 
   -- a turn stops because no more is taken in only where all are taken in, or all but one
   pub turn_spent : (next next' : ℕ) (clock clock' : ClockTold) (link link' : LinkTold) (server server' : Holding K) (log log' : EntryList)
-      → ServesTurn content faults Turn.Spent next next' clock clock' link link' server server' log log'
+      → ServesTurn content faults extension Turn.Spent next next' clock clock' link link' server server' log log'
       → (taken : ℕ) × (taken ≡ most_taken_by_server) × (taken ≤ server.taken + 1)
   turn_spent next next' clock clock' link link' server server' log log' t =
       stages-spent t.ended clock clock' link link' (record { server = server; out = t.out; log = log }) (record { server = server'; out = t.out'; log = log' })

@@ -5,6 +5,7 @@ use Rattle.nq_keeper.specs.Booting.{LeavesThen}
 use Rattle.nq_base.specs.declared.ending.halt.Halt.{Halt}
 use Rattle.nq_serving.specs.ServerLeaving.{AreInOrder, IsLeftGoing, IsLeftInGoes, IsLeftInTurns, IsLeftStopping, LeavesTaking, LeavesTurns}
 use Rattle.nq_serving.specs.ServerLeaving.{LeavesRunning, LeavesRuns, ended_of}
+use Rattle.nq_serving.specs.Extending.{no_extension}
 use Rattle.nq_serving.specs.Serving.{Between, Booted, Goes, GoesOn, NoBoot, between, halt_of}
 use Rattle.nq_model.specs.Kept.{Kept}
 use Rattle.nq_model.specs.ServerStep.{boot, booted}
@@ -23,9 +24,9 @@ module _ {K : Type 0} (content : K → Option Kept) (faults : K → ℕ) where
   goes-tells : (at after : Between K) → GoesOn content faults at after → (kept : Kept) → content at.server.keeper ≡ Some kept
       → Tells (content after.server.keeper)
   goes-tells at after (inl t) kept told =
-      turn_tells content faults Turn.Took refl at.next after.next at.clock after.clock at.link after.link at.server after.server at.log after.log t kept told
+      turn_tells content faults no_extension Turn.Took refl at.next after.next at.clock after.clock at.link after.link at.server after.server at.log after.log t kept told
   goes-tells at after (inr t) kept told =
-      turn_tells content faults Turn.Quiet refl at.next after.next at.clock after.clock at.link after.link at.server after.server at.log after.log t kept told
+      turn_tells content faults no_extension Turn.Quiet refl at.next after.next at.clock after.clock at.link after.link at.server after.server at.log after.log t kept told
 
 -- so many turns that did not stop, what a stop within them leaves, and that the keeper tells after them what it keeps
 pub record GoneOn {K : Type 0} (content : K → Option Kept) (faults : K → ℕ) (follows : K → K → Type 0) (leaves : K → K → Option Kept
@@ -39,7 +40,7 @@ pub record GoneOn {K : Type 0} (content : K → Option Kept) (faults : K → ℕ
 module _ {K : Type 0} (content : K → Option Kept) (faults : K → ℕ) (follows : K → K → Type 0) (leaves : K → K → Option Kept → Type 0) where
   -- one turn
   pub taking : (turn : Turn) (at after : Between K)
-      → LeavesTurn content faults follows leaves turn at.next after.next at.clock after.clock at.link after.link at.server after.server at.log after.log
+      → LeavesTurn content faults no_extension follows leaves turn at.next after.next at.clock after.clock at.link after.link at.server after.server at.log after.log
       → IsSettled content leaves after.server.keeper → LeavesTaking content faults follows leaves (ended_of turn) at after
   taking Turn.Took at after t settled = record { taken = inl t.taken; only = t.left; settled = settled }
   taking Turn.Quiet at after t settled = record { taken = inr t.taken; only = t.left; settled = settled }

@@ -4,6 +4,7 @@ use Rattle.std.proofs.Common.{inl, inr}
 use Rattle.std.specs.Option.{ForSome}
 use Rattle.std.specs.Prelude.{◌⊎◌, ℕ, zero, suc, Option, Result, Ok, Err, ⊤}
 use Rattle.nq_serving.specs.DaemonServing.{Ran, Runs, Serves}
+use Rattle.nq_serving.specs.Extending.{Extension}
 use Rattle.nq_serving.specs.Turning.{Goes, Standing, TakesTurn, TakesTurns, standing, with_log}
 use Rattle.nq_base.specs.declared.ending.halt.Halt.{Halt}
 use Rattle.nq_serving.specs.ServerLeaving.{IsBeforeEnd, IsLeftByBoot, IsLeftInOne}
@@ -16,114 +17,114 @@ use Rattle.nq_server.specs.Holding.{Holding}
 -- ---- what is found as at a moment of the turns
 
 -- this is found as at a moment of a turn: before it, after its tick or after its datagram; a step that failed in it may have been kept
-abbrev pub IsLeftTaking : {K : Type 0} → (content : K → Option Kept) → (faults : K → ℕ) → (ended : Result Unit Halt) → (at after : Standing K)
-    → TakesTurn content faults ended at after → (found : Option Kept) → Type 0
-IsLeftTaking content faults ended at after taken found =
-    IsLeftInOne content faults taken.turn (with_log at taken.log) (with_log after taken.entered) taken.took found
+abbrev pub IsLeftTaking : {K : Type 0} → (content : K → Option Kept) → (faults : K → ℕ) → (extension : Extension) → (ended : Result Unit Halt) → (at after : Standing K)
+    → TakesTurn content faults extension ended at after → (found : Option Kept) → Type 0
+IsLeftTaking content faults extension ended at after taken found =
+    IsLeftInOne content faults extension taken.turn (with_log at taken.log) (with_log after taken.entered) taken.took found
 
 -- this is found as at a moment of one of so many turns
-abbrev pub IsLeftInGoes : {K : Type 0} → (content : K → Option Kept) → (faults : K → ℕ) → (count : ℕ) → (at after : Standing K)
-    → Goes content faults count at after → (found : Option Kept) → Type 0
-IsLeftInGoes content faults zero at after goes found = ⊥
-IsLeftInGoes content faults (suc count) at after goes found =
-    IsLeftInGoes content faults count at goes.0 goes.1 found ⊎ IsLeftTaking content faults (Ok tt) goes.0 after goes.2 found
+abbrev pub IsLeftInGoes : {K : Type 0} → (content : K → Option Kept) → (faults : K → ℕ) → (extension : Extension) → (count : ℕ) → (at after : Standing K)
+    → Goes content faults extension count at after → (found : Option Kept) → Type 0
+IsLeftInGoes content faults extension zero at after goes found = ⊥
+IsLeftInGoes content faults extension (suc count) at after goes found =
+    IsLeftInGoes content faults extension count at goes.0 goes.1 found ⊎ IsLeftTaking content faults extension (Ok tt) goes.0 after goes.2 found
 
 -- the same of turns up to the first that stopped the server
-abbrev pub IsLeftInTurns : {K : Type 0} → (content : K → Option Kept) → (faults : K → ℕ) → (turns : ℕ) → (ended : Result Unit Halt)
-    → (at after : Standing K) → TakesTurns content faults turns ended at after → (found : Option Kept) → Type 0
-IsLeftInTurns content faults turns (Ok done) at after taken found = IsLeftInGoes content faults turns at after taken found
-IsLeftInTurns content faults turns (Err why) at after taken found =
-    IsLeftInGoes content faults taken.count at taken.middle taken.before found
-    ⊎ IsLeftTaking content faults (Err why) taken.middle after taken.last found
+abbrev pub IsLeftInTurns : {K : Type 0} → (content : K → Option Kept) → (faults : K → ℕ) → (extension : Extension) → (turns : ℕ) → (ended : Result Unit Halt)
+    → (at after : Standing K) → TakesTurns content faults extension turns ended at after → (found : Option Kept) → Type 0
+IsLeftInTurns content faults extension turns (Ok done) at after taken found = IsLeftInGoes content faults extension turns at after taken found
+IsLeftInTurns content faults extension turns (Err why) at after taken found =
+    IsLeftInGoes content faults extension taken.count at taken.middle taken.before found
+    ⊎ IsLeftTaking content faults extension (Err why) taken.middle after taken.last found
 
 -- This is found as what was kept when the keeper was handed in, as the boot makes it, or as at a moment of the turns. Each of these moments
 -- stands behind a prefix of the steps by which the server came to what it keeps: the boot, and each tick and each datagram of the turns before it
-abbrev pub IsLeftInRuns : {K : Type 0} → (content : K → Option Kept) → (faults : K → ℕ) → (follows : K → K → Type 0) → (longest turns time : ℕ)
-    → (keeper : K) → (ended : Result Unit Halt) → (left : K) → (clock clock' : ClockTold) → (link link' : LinkTold) → Runs content faults follows
+abbrev pub IsLeftInRuns : {K : Type 0} → (content : K → Option Kept) → (faults : K → ℕ) → (extension : Extension) → (follows : K → K → Type 0) → (longest turns time : ℕ)
+    → (keeper : K) → (ended : Result Unit Halt) → (left : K) → (clock clock' : ClockTold) → (link link' : LinkTold) → Runs content faults extension follows
     longest turns time keeper ended left clock clock' link link' → (kept : Kept) → (found : Option Kept) → Type 0
-IsLeftInRuns content faults follows longest turns time keeper (Ok done) left clock clock' link link' runs kept found =
+IsLeftInRuns content faults extension follows longest turns time keeper (Ok done) left clock clock' link link' runs kept found =
     IsLeftByBoot longest kept found
-    ⊎ IsLeftInTurns content faults turns (Ok done) (standing runs.server 0 clock link) runs.ran.last runs.ran.taken found
-IsLeftInRuns content faults follows longest turns time keeper (Err why) left clock clock' link link' (inl runs) kept found =
+    ⊎ IsLeftInTurns content faults extension turns (Ok done) (standing runs.server 0 clock link) runs.ran.last runs.ran.taken found
+IsLeftInRuns content faults extension follows longest turns time keeper (Err why) left clock clock' link link' (inl runs) kept found =
     IsLeftByBoot longest kept found
-    ⊎ IsLeftInTurns content faults turns (Err why) (standing runs.server 0 clock link) runs.ran.last runs.ran.taken found
-IsLeftInRuns content faults follows longest turns time keeper (Err why) left clock clock' link link' (inr none) kept found =
+    ⊎ IsLeftInTurns content faults extension turns (Err why) (standing runs.server 0 clock link) runs.ran.last runs.ran.taken found
+IsLeftInRuns content faults extension follows longest turns time keeper (Err why) left clock clock' link link' (inr none) kept found =
     IsLeftByBoot longest kept found
 
 -- ---- in order
 
 -- At each moment between so many turns: a stop at that very moment leaves exactly what is kept then, and what else a stop from then until the end
 -- leaves is what is kept at a later moment, of the turns behind it or of what `Later` tells. So nothing that was kept at that moment is lost
-abbrev pub AreInOrder : {K : Type 0} → (content : K → Option Kept) → (faults : K → ℕ) → (follows : K → K → Type 0) → (leaves : K → K → Option Kept
-    → Type 0) → (last : K) → (Later : Option Kept → Type 0) → (count : ℕ) → (at after : Standing K) → Goes content faults count at after → Type 0
-AreInOrder content faults follows leaves last Later zero at after goes = IsBeforeEnd content follows leaves after.server.keeper last Later
-AreInOrder content faults follows leaves last Later (suc count) at after goes =
+abbrev pub AreInOrder : {K : Type 0} → (content : K → Option Kept) → (faults : K → ℕ) → (extension : Extension) → (follows : K → K → Type 0) → (leaves : K → K → Option Kept
+    → Type 0) → (last : K) → (Later : Option Kept → Type 0) → (count : ℕ) → (at after : Standing K) → Goes content faults extension count at after → Type 0
+AreInOrder content faults extension follows leaves last Later zero at after goes = IsBeforeEnd content follows leaves after.server.keeper last Later
+AreInOrder content faults extension follows leaves last Later (suc count) at after goes =
     IsBeforeEnd content follows leaves after.server.keeper last Later
-    × AreInOrder content faults follows leaves last (λ found. IsLeftTaking content faults (Ok tt) goes.0 after goes.2 found ⊎ Later found) count at
+    × AreInOrder content faults extension follows leaves last (λ found. IsLeftTaking content faults extension (Ok tt) goes.0 after goes.2 found ⊎ Later found) count at
     goes.0 goes.1
 
 -- the same of turns up to the first that stopped the server
-abbrev pub TurnsAreInOrder : {K : Type 0} → (content : K → Option Kept) → (faults : K → ℕ) → (follows : K → K → Type 0)
-    → (leaves : K → K → Option Kept → Type 0) → (turns : ℕ) → (ended : Result Unit Halt) → (at after : Standing K) → TakesTurns content faults turns
+abbrev pub TurnsAreInOrder : {K : Type 0} → (content : K → Option Kept) → (faults : K → ℕ) → (extension : Extension) → (follows : K → K → Type 0)
+    → (leaves : K → K → Option Kept → Type 0) → (turns : ℕ) → (ended : Result Unit Halt) → (at after : Standing K) → TakesTurns content faults extension turns
     ended at after → Type 0
-TurnsAreInOrder content faults follows leaves turns (Ok done) at after taken =
-    AreInOrder content faults follows leaves after.server.keeper (λ found. ⊥) turns at after taken
-TurnsAreInOrder content faults follows leaves turns (Err why) at after taken =
-    AreInOrder content faults follows leaves after.server.keeper (λ found. IsLeftTaking content faults (Err why) taken.middle after taken.last found)
+TurnsAreInOrder content faults extension follows leaves turns (Ok done) at after taken =
+    AreInOrder content faults extension follows leaves after.server.keeper (λ found. ⊥) turns at after taken
+TurnsAreInOrder content faults extension follows leaves turns (Err why) at after taken =
+    AreInOrder content faults extension follows leaves after.server.keeper (λ found. IsLeftTaking content faults extension (Err why) taken.middle after taken.last found)
     taken.count at taken.middle taken.before
 
 -- the same of the turns of a server that booted, if one did
-abbrev pub RunsAreInOrder : {K : Type 0} → (content : K → Option Kept) → (faults : K → ℕ) → (follows : K → K → Type 0) → (leaves : K → K → Option Kept
+abbrev pub RunsAreInOrder : {K : Type 0} → (content : K → Option Kept) → (faults : K → ℕ) → (extension : Extension) → (follows : K → K → Type 0) → (leaves : K → K → Option Kept
     → Type 0) → (longest turns time : ℕ) → (keeper : K) → (ended : Result Unit Halt) → (left : K) → (clock clock' : ClockTold)
-    → (link link' : LinkTold) → Runs content faults follows longest turns time keeper ended left clock clock' link link' → Type 0
-RunsAreInOrder content faults follows leaves longest turns time keeper (Ok done) left clock clock' link link' runs =
-    TurnsAreInOrder content faults follows leaves turns (Ok done) (standing runs.server 0 clock link) runs.ran.last runs.ran.taken
-RunsAreInOrder content faults follows leaves longest turns time keeper (Err why) left clock clock' link link' (inl runs) =
-    TurnsAreInOrder content faults follows leaves turns (Err why) (standing runs.server 0 clock link) runs.ran.last runs.ran.taken
-RunsAreInOrder content faults follows leaves longest turns time keeper (Err why) left clock clock' link link' (inr none) = ⊤
+    → (link link' : LinkTold) → Runs content faults extension follows longest turns time keeper ended left clock clock' link link' → Type 0
+RunsAreInOrder content faults extension follows leaves longest turns time keeper (Ok done) left clock clock' link link' runs =
+    TurnsAreInOrder content faults extension follows leaves turns (Ok done) (standing runs.server 0 clock link) runs.ran.last runs.ran.taken
+RunsAreInOrder content faults extension follows leaves longest turns time keeper (Err why) left clock clock' link link' (inl runs) =
+    TurnsAreInOrder content faults extension follows leaves turns (Err why) (standing runs.server 0 clock link) runs.ran.last runs.ran.taken
+RunsAreInOrder content faults extension follows leaves longest turns time keeper (Err why) left clock clock' link link' (inr none) = ⊤
 
 -- ---- what is done, and what a stop leaves
 
 -- one turn, and what a stop within it leaves
-pub record LeavesTaking {K : Type 0} (content : K → Option Kept) (faults : K → ℕ) (follows : K → K → Type 0) (leaves : K → K → Option Kept → Type 0)
+pub record LeavesTaking {K : Type 0} (content : K → Option Kept) (faults : K → ℕ) (extension : Extension) (follows : K → K → Type 0) (leaves : K → K → Option Kept → Type 0)
     (ended : Result Unit Halt) (at after : Standing K) : Type 0 where
-  pub taken : TakesTurn content faults ended at after
-  pub only : LeavesOnly content follows leaves at.server.keeper after.server.keeper (IsLeftTaking content faults ended at after taken)
+  pub taken : TakesTurn content faults extension ended at after
+  pub only : LeavesOnly content follows leaves at.server.keeper after.server.keeper (IsLeftTaking content faults extension ended at after taken)
   pub settled : IsSettled content leaves after.server.keeper
 
 -- turns up to the first that stopped the server, and what a stop within them leaves
-pub record LeavesTurns {K : Type 0} (content : K → Option Kept) (faults : K → ℕ) (follows : K → K → Type 0) (leaves : K → K → Option Kept → Type 0)
+pub record LeavesTurns {K : Type 0} (content : K → Option Kept) (faults : K → ℕ) (extension : Extension) (follows : K → K → Type 0) (leaves : K → K → Option Kept → Type 0)
     (turns : ℕ) (ended : Result Unit Halt) (at after : Standing K) : Type 0 where
-  pub taken : TakesTurns content faults turns ended at after
-  pub only : LeavesOnly content follows leaves at.server.keeper after.server.keeper (IsLeftInTurns content faults turns ended at after taken)
-  pub order : ForSome (content at.server.keeper) (λ kept. TurnsAreInOrder content faults follows leaves turns ended at after taken)
+  pub taken : TakesTurns content faults extension turns ended at after
+  pub only : LeavesOnly content follows leaves at.server.keeper after.server.keeper (IsLeftInTurns content faults extension turns ended at after taken)
+  pub order : ForSome (content at.server.keeper) (λ kept. TurnsAreInOrder content faults extension follows leaves turns ended at after taken)
   pub settled : IsSettled content leaves after.server.keeper
 
 -- the turns of a server that has booted, and what a stop within them leaves
-pub record LeavesRunning {K : Type 0} (content : K → Option Kept) (faults : K → ℕ) (follows : K → K → Type 0) (leaves : K → K → Option Kept → Type 0)
+pub record LeavesRunning {K : Type 0} (content : K → Option Kept) (faults : K → ℕ) (extension : Extension) (follows : K → K → Type 0) (leaves : K → K → Option Kept → Type 0)
     (turns : ℕ) (server : Holding K) (ended : Result Unit Halt) (left : K) (clock clock' : ClockTold) (link link' : LinkTold) : Type 0 where
-  pub ran : Ran content faults follows turns server ended left clock clock' link link'
-  pub only : LeavesOnly content follows leaves server.keeper left (IsLeftInTurns content faults turns ended (standing server 0 clock link) ran.last ran.taken)
-  pub order : ForSome (content server.keeper) (λ kept. TurnsAreInOrder content faults follows leaves turns ended (standing server 0 clock link)
+  pub ran : Ran content faults extension follows turns server ended left clock clock' link link'
+  pub only : LeavesOnly content follows leaves server.keeper left (IsLeftInTurns content faults extension turns ended (standing server 0 clock link) ran.last ran.taken)
+  pub order : ForSome (content server.keeper) (λ kept. TurnsAreInOrder content faults extension follows leaves turns ended (standing server 0 clock link)
       ran.last ran.taken)
   pub settled : IsSettled content leaves left
 
 -- the boot and the turns, and what a stop within them leaves
-pub record LeavesRuns {K : Type 0} (content : K → Option Kept) (faults : K → ℕ) (follows : K → K → Type 0) (leaves : K → K → Option Kept → Type 0)
+pub record LeavesRuns {K : Type 0} (content : K → Option Kept) (faults : K → ℕ) (extension : Extension) (follows : K → K → Type 0) (leaves : K → K → Option Kept → Type 0)
     (longest turns time : ℕ) (keeper : K) (ended : Result Unit Halt) (left : K) (clock clock' : ClockTold) (link link' : LinkTold) : Type 0 where
-  pub runs : Runs content faults follows longest turns time keeper ended left clock clock' link link'
-  pub only : ForSome (content keeper) (λ kept. (found : Option Kept) → leaves keeper left found → IsLeftInRuns content faults follows longest turns
+  pub runs : Runs content faults extension follows longest turns time keeper ended left clock clock' link link'
+  pub only : ForSome (content keeper) (λ kept. (found : Option Kept) → leaves keeper left found → IsLeftInRuns content faults extension follows longest turns
       time keeper ended left clock clock' link link' runs kept found)
-  pub order : ForSome (content keeper) (λ kept. RunsAreInOrder content faults follows leaves longest turns time keeper ended left clock clock' link link' runs)
+  pub order : ForSome (content keeper) (λ kept. RunsAreInOrder content faults extension follows leaves longest turns time keeper ended left clock clock' link link' runs)
   pub settled : IsSettled content leaves left
 
 -- What was done when serving ended so. Where the keeper told what it kept when it was handed in, a stop at any moment until it was handed back
 -- leaves that, or what was kept at a moment of the boot and the turns. Between two turns, and at the end, a stop leaves exactly what is kept
-pub record LeavesServing {K : Type 0} (content : K → Option Kept) (faults : K → ℕ) (follows : K → K → Type 0) (leaves : K → K → Option Kept → Type 0)
+pub record LeavesServing {K : Type 0} (content : K → Option Kept) (faults : K → ℕ) (extension : Extension) (follows : K → K → Type 0) (leaves : K → K → Option Kept → Type 0)
     (longest turns : ℕ) (keeper : K) (ended : Result Unit Halt) (left : K) (clock clock' : ClockTold) (link link' : LinkTold) : Type 0 where
-  pub serves : Serves content faults follows longest turns keeper ended left clock clock' link link'
-  pub only : ForSome (content keeper) (λ kept. (found : Option Kept) → leaves keeper left found → IsLeftInRuns content faults follows longest turns
+  pub serves : Serves content faults extension follows longest turns keeper ended left clock clock' link link'
+  pub only : ForSome (content keeper) (λ kept. (found : Option Kept) → leaves keeper left found → IsLeftInRuns content faults extension follows longest turns
       serves.time keeper ended left serves.between clock' link link' serves.runs kept found)
-  pub order : ForSome (content keeper) (λ kept. RunsAreInOrder content faults follows leaves longest turns serves.time keeper ended left
+  pub order : ForSome (content keeper) (λ kept. RunsAreInOrder content faults extension follows leaves longest turns serves.time keeper ended left
       serves.between clock' link link' serves.runs)
   pub settled : IsSettled content leaves left

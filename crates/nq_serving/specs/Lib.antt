@@ -1,5 +1,6 @@
 pub mod DaemonLeaving
 pub mod DaemonServing
+pub mod Extending
 pub mod Leaving
 pub mod ServerLeaving
 pub mod ServerTurn

@@ -4,7 +4,8 @@ use Rattle.std.proofs.Common.{inl, inr}
 use Rattle.std.specs.Option.{ForSome}
 use Rattle.std.specs.Prelude.{◌≡◌, ◌⊎◌, ℕ, zero, suc, Option, Some, Result, Ok, Err, ⊤}
 use Rattle.nq_base.specs.declared.ending.halt.Halt.{Halt}
-use Rattle.nq_serving.specs.Serving.{Between, Goes, GoesOn, Ran, Runs, Serves, StopsTurn, TakesTurn, TakesTurns, Turns, between}
+use Rattle.nq_serving.specs.Extending.{Extension, no_extension}
+use Rattle.nq_serving.specs.Serving.{Between, Goes, GoesOn, Ran, Runs, Serves, StopsTurn, TakesTurn, TakesTurns, TurnsBeside, between}
 use Rattle.nq_model.specs.Kept.{Kept}
 use Rattle.nq_model.specs.ServerStep.{booted}
 use Rattle.nq_clock.specs.Clocks.{ClockTold}
@@ -16,24 +17,24 @@ use Rattle.nq_server.specs.Holding.{Holding}
 -- ---- what is found as at a moment of the turns
 
 -- this is found as at a moment of a turn: before it, after its tick or after its datagram
-abbrev pub IsLeftInOne : {K : Type 0} → (content : K → Option Kept) → (faults : K → ℕ) → (turn : Turn) → (at after : Between K) → Turns content faults
-    turn at after → (found : Option Kept) → Type 0
-IsLeftInOne content faults turn at after taken found =
-    IsLeftInTurn content faults turn at.next after.next at.clock after.clock at.link after.link at.server after.server at.log after.log taken found
+abbrev pub IsLeftInOne : {K : Type 0} → (content : K → Option Kept) → (faults : K → ℕ) → (extension : Extension) → (turn : Turn)
+    → (at after : Between K) → TurnsBeside content faults extension turn at after → (found : Option Kept) → Type 0
+IsLeftInOne content faults extension turn at after taken found =
+    IsLeftInTurn content faults extension turn at.next after.next at.clock after.clock at.link after.link at.server after.server at.log after.log taken found
 
 -- the same of a turn that did not stop
 abbrev pub IsLeftGoing : {K : Type 0} → (content : K → Option Kept) → (faults : K → ℕ) → (at after : Between K) → GoesOn content faults at after
     → (found : Option Kept) → Type 0
-IsLeftGoing content faults at after (inl took) found = IsLeftInOne content faults Turn.Took at after took found
-IsLeftGoing content faults at after (inr quiet) found = IsLeftInOne content faults Turn.Quiet at after quiet found
+IsLeftGoing content faults at after (inl took) found = IsLeftInOne content faults no_extension Turn.Took at after took found
+IsLeftGoing content faults at after (inr quiet) found = IsLeftInOne content faults no_extension Turn.Quiet at after quiet found
 
 -- the same of a turn that stopped; a step that failed in it may have been kept
 abbrev pub IsLeftStopping : {K : Type 0} → (content : K → Option Kept) → (faults : K → ℕ) → (why : Halt) → (at after : Between K)
     → StopsTurn content faults why at after → (found : Option Kept) → Type 0
-IsLeftStopping content faults Halt.Link at after taken found = IsLeftInOne content faults Turn.Link at after taken found
-IsLeftStopping content faults Halt.Keep at after taken found = IsLeftInOne content faults Turn.Keep at after taken found
-IsLeftStopping content faults Halt.Memory at after taken found = IsLeftInOne content faults Turn.Memory at after taken found
-IsLeftStopping content faults Halt.Spent at after taken found = IsLeftInOne content faults Turn.Spent at after taken found
+IsLeftStopping content faults Halt.Link at after taken found = IsLeftInOne content faults no_extension Turn.Link at after taken found
+IsLeftStopping content faults Halt.Keep at after taken found = IsLeftInOne content faults no_extension Turn.Keep at after taken found
+IsLeftStopping content faults Halt.Memory at after taken found = IsLeftInOne content faults no_extension Turn.Memory at after taken found
+IsLeftStopping content faults Halt.Spent at after taken found = IsLeftInOne content faults no_extension Turn.Spent at after taken found
 IsLeftStopping content faults Halt.NoAnswer at after taken found = ⊥
 
 -- the same of either

@@ -1,10 +1,13 @@
 -- A turn of a server, stage by stage: it reads the clock once, ticks, receives once, and sends. Below, `content` is what a keeper tells of what
--- it keeps, and `faults` is its count of faults.
+-- it keeps, and `faults` is its count of faults. An `extension` stands beside the server.
 use Rattle.std.specs.Prelude.{◌≡◌, ◌↔◌, ◌||◌, ℕ, Bool, true, false, List, [], Option, Some, None, Result, Ok, Err, is_some, nat_lt, if◌then◌else◌}
 use Rattle.nq_base.specs.declared.Party.{Party}
 use Rattle.nq_datagrams.specs.Incoming.{datagram_in}
 use Rattle.nq_io.specs.Faults.{Rose}
 use Rattle.nq_base.specs.Entries.{EntryList}
+use Rattle.nq_keeper.specs.Keeping.{Reads}
+use Rattle.nq_keeper.specs.declared.KeepFault.{KeepFault}
+use Rattle.nq_keeper.specs.declared.KeepFault.TheVariants as keep
 use Rattle.nq_link.specs.Link.{Letters}
 use Rattle.nq_link.specs.declared.Sent.{Sent}
 use Rattle.nq_model.specs.Kept.{Kept}
@@ -13,9 +16,10 @@ use Rattle.nq_model.specs.Server.{ServerStep}
 use Rattle.nq_model.specs.ServerStep.{receive, tick}
 use Rattle.nq_clock.specs.Clocks.{ClockTold, ReadsOnce}
 use Rattle.nq_link.specs.Links.{Hears, Letter, LinkTold, Posts, ReceivesOnce, most_bytes}
+use Rattle.nq_serving.specs.Extending.{AddsReply, Extension}
 use Rattle.nq_serving.specs.declared.node.turns.Halt.{Halt}
 use Rattle.nq_serving.specs.declared.node.turns.Turn.{Turn}
-use Rattle.nq_server.specs.Holding.{Holding, IsTaken}
+use Rattle.nq_server.specs.Holding.{Holding, IsTaken, IsUntouched}
 use Rattle.nq_server.specs.State.{server_of}
 use Rattle.nq_server.specs.Stepping.{next_of}
 use Rattle.nq_server.specs.declared.Received.{Received}
@@ -52,6 +56,24 @@ pub record Steps {K : Type 0} (content : K → Option Kept) (faults : K → ℕ)
       (faults after.server.keeper) at.server after.server at.out after.out at.log after.log
   pub spent : (how ≡ Received.Spent) ↔ (at.server.taken ≡ most_taken_by_server)
 
+-- whether a turn goes on after an extension has answered so, or why it stops
+abbrev pub answered : Result Unit KeepFault → Result Unit Halt
+answered (Ok done) = Ok tt
+answered (Err keep.Failed) = Err Halt.Keep
+answered (Err keep.Memory) = Err Halt.Memory
+
+-- an extension answered a datagram of a host, or could not: nothing is changed but that its reply is to be sent
+pub record Answers {K : Type 0} (content : K → Option Kept) (faults : K → ℕ) (extension : Extension) (host : ℕ) (bytes : List ℕ)
+    (goes : Result Unit Halt) (at after : Moment K) : Type 0 where
+  pub made : Result Unit KeepFault
+  pub so : goes ≡ answered made
+  pub first : after.out.first ≡ at.out.first
+  pub replies : AddsReply made (content at.server.keeper) (λ kept. extension.replies (server_of at.server.beside kept) host bytes) host
+      at.out.datagrams after.out.datagrams
+  pub untouched : IsUntouched at.server after.server
+  pub reads : Reads made (content at.server.keeper) (content after.server.keeper) (faults at.server.keeper) (faults after.server.keeper)
+  pub silent : after.log ≡ at.log
+
 -- the server took in what it was given, if it was given anything
 abbrev pub Takes : {K : Type 0} → (content : K → Option Kept) → (faults : K → ℕ) → Option Given → Result Unit Halt → (at after : Moment K) → Type 0
 Takes content faults None goes at after = (goes ≡ Ok tt) × (after ≡ at)
@@ -63,24 +85,48 @@ Takes content faults (Some given) goes at after = Steps content faults given goe
 abbrev pub tick_due : (time reading : ℕ) → Option Given
 tick_due time reading = if nat_lt time reading then Some (ticks reading) else None
 
--- what is given of a datagram that came: that of a host, and none that the server itself sent
-abbrev pub given_by : Letter → Option Given
-given_by (Party.Server, bytes) = None
-given_by (Party.Client host, bytes) = Some (datagram host bytes)
+-- what the server is given of a host's datagram: nothing of one that is the extension's own
+abbrev pub given_as : (own : Bool) → (host : ℕ) → (bytes : List ℕ) → Option Given
+given_as true host bytes = None
+given_as false host bytes = Some (datagram host bytes)
+
+-- what it is given of a datagram that came: that of a host, and none that the server itself sent
+abbrev pub given_by : Extension → Letter → Option Given
+given_by extension (Party.Server, bytes) = None
+given_by extension (Party.Client host, bytes) = given_as (extension.owns bytes) host bytes
 
 -- likewise, if one came
-abbrev pub given_of : Option Letter → Option Given
-given_of None = None
-given_of (Some letter) = given_by letter
+abbrev pub given_of : Extension → Option Letter → Option Given
+given_of extension None = None
+given_of extension (Some letter) = given_by extension letter
 
--- one receive was asked for and gave a datagram or none, and the server took it in, or refused it
-pub record TakesFrom {K : Type 0} (content : K → Option Kept) (faults : K → ℕ) (came : Option Letter) (goes : Result Unit Halt)
+-- a host's datagram was answered by the extension where it is its own; else the server took it in, or refused it
+abbrev pub TakesOf : {K : Type 0} → (content : K → Option Kept) → (faults : K → ℕ) → Extension → (own : Bool) → (host : ℕ) → (bytes : List ℕ)
+    → Result Unit Halt → (at after : Moment K) → Type 0
+TakesOf content faults extension true host bytes goes at after = Answers content faults extension host bytes goes at after
+TakesOf content faults extension false host bytes goes at after = Takes content faults (Some (datagram host bytes)) goes at after
+
+-- so was a datagram that came; one that the server itself sent is nothing to both
+abbrev pub TakesLetter : {K : Type 0} → (content : K → Option Kept) → (faults : K → ℕ) → Extension → Letter → Result Unit Halt → (at after : Moment K)
+    → Type 0
+TakesLetter content faults extension (Party.Server, bytes) goes at after = Takes content faults None goes at after
+TakesLetter content faults extension (Party.Client host, bytes) goes at after =
+    TakesOf content faults extension (extension.owns bytes) host bytes goes at after
+
+-- likewise, if one came
+abbrev pub TakesCame : {K : Type 0} → (content : K → Option Kept) → (faults : K → ℕ) → Extension → Option Letter → Result Unit Halt
+    → (at after : Moment K) → Type 0
+TakesCame content faults extension None goes at after = Takes content faults None goes at after
+TakesCame content faults extension (Some letter) goes at after = TakesLetter content faults extension letter goes at after
+
+-- one receive was asked for and gave a datagram or none, and this was taken in, answered or refused
+pub record TakesFrom {K : Type 0} (content : K → Option Kept) (faults : K → ℕ) (extension : Extension) (came : Option Letter) (goes : Result Unit Halt)
     (link link' : LinkTold) (at after : Moment K) : Type 0 where
   pub hears : Hears most_bytes came link.waiting link'.waiting
   pub sent : link'.sent ≡ link.sent
   pub receives : ReceivesOnce link link'
   pub count : link'.faults ≡ link.faults
-  pub takes : Takes content faults (given_of came) goes at after
+  pub takes : TakesCame content faults extension came goes at after
 
 -- one receive failed
 pub record Misses {K : Type 0} (link link' : LinkTold) (at after : Moment K) : Type 0 where
@@ -91,13 +137,13 @@ pub record Misses {K : Type 0} (link link' : LinkTold) (at after : Moment K) : T
   pub same : after ≡ at
 
 -- the stage that receives, by whether a datagram came or why the turn stops
-abbrev pub Receives : {K : Type 0} → (content : K → Option Kept) → (faults : K → ℕ) → Result Bool Halt → (link link' : LinkTold)
+abbrev pub Receives : {K : Type 0} → (content : K → Option Kept) → (faults : K → ℕ) → Extension → Result Bool Halt → (link link' : LinkTold)
     → (at after : Moment K) → Type 0
-Receives content faults (Ok some) link link' at after =
-    (came : Option Letter) × (some ≡ is_some came) × TakesFrom content faults came (Ok tt) link link' at after
-Receives content faults (Err Halt.Link) link link' at after = Misses link link' at after
-Receives content faults (Err why) link link' at after =
-    (came : Option Letter) × TakesFrom content faults came (Err why) link link' at after
+Receives content faults extension (Ok some) link link' at after =
+    (came : Option Letter) × (some ≡ is_some came) × TakesFrom content faults extension came (Ok tt) link link' at after
+Receives content faults extension (Err Halt.Link) link link' at after = Misses link link' at after
+Receives content faults extension (Err why) link link' at after =
+    (came : Option Letter) × TakesFrom content faults extension came (Err why) link link' at after
 
 -- what the stage that receives answers where a datagram came and was taken so: one came, or why the turn stops
 abbrev pub taken : Result Unit Halt → Result Bool Halt
@@ -116,24 +162,24 @@ Sends (Err why) ended ticked link link' after = (ended ≡ Err why) × (link' �
 Sends (Ok came) ended ticked link link' after = SendsOut after.out.datagrams (ticked || came) ended link link'
 
 -- after the tick: the turn stops, or it receives and sends
-abbrev pub GoesOn : {K : Type 0} → (content : K → Option Kept) → (faults : K → ℕ) → (goes : Result Unit Halt) → (ended : Result Bool Halt)
+abbrev pub GoesOn : {K : Type 0} → (content : K → Option Kept) → (faults : K → ℕ) → Extension → (goes : Result Unit Halt) → (ended : Result Bool Halt)
     → (ticked : Bool) → (link link' : LinkTold) → (at after : Moment K) → Type 0
-GoesOn content faults (Err why) ended ticked link link' at after = (ended ≡ Err why) × (link' ≡ link) × (after ≡ at)
-GoesOn content faults (Ok done) ended ticked link link' at after =
+GoesOn content faults extension (Err why) ended ticked link link' at after = (ended ≡ Err why) × (link' ≡ link) × (after ≡ at)
+GoesOn content faults extension (Ok done) ended ticked link link' at after =
     (received : Result Bool Halt) × (between : LinkTold)
-    × Receives content faults received link between at after
+    × Receives content faults extension received link between at after
     × Sends received ended ticked between link' after
 
 -- The stages of a turn in their order. The clock is read exactly once. Exactly one receive is asked for where the tick did not stop the
 -- turn, and none where it did. The turn ended with whether the clock rose or a datagram came, or with why it stopped
-pub record Stages {K : Type 0} (content : K → Option Kept) (faults : K → ℕ) (ended : Result Bool Halt) (clock clock' : ClockTold)
+pub record Stages {K : Type 0} (content : K → Option Kept) (faults : K → ℕ) (extension : Extension) (ended : Result Bool Halt) (clock clock' : ClockTold)
     (link link' : LinkTold) (at after : Moment K) : Type 0 where
   pub reading : ℕ
   pub read : ReadsOnce reading clock clock'
   pub goes : Result Unit Halt
   pub between : Moment K
   pub ticks : Takes content faults (tick_due at.server.beside.time reading) goes at between
-  pub rest : GoesOn content faults goes ended (nat_lt at.server.beside.time reading) link link' between after
+  pub rest : GoesOn content faults extension goes ended (nat_lt at.server.beside.time reading) link link' between after
 
 -- the answer of a turn that ended so
 abbrev pub turn_of : Result Bool Halt → Turn
@@ -165,7 +211,7 @@ TurnLink Turn.Link before now = Rose before now
 TurnLink other before now = now ≡ before
 
 -- a turn with this answer: its stages, with an outbox that is empty at first and whose datagrams are numbered from `next` on
-pub record ServesTurn {K : Type 0} (content : K → Option Kept) (faults : K → ℕ) (turn : Turn) (next next' : ℕ) (clock clock' : ClockTold)
+pub record ServesTurn {K : Type 0} (content : K → Option Kept) (faults : K → ℕ) (extension : Extension) (turn : Turn) (next next' : ℕ) (clock clock' : ClockTold)
     (link link' : LinkTold) (server server' : Holding K) (log log' : EntryList) : Type 0 where
   pub out : Datagrams
   pub out' : Datagrams
@@ -174,5 +220,5 @@ pub record ServesTurn {K : Type 0} (content : K → Option Kept) (faults : K →
   pub last : next' ≡ next_of out'
   pub ended : Result Bool Halt
   pub answer : turn ≡ turn_of ended
-  pub stages : Stages content faults ended clock clock' link link' (record { server = server; out = out; log = log })
+  pub stages : Stages content faults extension ended clock clock' link link' (record { server = server; out = out; log = log })
       (record { server = server'; out = out'; log = log' })

@@ -15,6 +15,7 @@ use Rattle.nq_model.specs.Kept.{Kept}
 use Rattle.nq_model.specs.ServerStep.{boot}
 use Rattle.nq_clock.specs.Clocks.{ClockTold, ReadsOnce}
 use Rattle.nq_link.specs.Links.{LinkTold}
+use Rattle.nq_serving.specs.Extending.{Extension, no_extension}
 use Rattle.nq_serving.specs.ServerTurn.{ServesTurn}
 use Rattle.nq_serving.specs.declared.node.turns.Turn.{Turn}
 use Rattle.nq_server.specs.Holding.{Holding, IsServer}
@@ -35,10 +36,14 @@ between server log next clock link = record { server = server; log = log; next =
 
 -- ---- turns
 
--- one turn, with this answer
+-- one turn of a server beside which an extension stands, with this answer
+abbrev pub TurnsBeside : {K : Type 0} → (content : K → Option Kept) → (faults : K → ℕ) → Extension → Turn → (at after : Between K) → Type 0
+TurnsBeside content faults extension turn at after =
+    ServesTurn content faults extension turn at.next after.next at.clock after.clock at.link after.link at.server after.server at.log after.log
+
+-- one turn of a server alone
 abbrev pub Turns : {K : Type 0} → (content : K → Option Kept) → (faults : K → ℕ) → Turn → (at after : Between K) → Type 0
-Turns content faults turn at after =
-    ServesTurn content faults turn at.next after.next at.clock after.clock at.link after.link at.server after.server at.log after.log
+Turns content faults turn at after = TurnsBeside content faults no_extension turn at after
 
 -- one turn that did not stop
 abbrev pub GoesOn : {K : Type 0} → (content : K → Option Kept) → (faults : K → ℕ) → (at after : Between K) → Type 0

@@ -1,9 +1,10 @@
 -- Turns of a server that serves on, each with a journal of its own. Below, `content` is what a keeper tells of what it keeps, and `faults` is its
--- count of faults.
+-- count of faults. An `extension` stands beside the server.
 use Rattle.std.specs.Prelude.{◌≡◌, ◌<◌, ℕ, zero, suc, [], Option, Result, Ok, Err}
 use Rattle.nq_base.specs.Entries.{EntryList}
 use Rattle.nq_base.specs.declared.ending.halt.Halt.{Halt}
-use Rattle.nq_serving.specs.Serving.{Between, Turns}
+use Rattle.nq_serving.specs.Extending.{Extension}
+use Rattle.nq_serving.specs.Serving.{Between, TurnsBeside}
 use Rattle.nq_model.specs.Kept.{Kept}
 use Rattle.nq_clock.specs.Clocks.{ClockTold}
 use Rattle.nq_link.specs.Links.{LinkTold}
@@ -35,29 +36,29 @@ borne Turn.Memory = Err Halt.Memory
 borne Turn.Spent = Err Halt.Spent
 
 -- one turn, whose journal is empty at first; the server serves on, or stops so
-pub record TakesTurn {K : Type 0} (content : K → Option Kept) (faults : K → ℕ) (ended : Result Unit Halt) (at after : Standing K) : Type 0 where
+pub record TakesTurn {K : Type 0} (content : K → Option Kept) (faults : K → ℕ) (extension : Extension) (ended : Result Unit Halt) (at after : Standing K) : Type 0 where
   pub turn : Turn
   pub so : ended ≡ borne turn
   pub log : EntryList
   pub silent : log.entries ≡ []
   pub entered : EntryList
-  pub took : Turns content faults turn (with_log at log) (with_log after entered)
+  pub took : TurnsBeside content faults extension turn (with_log at log) (with_log after entered)
 
 -- so many turns one after another, behind each of which the server served on
-abbrev pub Goes : {K : Type 0} → (content : K → Option Kept) → (faults : K → ℕ) → (count : ℕ) → (at after : Standing K) → Type 0
-Goes {K = K} content faults zero at after = after ≡ at
-Goes {K = K} content faults (suc count) at after =
-    (middle : Standing K) × Goes content faults count at middle × TakesTurn content faults (Ok tt) middle after
+abbrev pub Goes : {K : Type 0} → (content : K → Option Kept) → (faults : K → ℕ) → (extension : Extension) → (count : ℕ) → (at after : Standing K) → Type 0
+Goes {K = K} content faults extension zero at after = after ≡ at
+Goes {K = K} content faults extension (suc count) at after =
+    (middle : Standing K) × Goes content faults extension count at middle × TakesTurn content faults extension (Ok tt) middle after
 
 -- fewer turns than so many, and one more, which stopped the server so
-pub record StopsEarly {K : Type 0} (content : K → Option Kept) (faults : K → ℕ) (turns : ℕ) (why : Halt) (at after : Standing K) : Type 0 where
+pub record StopsEarly {K : Type 0} (content : K → Option Kept) (faults : K → ℕ) (extension : Extension) (turns : ℕ) (why : Halt) (at after : Standing K) : Type 0 where
   pub count : ℕ
   pub fewer : count < turns
   pub middle : Standing K
-  pub before : Goes content faults count at middle
-  pub last : TakesTurn content faults (Err why) middle after
+  pub before : Goes content faults extension count at middle
+  pub last : TakesTurn content faults extension (Err why) middle after
 
 -- so many turns one after another, up to the first that stopped the server
-abbrev pub TakesTurns : {K : Type 0} → (content : K → Option Kept) → (faults : K → ℕ) → (turns : ℕ) → Result Unit Halt → (at after : Standing K) → Type 0
-TakesTurns content faults turns (Ok done) at after = Goes content faults turns at after
-TakesTurns content faults turns (Err why) at after = StopsEarly content faults turns why at after
+abbrev pub TakesTurns : {K : Type 0} → (content : K → Option Kept) → (faults : K → ℕ) → (extension : Extension) → (turns : ℕ) → Result Unit Halt → (at after : Standing K) → Type 0
+TakesTurns content faults extension turns (Ok done) at after = Goes content faults extension turns at after
+TakesTurns content faults extension turns (Err why) at after = StopsEarly content faults extension turns why at after

@@ -3,6 +3,9 @@
 #![tactic(auto)]
 
 pub mod daemon;
+mod extending;
 mod node;
 pub mod server;
 pub mod traffic;
+
+pub use extending::Extension;

@@ -1,18 +1,25 @@
 //! Serving over an image.
 
 ghost use Rattle.std.specs.Prelude.{◌≤◌};
+ghost use Rattle.nq_lister.specs.Listing.{is_lookup, reply_in};
 
 use crate::memory::Resident;
 use nq_base::ending::{Ending, Halt};
-use nq_base::{Journal, Party, Ticks};
+use nq_base::{Host, Journal, Party, Ticks};
 use nq_clock::StdClock;
 use nq_disk::FileDisk;
 use nq_io::streams::StdSink;
+use nq_keeper::{KeepFault, Keeper};
 use nq_link::{Came, Link, UdpLink};
+use nq_lister::Lister;
+use nq_server::Server;
 use nq_service::mount::{Greeter, Survey, serve_image};
+use nq_serving::Extension;
 use nq_serving::daemon::{MOST_TURNS, Watcher};
 use nq_serving::traffic::{CountedLink, Report};
 use nq_store::OpenFault;
+use nq_wire::Outbox;
+use std::alloc::Global;
 use std::io;
 
 // The port of the server.
@@ -21,7 +28,7 @@ const PORT: u16 = 20560;
 // By how many seconds a recovery is longer than the longest term of the boot before it: the skew and the write slack.
 const BEYOND: u32 = 8;
 
-/// A watcher who also says what the server begins with.
+/// A watcher who also says what the server begins with, and lists names.
 #[derive(Drop)]
 struct Teller<'a, R> {
     rt: &'a HostRuntime,
@@ -38,6 +45,27 @@ impl<R> Greeter for Teller<'_, R> {
 impl<L, R: Watcher<L>> Watcher<L> for Teller<'_, R> {
     fn turned(&mut self, link: &L, now: Ticks, rows: usize, log: &Journal) {
         self.report.turned(link, now, rows, log);
+    }
+}
+
+impl<R> Extension for Teller<'_, R> {
+    ghost owns = { is_lookup };
+
+    ghost replies = { reply_in };
+
+    fn is_own(&self, datagram: &[u8]) -> bool {
+        Lister.is_own(datagram)
+    }
+
+    fn answer<K: Keeper>(
+        &self,
+        alloc: Global,
+        server: &mut Server<K>,
+        host: Host,
+        datagram: &[u8],
+        out: &mut Outbox,
+    ) -> Result<(), KeepFault> {
+        Lister.answer(alloc, server, host, datagram, out)
     }
 }
 

@@ -2,6 +2,7 @@
 
 ghost use Rattle.std.specs.Prelude.{◌≡◌, ◌<◌, ◌≤◌, ◌^◌, IfErr, IfOk};
 ghost use Rattle.nq_service.specs.MountServing.{EndsServing, ServesImage, ServesNot};
+ghost use Rattle.nq_serving.specs.Extending.{extension_told};
 ghost use Rattle.nq_clock.specs.Clocks.{clock_told};
 ghost use Rattle.nq_link.specs.Links.{link_told};
 ghost use Rattle.nq_store.specs.Storing.{IsFresh};
@@ -13,6 +14,7 @@ use nq_base::ending::Halt;
 use nq_clock::Clock;
 use nq_disk::Disk;
 use nq_link::Link;
+use nq_serving::Extension;
 use nq_serving::daemon::{Served, Watcher, keep_serving};
 use nq_store::{OpenFault, Store};
 use std::alloc::Global;
@@ -35,13 +37,13 @@ pub struct Left<D> {
 /// Serves over the image on a disk, which is made where the disk has no byte, as [`keep_serving`] tells of the store that the disk opens as.
 /// What a stop at any moment of the call may leave on the disk opens, and stands for what was kept at first, or after some of the
 /// steps: the boot, and the ticks and datagrams of the turns. Of an empty disk this is so from the moment on that its image is made.
-/// The watcher is told once what the image holds, before the first turn.
+/// The watcher is told once what the image holds, before the first turn, and answers the datagrams that are its own.
 ///
 /// # Errors
 ///
 /// Those of [`open_or_make`]; then nothing was served, what was kept is kept, and a disk that is refused for its bytes has them still, but
 /// that the ranges of an open record may have been written.
-pub fn serve_image<D: Disk + Drop, L: Link, C: Clock, W: Watcher<L> + Greeter>(
+pub fn serve_image<D: Disk + Drop, L: Link, C: Clock, W: Watcher<L> + Greeter + Extension>(
     alloc: Global,
     disk: D,
     turns: u64,
@@ -53,7 +55,7 @@ pub fn serve_image<D: Disk + Drop, L: Link, C: Clock, W: Watcher<L> + Greeter>(
     requires few { turns < 2 ^ 60 }
     requires long { 5 ≤ longest }
     requires short { longest ≤ 600 }
-    ensures serves { IfOk result (λ left. ServesImage D.told D.faults D.may_leave D.follows D.leaves longest turns disk left.ended left.disk
+    ensures serves { IfOk result (λ left. ServesImage D.told D.faults D.may_leave D.follows D.leaves (extension_told W.owns W.replies) longest turns disk left.ended left.disk
         (clock_told C.floor C.readings C.reads clock.old) (clock_told C.floor C.readings C.reads clock.new)
         (link_told L.sent L.waiting L.faults L.receives link.old)
         (link_told L.sent L.waiting L.faults L.receives link.new)) }
@@ -69,7 +71,7 @@ pub fn serve_image<D: Disk + Drop, L: Link, C: Clock, W: Watcher<L> + Greeter>(
 }
 
 /// Serves over a store that was just opened, and hands its disk back.
-fn serve_store<D: Disk + Drop, L: Link, C: Clock, W: Watcher<L> + Greeter>(
+fn serve_store<D: Disk + Drop, L: Link, C: Clock, W: Watcher<L> + Greeter + Extension>(
     alloc: Global,
     store: Store<D>,
     turns: u64,
@@ -82,7 +84,7 @@ fn serve_store<D: Disk + Drop, L: Link, C: Clock, W: Watcher<L> + Greeter>(
     requires long { 5 ≤ longest }
     requires short { longest ≤ 600 }
     requires fresh { IsFresh store }
-    ensures { EndsServing D.told D.faults D.follows D.leaves longest turns store result.ended result.disk
+    ensures { EndsServing D.told D.faults D.follows D.leaves (extension_told W.owns W.replies) longest turns store result.ended result.disk
         (clock_told C.floor C.readings C.reads clock.old) (clock_told C.floor C.readings C.reads clock.new)
         (link_told L.sent L.waiting L.faults L.receives link.old)
         (link_told L.sent L.waiting L.faults L.receives link.new) }

@@ -3,6 +3,7 @@
 ghost use Rattle.std.specs.Prelude.{◌≡◌, ◌<◌, ◌≤◌, ◌^◌, Err};
 ghost use Rattle.nq_serving.specs.DaemonLeaving.{LeavesRuns, LeavesServing};
 ghost use Rattle.nq_serving.specs.DaemonServing.{EndsBy};
+ghost use Rattle.nq_serving.specs.Extending.{extension_told};
 ghost use Rattle.nq_serving.specs.Leaving.{IsSettled};
 ghost use Rattle.nq_serving.specs.Serving.{halt_of};
 ghost use Rattle.nq_clock.specs.Clocks.{clock_told};
@@ -11,6 +12,7 @@ ghost use Rattle.nq_server.specs.Holding.{keeper_in};
 
 use crate::daemon::turning::take_turns;
 use crate::daemon::watching::Watcher;
+use crate::extending::Extension;
 use nq_base::Ticks;
 use nq_base::ending::Halt;
 use nq_clock::Clock;
@@ -33,7 +35,8 @@ pub struct Served<K> {
 
 /// Boots a server over a keeper at the time of one reading of the clock, and takes turns of it over a link, at most so many. The longest
 /// term that the server grants is 5 to 600 ticks. Each turn has a journal of its own, which is dropped behind it. A turn that the link
-/// stopped is borne, and the next one is taken: what that turn had yet to send is lost, or nothing came. What a stop at any moment of the
+/// stopped is borne, and the next one is taken: what that turn had yet to send is lost, or nothing came. The watcher is told of each turn, and
+/// answers the datagrams that are its own. What a stop at any moment of the
 /// call leaves is what was kept when the keeper was handed in, or what was kept after the boot and some of the ticks and datagrams of
 /// the turns, one after the other; a step that failed may be among them.
 ///
@@ -41,7 +44,7 @@ pub struct Served<K> {
 ///
 /// `Keep` only where the keeper counted a fault, `Memory` where memory was refused, and `Spent` exactly where no number is left for the
 /// boot. No link ends it. The turns before the one that stopped stay done.
-pub fn keep_serving<K: Keeper, L: Link, C: Clock, W: Watcher<L>>(
+pub fn keep_serving<K: Keeper, L: Link, C: Clock, W: Watcher<L> + Extension>(
     alloc: Global,
     keeper: K,
     turns: u64,
@@ -53,7 +56,7 @@ pub fn keep_serving<K: Keeper, L: Link, C: Clock, W: Watcher<L>>(
     requires few { turns < 2 ^ 60 }
     requires long { 5 ≤ longest }
     requires short { longest ≤ 600 }
-    ensures serves { LeavesServing K.content K.faults K.follows K.leaves longest turns keeper result.ended result.keeper
+    ensures serves { LeavesServing K.content K.faults (extension_told W.owns W.replies) K.follows K.leaves longest turns keeper result.ended result.keeper
         (clock_told C.floor C.readings C.reads clock.old) (clock_told C.floor C.readings C.reads clock.new)
         (link_told L.sent L.waiting L.faults L.receives link.old)
         (link_told L.sent L.waiting L.faults L.receives link.new) }
@@ -65,7 +68,7 @@ pub fn keep_serving<K: Keeper, L: Link, C: Clock, W: Watcher<L>>(
 }
 
 /// Boots a server over a keeper at this time, and takes turns of it, at most so many.
-fn boot_and_run<K: Keeper, L: Link, C: Clock, W: Watcher<L>>(
+fn boot_and_run<K: Keeper, L: Link, C: Clock, W: Watcher<L> + Extension>(
     alloc: Global,
     keeper: K,
     now: Ticks,
@@ -78,7 +81,7 @@ fn boot_and_run<K: Keeper, L: Link, C: Clock, W: Watcher<L>>(
     requires long { 5 ≤ longest }
     requires short { longest ≤ 600 }
     requires early { now < 2 ^ 62 }
-    ensures runs { LeavesRuns K.content K.faults K.follows K.leaves longest turns now keeper result.ended result.keeper
+    ensures runs { LeavesRuns K.content K.faults (extension_told W.owns W.replies) K.follows K.leaves longest turns now keeper result.ended result.keeper
         (clock_told C.floor C.readings C.reads clock.old) (clock_told C.floor C.readings C.reads clock.new)
         (link_told L.sent L.waiting L.faults L.receives link.old)
         (link_told L.sent L.waiting L.faults L.receives link.new) }

@@ -2,11 +2,13 @@
 
 ghost use Rattle.std.specs.Prelude.{◌≡◌};
 ghost use Rattle.nq_serving.specs.DaemonLeaving.{LeavesTaking, LeavesTurns};
+ghost use Rattle.nq_serving.specs.Extending.{extension_told};
 ghost use Rattle.nq_serving.specs.Turning.{borne, standing};
 ghost use Rattle.nq_clock.specs.Clocks.{clock_told};
 ghost use Rattle.nq_link.specs.Links.{link_told};
 
 use crate::daemon::watching::Watcher;
+use crate::extending::Extension;
 use crate::node::{Turn, serve_turn};
 use nq_base::Journal;
 use nq_base::ending::Halt;
@@ -17,7 +19,7 @@ use nq_server::Server;
 use std::alloc::Global;
 
 /// Takes so many turns of a server, up to the first that stops it.
-pub(crate) fn take_turns<K: Keeper, L: Link, C: Clock, W: Watcher<L>>(
+pub(crate) fn take_turns<K: Keeper, L: Link, C: Clock, W: Watcher<L> + Extension>(
     alloc: Global,
     server: &mut Server<K>,
     link: &mut L,
@@ -26,7 +28,7 @@ pub(crate) fn take_turns<K: Keeper, L: Link, C: Clock, W: Watcher<L>>(
     watcher: &mut W,
     turns: u64,
 ) -> Result<(), Halt>
-    ensures turns { LeavesTurns K.content K.faults K.follows K.leaves turns result
+    ensures turns { LeavesTurns K.content K.faults (extension_told W.owns W.replies) K.follows K.leaves turns result
         (standing server.old next.old (clock_told C.floor C.readings C.reads clock.old)
         (link_told L.sent L.waiting L.faults L.receives link.old))
         (standing server.new next.new (clock_told C.floor C.readings C.reads clock.new)
@@ -44,7 +46,7 @@ pub(crate) fn take_turns<K: Keeper, L: Link, C: Clock, W: Watcher<L>>(
 }
 
 /// Takes one turn of a server, with a journal that is dropped behind it.
-fn take_turn<K: Keeper, L: Link, C: Clock, W: Watcher<L>>(
+fn take_turn<K: Keeper, L: Link, C: Clock, W: Watcher<L> + Extension>(
     alloc: Global,
     server: &mut Server<K>,
     link: &mut L,
@@ -52,7 +54,7 @@ fn take_turn<K: Keeper, L: Link, C: Clock, W: Watcher<L>>(
     next: &mut u64,
     watcher: &mut W,
 ) -> Result<(), Halt>
-    ensures turn { LeavesTaking K.content K.faults K.follows K.leaves result
+    ensures turn { LeavesTaking K.content K.faults (extension_told W.owns W.replies) K.follows K.leaves result
         (standing server.old next.old (clock_told C.floor C.readings C.reads clock.old)
         (link_told L.sent L.waiting L.faults L.receives link.old))
         (standing server.new next.new (clock_told C.floor C.readings C.reads clock.new)
@@ -60,7 +62,7 @@ fn take_turn<K: Keeper, L: Link, C: Clock, W: Watcher<L>>(
     ensures follows { K.follows server.old.keeper server.new.keeper }
 {
     let mut log = Journal::new(alloc).unwrap();
-    let turn = serve_turn(alloc, server, link, clock, next, &mut log);
+    let turn = serve_turn(alloc, server, &*watcher, link, clock, next, &mut log);
     server.pause();
     watcher.turned(link, server.time(), server.table().len(), &log);
     ended_by(turn)

@@ -1,6 +1,13 @@
 //! Who looks on while a server serves.
 
-use nq_base::{Journal, Ticks};
+ghost use Rattle.std.specs.Prelude.{None, false};
+
+use crate::extending::Extension;
+use nq_base::{Host, Journal, Ticks};
+use nq_keeper::{KeepFault, Keeper};
+use nq_server::Server;
+use nq_wire::Outbox;
+use std::alloc::Global;
 
 /// Somebody who is told of each turn behind it. No contract speaks of what a watcher does with that.
 pub trait Watcher<L> {
@@ -9,10 +16,31 @@ pub trait Watcher<L> {
     fn turned(&mut self, link: &L, now: Ticks, rows: usize, log: &Journal);
 }
 
-/// A watcher who does nothing.
+/// A watcher who does nothing, and answers nothing.
 #[derive(Clone, Copy)]
 pub struct Nobody;
 
 impl<L> Watcher<L> for Nobody {
     fn turned(&mut self, _link: &L, _now: Ticks, _rows: usize, _log: &Journal) {}
+}
+
+impl Extension for Nobody {
+    ghost owns = { λ _. false };
+
+    ghost replies = { λ _ _ _. None };
+
+    fn is_own(&self, _datagram: &[u8]) -> bool {
+        false
+    }
+
+    fn answer<K: Keeper>(
+        &self,
+        _alloc: Global,
+        _server: &mut Server<K>,
+        _host: Host,
+        _datagram: &[u8],
+        _out: &mut Outbox,
+    ) -> Result<(), KeepFault> {
+        unreachable!()
+    }
 }

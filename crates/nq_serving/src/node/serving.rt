@@ -5,20 +5,22 @@ ghost use Rattle.nq_base.specs.declared.Party.{Party};
 ghost use Rattle.nq_clock.specs.Clocks.{clock_told};
 ghost use Rattle.nq_link.specs.Links.{link_told, most_bytes};
 ghost use Rattle.nq_serving.specs.Leaving.{IsLeftAt, LeavesBehind, LeavesOnly, LeavesReceiving, LeavesStages, LeavesTurn};
-ghost use Rattle.nq_serving.specs.ServerTurn.{SendsOut, Takes, given_by, goes_on, taken, tick_due, turn_of};
+ghost use Rattle.nq_serving.specs.Extending.{extension_told};
+ghost use Rattle.nq_serving.specs.ServerTurn.{SendsOut, Takes, TakesLetter, TakesOf, answered, given_as, given_by, goes_on, taken, tick_due, turn_of};
 
+use crate::extending::Extension;
 use crate::node::turns::{Halt, Turn};
-use nq_base::{Journal, Party, Ticks};
+use nq_base::{Host, Journal, Party, Ticks};
 use nq_clock::Clock;
-use nq_keeper::Keeper;
+use nq_keeper::{KeepFault, Keeper};
 use nq_link::{Came, Link, MOST_BYTES, Sent, send_all};
 use nq_server::{Received, Server};
 use nq_wire::Outbox;
 use std::alloc::Global;
 
 /// A turn of a server. It reads the clock once. Where the reading is above the server's time, the server takes in one tick to that
-/// time. It asks the link for one receive. The server takes in the datagram that came, cut to 4401 bytes; one that no host sent is
-/// dropped. Then all that came out is sent, in order. `next` is the number of the next datagram that the server makes; it rises by
+/// time. It asks the link for one receive. The server takes in the datagram that came, cut to 4401 bytes, or the extension answers it
+/// where it is its own; one that no host sent is dropped. Then all that came out is sent, in order. `next` is the number of the next datagram that the server makes; it rises by
 /// one for each, and stops at `u64::MAX`. What a stop at any moment of the turn leaves is kept as before it, as after the tick, or as
 /// after the datagram.
 ///
@@ -27,15 +29,16 @@ use std::alloc::Global;
 /// `Link` only where the link counted a fault, `Keep` only where the keeper did, `Memory` where memory was refused, and `Spent`
 /// where the server was at the step that stopped the turn. What was done before stays done, the rest of the turn is left out,
 /// and the datagram of the step that was refused is gone.
-pub(crate) fn serve_turn<K: Keeper, L: Link, C: Clock>(
+pub(crate) fn serve_turn<K: Keeper, E: Extension, L: Link, C: Clock>(
     alloc: Global,
     server: &mut Server<K>,
+    extension: &E,
     link: &mut L,
     clock: &mut C,
     next: &mut u64,
     log: &mut Journal,
 ) -> Turn
-    ensures turn { LeavesTurn K.content K.faults K.follows K.leaves result next.old next.new
+    ensures turn { LeavesTurn K.content K.faults (extension_told E.owns E.replies) K.follows K.leaves result next.old next.new
         (clock_told C.floor C.readings C.reads clock.old) (clock_told C.floor C.readings C.reads clock.new)
         (link_told L.sent L.waiting L.faults L.receives link.old)
         (link_told L.sent L.waiting L.faults L.receives link.new)
@@ -43,13 +46,13 @@ pub(crate) fn serve_turn<K: Keeper, L: Link, C: Clock>(
     ensures follows { K.follows server.old.keeper server.new.keeper }
 {
     let mut out = Outbox::new(alloc, *next).unwrap();
-    let ended = serve(alloc, server, link, clock, &mut out, log);
+    let ended = serve(alloc, server, extension, link, clock, &mut out, log);
     *next = out.next();
-    answered(ended)
+    turn_of(ended)
 }
 
 /// The answer of a turn that ended so.
-fn answered(ended: Result<bool, Halt>) -> Turn
+fn turn_of(ended: Result<bool, Halt>) -> Turn
     ensures { result ≡ turn_of ended }
 {
     match ended {
@@ -63,15 +66,16 @@ fn answered(ended: Result<bool, Halt>) -> Turn
 }
 
 /// The stages of a turn. It answers whether the clock rose or a datagram came.
-fn serve<K: Keeper, L: Link, C: Clock>(
+fn serve<K: Keeper, E: Extension, L: Link, C: Clock>(
     alloc: Global,
     server: &mut Server<K>,
+    extension: &E,
     link: &mut L,
     clock: &mut C,
     out: &mut Outbox,
     log: &mut Journal,
 ) -> Result<bool, Halt>
-    ensures stages { LeavesStages K.content K.faults K.follows K.leaves result (clock_told C.floor C.readings C.reads clock.old) (clock_told C.floor C.readings C.reads clock.new)
+    ensures stages { LeavesStages K.content K.faults (extension_told E.owns E.replies) K.follows K.leaves result (clock_told C.floor C.readings C.reads clock.old) (clock_told C.floor C.readings C.reads clock.new)
         (link_told L.sent L.waiting L.faults L.receives link.old)
         (link_told L.sent L.waiting L.faults L.receives link.new)
         (record { server = server.old; out = out.old; log = log.old })
@@ -81,7 +85,7 @@ fn serve<K: Keeper, L: Link, C: Clock>(
     let reading = clock.now();
     let rises = is_below(server, reading);
     match tick_to(server, reading, out, log) {
-        Ok(()) => go_on(alloc, server, link, rises, out, log),
+        Ok(()) => go_on(alloc, server, extension, link, rises, out, log),
         Err(why) => Err(why),
     }
 }
@@ -94,22 +98,23 @@ fn is_below<K: Keeper>(server: &Server<K>, time: Ticks) -> bool
 }
 
 /// What a turn does after its tick: it receives, takes in, and sends.
-fn go_on<K: Keeper, L: Link>(
+fn go_on<K: Keeper, E: Extension, L: Link>(
     alloc: Global,
     server: &mut Server<K>,
+    extension: &E,
     link: &mut L,
     ticked: bool,
     out: &mut Outbox,
     log: &mut Journal,
 ) -> Result<bool, Halt>
-    ensures goes { LeavesBehind K.content K.faults K.follows K.leaves (Ok tt) result ticked
+    ensures goes { LeavesBehind K.content K.faults (extension_told E.owns E.replies) K.follows K.leaves (Ok tt) result ticked
         (link_told L.sent L.waiting L.faults L.receives link.old)
         (link_told L.sent L.waiting L.faults L.receives link.new)
         (record { server = server.old; out = out.old; log = log.old })
         (record { server = server.new; out = out.new; log = log.new }) }
     ensures follows { K.follows server.old.keeper server.new.keeper }
 {
-    match take_from(alloc, server, link, out, log) {
+    match take_from(alloc, server, extension, link, out, log) {
         Ok(came) => send_out(link, out, either(ticked, came)),
         Err(why) => Err(why),
     }
@@ -159,14 +164,15 @@ fn tick_to<K: Keeper>(
 
 /// Receives once, and gives a server the datagram that came; answers whether one came.
 #[tactic(auto, unfolding(nq_link::specs::Links::most_bytes))]
-fn take_from<K: Keeper, L: Link>(
+fn take_from<K: Keeper, E: Extension, L: Link>(
     alloc: Global,
     server: &mut Server<K>,
+    extension: &E,
     link: &mut L,
     out: &mut Outbox,
     log: &mut Journal,
 ) -> Result<bool, Halt>
-    ensures receives { LeavesReceiving K.content K.faults K.follows K.leaves result
+    ensures receives { LeavesReceiving K.content K.faults (extension_told E.owns E.replies) K.follows K.leaves result
         (link_told L.sent L.waiting L.faults L.receives link.old)
         (link_told L.sent L.waiting L.faults L.receives link.new)
         (record { server = server.old; out = out.old; log = log.old })
@@ -174,20 +180,21 @@ fn take_from<K: Keeper, L: Link>(
     ensures follows { K.follows server.old.keeper server.new.keeper }
 {
     let mut buffer = [0; MOST_BYTES];
-    take_through(alloc, server, link, &mut buffer, out, log)
+    take_through(alloc, server, extension, link, &mut buffer, out, log)
 }
 
 /// Receives once into a buffer, and gives a server the datagram that came; answers whether one came.
-fn take_through<K: Keeper, L: Link>(
+fn take_through<K: Keeper, E: Extension, L: Link>(
     alloc: Global,
     server: &mut Server<K>,
+    extension: &E,
     link: &mut L,
     buffer: &mut [u8],
     out: &mut Outbox,
     log: &mut Journal,
 ) -> Result<bool, Halt>
     requires { length buffer.old ≡ most_bytes }
-    ensures receives { LeavesReceiving K.content K.faults K.follows K.leaves result
+    ensures receives { LeavesReceiving K.content K.faults (extension_told E.owns E.replies) K.follows K.leaves result
         (link_told L.sent L.waiting L.faults L.receives link.old)
         (link_told L.sent L.waiting L.faults L.receives link.new)
         (record { server = server.old; out = out.old; log = log.old })
@@ -200,6 +207,7 @@ fn take_through<K: Keeper, L: Link>(
         Came::Datagram { length, sender } => taken(take_in(
             alloc,
             server,
+            extension,
             sender,
             &buffer[..length],
             out,
@@ -218,26 +226,63 @@ fn taken(made: Result<(), Halt>) -> Result<bool, Halt>
     }
 }
 
-/// Gives a server a datagram, if a host sent it.
-fn take_in<K: Keeper>(
+/// Gives a server and its extension a datagram, if a host sent it.
+fn take_in<K: Keeper, E: Extension>(
     alloc: Global,
     server: &mut Server<K>,
+    extension: &E,
     sender: Party,
     datagram: &[u8],
     out: &mut Outbox,
     log: &mut Journal,
 ) -> Result<(), Halt>
-    ensures takes { Takes K.content K.faults (given_by (sender, datagram.now)) result
+    ensures takes { TakesLetter K.content K.faults (extension_told E.owns E.replies) (sender, datagram.now) result
         (record { server = server.old; out = out.old; log = log.old })
         (record { server = server.new; out = out.new; log = log.new }) }
     ensures leaves { LeavesOnly K.content K.follows K.leaves server.old.keeper server.new.keeper
-        (IsLeftAt K.content (given_by (sender, datagram.now))
+        (IsLeftAt K.content (given_by (extension_told E.owns E.replies) (sender, datagram.now))
         (record { server = server.old; out = out.old; log = log.old })) }
     ensures follows { K.follows server.old.keeper server.new.keeper }
 {
     match sender {
         Party::Server => Ok(()),
-        Party::Client(host) => made(server.receive(alloc, host, datagram, out, log)),
+        Party::Client(host) => take_from_host(alloc, server, extension, host, datagram, out, log),
+    }
+}
+
+/// Has the extension answer a host's datagram that is its own, and gives the server any other one.
+fn take_from_host<K: Keeper, E: Extension>(
+    alloc: Global,
+    server: &mut Server<K>,
+    extension: &E,
+    host: Host,
+    datagram: &[u8],
+    out: &mut Outbox,
+    log: &mut Journal,
+) -> Result<(), Halt>
+    ensures takes { TakesOf K.content K.faults (extension_told E.owns E.replies) (E.owns datagram.now) host datagram.now result
+        (record { server = server.old; out = out.old; log = log.old })
+        (record { server = server.new; out = out.new; log = log.new }) }
+    ensures leaves { LeavesOnly K.content K.follows K.leaves server.old.keeper server.new.keeper
+        (IsLeftAt K.content (given_as (E.owns datagram.now) host datagram.now)
+        (record { server = server.old; out = out.old; log = log.old })) }
+    ensures follows { K.follows server.old.keeper server.new.keeper }
+{
+    if extension.is_own(datagram) {
+        answered(extension.answer(alloc, server, host, datagram, out))
+    } else {
+        made(server.receive(alloc, host, datagram, out, log))
+    }
+}
+
+/// Whether a turn goes on after an extension has answered so.
+fn answered(how: Result<(), KeepFault>) -> Result<(), Halt>
+    ensures { result ≡ answered how }
+{
+    match how {
+        Ok(()) => Ok(()),
+        Err(KeepFault::Failed) => Err(Halt::Keep),
+        Err(KeepFault::Memory) => Err(Halt::Memory),
     }
 }
 

@@ -6,6 +6,7 @@ ghost use Rattle.nq_serving.specs.Serving.{between};
 ghost use Rattle.nq_clock.specs.Clocks.{clock_told};
 ghost use Rattle.nq_link.specs.Links.{link_told};
 
+use crate::daemon::Nobody;
 use crate::node::{Turn, serve_turn};
 use nq_base::Journal;
 use nq_base::ending::Halt;
@@ -58,7 +59,7 @@ fn take_turn<K: Keeper, L: Link, C: Clock>(
         (link_told L.sent L.waiting L.faults L.receives link.new)) }
     ensures follows { K.follows server.old.keeper server.new.keeper }
 {
-    let turn = serve_turn(alloc, server, link, clock, next, log);
+    let turn = serve_turn(alloc, server, &Nobody, link, clock, next, log);
     server.pause();
     ended_by(turn)
 }

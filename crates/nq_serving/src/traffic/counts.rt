@@ -3,16 +3,28 @@
 use crate::traffic::classes::{Heard, Said};
 
 /// The names of the procedures, by their numbers.
-pub const PROCEDURES: [&str; 12] = [
-    "null", "attach", "lookup", "create", "getattr", "read", "write", "getlease", "vacated",
-    "evicted", "resize", "remove",
+pub const PROCEDURES: [&str; 14] = [
+    "null",
+    "attach",
+    "lookup",
+    "create",
+    "getattr",
+    "read",
+    "write",
+    "getlease",
+    "vacated",
+    "evicted",
+    "resize",
+    "remove",
+    "commit",
+    "readdirlook",
 ];
 
 /// How many datagrams of each kind came to a server and went from it. Each count stands still at `u64::MAX`.
 #[derive(Clone, Copy)]
 pub struct Counts {
     /// Calls, by their procedures.
-    pub calls: [u64; 12],
+    pub calls: [u64; 14],
     /// What came and is no call of the program.
     pub strange: u64,
     /// Notices.
@@ -40,7 +52,7 @@ impl Counts {
     /// No datagram.
     pub fn none() -> Counts {
         Counts {
-            calls: [0; 12],
+            calls: [0; 14],
             strange: 0,
             notices: 0,
             done: 0,

@@ -3,6 +3,7 @@ use Rattle.nq_serving.proofs.DaemonCauses.{ends_by}
 use Rattle.nq_model.specs.Profile.{most_taken_by_server}
 use Rattle.nq_clock.specs.Clocks.{clock_told}
 use Rattle.nq_link.specs.Links.{link_told}
+use Rattle.nq_serving.specs.Extending.{extension_told}
 use Rattle.nq_serving.proofs.daemon.serving.keep_serving.Goals as goal
 
 pub returns-clause-serves : goal.returns-clause-serves
@@ -25,6 +26,6 @@ returns-clause-cause g c =
     let link_of = link_told g.L.Link.sent g.L.Link.waiting g.L.Link.faults g.L.Link.receives in
     let clock_of = clock_told g.C.Clock.floor g.C.Clock.readings g.C.Clock.reads in
     let ran = c.boot_and_run.result in
-    ends_by g.K.Keeper.content g.K.Keeper.faults g.K.Keeper.follows most_taken_by_server c.args.longest c.args.turns c.now-now.result c.args.keeper
+    ends_by g.K.Keeper.content g.K.Keeper.faults (extension_told g.W.Extension.owns g.W.Extension.replies) g.K.Keeper.follows most_taken_by_server c.args.longest c.args.turns c.now-now.result c.args.keeper
     ran.ended ran.keeper (clock_of c.now-now.new.self) (clock_of c.boot_and_run.new.clock) (link_of c.args.link.now) (link_of c.boot_and_run.new.link)
     refl (omega (arith, c.requires.few)) c.boot_and_run.ensures.runs.runs

@@ -3,6 +3,7 @@ use Rattle.nq_serving.proofs.DaemonLeaves.{taking}
 use Rattle.nq_serving.specs.Turning.{standing}
 use Rattle.nq_clock.specs.Clocks.{clock_told}
 use Rattle.nq_link.specs.Links.{link_told}
+use Rattle.nq_serving.specs.Extending.{extension_told}
 use Rattle.nq_serving.proofs.daemon.turning.take_turn.Goals as goal
 
 pub returns-clause-turn : goal.returns-clause-turn
@@ -12,6 +13,6 @@ returns-clause-turn g c =
     let at = standing c.args.server.now c.args.next.now (clock_of c.args.clock.now) (link_of c.args.link.now) in
     let after = standing c.serve_turn-turn.new.server c.serve_turn-turn.new.next (clock_of c.serve_turn-turn.new.clock)
     (link_of c.serve_turn-turn.new.link) in
-    taking g.K.Keeper.content g.K.Keeper.faults g.K.Keeper.follows g.K.Keeper.leaves c.serve_turn-turn.result c.ended_by.result c.unwrap-log.result
+    taking g.K.Keeper.content g.K.Keeper.faults (extension_told g.W.Extension.owns g.W.Extension.replies) g.K.Keeper.follows g.K.Keeper.leaves c.serve_turn-turn.result c.ended_by.result c.unwrap-log.result
     c.serve_turn-turn.new.log at after c.ended_by.ensures
     (subst (λ r. IfOk r (λ j. j.entries ≡ [])) c.unwrap-log.ensures c.new.ensures.empty) c.serve_turn-turn.ensures.turn c.pause.ensures.leaves

@@ -12,7 +12,7 @@ returns-clause-turn g c =
         empty = fresh.1;
         last = c.next.ensures;
         ended = c.serve-ended.result;
-        answer = c.answered.ensures;
+        answer = c.turn_of.ensures;
         stages = c.serve-ended.ensures.stages.stages;
       };
       left = c.serve-ended.ensures.stages.left;

@@ -1,0 +1,4 @@
+pub mod Files
+pub mod Keeping
+pub mod Pages
+pub mod Telling
