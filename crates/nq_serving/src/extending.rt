@@ -1,6 +1,6 @@
 //! What stands beside a server and answers datagrams that are none of the protocol proper.
 
-ghost use Rattle.std.specs.Prelude.{◌≡◌, ℕ, Bool, List, Option, true};
+ghost use Rattle.std.specs.Prelude.{◌≡◌, ℕ, Bool, List, Option};
 ghost use Rattle.nq_model.specs.Server.{Server as Protocol};
 ghost use Rattle.nq_server.specs.State.{server_of};
 ghost use Rattle.nq_serving.specs.Extending.{AddsReply, ReadsOnly};
@@ -24,7 +24,7 @@ pub trait Extension {
     fn is_own(&self, datagram: &[u8]) -> bool
         ensures own { result ≡ owns datagram.now };
 
-    /// Answers a datagram of a host that is its own: adds the reply to the outbox, if the host gets one.
+    /// Answers a datagram of a host: adds the reply to the outbox, if the host gets one.
     ///
     /// # Errors
     ///
@@ -37,7 +37,6 @@ pub trait Extension {
         datagram: &[u8],
         out: &mut Outbox,
     ) -> Result<(), KeepFault>
-        requires own { owns datagram.now ≡ true }
         ensures first { out.new.first ≡ out.old.first }
         ensures replies { AddsReply result (K.content server.old.keeper) (λ kept. replies (server_of server.old.beside kept) host datagram.now) host
             out.old.datagrams out.new.datagrams }

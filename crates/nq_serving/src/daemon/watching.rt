@@ -36,11 +36,12 @@ impl Extension for Nobody {
     fn answer<K: Keeper>(
         &self,
         _alloc: Global,
-        _server: &mut Server<K>,
+        server: &mut Server<K>,
         _host: Host,
         _datagram: &[u8],
         _out: &mut Outbox,
     ) -> Result<(), KeepFault> {
-        unreachable!()
+        server.pause();
+        Ok(())
     }
 }
