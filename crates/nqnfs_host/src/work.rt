@@ -2,9 +2,11 @@
 
 use crate::askers::Ask;
 use crate::ledger::Made;
+use crate::listing::{Listed, Listing};
 use nq_asks::Kind;
 use nq_base::{Answer, Call, FileId, Name, NoMemory, Who};
 use nq_command::prompt::answer_text;
+use nq_directory::Prefix;
 use nq_script::parse_call;
 use nq_script::words::{Words, is};
 use nq_whole::{Getting, Got, MOST_BYTES, Said, Storing, Tidying, Told};
@@ -33,6 +35,8 @@ enum Task {
     Get(Getting),
     /// Tidying up behind a store that was cut off.
     Tidy(Tidying),
+    /// Listing names. It makes no call.
+    List(Listing),
 }
 
 /// What came of a step.
@@ -105,6 +109,10 @@ fn task_of(alloc: Global, text: &[u8]) -> Option<Task> {
         let name = words.name()?;
         return Some(Task::Get(Getting::new(alloc, name)));
     }
+    if is(verb, b"ls") {
+        let prefix = Prefix::new(words.next().unwrap_or(b""))?;
+        return Some(Task::List(Listing::new(alloc, prefix)));
+    }
     match parse_call(alloc, text, 2) {
         Ok(call) => Some(Task::Call(call)),
         Err(_) => None,
@@ -167,6 +175,24 @@ impl Work {
             Task::Store(storing) => storing.asks(self.alloc),
             Task::Get(getting) => Ok(getting.asks()),
             Task::Tidy(tidying) => Ok(tidying.asks()),
+            Task::List(_) => Err(NoMemory::Memory),
+        }
+    }
+
+    /// The list under way, if this is one.
+    pub(crate) fn listing(&mut self) -> Option<&mut Listing> {
+        match &mut self.task {
+            Task::List(listing) => Some(listing),
+            _ => None,
+        }
+    }
+
+    /// What came of a page of the list.
+    pub(crate) fn listed(self, listed: Listed) -> Came {
+        match listed {
+            Listed::Goes => Came::On(self),
+            Listed::Whole => self.gives(),
+            Listed::Memory => self.lacks(),
         }
     }
 
@@ -228,6 +254,7 @@ impl Work {
                 Told::Gone => Came::Tidied(None),
                 Told::Kept | Told::Unsure => Came::Tidied(work.made),
             },
+            Task::List(_) => Came::On(work),
         }
     }
 
@@ -298,6 +325,7 @@ impl Work {
         } = self;
         let bytes = match task {
             Task::Get(getting) => getting.into_bytes(),
+            Task::List(listing) => listing.into_lines(),
             _ => Vec::new(alloc),
         };
         let size = bytes.len();
