@@ -62,8 +62,10 @@ fn is_silence(error: &io::Error) -> bool {
 
 /// Whether a datagram is a page of a list, as far as its first words tell: a reply with a number that no request of a client has.
 fn is_page(datagram: &[u8]) -> bool {
-    let is_listed = datagram.first().is_some_and(|byte| *byte >= 128);
-    is_listed && datagram.get(4..8) == Some(&REPLY)
+    match (datagram.first(), datagram.get(4..8)) {
+        (Some(first), Some(second)) => *first >= 128 && second == REPLY.as_slice(),
+        _ => false,
+    }
 }
 
 impl HostLink {

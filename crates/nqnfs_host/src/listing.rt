@@ -86,10 +86,14 @@ impl Listing {
         let Some(asked) = self.asked else {
             return Listed::Goes;
         };
-        match read_told(alloc, asked.number, who.inc.0, datagram) {
-            Ok(Some(Told::Page(page))) => self.take_page(&page),
-            Ok(Some(Told::Later)) | Ok(None) => Listed::Goes,
-            Err(_) => Listed::Memory,
+        let told = match read_told(alloc, asked.number, who.inc.0, datagram) {
+            Ok(Some(told)) => told,
+            Ok(None) => return Listed::Goes,
+            Err(_) => return Listed::Memory,
+        };
+        match told {
+            Told::Page(page) => self.take_page(&page),
+            Told::Later => Listed::Goes,
         }
     }
 
