@@ -1,20 +1,20 @@
 #!/usr/bin/env python3
-"""Tries wrong bodies: each edit of wrong.edits is made in a copy, and the prover has to refuse it.
+"""Tries wrong bodies: each edit of wrong.edits is made in a copy of its crate, and the prover has to refuse it.
 
-    wrong.py             tries all of them, one crate after another: hours
-    wrong.py CRATE ..    those of these crates
-    wrong.py --look      proves nothing, and says which edits no longer fit the files
+    wrong.py                tries all of them, one crate after another: hours
+    wrong.py CRATE ..       those of these crates
+    wrong.py --only WORD    those of which the first line has this word
+    wrong.py --look         proves nothing, and says which edits no longer fit the files
 
+It begins with what `rt check` kept of the crate, so check it before. While it runs, the edits stand in the crate's folder must-fail.
 It ends with status 1 where an edit is still proved or could not be tried.
 """
 
 import argparse
 import os
 import re
-import shutil
 import subprocess
 import sys
-import tempfile
 
 TOP = os.path.join(os.path.dirname(os.path.abspath(__file__)), "..")
 EDITS = os.path.join(TOP, "tools", "wrong.edits")
@@ -41,7 +41,7 @@ def read_edits():
 
 def name_of(edit):
     """The name of an edit's file."""
-    return re.sub(r"[^a-z0-9]+", "_", edit["does"].lower()).strip("_")
+    return "wrong_" + re.sub(r"[^a-z0-9]+", "_", edit["does"].lower()).strip("_") + ".edit"
 
 
 def misfit(edit):
@@ -64,27 +64,41 @@ def crates_in_order():
         return [line.split(":")[0] for line in text if line.strip() and not line.startswith("#")]
 
 
-def copy_to(folder):
-    """Copies the crates, without what was built of them and without what the gate tries itself."""
-    for name in ("crates.txt", "HANDLES"):
-        shutil.copy(os.path.join(TOP, name), folder)
-    shutil.copytree(os.path.join(TOP, "crates"), os.path.join(folder, "crates"), ignore=shutil.ignore_patterns("out", "must-fail"))
-
-
-def write_edits(folder, crate, edits):
+def write_edits(place, edits):
     """Writes the edits of a crate where `rt must-fail` finds them."""
-    place = os.path.join(folder, "crates", crate, "must-fail")
-    os.makedirs(place)
     for edit in edits:
-        with open(os.path.join(place, name_of(edit) + ".edit"), "w") as out:
+        with open(os.path.join(place, name_of(edit)), "w") as out:
             out.write(f"file: {edit['file']}\n")
             for old, new in edit["pairs"]:
                 out.write(f"old: {old}\nnew: {new}\n")
 
 
+def take_away(place, edits, was_there):
+    """Takes the edits away, and the folder where it was not there before."""
+    for edit in edits:
+        path = os.path.join(place, name_of(edit))
+        if os.path.exists(path):
+            os.remove(path)
+    if not was_there:
+        os.rmdir(place)
+
+
+def tried(crate, edits):
+    """What `rt must-fail` says of a crate with these edits."""
+    place = os.path.join(TOP, "crates", crate, "must-fail")
+    was_there = os.path.isdir(place)
+    os.makedirs(place, exist_ok=True)
+    try:
+        write_edits(place, edits)
+        ran = subprocess.run(["rt", "must-fail", crate], cwd=TOP, capture_output=True, text=True)
+    finally:
+        take_away(place, edits, was_there)
+    return ran.stdout + ran.stderr
+
+
 def verdict_of(said, edit):
     """What `rt must-fail` says of an edit."""
-    told = re.search(rf"{edit['crate']}/{name_of(edit)}\.edit: (.*)", said)
+    told = re.search(rf"{edit['crate']}/{re.escape(name_of(edit))}: (.*)", said)
     words = told.group(1) if told else ""
     if words.startswith("refused, as it must be (only"):
         return "refused, but by no clause"
@@ -94,11 +108,9 @@ def verdict_of(said, edit):
     return "not tried"
 
 
-def try_crate(folder, crate, edits):
+def try_crate(crate, edits):
     """Tries the edits of a crate, and gives how many were not refused."""
-    write_edits(folder, crate, edits)
-    ran = subprocess.run(["rt", "must-fail", crate], cwd=folder, capture_output=True, text=True)
-    said = ran.stdout + ran.stderr
+    said = tried(crate, edits)
     missed = 0
     for edit in edits:
         verdict = verdict_of(said, edit)
@@ -112,9 +124,11 @@ def try_crate(folder, crate, edits):
 def main():
     asked = argparse.ArgumentParser(description=__doc__, formatter_class=argparse.RawDescriptionHelpFormatter)
     asked.add_argument("crates", metavar="CRATE", nargs="*", help="a crate whose edits are tried")
+    asked.add_argument("--only", metavar="WORD", default="", help="only the edits of which the first line has this word")
     asked.add_argument("--look", action="store_true", help="only say which edits no longer fit the files")
     said = asked.parse_args()
     edits = [edit for edit in read_edits() if not said.crates or edit["crate"] in said.crates]
+    edits = [edit for edit in edits if said.only in edit["does"]]
     missed = 0
     for edit in edits:
         edit["why"] = misfit(edit)
@@ -123,12 +137,10 @@ def main():
             print(f"{edit['crate']}: does not fit: {edit['does']}: {edit['why']}")
     if said.look:
         return 1 if missed else 0
-    with tempfile.TemporaryDirectory() as folder:
-        copy_to(folder)
-        for crate in crates_in_order():
-            mine = [edit for edit in edits if edit["crate"] == crate and not edit["why"]]
-            if mine:
-                missed += try_crate(folder, crate, mine)
+    for crate in crates_in_order():
+        mine = [edit for edit in edits if edit["crate"] == crate and not edit["why"]]
+        if mine:
+            missed += try_crate(crate, mine)
     return 1 if missed else 0
 
 

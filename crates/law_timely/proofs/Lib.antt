@@ -14,3 +14,6 @@ pub mod Stills
 pub mod Soon
 pub mod SomeTimely
 pub mod Premises
+pub mod Drowsy
+pub mod Stores
+pub mod Recoveries

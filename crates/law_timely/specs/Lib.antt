@@ -3,3 +3,4 @@ pub mod QuietWhenStill
 pub mod NobodyIsWaitedFor
 pub mod TimelyMet
 pub mod PremisesMatter
+pub mod RecoveriesEndInTime

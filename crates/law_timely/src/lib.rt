@@ -4,4 +4,7 @@
 
 mod live;
 
-pub use live::{nobody_is_waited_for, premises_matter, quiet_when_still, timely_runs_are_met};
+pub use live::{
+    nobody_is_waited_for, premises_matter, quiet_when_still, recoveries_end_in_time,
+    timely_runs_are_met,
+};

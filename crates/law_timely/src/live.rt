@@ -3,12 +3,19 @@
 ghost use Rattle.law_timely.specs.NobodyIsWaitedFor.{NobodyIsWaitedFor};
 ghost use Rattle.law_timely.specs.PremisesMatter.{PremisesMatter};
 ghost use Rattle.law_timely.specs.QuietWhenStill.{QuietWhenStill};
+ghost use Rattle.law_timely.specs.RecoveriesEndInTime.{RecoveriesEndInTime};
 ghost use Rattle.law_timely.specs.TimelyMet.{TimelyIsMet};
 
 /// In every run that goes on in a timely network: whenever a clock ticks no live host waits for a reply, no `sync` is open, and no `put` whose write
 /// was delayed; not even while the server recovers.
 pub fn quiet_when_still()
     ensures { QuietWhenStill }
+{}
+
+/// In every run that goes on in a timely network: the server serves once its clock shows as many ticks more as the longest term of all boots and 8
+/// more, or later, whatever live hosts call and store.
+pub fn recoveries_end_in_time()
+    ensures { RecoveriesEndInTime }
 {}
 
 /// In every run that goes on in a timely network: once the server serves, each `lookup`, `attr` and `create` of a live host is answered before

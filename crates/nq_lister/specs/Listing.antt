@@ -122,6 +122,6 @@ PagesGoOn =
     (kept : Kept) (prefix : List ℕ) (after : ℕ)
     → IsWithinBounds kept
     → names_behind prefix after kept.files
-        ≡ (page_of (names_behind prefix after kept.files)).names
-        ++ names_beyond (page_of (names_behind prefix after kept.files)).more prefix
-        (last_id after (page_of (names_behind prefix after kept.files)).names) kept.files
+    ≡ (page_of (names_behind prefix after kept.files)).names
+    ++ names_beyond (page_of (names_behind prefix after kept.files)).more prefix
+    (last_id after (page_of (names_behind prefix after kept.files)).names) kept.files

@@ -50,11 +50,7 @@ fn bytes_behind(text: &[u8]) -> Option<usize> {
     }
     let _name = words.next();
     let size = words.u32()? as usize;
-    if size > MOST_BYTES {
-        None
-    } else {
-        Some(size)
-    }
+    if size > MOST_BYTES { None } else { Some(size) }
 }
 
 /// The number and the words of a line that asks, and how many bytes follow it.

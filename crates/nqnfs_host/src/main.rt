@@ -199,7 +199,11 @@ fn attend(rt: &HostRuntime, folder: &str, who: Who, hosting: Hosting<'_>) -> End
     let mut desk = hosting.close();
     let ending = match desk.halt {
         Some(Halt::Memory) => told_memory(rt),
-        Some(_) => told(rt, Ending::Limit, "a start takes in no more; begin another one"),
+        Some(_) => told(
+            rt,
+            Ending::Limit,
+            "a start takes in no more; begin another one",
+        ),
         None if ran.is_err() => told(rt, Ending::LinkFault, "its sockets cannot be waited for"),
         None => Ending::Done,
     };
@@ -207,7 +211,11 @@ fn attend(rt: &HostRuntime, folder: &str, who: Who, hosting: Hosting<'_>) -> End
         let _lost = told(rt, ending, "delayed writes that were not stored are lost");
     }
     if !give_back(rt, folder, who.host, &mut desk) {
-        let _told = told(rt, ending, "its leases run on, so others may wait for 38 seconds");
+        let _told = told(
+            rt,
+            ending,
+            "its leases run on, so others may wait for 38 seconds",
+        );
     }
     desk.close();
     ending

@@ -6,15 +6,16 @@ mod memory;
 mod serving;
 mod words;
 
-ghost use Rattle.std.specs.Prelude.{◌≤◌};
-
-use crate::serving::serve_over;
+use crate::memory::Resident;
+use crate::serving::{Parts, Teller, parts_of, serve_disk};
 use crate::words::{Options, Order, order_of};
 use nq_base::ending::Ending;
+use nq_io::streams::StdSink;
+use nq_serving::traffic::Report;
 use std::alloc::AllocError;
-use std::env;
 use std::io::ErrorKind;
 use std::process::ExitCode;
+use std::{env, io};
 
 // The image where the words name none.
 const IMAGE: &str = "nqnfs.img";
@@ -43,17 +44,48 @@ fn obey(rt: &HostRuntime) -> Ending {
     let Ok(words) = words_of(rt) else {
         return Ending::Memory;
     };
-    match order_of(words.as_slice()) {
+    let options = match order_of(words.as_slice()) {
+        Order::Serve(options) => options,
+        order => return tell(rt, &order),
+    };
+    let image = image_of(words.as_slice(), &options);
+    match parts_of(rt, image) {
+        Ok(parts) => serve(rt, image, parts, options),
+        Err(end) => end,
+    }
+}
+
+/// Serves over an image with these parts of the machine; how that ends.
+fn serve(rt: &HostRuntime, image: &str, parts: Parts, options: Options) -> Ending {
+    let Parts { disk, link, clock } = parts;
+    let (mut link, mut clock) = (link, clock);
+    let mut teller = Teller {
+        rt,
+        image,
+        report: Report::new(
+            rt.alloc(),
+            StdSink::new(io::writer(rt)),
+            Resident::new(rt),
+            options.every,
+        ),
+    };
+    let longest = options.longest.clamp(5, 600);
+    let ended = serve_disk(rt, image, disk, longest, &mut link, &mut clock, &mut teller);
+    ended.end
+}
+
+/// Says what there is to say where nothing is served; how the program ends.
+fn tell(rt: &HostRuntime, order: &Order) -> Ending {
+    match order {
         Order::Help => say(rt, HELP),
         Order::Version => {
             let _told = println!(rt; "{VERSION}");
             Ending::Done
         }
-        Order::Usage => {
+        Order::Usage | Order::Serve(_) => {
             let _told = eprintln!(rt; "usage: nqnfsd [IMAGE] [--longest N] [--every S]");
             Ending::Usage
         }
-        Order::Serve(options) => serve(rt, words.as_slice(), options),
     }
 }
 
@@ -65,16 +97,15 @@ fn say(rt: &HostRuntime, text: &str) -> Ending {
     }
 }
 
-/// Serves over the image that the words name.
-fn serve(rt: &HostRuntime, words: &[String], options: Options) -> Ending {
-    let image = match options.image {
+/// The image that the words name.
+fn image_of<'a>(words: &'a [String], options: &Options) -> &'a str {
+    match options.image {
         Some(place) => match words.get(place) {
             Some(word) => word.as_str(),
             None => IMAGE,
         },
         None => IMAGE,
-    };
-    serve_over(rt, image, options.longest.clamp(5, 600), options.every)
+    }
 }
 
 /// The words behind the program's name.

@@ -1,14 +1,17 @@
 //! Serving over an image.
 
-ghost use Rattle.std.specs.Prelude.{◌≤◌};
+ghost use Rattle.nq_clock.specs.Clocks.{clock_told};
+ghost use Rattle.nq_link.specs.Links.{link_told};
 ghost use Rattle.nq_lister.specs.Listing.{is_lookup, reply_in};
+ghost use Rattle.nq_serving.specs.Extending.{extension_told};
+ghost use Rattle.nq_store.specs.Opening.{back_of};
+ghost use Rattle.nqnfsd.specs.Statuses.{EndsSo, end_of_turns, end_unopened};
+ghost use Rattle.std.specs.Prelude.{◌≡◌, ◌≤◌};
 
-use crate::memory::Resident;
 use nq_base::ending::{Ending, Halt};
 use nq_base::{Host, Journal, Party, Ticks};
-use nq_clock::StdClock;
-use nq_disk::FileDisk;
-use nq_io::streams::StdSink;
+use nq_clock::{Clock, StdClock};
+use nq_disk::{Disk, FileDisk};
 use nq_keeper::{KeepFault, Keeper};
 use nq_link::{Came, Link, UdpLink};
 use nq_lister::Lister;
@@ -16,11 +19,10 @@ use nq_server::Server;
 use nq_service::mount::{Greeter, Survey, serve_image};
 use nq_serving::Extension;
 use nq_serving::daemon::{MOST_TURNS, Watcher};
-use nq_serving::traffic::{CountedLink, Report};
+use nq_serving::traffic::CountedLink;
 use nq_store::OpenFault;
 use nq_wire::Outbox;
 use std::alloc::Global;
-use std::io;
 
 // The port of the server.
 const PORT: u16 = 20560;
@@ -30,10 +32,10 @@ const BEYOND: u32 = 8;
 
 /// A watcher who also says what the server begins with, and lists names.
 #[derive(Drop)]
-struct Teller<'a, R> {
-    rt: &'a HostRuntime,
-    image: &'a str,
-    report: R,
+pub(crate) struct Teller<'a, R> {
+    pub(crate) rt: &'a HostRuntime,
+    pub(crate) image: &'a str,
+    pub(crate) report: R,
 }
 
 impl<R> Greeter for Teller<'_, R> {
@@ -69,24 +71,69 @@ impl<R> Extension for Teller<'_, R> {
     }
 }
 
-/// Serves over the image in this file until something stops it; how that ends.
-pub(crate) fn serve_over(rt: &HostRuntime, image: &str, longest: u32, every: Option<u64>) -> Ending
-    requires long { 5 ≤ longest }
-    requires short { longest ≤ 600 }
-{
+/// What of the machine the program serves with.
+#[derive(Drop)]
+pub(crate) struct Parts {
+    pub(crate) disk: FileDisk,
+    pub(crate) link: CountedLink<UdpLink<HostRuntime>>,
+    pub(crate) clock: StdClock<HostRuntime>,
+}
+
+/// How serving ended, and the disk as it was left.
+#[derive(Drop)]
+pub(crate) struct Ended<D> {
+    pub(crate) end: Ending,
+    pub(crate) disk: D,
+}
+
+/// The file of an image as a disk, the server's link, which is bound, and the clock; or how the program ends without them.
+pub(crate) fn parts_of(rt: &HostRuntime, image: &str) -> Result<Parts, Ending> {
     let Ok(net) = rt.clone() else {
-        return Ending::Memory;
+        return Err(Ending::Memory);
     };
     let mut link = UdpLink::new(net, Party::Server);
     if !is_bound(rt, &mut link) {
-        return Ending::LinkFault;
+        return Err(Ending::LinkFault);
     }
+    let Ok(watch) = rt.clone() else {
+        return Err(Ending::Memory);
+    };
     let Ok(files) = rt.clone() else {
-        return Ending::Memory;
+        return Err(Ending::Memory);
     };
     match FileDisk::new(rt.alloc(), files, image) {
-        Ok(disk) => serve_disk(rt, image, disk, link, longest, every),
-        Err(_) => Ending::Memory,
+        Ok(disk) => Ok(Parts {
+            disk,
+            link: CountedLink::new(link),
+            clock: StdClock::new(watch),
+        }),
+        Err(_) => Err(Ending::Memory),
+    }
+}
+
+/// Serves over the image on a disk until something stops it, and says why that ended.
+pub(crate) fn serve_disk<D: Disk + Drop, L: Link, C: Clock, W: Watcher<L> + Greeter + Extension>(
+    rt: &HostRuntime,
+    image: &str,
+    disk: D,
+    longest: u32,
+    link: &mut L,
+    clock: &mut C,
+    watcher: &mut W,
+) -> Ended<D>
+    requires long { 5 ≤ longest }
+    requires short { longest ≤ 600 }
+    ensures ends { EndsSo D.told D.faults D.may_leave D.follows D.leaves (extension_told W.owns W.replies) longest result.end disk result.disk
+        (clock_told C.floor C.readings C.reads clock.old) (clock_told C.floor C.readings C.reads clock.new)
+        (link_told L.sent L.waiting L.faults L.receives link.old)
+        (link_told L.sent L.waiting L.faults L.receives link.new) }
+{
+    match serve_image(rt.alloc(), disk, MOST_TURNS, longest, link, clock, watcher) {
+        Ok(left) => Ended {
+            end: tell_end(rt, image, left.ended),
+            disk: left.disk,
+        },
+        Err(fault) => tell_fault(rt, image, fault),
     }
 }
 
@@ -110,66 +157,40 @@ fn complain(rt: &HostRuntime, image: &str, words: &str) {
 }
 
 /// Says why an image was not opened.
-fn tell_fault(rt: &HostRuntime, image: &str, fault: &OpenFault<FileDisk>) -> Ending {
+fn tell_fault<D>(rt: &HostRuntime, image: &str, fault: OpenFault<D>) -> Ended<D>
+    ensures end { result.end ≡ end_unopened fault }
+    ensures disk { result.disk ≡ back_of fault }
+{
     match fault {
-        OpenFault::NotAnImage(_) => {
+        OpenFault::NotAnImage(disk) => {
             complain(rt, image, "the file is no image");
-            Ending::Spent
+            Ended {
+                end: Ending::Spent,
+                disk,
+            }
         }
-        OpenFault::BadField(_, place) => {
+        OpenFault::BadField(disk, place) => {
             let _told = eprintln!(rt; "nqnfsd: {image}: the image is wrong at byte {place}");
-            Ending::Spent
+            Ended {
+                end: Ending::Spent,
+                disk,
+            }
         }
-        OpenFault::Failed(_) => {
+        OpenFault::Failed(disk) => {
             complain(
                 rt,
                 image,
                 "the file cannot be opened, read or written, or another server has it",
             );
-            Ending::KeepFault
+            Ended {
+                end: Ending::KeepFault,
+                disk,
+            }
         }
-        OpenFault::Memory(_) => Ending::Memory,
-    }
-}
-
-/// Serves over a disk until something stops it; how that ends.
-fn serve_disk(
-    rt: &HostRuntime,
-    image: &str,
-    disk: FileDisk,
-    link: UdpLink<HostRuntime>,
-    longest: u32,
-    every: Option<u64>,
-) -> Ending
-    requires long { 5 ≤ longest }
-    requires short { longest ≤ 600 }
-{
-    let mut link = CountedLink::new(link);
-    let Ok(watch) = rt.clone() else {
-        return Ending::Memory;
-    };
-    let mut clock = StdClock::new(watch);
-    let mut teller = Teller {
-        rt,
-        image,
-        report: Report::new(
-            rt.alloc(),
-            StdSink::new(io::writer(rt)),
-            Resident::new(rt),
-            every,
-        ),
-    };
-    match serve_image(
-        rt.alloc(),
-        disk,
-        MOST_TURNS,
-        longest,
-        &mut link,
-        &mut clock,
-        &mut teller,
-    ) {
-        Ok(left) => tell_end(rt, image, left.ended),
-        Err(fault) => tell_fault(rt, image, &fault),
+        OpenFault::Memory(disk) => Ended {
+            end: Ending::Memory,
+            disk,
+        },
     }
 }
 
@@ -187,7 +208,9 @@ fn tell_start(rt: &HostRuntime, image: &str, found: &Survey) {
 }
 
 /// Says why serving ended.
-fn tell_end(rt: &HostRuntime, image: &str, ended: Result<(), Halt>) -> Ending {
+fn tell_end(rt: &HostRuntime, image: &str, ended: Result<(), Halt>) -> Ending
+    ensures { result ≡ end_of_turns ended }
+{
     match ended {
         Ok(()) => Ending::Done,
         Err(Halt::Keep) => {
@@ -198,7 +221,8 @@ fn tell_end(rt: &HostRuntime, image: &str, ended: Result<(), Halt>) -> Ending {
             complain(rt, image, "no number is left for a boot, at byte 8");
             Ending::Spent
         }
-        Err(Halt::Link | Halt::NoAnswer) => Ending::LinkFault,
+        Err(Halt::Link) => Ending::LinkFault,
+        Err(Halt::NoAnswer) => Ending::NoAnswer,
         Err(Halt::Memory) => {
             let _told = eprintln!(rt; "nqnfsd: memory was wanting");
             Ending::Memory

@@ -5,10 +5,10 @@ pub returns : goal.returns
 returns g c =
     let link_of = link_told g.L.Link.sent g.L.Link.waiting g.L.Link.faults g.L.Link.receives in
     record {
-      turn = c.client_turn.result;
-      between = c.client_turn.new.client;
-      noted = c.client_turn.new.log;
-      heard = link_of c.client_turn.new.link;
-      turns = c.client_turn.ensures.turn;
+      turn = c.client_turn-turn.result;
+      between = c.client_turn-turn.new.client;
+      noted = c.client_turn-turn.new.log;
+      heard = link_of c.client_turn-turn.new.link;
+      turns = c.client_turn-turn.ensures.turn;
       makes = c.make.ensures;
     }

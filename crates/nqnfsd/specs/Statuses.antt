@@ -1,0 +1,52 @@
+-- How the program ends. Below, `told` is what a disk tells of its bytes, `faults` is its count of faults, `may_leave` is what a stop at a moment may
+-- leave of its bytes, `follows` says that a disk is another one after some of its calls, and `leaves` is what a stop between two moments may leave. An
+-- `extension` stands beside the server.
+use Rattle.std.specs.Prelude.{◌≡◌, ◌⊎◌, ◌^◌, ◌-◌, ℕ, List, Option, Result, Ok, Err}
+use Rattle.nq_base.specs.declared.ending.ending.Ending.{Ending}
+use Rattle.nq_base.specs.declared.ending.halt.Halt.{Halt}
+use Rattle.nq_clock.specs.Clocks.{ClockTold}
+use Rattle.nq_link.specs.Links.{LinkTold}
+use Rattle.nq_service.specs.MountServing.{ServesImage, ServesNot}
+use Rattle.nq_serving.specs.Extending.{Extension}
+use Rattle.nq_serving.specs.Serving.{end_of}
+use Rattle.nq_store.specs.Opening.{back_of}
+use Rattle.nq_store.specs.declared.fault.OpenFault.{OpenFault}
+use Rattle.nq_store.specs.declared.fault.OpenFault.TheVariants as opening
+
+-- how many turns the program takes at most
+abbrev pub most_turns : ℕ
+most_turns = 2 ^ 60 - 1
+
+-- how the program ends where its turns ended so
+abbrev pub end_of_turns : Result Unit Halt → Ending
+end_of_turns (Ok done) = Ending.Done
+end_of_turns (Err why) = end_of why
+
+-- how it ends where the image was not opened
+abbrev pub end_unopened : {D : Type 0} → OpenFault D → Ending
+end_unopened (opening.NotAnImage back) = Ending.Spent
+end_unopened (opening.BadField back place) = Ending.Spent
+end_unopened (opening.Failed back) = Ending.KeepFault
+end_unopened (opening.Memory back) = Ending.Memory
+
+-- the image on this disk was served from, and the program ends as its turns did
+pub record EndsServed {D : Type 0} (told : D → Option (List ℕ)) (faults : D → ℕ) (may_leave : D → List ℕ → Type 0) (follows : D → D → Type 0)
+    (leaves : D → D → List ℕ → Type 0) (extension : Extension) (longest : ℕ) (end : Ending) (disk left : D) (clock clock' : ClockTold) (link link' : LinkTold) : Type 0 where
+  pub ended : Result Unit Halt
+  pub serves : ServesImage told faults may_leave follows leaves extension longest most_turns disk ended left clock clock' link link'
+  pub so : end ≡ end_of_turns ended
+
+-- the image on this disk was not opened, and the program ends by why not
+pub record EndsUnopened {D : Type 0} (told : D → Option (List ℕ)) (faults : D → ℕ) (may_leave : D → List ℕ → Type 0)
+    (leaves : D → D → List ℕ → Type 0) (end : Ending) (disk left : D) (clock clock' : ClockTold) (link link' : LinkTold) : Type 0 where
+  pub fault : OpenFault D
+  pub refuses : ServesNot told faults may_leave leaves disk fault clock clock' link link'
+  pub back : left ≡ back_of fault
+  pub so : end ≡ end_unopened fault
+
+-- The image on this disk was served from or not, and the program ends so. This refuses a program that ends with 0 although its keeper failed
+abbrev pub EndsSo : {D : Type 0} → (told : D → Option (List ℕ)) → (faults : D → ℕ) → (may_leave : D → List ℕ → Type 0) → (follows : D → D → Type 0)
+    → (leaves : D → D → List ℕ → Type 0) → (extension : Extension) → (longest : ℕ) → Ending → (disk left : D) → (clock clock' : ClockTold) → (link link' : LinkTold) → Type 0
+EndsSo told faults may_leave follows leaves extension longest end disk left clock clock' link link' =
+    EndsServed told faults may_leave follows leaves extension longest end disk left clock clock' link link'
+    ⊎ EndsUnopened told faults may_leave leaves end disk left clock clock' link link'
