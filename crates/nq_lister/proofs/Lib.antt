@@ -1,4 +1,4 @@
 pub mod Files
+pub mod GoingOn
 pub mod Keeping
-pub mod Pages
 pub mod Telling

@@ -2,7 +2,7 @@ use Rattle.std.proofs.Common.{append-nil, refl, sym}
 use Rattle.nq_serving.proofs.daemon.watching.NobodyExtension.answer.Goals as goal
 
 pub returns-clause-replies : goal.returns-clause-replies
-returns-clause-replies g c = λ kept told. sym (append-nil c.args.out.now.datagrams)
+returns-clause-replies g c = λ kept told. sym (append-nil c.args._out.now.datagrams)
 
 pub returns-clause-reads : goal.returns-clause-reads
 returns-clause-reads g c = record {
