@@ -17,10 +17,10 @@ reads-on (Err keep.Failed) first middle last before mid now same count r =
     (subst (λ told. StaysOrEnds told last) same r.0, subst (λ n. Rose n now) count r.1)
 
 -- why a call failed does not depend on what it was to give
-reads-as : {A B : Type 0} (why : KeepFault) (told tells : Option Kept) (before now : ℕ) → Reads {X = A} (Err why) told tells before now
+reads-as : (A B : Type 0) (why : KeepFault) (told tells : Option Kept) (before now : ℕ) → Reads {X = A} (Err why) told tells before now
     → Reads {X = B} (Err why) told tells before now
-reads-as keep.Memory told tells before now r = r
-reads-as keep.Failed told tells before now r = r
+reads-as A B keep.Memory told tells before now r = r
+reads-as A B keep.Failed told tells before now r = r
 
 module _ {K : Type 0} (content : K → Option Kept) (faults : K → ℕ) (follows : K → K → Type 0) (leaves : K → K → Option Kept → Type 0) where
   -- nothing was read
@@ -47,11 +47,11 @@ module _ {K : Type 0} (content : K → Option Kept) (faults : K → ℕ) (follow
   read_then_lacks a old new r = record { untouched = r.untouched; reads = r.reads; same = r.same; left = r.left }
 
   -- the same calls, which failed
-  pub failed_as : {A B : Type 0} (why : KeepFault) (old new : Holding K) → ReadsOnly {A = A} content faults follows leaves (Err why) old new
+  pub failed_as : (A B : Type 0) (why : KeepFault) (old new : Holding K) → ReadsOnly {A = A} content faults follows leaves (Err why) old new
       → ReadsOnly {A = B} content faults follows leaves (Err why) old new
-  failed_as why old new r = record {
+  failed_as A B why old new r = record {
     untouched = r.untouched;
-    reads = reads-as why (content old.keeper) (content new.keeper) (faults old.keeper) (faults new.keeper) r.reads;
+    reads = reads-as A B why (content old.keeper) (content new.keeper) (faults old.keeper) (faults new.keeper) r.reads;
     same = r.same;
     left = r.left;
   }

@@ -140,15 +140,15 @@ fn page_reply<K: Keeper>(
 
 /// The bytes of a reply with this page.
 #[tactic(auto, unfolding(nq_directory::specs::Messages::answer_bytes, nq_directory::specs::Messages::results))]
-fn page_bytes(alloc: Global, request: &ReadDir, page: &BegunPage) -> Result<Vec<u8>, NoMemory>
-    ensures { IfOk result (λ v. v.items ≡ answer_bytes request.now.xid request.now.who.inc (page (listing_of page.now))) }
+fn page_bytes(alloc: Global, request: &ReadDir, begun: &BegunPage) -> Result<Vec<u8>, NoMemory>
+    ensures { IfOk result (λ v. v.items ≡ answer_bytes request.now.xid request.now.who.inc (page (listing_of begun.now))) }
 {
     let reply = BegunReply::new(
         alloc,
         request.xid,
         request.who.inc.0,
-        &page.names,
-        page.more,
+        &begun.names,
+        begun.more,
     )?;
     Ok(reply.end(&None))
 }
