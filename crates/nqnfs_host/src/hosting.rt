@@ -48,6 +48,7 @@ pub(crate) struct Hosting<'a> {
     askers: Vec<Option<Asker>>,
     first: usize,
     work: Option<Work>,
+    aside: Option<Work>,
     ledger: Ledger<'a>,
     made: u32,
     /// How many pages of lists were asked for.
@@ -88,6 +89,7 @@ impl<'a> Hosting<'a> {
             askers: Vec::new(alloc),
             first: 0,
             work: None,
+            aside: None,
             ledger,
             made: 0,
             listed: 0,
@@ -256,14 +258,18 @@ impl<'a> Hosting<'a> {
     fn list_on(&mut self) -> bool {
         if let Some(page) = self.desk.take_listed() {
             let listed = self.take_page(&page);
-            if let Some(work) = self.work.take() {
-                self.came(work.listed(listed));
-            }
+            let came = match &mut self.work {
+                Some(work) => work.listed(listed),
+                None => Came::On,
+            };
+            self.came(came);
         }
         if self.ask_page().is_err() {
-            if let Some(work) = self.work.take() {
-                self.came(work.lacks());
-            }
+            let came = match &self.work {
+                Some(work) => work.lacks(),
+                None => Came::On,
+            };
+            self.came(came);
         }
         self.work.is_none()
     }
@@ -300,9 +306,11 @@ impl<'a> Hosting<'a> {
     /// Makes a call. Whether it has its answer.
     fn make(&mut self, call: Result<Call, NoMemory>) -> bool {
         let Ok(call) = call else {
-            if let Some(work) = self.work.take() {
-                self.came(work.lacks());
-            }
+            let came = match &self.work {
+                Some(work) => work.lacks(),
+                None => Came::On,
+            };
+            self.came(came);
             return true;
         };
         match self.desk.ask(&call) {
@@ -314,8 +322,13 @@ impl<'a> Hosting<'a> {
         }
     }
 
-    /// Takes up what is to be done next: tidying up, else an ask, else storing what is delayed. Whether there was anything.
+    /// Takes up what is to be done next: what was put aside, else tidying up, else an ask, else storing what is delayed. Whether there was
+    /// anything.
     fn take_up(&mut self) -> bool {
+        if self.aside.is_some() {
+            self.work = self.aside.take();
+            return true;
+        }
         if let Some(made) = self.ledger.next_left() {
             self.work = Some(Work::tidy(self.alloc, made));
             return true;
@@ -391,22 +404,27 @@ impl<'a> Hosting<'a> {
 
     /// Takes the answer to the call under way.
     fn advance(&mut self, answer: &Answer) {
-        if let Some(work) = self.work.take() {
-            self.came(work.take(answer));
-        }
+        let came = match &mut self.work {
+            Some(work) => work.take(answer),
+            None => Came::On,
+        };
+        self.came(came);
     }
 
     /// What came of a step.
     fn came(&mut self, came: Came) {
         match came {
-            Came::On(work) => self.work = Some(work),
+            Came::On => {}
             Came::Tidied(Some(made)) => {
+                self.work = None;
                 let _noted = self.ledger.keep(&made);
             }
             Came::Tidied(None) => {
+                self.work = None;
                 let _noted = self.ledger.put_down();
             }
             Came::Over(reply) => {
+                self.work = None;
                 let Reply {
                     place,
                     number,
@@ -441,24 +459,13 @@ impl<'a> Hosting<'a> {
 
     /// Stores what is delayed, as long as that does not take too long, and tells whoever wants it to end. Whether it ends.
     fn finish(&mut self, rt: &HostRuntime, place: usize, number: u32) -> bool {
-        let mut kept = None;
         for _look in 0..FAREWELL {
             self.hear();
             if self.desk.halt.is_some() || !self.desk.is_delaying() {
                 break;
             }
-            if self.desk.is_ready() {
-                if kept.is_none() {
-                    kept = self.work.take();
-                }
-                if let Some(file) = self.desk.first_delayed() {
-                    let _answer = self.desk.ask(&Call::Sync { file });
-                }
-            }
+            self.store_on();
             pause(rt);
-        }
-        if self.work.is_none() {
-            self.work = kept;
         }
         if self.desk.is_delaying() {
             self.refuse(place, number, STILL_DELAYED);
@@ -466,6 +473,20 @@ impl<'a> Hosting<'a> {
         }
         self.reply(place, number, Kind::Done, b"ok", &[]);
         true
+    }
+
+    /// Begins to store what is delayed of a file, if it can be done now. What was at work is put aside, so that no answer but its own reaches it.
+    fn store_on(&mut self) {
+        if !self.desk.is_ready() {
+            return;
+        }
+        if self.aside.is_none() {
+            self.aside = self.work.take();
+        }
+        if let Some(file) = self.desk.first_delayed() {
+            self.work = Some(Work::sync(self.alloc, file));
+            let _answered = self.make(Ok(Call::Sync { file }));
+        }
     }
 
     /// Ends it; what is left is its client.
@@ -478,6 +499,7 @@ impl<'a> Hosting<'a> {
             askers: _askers,
             first: _,
             work: _work,
+            aside: _aside,
             ledger: _ledger,
             made: _,
             listed: _,

@@ -166,7 +166,13 @@ fn open_door(rt: &HostRuntime, folder: &str) -> io::Result<UnixListener> {
 }
 
 /// Lives until it is told to end.
-fn live(rt: &HostRuntime, folder: &str, who: Who, link: HostLink, door: UnixListener) -> Ending {
+fn live<'x>(
+    rt: &'x HostRuntime,
+    folder: &'x str,
+    who: Who,
+    link: HostLink,
+    door: UnixListener,
+) -> Ending {
     let Ok(watch) = rt.clone() else {
         return told_memory(rt);
     };

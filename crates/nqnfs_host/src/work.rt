@@ -11,6 +11,7 @@ use nq_script::parse_call;
 use nq_script::words::{Words, is};
 use nq_whole::{Getting, Got, MOST_BYTES, Said, Storing, Tidying, Told};
 use std::alloc::Global;
+use std::mem;
 
 /// How often a file is read anew whose bytes were gone.
 const MOST_ANEW: u32 = 1000;
@@ -39,11 +40,26 @@ enum Task {
     List(Listing),
 }
 
+/// What a task says of an answer.
+#[derive(Clone, Copy)]
+enum Stepped {
+    /// A call has its answer.
+    Called,
+    /// Storing says this.
+    Stored(Said),
+    /// Getting says this.
+    Got(Got),
+    /// Tidying says this.
+    Tidied(Told),
+    /// A list makes no call, so this is no answer of its own.
+    Listing,
+}
+
 /// What came of a step.
 #[derive(Drop)]
 pub(crate) enum Came {
     /// It goes on.
-    On(Work),
+    On,
     /// It is over, with this answer.
     Over(Reply),
     /// Tidying up is over. What was made is kept on the list, if it is there or may be there.
@@ -188,154 +204,183 @@ impl Work {
     }
 
     /// What came of a page of the list.
-    pub(crate) fn listed(self, listed: Listed) -> Came {
+    pub(crate) fn listed(&mut self, listed: Listed) -> Came {
         match listed {
-            Listed::Goes => Came::On(self),
+            Listed::Goes => Came::On,
             Listed::Whole => self.gives(),
             Listed::Memory => self.lacks(),
         }
     }
 
-    /// It is over, with this answer and no bytes.
-    fn ends(self, kind: Kind, text: Vec<u8>) -> Came {
-        let refused = match self.made {
-            Some(made) if matches!(kind, Kind::Refused) => Some(made.name),
+    /// The name under which a store is refused, if an answer of this kind says so.
+    fn refused(&self, kind: Kind) -> Option<Name> {
+        match kind {
+            Kind::Refused => match &self.made {
+                Some(made) => Some(made.name),
+                None => None,
+            },
             _ => None,
-        };
+        }
+    }
+
+    /// It is over, with this answer and no bytes.
+    fn ends(&self, kind: Kind, text: Vec<u8>) -> Came {
         Came::Over(Reply {
             place: self.place,
             number: self.number,
             kind,
             text,
             bytes: Vec::new(self.alloc),
-            refused,
+            refused: self.refused(kind),
         })
     }
 
-    /// It is over, with these words.
-    fn says(self, kind: Kind, words: &[u8]) -> Came {
+    /// These words, or none where memory is wanting.
+    fn words(&self, words: &[u8]) -> Vec<u8> {
         match words.to_vec(self.alloc) {
-            Ok(text) => self.ends(kind, text),
-            Err(_) => {
-                let text = Vec::new(self.alloc);
-                self.ends(Kind::Refused, text)
-            }
+            Ok(text) => text,
+            Err(_) => Vec::new(self.alloc),
         }
     }
 
+    /// An answer in words.
+    fn text(&self, answer: &Answer) -> Vec<u8> {
+        match answer_text(self.alloc, answer) {
+            Ok(text) => text,
+            Err(_) => self.words(NO_MEMORY),
+        }
+    }
+
+    /// It is over, with these words.
+    fn says(&self, kind: Kind, words: &[u8]) -> Came {
+        self.ends(kind, self.words(words))
+    }
+
     /// It is over since memory was wanting.
-    pub(crate) fn lacks(self) -> Came {
+    pub(crate) fn lacks(&self) -> Came {
         self.says(Kind::Refused, NO_MEMORY)
     }
 
     /// It is over, with an answer in words.
-    fn tells(self, kind: Kind, answer: &Answer) -> Came {
-        match answer_text(self.alloc, answer) {
-            Ok(text) => self.ends(kind, text),
-            Err(_) => self.lacks(),
-        }
+    fn tells(&self, kind: Kind, answer: &Answer) -> Came {
+        self.ends(kind, self.text(answer))
     }
 
     /// Takes the answer to the call.
-    pub(crate) fn take(self, answer: &Answer) -> Came {
-        let mut work = self;
-        match &mut work.task {
-            Task::Call(_) => work.answered(answer),
-            Task::Store(storing) => {
-                let said = storing.take(answer);
-                work.stored(said, answer)
-            }
-            Task::Get(getting) => {
-                let got = getting.take(answer);
-                work.got(got, answer)
-            }
-            Task::Tidy(tidying) => match tidying.take(answer) {
-                Told::Goes => Came::On(work),
-                Told::Gone => Came::Tidied(None),
-                Told::Kept | Told::Unsure => Came::Tidied(work.made),
-            },
-            Task::List(_) => Came::On(work),
+    pub(crate) fn take(&mut self, answer: &Answer) -> Came {
+        match self.step(answer) {
+            Stepped::Called => self.answered(answer),
+            Stepped::Stored(said) => self.stored(said, answer),
+            Stepped::Got(got) => self.got(got, answer),
+            Stepped::Tidied(told) => self.tidied(told),
+            Stepped::Listing => Came::On,
+        }
+    }
+
+    /// Hands the answer to what is done.
+    fn step(&mut self, answer: &Answer) -> Stepped {
+        match &mut self.task {
+            Task::Call(_) => Stepped::Called,
+            Task::Store(storing) => Stepped::Stored(storing.take(answer)),
+            Task::Get(getting) => Stepped::Got(getting.take(answer)),
+            Task::Tidy(tidying) => Stepped::Tidied(tidying.take(answer)),
+            Task::List(_) => Stepped::Listing,
         }
     }
 
     /// A call has its answer.
-    fn answered(self, answer: &Answer) -> Came {
+    fn answered(&self, answer: &Answer) -> Came {
         match answer {
             Answer::Ok(_) => self.tells(Kind::Done, answer),
             _ => self.tells(Kind::Refused, answer),
         }
     }
 
+    /// What tidying says.
+    fn tidied(&self, told: Told) -> Came {
+        match told {
+            Told::Goes => Came::On,
+            Told::Gone => Came::Tidied(None),
+            Told::Kept => Came::Tidied(self.kept()),
+            Told::Unsure => Came::Tidied(self.kept()),
+        }
+    }
+
+    /// What was made, to be kept on the list.
+    fn kept(&self) -> Option<Made> {
+        match &self.made {
+            Some(made) => Some(Made {
+                own: made.own,
+                name: made.name,
+            }),
+            None => None,
+        }
+    }
+
     /// What storing says.
-    fn stored(self, said: Said, answer: &Answer) -> Came {
-        let mut work = self;
+    fn stored(&mut self, said: Said, answer: &Answer) -> Came {
         match said {
-            Said::Goes => Came::On(work),
-            Said::Done => work.says(Kind::Done, b"ok, stored"),
+            Said::Goes => Came::On,
+            Said::Done => self.says(Kind::Done, b"ok, stored"),
             Said::Drops => {
-                if let Ok(text) = answer_text(work.alloc, answer) {
-                    work.why = text;
-                }
-                Came::On(work)
+                self.why = self.text(answer);
+                Came::On
             }
             Said::NotWhole => {
-                if let Ok(text) = NOT_WHOLE.to_vec(work.alloc) {
-                    work.why = text;
-                }
-                Came::On(work)
+                self.why = self.words(NOT_WHOLE);
+                Came::On
             }
-            Said::Refused if work.why.is_empty() => work.tells(Kind::Refused, answer),
-            Said::Refused => {
-                let text = std::mem::replace(&mut work.why, Vec::new(work.alloc));
-                work.ends(Kind::Refused, text)
-            }
+            Said::Refused => self.refuses(answer),
         }
+    }
+
+    /// It is over, for the reason that is known, or else with this answer.
+    fn refuses(&mut self, answer: &Answer) -> Came {
+        if self.why.is_empty() {
+            return self.tells(Kind::Refused, answer);
+        }
+        let text = mem::replace(&mut self.why, Vec::new(self.alloc));
+        self.ends(Kind::Refused, text)
     }
 
     /// What getting says.
-    fn got(self, got: Got, answer: &Answer) -> Came {
-        let mut work = self;
+    fn got(&mut self, got: Got, answer: &Answer) -> Came {
         match got {
-            Got::Goes => Came::On(work),
-            Got::Anew => {
-                work.anew = work.anew.saturating_add(1);
-                if work.anew > MOST_ANEW {
-                    work.says(Kind::Refused, b"others store it again and again")
-                } else {
-                    Came::On(work)
-                }
-            }
-            Got::Done => work.gives(),
-            Got::Refused => work.tells(Kind::Refused, answer),
-            Got::NotWhole => work.says(Kind::Refused, NOT_WHOLE),
-            Got::Memory => work.lacks(),
+            Got::Goes => Came::On,
+            Got::Anew => self.begins_anew(),
+            Got::Done => self.gives(),
+            Got::Refused => self.tells(Kind::Refused, answer),
+            Got::NotWhole => self.says(Kind::Refused, NOT_WHOLE),
+            Got::Memory => self.lacks(),
         }
     }
 
-    /// All bytes are there.
-    fn gives(self) -> Came {
-        let Work {
-            alloc,
-            place,
-            number,
-            task,
-            why: _why,
-            anew: _,
-            made: _,
-        } = self;
-        let bytes = match task {
+    /// Getting has begun anew.
+    fn begins_anew(&mut self) -> Came {
+        self.anew = self.anew.saturating_add(1);
+        if self.anew > MOST_ANEW {
+            self.says(Kind::Refused, b"others store it again and again")
+        } else {
+            Came::On
+        }
+    }
+
+    /// All bytes are there. No call is made behind it.
+    fn gives(&mut self) -> Came {
+        let nothing = Task::Call(Call::Sync { file: FileId(0) });
+        let bytes = match mem::replace(&mut self.task, nothing) {
             Task::Get(getting) => getting.into_bytes(),
             Task::List(listing) => listing.into_lines(),
-            _ => Vec::new(alloc),
+            _ => Vec::new(self.alloc),
         };
         let size = bytes.len();
-        let text = match format!(in alloc; "{size}") {
+        let text = match format!(in self.alloc; "{size}") {
             Ok(text) => text.into_bytes(),
-            Err(_) => Vec::new(alloc),
+            Err(_) => Vec::new(self.alloc),
         };
         Came::Over(Reply {
-            place,
-            number,
+            place: self.place,
+            number: self.number,
             kind: Kind::Bytes,
             text,
             bytes,
