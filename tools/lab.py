@@ -58,15 +58,12 @@ class Programs:
         self.nqnfs = nqnfs
         self.look = look
 
-    def told(self, schedule, is_drawn):
+    def told(self, schedule):
         """What is told of a schedule's run; None of what is printed by a program that is not there."""
         printed = said(self.nqnfs, "replay", given=schedule)
         verdict = said(self.nqnfs, "check", given=printed) if printed is not None else None
         told = said(self.look, "tell", given=schedule)
-        parts = {"printed": printed, "verdict": verdict, "told": told}
-        if is_drawn:
-            parts["picture"] = said(self.look, "picture", given=schedule)
-        return parts
+        return {"printed": printed, "verdict": verdict, "told": told}
 
 
 def said(program, *words, given):
@@ -108,7 +105,7 @@ def check_bent(bent, events, plain, lost=None):
 
 def compare(programs, answer, schedule, where):
     """Whether an answer has what the other programs print for the schedule."""
-    for name, wanted in programs.told(schedule, "picture" in answer).items():
+    for name, wanted in programs.told(schedule).items():
         assert wanted is None or answer[name] == wanted, f"{where}: {name}"
 
 

@@ -1,12 +1,13 @@
 #!/usr/bin/env python3
 """Tries the page of web/ in Chromium, and takes pictures of it.
 
-  tools/page.py [--lab FILE | --address URL] [--nqnfs FILE] [--browser FILE] [--only NAME..] [--pictures FOLDER]
+  tools/page.py [--lab FILE | --address URL] [--nqnfs FILE] [--browser FILE] [--only NAME..] [--window NAME..]
+                [--pictures FOLDER]
 
-It starts `nqnfs_lab`, or takes one that listens at an address. At 1280 pixels and at a phone's width, light and dark, it opens each example,
-goes to each of its events, and lets each of its packets be lost, come twice and come late. It asks that what is shown is what
-`nqnfs replay` and `nqnfs check` print for the schedule that is shown, that no text of a chart stands on another one, and that the page is no
-wider than the window. It drags a packet, undoes that, opens its own address, types, solves the exercises, takes the time of a change in a run of
+It starts `nqnfs_lab`, or takes one that listens at an address. At 1280 pixels and at a phone's width, light and dark, or only in the windows that
+are named, it opens each example, goes to each of its events, and lets each of its packets be lost, come twice and come late. It asks that what is
+shown is what `nqnfs replay` and `nqnfs check` print for the schedule that is shown, that no text of a chart stands on another one, and that the page
+is no wider than the window. It drags a packet, undoes that, opens its own address, types, solves the exercises, takes the time of a change in a run of
 500 events, and opens the page without the program. The status is 1 where something is otherwise.
 """
 
@@ -22,7 +23,7 @@ import tempfile
 from browser import Browser
 
 ROOT = pathlib.Path(__file__).resolve().parent.parent
-WINDOWS = ((1280, 900, "light"), (1280, 900, "dark"), (390, 844, "light"), (390, 844, "dark"))
+WINDOWS = {f"{wide}-{look}": (wide, high, look) for wide, high in ((1280, 900), (390, 844)) for look in ("light", "dark")}
 PICTURES = ("a-delayed-write-is-lost", "two-crashes", "an-ordinary-session", "a-put-that-waits")
 MOST = 200
 
@@ -206,7 +207,7 @@ def tried(asked, address):
     names = asked.only or sorted(file.stem for file in (ROOT / "examples").glob("*.schedule"))
     with tempfile.TemporaryDirectory(ignore_cleanup_errors=True) as folder:
         browser = Browser(asked.browser, folder)
-        for window in WINDOWS:
+        for window in (WINDOWS[name] for name in asked.window):
             browser.window(*window)
             browser.open(address)
             says = f"{window[0]}, {window[2]}: "
@@ -228,6 +229,7 @@ def main():
     words.add_argument("--lab", default=str(ROOT / "crates/nqnfs_lab/out/nqnfs_lab"))
     words.add_argument("--address")
     words.add_argument("--only", nargs="*")
+    words.add_argument("--window", nargs="*", choices=WINDOWS, default=list(WINDOWS))
     words.add_argument("--pictures", type=pathlib.Path)
     asked = words.parse_args()
     lab, address = None, asked.address

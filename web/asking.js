@@ -28,7 +28,7 @@ async function runOf(schedule) {
 async function bent(schedule, bends, then) {
   const answer = await ask("/bend", { schedule, bends, then });
   if (answer.status !== 0) return answer;
-  return { ...seen(answer.schedule, answer), left: answer.left_out, origin: answer.origin };
+  return { ...seen(shortened(answer.schedule), answer), left: answer.left_out, origin: answer.origin };
 }
 
 // Why a line of the journal came: the numbers of the events, newest first.

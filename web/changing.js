@@ -37,17 +37,14 @@ function bendPacket(bend) {
 function act(deed) {
   const { run, made, event } = current();
   const at = Math.min(event + 1, run.events.length);
-  if (deed.line) return change(linesFor(deed.line, run.hosts).map((line) => ({ kind: "event", at, line })), `Behind event ${event} comes ${deed.line}`, at);
+  if (deed.line) {
+    const lines = deed.line === "round 1" ? roundOf(run.hosts) : [deed.line];
+    return change(lines.map((line) => ({ kind: "event", at, line })), `Behind event ${event} comes ${deed.line}`, at);
+  }
   if (deed.cut !== undefined) return change([{ kind: "cut", host: deed.cut, at }], `Behind event ${event} host ${deed.cut} is cut off`, at);
   const old = run.origin.slice(at).find((number) => number >= 0) ?? made.from.events.length;
   const bends = [...made.bends, { kind: "join", host: deed.join, at: old }];
   return bendFrom({ from: made.from, bends, words: `${current().words}, and host ${deed.join} is joined before event ${old}`, at: made.at });
-}
-
-// The lines for which a line stands: a round is a tick of each host, and then of the server.
-function linesFor(line, hosts) {
-  if (line !== "round 1") return [line];
-  return [...Array.from({ length: hosts }, (_, host) => `tick ${host} 1`), "tick s 1"];
 }
 
 // The hosts that are cut off in what is shown.

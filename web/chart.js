@@ -55,7 +55,7 @@ function found(place) {
 function putRow(put, row, number, layout) {
   const { top, high } = row;
   const piece = (layer, text) => put(layer, top, top + high, text);
-  const label = row.first === row.last ? row.first : `${row.first}-${row.last}`;
+  const label = labelOf(row);
   piece("band", `<rect class="band" data-row="${number}" x="0" y="${top}" width="${layout.wide}" height="${high}"/>`);
   piece("band", `<path class="rule" d="M0 ${top}H${layout.wide}"/>`);
   piece("text", `<text class="dim" data-row="${number}" x="6" y="${top + 17}">${label}</text>`);

@@ -107,13 +107,16 @@ function placeRows(rows) {
   }
 }
 
+// The numbers of the events of a row.
+const labelOf = ({ first, last }) => (first === last ? String(first) : `${first}-${last}`);
+
 // Where the line of each party stands, and how wide and high the chart is.
 function placeColumns(rows, lanes) {
   const room = (row, party, side) => Math.max(0, ...row.sides[party][side].map(({ wide }) => wide));
   const bars = (party, side) => (side === outer(party) ? lanes[party] * LANE : 0);
   const need = (party, side) => (row) => room(row, party, side) + bars(party, side);
   const lines = [];
-  let x = 34 + 10 + Math.max(30, ...rows.map(need(0, "left")));
+  let x = 16 + Math.max(28, ...rows.map((row) => widthOf(labelOf(row), "dim"))) + Math.max(30, ...rows.map(need(0, "left")));
   lanes.forEach((_, party) => {
     if (party > 0) x += 20 + Math.max(100, ...rows.map((row) => need(party - 1, "right")(row) + need(party, "left")(row)));
     lines.push(x);

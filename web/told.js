@@ -148,6 +148,20 @@ function countOf(line, hosts) {
   return words[0] === "end" || words[0] === "flow" ? 0 : 1;
 }
 
+// The lines that tell the ticks of one round: the clock of each host ticks, then the server's.
+function roundOf(hosts) {
+  return [...Array.from({ length: hosts }, (_, host) => `tick ${host} 1`), "tick s 1"];
+}
+
+// A schedule with one line for ticks that follow one another.
+function shortened(schedule) {
+  const round = `${roundOf(hostsOf(schedule)).join("\n")}\n`;
+  const rounds = new RegExp(`^(?:${round}){1,1000}`, "gm");
+  return schedule
+    .replace(rounds, (ticks) => `round ${ticks.length / round.length}\n`)
+    .replace(/^(tick \S+) 1\n(?:\1 1\n){1,999}/gm, (ticks, tick) => `${tick} ${ticks.split("\n").length - 1}\n`);
+}
+
 // Keeps which packets never arrived yet, over an event.
 function move(under, event) {
   if (event.arrival !== null) under.delete(event.arrival);

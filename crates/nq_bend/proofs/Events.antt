@@ -6,7 +6,7 @@ use Rattle.std.proofs.lemmas.Option.{get_or_from_slice_get, slice_get_within}
 use Rattle.std.specs.List.{AllByRecursion}
 use Rattle.nq_base.specs.declared.Event.{Event}
 use Rattle.nq_bend.specs.Bending.{IsSpared, acts, kept}
-use Rattle.nq_bend.specs.Course.{IsDelivery, StandsFor}
+use Rattle.nq_bend.specs.Course.{StandsFor}
 use Rattle.nq_bend.specs.declared.bends.Bend.{Bend}
 
 pub all_last : {X : Type 0} (P : X → Type 0) (xs : List X) (x : X) → AllByRecursion P xs → P x → AllByRecursion P (xs ++ x ∷ [])
@@ -48,15 +48,6 @@ acts-stand (Event.ClientTick host) event stands = ap (λ e. acts (e ∷ [])) sta
 acts-stand (Event.Restart host) event stands = ap (λ e. acts (e ∷ [])) stands
 acts-stand (Event.Crash longest) event stands = ap (λ e. acts (e ∷ [])) stands
 
--- a delivery is no act
-pub acts-delivery : (was event : Event) → StandsFor was event → IsDelivery event → acts (was ∷ []) ≡ []
-acts-delivery (Event.Deliver packet) event stands is = refl
-acts-delivery (Event.Call host call) event stands is = absurd (subst IsDelivery (sym stands) is)
-acts-delivery Event.ServerTick event stands is = absurd (subst IsDelivery (sym stands) is)
-acts-delivery (Event.ClientTick host) event stands is = absurd (subst IsDelivery (sym stands) is)
-acts-delivery (Event.Restart host) event stands is = absurd (subst IsDelivery (sym stands) is)
-acts-delivery (Event.Crash longest) event stands is = absurd (subst IsDelivery (sym stands) is)
-
 -- ---- the events of the old run among those of the new
 
 pub kept-beside : (ran : List Event) (origins : List (Option ℕ)) (event : Event) → length origins ≡ length ran
@@ -77,7 +68,7 @@ kept-along (e ∷ ran) (Some p ∷ origins) event place many = ap (λ es. e ∷ 
 
 -- ---- packets that are sent later
 
-get-before : {X : Type 0} (xs more : List X) (place : ℕ) → place < length xs → slice_get (xs ++ more) place ≡ slice_get xs place
+pub get-before : {X : Type 0} (xs more : List X) (place : ℕ) → place < length xs → slice_get (xs ++ more) place ≡ slice_get xs place
 get-before [] more place less = absurd (omega arith)
 get-before (x ∷ xs) more zero less = refl
 get-before (x ∷ xs) more (suc place) less = get-before xs more place (omega arith)

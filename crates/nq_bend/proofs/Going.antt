@@ -1,13 +1,15 @@
 -- A new run goes on.
 use Rattle.std.proofs.Common.{◌≡◌, ◌≤◌, ℕ, ◌+◌, List, [], ◌∷◌, ◌++◌, Bool, true, false, length, take, slice_get, Option, Some, None, refl, sym, ap, subst, ◌∙◌}
-use Rattle.std.proofs.Common.{arith, ◌⊎◌, inl, inr}
+use Rattle.std.proofs.Common.{arith}
 use Rattle.std.proofs.lemmas.List.{append-nil, length-append}
 use Rattle.std.specs.List.{AllByRecursion}
 use Rattle.nq_base.specs.declared.Event.{Event}
-use Rattle.nq_bend.proofs.Events.{acts-append, acts-delivery, acts-stand, all_last, all-more, kept-along, kept-beside, spared-more, take-next}
-use Rattle.nq_bend.specs.Bending.{IsSpared, KeepsActs, acts, kept}
-use Rattle.nq_bend.specs.Course.{IsCourse, IsDelivery, IsSameButSent, IsSameRun, IsWith, Keeps, StandsFor}
+use Rattle.nq_bend.proofs.Events.{acts-append, acts-stand, all_last, all-more, kept-along, kept-beside, spared-more, take-next}
+use Rattle.nq_bend.proofs.Told.{told-along, told-beside, told-left, told-out, told-same}
+use Rattle.nq_bend.specs.Bending.{IsLeftOut, IsSpared, KeepsActs, TellsAll, acts, kept}
+use Rattle.nq_bend.specs.Course.{IsCourse, IsSameButSent, IsWith, IsWithout, Keeps, StandsFor}
 use Rattle.nq_bend.specs.declared.bends.Bend.{Bend}
+use Rattle.nq_bend.specs.declared.bends.LeftOut.{LeftOut}
 use Rattle.nq_bend.specs.declared.course.Course.{Course}
 use Rattle.nq_replay.specs.Texts.{IsTellable}
 use Rattle.nq_script.specs.declared.heads.Head.{Head}
@@ -43,20 +45,9 @@ spared-last bends event c d w spared all =
     (subst (λ ms. AllByRecursion (IsSpared bends ms) (c.ran ++ event ∷ [])) (sym w.sent)
     (all_last (IsSpared bends c.lanes.olds.items) c.ran event all spared))
 
-skip-keeps : (old : List Event) (count : ℕ) (was : Event) (c : Course) → slice_get old count ≡ Some was → acts (was ∷ []) ≡ []
-    → (over : Bool) → c.is_over ≡ over → Keeps old count c.is_over c → Keeps old (count + 1) c.is_over c
-skip-keeps old count was c here none true is k = record {
-  reached = k.reached;
-  few = let few : k.reached ≤ count = k.few in omega arith;
-  acts = k.acts;
-  all = λ going. absurd (cc);
-}
-skip-keeps old count was c here none false is k = record {
-  reached = count + 1;
-  few = omega arith;
-  acts = subst (λ n. KeepsActs old n c.ran c.origins.items) (k.all is) k.acts ∙ sym (same-acts old count was here none);
-  all = λ going. refl;
-}
+kept-same : (ran ran' : List Event) (origins origins' : List (Option ℕ)) → ran' ≡ ran → origins' ≡ origins
+    → acts (kept ran' origins') ≡ acts (kept ran origins)
+kept-same ran ran' origins origins' is are = ap (λ es. acts (kept es origins')) is ∙ ap (λ os. acts (kept ran os)) are
 
 -- an event that is not of the old run
 pub beside-with : (head : Head) (old : List Event) (bends : List Bend) (count : ℕ) (event : Event) (c d : Course) → IsTellable head event
@@ -69,9 +60,12 @@ beside-with head old bends count event c d told spared w is = record {
     few = is.keeps.few;
     acts = ap (λ es. acts (kept es d.origins.items)) w.ran ∙ ap (λ os. acts (kept (c.ran ++ event ∷ []) os)) w.origins
         ∙ ap acts (kept-beside c.ran c.origins.items event is.many) ∙ is.keeps.acts;
+    whole = told-same is.keeps.reached (c.origins.items ++ None ∷ []) d.origins.items c.left.items d.left.items w.origins w.leaves
+        (told-beside c.origins.items None c.left.items is.keeps.reached is.keeps.whole);
     all = λ going. is.keeps.all (sym w.over ∙ going);
   };
   spared = spared-last bends event c d w spared is.spared;
+  leaves = subst (AllByRecursion (IsLeftOut old)) (sym w.leaves) is.leaves;
 }
 
 -- the event of the old run that is next
@@ -87,62 +81,62 @@ along-with head old bends count was event c d told spared going here stands w is
     acts = ap (λ es. acts (kept es d.origins.items)) w.ran ∙ ap (λ os. acts (kept (c.ran ++ event ∷ []) os)) w.origins
         ∙ more-acts old c.ran c.origins.items count was event here stands is.many
         (subst (λ n. KeepsActs old n c.ran c.origins.items) (is.keeps.all going) is.keeps.acts);
+    whole = told-same (count + 1) (c.origins.items ++ Some count ∷ []) d.origins.items c.left.items d.left.items w.origins w.leaves
+        (told-along c.origins.items c.left.items count (subst (λ n. TellsAll n c.origins.items c.left.items) (is.keeps.all going) is.keeps.whole));
     all = λ on. refl;
   };
   spared = spared-last bends event c d w spared is.spared;
+  leaves = subst (AllByRecursion (IsLeftOut old)) (sym w.leaves) is.leaves;
 }
 
--- the run is over
-pub over-on : (head : Head) (old : List Event) (bends : List Bend) (count : ℕ) (c d : Course) → d.ran ≡ c.ran → d.origins.items ≡ c.origins.items
-    → d.lanes.olds.items ≡ c.lanes.olds.items → d.is_over ≡ true → IsCourse head old bends count c → IsCourse head old bends count d
-over-on head old bends count c d ran origins sent over is = record {
-  told = subst (AllByRecursion (IsTellable head)) (sym ran) is.told;
-  many = ap length origins ∙ is.many ∙ sym (ap length ran);
-  keeps = record {
-    reached = is.keeps.reached;
-    few = is.keeps.few;
-    acts = ap (λ es. acts (kept es d.origins.items)) ran ∙ ap (λ os. acts (kept c.ran os)) origins ∙ is.keeps.acts;
-    all = λ going. absurd (cc);
-  };
-  spared = subst (λ es. AllByRecursion (IsSpared bends d.lanes.olds.items) es) (sym ran)
-      (subst (λ ms. AllByRecursion (IsSpared bends ms) c.ran) (sym sent) is.spared);
-}
-
--- nothing of the new run changes
-pub same-on : (head : Head) (old : List Event) (bends : List Bend) (count : ℕ) (c d : Course) → IsSameRun c d → IsCourse head old bends count c
-    → IsCourse head old bends count d
-same-on head old bends count c d same is = record {
-  told = subst (AllByRecursion (IsTellable head)) (sym same.ran) is.told;
-  many = ap length same.origins ∙ is.many ∙ sym (ap length same.ran);
-  keeps = record {
-    reached = is.keeps.reached;
-    few = is.keeps.few;
-    acts = ap (λ es. acts (kept es d.origins.items)) same.ran ∙ ap (λ os. acts (kept c.ran os)) same.origins ∙ is.keeps.acts;
-    all = λ going. is.keeps.all (sym same.over ∙ going);
-  };
-  spared = subst (λ es. AllByRecursion (IsSpared bends d.lanes.olds.items) es) (sym same.ran)
-      (subst (λ ms. AllByRecursion (IsSpared bends ms) c.ran) (sym same.sent) is.spared);
-}
-
--- the delivery that is next in the old run is left out, or the run is over
-pub skips : (head : Head) (old : List Event) (bends : List Bend) (count : ℕ) (was : Event) (c : Course) → slice_get old count ≡ Some was
-    → (c.is_over ≡ true) ⊎ (acts (was ∷ []) ≡ []) → IsCourse head old bends count c → IsCourse head old bends (count + 1) c
-skips head old bends count was c here (inl over) is = record {
+-- the run is over: what is next in the old run does not happen
+pub over-skips : (head : Head) (old : List Event) (bends : List Bend) (count : ℕ) (c : Course) → c.is_over ≡ true → IsCourse head old bends count c
+    → IsCourse head old bends (count + 1) c
+over-skips head old bends count c over is = record {
   told = is.told;
   many = is.many;
   keeps = record {
     reached = is.keeps.reached;
     few = let few : is.keeps.reached ≤ count = is.keeps.few in omega arith;
     acts = is.keeps.acts;
+    whole = is.keeps.whole;
     all = λ going. absurd (cc);
   };
   spared = is.spared;
+  leaves = is.leaves;
 }
-skips head old bends count was c here (inr none) is = record {
-  told = is.told;
-  many = is.many;
-  keeps = skip-keeps old count was c here none c.is_over refl is.keeps;
-  spared = is.spared;
+
+out-keeps : (old : List Event) (out : LeftOut) (c d : Course) → IsLeftOut old out → IsWithout out c d → (over : Bool) → c.is_over ≡ over
+    → Keeps old out.event c.is_over c → Keeps old (out.event + 1) d.is_over d
+out-keeps old out c d left w true is k = record {
+  reached = k.reached;
+  few = let few : k.reached ≤ out.event = k.few in omega arith;
+  acts = kept-same c.ran d.ran c.origins.items d.origins.items w.ran w.origins ∙ k.acts;
+  whole = told-same k.reached c.origins.items d.origins.items (c.left.items ++ out ∷ []) d.left.items w.origins w.leaves
+      (told-left c.origins.items c.left.items out k.reached k.whole);
+  all = λ going. let over : d.is_over ≡ true = w.over ∙ is in absurd (cc);
+}
+out-keeps old out c d left w false is k = record {
+  reached = out.event + 1;
+  few = omega arith;
+  acts = kept-same c.ran d.ran c.origins.items d.origins.items w.ran w.origins
+      ∙ subst (λ n. KeepsActs old n c.ran c.origins.items) (k.all is) k.acts
+      ∙ sym (same-acts old out.event (Event.Deliver out.packet) left refl);
+  whole = told-same (out.event + 1) c.origins.items d.origins.items (c.left.items ++ out ∷ []) d.left.items w.origins w.leaves
+      (told-out c.origins.items c.left.items out (subst (λ n. TellsAll n c.origins.items c.left.items) (k.all is) k.whole));
+  all = λ going. refl;
+}
+
+-- the delivery that is next in the old run is left out
+pub out-on : (head : Head) (old : List Event) (bends : List Bend) (out : LeftOut) (c d : Course) → IsLeftOut old out → IsWithout out c d
+    → IsCourse head old bends out.event c → IsCourse head old bends (out.event + 1) d
+out-on head old bends out c d left w is = record {
+  told = subst (AllByRecursion (IsTellable head)) (sym w.ran) is.told;
+  many = ap length w.origins ∙ is.many ∙ sym (ap length w.ran);
+  keeps = out-keeps old out c d left w c.is_over refl is.keeps;
+  spared = subst (λ es. AllByRecursion (IsSpared bends d.lanes.olds.items) es) (sym w.ran)
+      (subst (λ ms. AllByRecursion (IsSpared bends ms) c.ran) (sym w.sent) is.spared);
+  leaves = subst (AllByRecursion (IsLeftOut old)) (sym w.leaves) (all_last (IsLeftOut old) c.left.items out is.leaves left);
 }
 
 -- packets are sent
@@ -154,11 +148,13 @@ sent-on head old bends count c d same is = record {
   keeps = record {
     reached = is.keeps.reached;
     few = is.keeps.few;
-    acts = ap (λ es. acts (kept es d.origins.items)) same.ran ∙ ap (λ os. acts (kept c.ran os)) same.origins ∙ is.keeps.acts;
+    acts = kept-same c.ran d.ran c.origins.items d.origins.items same.ran same.origins ∙ is.keeps.acts;
+    whole = told-same is.keeps.reached c.origins.items d.origins.items c.left.items d.left.items same.origins same.leaves is.keeps.whole;
     all = λ going. is.keeps.all (sym same.over ∙ going);
   };
   spared = subst (λ es. AllByRecursion (IsSpared bends d.lanes.olds.items) es) (sym same.ran)
       (subst (λ ms. AllByRecursion (IsSpared bends ms) c.ran) (sym same.sent)
       (all-more (IsSpared bends c.lanes.olds.items) (IsSpared bends (c.lanes.olds.items ++ same.more)) c.ran
       (λ e. spared-more bends c.lanes.olds.items same.more e) is.spared));
+  leaves = subst (AllByRecursion (IsLeftOut old)) (sym same.leaves) is.leaves;
 }

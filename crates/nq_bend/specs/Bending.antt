@@ -1,7 +1,10 @@
 -- What becomes of a run that is bent. The oldest events stand first.
-use Rattle.std.specs.Prelude.{◌≡◌, ◌<◌, ◌++◌, ℕ, List, [], ◌∷◌, Option, Some, None, length, take, slice_get}
+use Rattle.std.specs.Prelude.{◌≡◌, ◌<◌, ◌≤◌, ◌⊎◌, ◌++◌, ℕ, List, [], ◌∷◌, Option, Some, None, false, length, take, slice_get}
+use Rattle.std.specs.List.{AllByRecursion}
 use Rattle.nq_base.specs.declared.Event.{Event}
 use Rattle.nq_bend.specs.declared.bends.Bend.{Bend}
+use Rattle.nq_bend.specs.declared.bends.Bent.{Bent}
+use Rattle.nq_bend.specs.declared.bends.LeftOut.{LeftOut}
 
 -- the events that are no deliveries of packets
 abbrev pub acts : List Event → List Event
@@ -19,6 +22,31 @@ kept (event ∷ events) (Some place ∷ origins) = event ∷ kept events origins
 -- all calls, ticks, restarts and crashes of the first `count` events of the old run are kept, in their order, and no others
 abbrev pub KeepsActs : (old : List Event) (count : ℕ) → (ran : List Event) (origins : List (Option ℕ)) → Type 0
 KeepsActs old count ran origins = acts (kept ran origins) ≡ acts (take count old)
+
+-- what is left out is the delivery of a packet at a place of the old run
+abbrev pub IsLeftOut : List Event → LeftOut → Type 0
+IsLeftOut old out = slice_get old out.event ≡ Some (Event.Deliver out.packet)
+
+-- the event at a place of the old run is the origin of one of the new run, or it is left out
+abbrev pub IsTold : (origins : List (Option ℕ)) (left : List LeftOut) (place : ℕ) → Type 0
+IsTold origins left place =
+    ((number : ℕ) × (slice_get origins number ≡ Some (Some place)))
+    ⊎ ((number : ℕ) × (out : LeftOut) × (slice_get left number ≡ Some out) × (out.event ≡ place))
+
+-- each of the first `count` events of the old run is kept or left out
+abbrev pub TellsAll : (count : ℕ) (origins : List (Option ℕ)) (left : List LeftOut) → Type 0
+TellsAll count origins left = (place : ℕ) → place < count → IsTold origins left place
+
+-- a bent run follows the old one: of a front of it each event is kept or left out, and only deliveries are left out; the front is the whole,
+-- unless the bent run is over before
+pub record Follows (bent : Bent) : Type 0 where
+  pub many : length bent.origins.items ≡ length bent.ran
+  pub count : ℕ
+  pub few : count ≤ length bent.old
+  pub order : KeepsActs bent.old count bent.ran bent.origins.items
+  pub told : TellsAll count bent.origins.items bent.left.items
+  pub leaves : AllByRecursion (IsLeftOut bent.old) bent.left.items
+  pub all : bent.is_over ≡ false → count ≡ length bent.old
 
 -- a change loses this packet of the old run
 abbrev pub IsLost : List Bend → (packet : ℕ) → Type 0

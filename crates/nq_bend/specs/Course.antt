@@ -2,19 +2,21 @@
 use Rattle.std.specs.Prelude.{◌≡◌, ◌≤◌, ◌++◌, ◌∷◌, [], ℕ, List, Option, Bool, false, length}
 use Rattle.std.specs.List.{AllByRecursion}
 use Rattle.nq_base.specs.declared.Event.{Event}
-use Rattle.nq_bend.specs.Bending.{IsSpared, KeepsActs}
+use Rattle.nq_bend.specs.Bending.{IsLeftOut, IsSpared, KeepsActs, TellsAll}
 use Rattle.nq_bend.specs.declared.bends.Bend.{Bend}
+use Rattle.nq_bend.specs.declared.bends.LeftOut.{LeftOut}
 use Rattle.nq_bend.specs.declared.course.Course.{Course}
 use Rattle.nq_bend.specs.declared.plan.Plan.{Plan}
 use Rattle.nq_replay.specs.Texts.{IsTellable}
 use Rattle.nq_script.specs.declared.heads.Head.{Head}
 use Rattle.nq_world.specs.Playing.{HasSettings, WorldOver}
 
--- the acts of so many events of the old run are kept, or fewer where the run is over
+-- so many events of the old run are kept or left out, or fewer where the run is over
 pub record Keeps (old : List Event) (count : ℕ) (is_over : Bool) (c : Course) : Type 0 where
   pub reached : ℕ
   pub few : reached ≤ count
   pub acts : KeepsActs old reached c.ran c.origins.items
+  pub whole : TellsAll reached c.origins.items c.left.items
   pub all : is_over ≡ false → reached ≡ count
 
 -- a new run behind so many events of the old one
@@ -23,6 +25,7 @@ pub record IsCourse (head : Head) (old : List Event) (bends : List Bend) (count 
   pub many : length c.origins.items ≡ length c.ran
   pub keeps : Keeps old count c.is_over c
   pub spared : AllByRecursion (IsSpared bends c.lanes.olds.items) c.ran
+  pub leaves : AllByRecursion (IsLeftOut old) c.left.items
 
 -- a new run of a plan behind so many events of the old one
 abbrev pub IsOn : Plan → (count : ℕ) → Course → Type 0
@@ -37,17 +40,13 @@ abbrev pub StandsFor : (old new : Event) → Type 0
 StandsFor (Event.Deliver packet) (Event.Deliver other) = Unit {0}
 StandsFor old new = old ≡ new
 
--- an event that is the delivery of a packet
-abbrev pub IsDelivery : Event → Type 0
-IsDelivery (Event.Deliver packet) = Unit {0}
-IsDelivery other = ⊥
-
--- the new run is the same, and what was sent in it
-pub record IsSameRun (old new : Course) : Type 0 where
+-- the new run is the same, but for a delivery that was left out
+pub record IsWithout (out : LeftOut) (old new : Course) : Type 0 where
   pub ran : new.ran ≡ old.ran
   pub origins : new.origins.items ≡ old.origins.items
   pub over : new.is_over ≡ old.is_over
   pub sent : new.lanes.olds.items ≡ old.lanes.olds.items
+  pub leaves : new.left.items ≡ old.left.items ++ out ∷ []
 
 -- the new run is the same, but for packets that were sent behind the others
 pub record IsSameButSent (old new : Course) : Type 0 where
@@ -56,6 +55,7 @@ pub record IsSameButSent (old new : Course) : Type 0 where
   pub over : new.is_over ≡ old.is_over
   pub more : List (Option ℕ)
   pub sent : new.lanes.olds.items ≡ old.lanes.olds.items ++ more
+  pub leaves : new.left.items ≡ old.left.items
 
 -- the new run has one event more, with its place in the old one
 pub record IsWith (event : Event) (origin : Option ℕ) (old new : Course) : Type 0 where
@@ -63,3 +63,4 @@ pub record IsWith (event : Event) (origin : Option ℕ) (old new : Course) : Typ
   pub origins : new.origins.items ≡ old.origins.items ++ origin ∷ []
   pub over : new.is_over ≡ old.is_over
   pub sent : new.lanes.olds.items ≡ old.lanes.olds.items
+  pub leaves : new.left.items ≡ old.left.items

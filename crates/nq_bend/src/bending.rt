@@ -1,9 +1,10 @@
 //! Bending a schedule.
 
 ghost use Rattle.std.specs.List.{AllByRecursion};
-ghost use Rattle.std.specs.Prelude.{◌≡◌, ◌≤◌, ◌<◌, ◌+◌, ℕ, IfOk, OnOk, Some, length, map, slice_get};
+ghost use Rattle.std.specs.Prelude.{◌≡◌, ◌≤◌, ◌<◌, ◌+◌, ℕ, List, IfOk, IfSome, None, OnOk, Option, Some, length, map, slice_get};
 ghost use Rattle.nq_base.specs.declared.Event.{Event};
-ghost use Rattle.nq_bend.specs.Bending.{IsSpared, KeepsActs};
+ghost use Rattle.nq_bend.specs.Bending.{Follows, IsSpared};
+ghost use Rattle.nq_bend.specs.declared.bends.Bend.{Bend};
 ghost use Rattle.nq_bend.specs.Course.{HasHead, IsCourse, IsOn};
 ghost use Rattle.nq_observe.specs.Told.{TellsEvent};
 ghost use Rattle.nq_replay.specs.Schedules.{IsReady};
@@ -13,12 +14,13 @@ ghost use Rattle.nq_script.specs.Lines.{once};
 ghost use Rattle.nq_script.specs.Schedule.{SpellsSchedule};
 
 use crate::bends::{Bend, BendFault, Bent, Then};
-use crate::course::{Course, drain, happen};
+use crate::course::{Course, come, drain, happen};
 use crate::old::{Old, run_of};
 use crate::plan::Plan;
 use crate::puts::read_put;
 use nq_base::{Event, NoMemory};
 use nq_keeper::{Keeper, ListKeeper};
+use nq_observe::Patience;
 use nq_replay::schedule_text;
 use nq_script::{Head, Line, Lines, Script};
 use nq_world::{NewFault, World, begin};
@@ -30,15 +32,21 @@ use std::alloc::Global;
 ///
 /// - `Bad`: with the place of the first change that says nothing that can be done.
 /// - `Memory`: memory was wanting.
-pub fn bend(alloc: Global, script: &Script, bends: &[Bend], then: Then) -> Result<Bent, BendFault>
+/// - `Time`: no time was left before an event.
+pub fn bend<P: Patience>(
+    alloc: Global,
+    script: &Script,
+    bends: &[Bend],
+    then: Then,
+    patience: &mut P,
+) -> Result<Bent, BendFault>
     requires { IsReady script.now }
     ensures spells { IfOk result (λ bent. SpellsSchedule script.now.head (map once bent.ran) bent.text.items) }
-    ensures keeps { IfOk result (λ bent. (length bent.origins.items ≡ length bent.ran)
-        × ((count : ℕ) × (count ≤ length bent.old) × KeepsActs bent.old count bent.ran bent.origins.items)) }
+    ensures follows { IfOk result Follows }
     ensures spares { IfOk result (λ bent. AllByRecursion (IsSpared bends.now bent.matches.items) bent.ran) }
 {
-    let old = run_of(alloc, script)?;
-    let course = run_bent(alloc, &script.head, &old, bends, then)?;
+    let old = run_of(alloc, script, patience)?;
+    let course = run_bent(alloc, &script.head, &old, bends, then, patience)?;
     let text = schedule_text(alloc, &script.head, &course.ran)?;
     Ok(whole(text, old, course))
 }
@@ -52,6 +60,7 @@ fn whole(text: Vec<u8>, old: Old, course: Course) -> Bent
       origins = course.origins;
       matches = course.lanes.olds;
       left = course.left;
+      is_over = course.is_over;
     } }
 {
     let Old { events, .. } = old;
@@ -60,6 +69,7 @@ fn whole(text: Vec<u8>, old: Old, course: Course) -> Bent
         origins,
         left,
         lanes,
+        is_over,
         ..
     } = course;
     Bent {
@@ -69,22 +79,29 @@ fn whole(text: Vec<u8>, old: Old, course: Course) -> Bent
         origins,
         matches: lanes.into_olds(),
         left,
+        is_over,
     }
 }
 
 /// The run of a schedule with these changes.
-fn run_bent(
+fn run_bent<P: Patience>(
     alloc: Global,
     head: &Head,
     old: &Old,
     bends: &[Bend],
     then: Then,
+    patience: &mut P,
 ) -> Result<Course, BendFault>
     requires fits { FitsHead head.now }
     requires told { AllByRecursion (IsTellable head.now) old.now.events }
     ensures { IfOk result (IsCourse head.now old.now.events bends.now (length old.now.events)) }
 {
-    let plan = Plan { head, old, bends };
+    let plan = Plan {
+        head,
+        old,
+        bends,
+        then,
+    };
     if let Some(place) = plan.first_bad() {
         return Err(BendFault::Bad(place));
     }
@@ -94,17 +111,17 @@ fn run_bent(
         Err(NewFault::Memory(_keeper)) => return Err(BendFault::Memory),
         Err(NewFault::Failed(_keeper)) => return Err(BendFault::Memory),
     };
-    let played = play(alloc, &mut world, &plan, then);
+    let played = play(alloc, &mut world, &plan, patience);
     let _keeper = world.into_keeper();
     played
 }
 
 /// Plays the run of a schedule with these changes over a world.
-fn play<K: Keeper>(
+fn play<K: Keeper, P: Patience>(
     alloc: Global,
     world: &mut World<K>,
     plan: &Plan<'_>,
-    then: Then,
+    patience: &mut P,
 ) -> Result<Course, BendFault>
     requires fits { FitsHead plan.now.head.now }
     requires told { AllByRecursion (IsTellable plan.now.head.now) plan.now.old.now.events }
@@ -113,69 +130,75 @@ fn play<K: Keeper>(
 {
     let mut course = Course::new(alloc, plan.head.hosts, plan.old)?;
     for place in 0..plan.old.events.len() {
-        change(alloc, world, &mut course, plan, place)?;
+        change(alloc, world, &mut course, plan, place, patience)?;
         keep(world, &mut course, plan, place)?;
     }
-    finish(alloc, world, &mut course, plan, then)?;
+    finish(alloc, world, &mut course, plan, patience)?;
     Ok(course)
 }
 
 /// What happens behind the last event of the old run.
-fn finish<K: Keeper>(
+fn finish<K: Keeper, P: Patience>(
     alloc: Global,
     world: &mut World<K>,
     course: &mut Course,
     plan: &Plan<'_>,
-    then: Then,
+    patience: &mut P,
 ) -> Result<(), BendFault>
     requires fits { FitsHead plan.now.head.now }
     requires settings { HasHead plan.now world.old }
     ensures goes { (count : ℕ) → IsOn plan.now count course.old → OnOk result (IsOn plan.now count course.new) }
 {
-    change(alloc, world, course, plan, plan.old.events.len())?;
-    match then {
+    let end = plan.old.events.len();
+    change(alloc, world, course, plan, end, patience)?;
+    match plan.then {
         Then::Stop => Ok(()),
         Then::GoOn => {
-            drain(world, course, plan)?;
+            drain(world, course, plan, None, patience)?;
             Ok(())
         }
     }
 }
 
-/// What happens before the event at a place of the old run: where a flow ended there, all that is under way arrives, and then the
-/// changes are made.
-fn change<K: Keeper>(
+/// What happens before the event at a place of the old run: what is under way arrives, as far as it is to, and then the changes are
+/// made.
+fn change<K: Keeper, P: Patience>(
     alloc: Global,
     world: &mut World<K>,
     course: &mut Course,
     plan: &Plan<'_>,
     place: usize,
+    patience: &mut P,
 ) -> Result<(), BendFault>
     requires fits { FitsHead plan.now.head.now }
     requires settings { HasHead plan.now world.old }
     ensures settings { HasHead plan.now world.new }
     ensures goes { (count : ℕ) → IsOn plan.now count course.old → OnOk result (IsOn plan.now count course.new) }
 {
-    drain_behind_flow(world, course, plan, place)?;
+    settle(world, course, plan, place, patience)?;
     for number in 0..plan.bends.len() {
         make(alloc, world, course, plan, place, number)?;
     }
     Ok(())
 }
 
-/// All that is under way arrives, if a flow ended before the event at a place of the old run.
-fn drain_behind_flow<K: Keeper>(
+/// All that is under way arrives, if a flow ended before the event at a place of the old run, and what is late, if a clock ticks in it.
+fn settle<K: Keeper, P: Patience>(
     world: &mut World<K>,
     course: &mut Course,
     plan: &Plan<'_>,
     place: usize,
-) -> Result<(), NoMemory>
+    patience: &mut P,
+) -> Result<(), BendFault>
     requires settings { HasHead plan.now world.old }
     ensures settings { HasHead plan.now world.new }
     ensures goes { (count : ℕ) → IsOn plan.now count course.old → OnOk result (IsOn plan.now count course.new) }
 {
     if plan.old.is_behind_flow(place) {
-        return drain(world, course, plan);
+        return drain(world, course, plan, None, patience);
+    }
+    if plan.waits_at(place) {
+        return drain(world, course, plan, Some(place), patience);
     }
     Ok(())
 }
@@ -264,7 +287,7 @@ fn repeat<K: Keeper>(
     ensures goes { (count : ℕ) → IsOn plan.now count course.old → OnOk result (IsOn plan.now count course.new) }
 {
     for turn in 0..times {
-        happen(world, course, plan, event, None)?;
+        come(world, course, plan, event)?;
     }
     Ok(())
 }
@@ -286,7 +309,7 @@ fn deliver<K: Keeper>(
     if course.is_cut(new) {
         return Ok(());
     }
-    happen(world, course, plan, &Event::Deliver(new), None)
+    come(world, course, plan, &Event::Deliver(new))
 }
 
 /// Lets the event at a place of the old run happen, or leaves it out.
@@ -303,10 +326,27 @@ fn keep<K: Keeper>(
     ensures settings { HasHead plan.now world.new }
     ensures goes { IsOn plan.now place course.old → OnOk result (IsOn plan.now (place + 1) course.new) }
 {
-    match plan.old.events.get(place) {
-        Some(Event::Deliver(packet)) => keep_delivery(world, course, plan, place, *packet),
-        Some(event) => happen(world, course, plan, event, Some(place)),
-        None => Ok(()),
+    let Some(event) = plan.old.events.get(place) else {
+        return Ok(());
+    };
+    match packet_of(event) {
+        Some(packet) => keep_delivery(world, course, plan, place, packet),
+        None => happen(world, course, plan, event, Some(place)),
+    }
+}
+
+/// The packet that an event delivers; None where it is no delivery.
+fn packet_of(event: &Event) -> Option<u64>
+    ensures delivers { IfSome result (λ packet. event.now ≡ Event.Deliver packet) }
+    ensures acts { result ≡ None → (bends : List Bend) (matches : List (Option ℕ)) → IsSpared bends matches event.now }
+{
+    match event {
+        Event::Deliver(packet) => Some(*packet),
+        Event::Call { .. } => None,
+        Event::ServerTick => None,
+        Event::ClientTick(_) => None,
+        Event::Restart(_) => None,
+        Event::Crash { .. } => None,
     }
 }
 
@@ -348,7 +388,7 @@ fn double<K: Keeper>(
     ensures goes { (count : ℕ) → IsOn plan.now count course.old → OnOk result (IsOn plan.now count course.new) }
 {
     if plan.is_doubled(packet) && plan.old.arrives_first(packet, place) {
-        return happen(world, course, plan, event, None);
+        return come(world, course, plan, event);
     }
     Ok(())
 }

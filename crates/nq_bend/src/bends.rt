@@ -1,6 +1,7 @@
 //! What is changed in a run, and what comes of it.
 
 use nq_base::{Host, NoMemory};
+use nq_observe::Unseen;
 use nq_script::Schedule;
 
 /// A change. Packets are meant by their numbers in the old run, events by their places in it, counted from 0; the place behind the
@@ -24,7 +25,8 @@ pub enum Bend {
 /// What happens behind the last event.
 #[derive(Clone, Copy, PartialEq, Eq)]
 pub enum Then {
-    /// All that is under way arrives, until nothing is.
+    /// All that is under way arrives, until nothing is. Before each tick of the old run what is late arrives, too: packets that had arrived
+    /// there by then, and packets that it did not send, unless it lost the last one of that kind on that link.
     GoOn,
     /// Nothing.
     Stop,
@@ -69,6 +71,8 @@ pub struct Bent {
     pub matches: Vec<Option<u64>>,
     /// What of the old run is left out.
     pub left: Vec<LeftOut>,
+    /// Whether the last event breaks the rule on skew, or passes a limit, so that what stands behind it in the old run did not happen.
+    pub is_over: bool,
 }
 
 /// Why nothing is bent.
@@ -79,10 +83,21 @@ pub enum BendFault {
     Bad(usize),
     /// Memory was wanting.
     Memory,
+    /// No time was left.
+    Time,
 }
 
 impl From<NoMemory> for BendFault {
     fn from(_: NoMemory) -> BendFault {
         BendFault::Memory
+    }
+}
+
+impl From<Unseen> for BendFault {
+    fn from(unseen: Unseen) -> BendFault {
+        match unseen {
+            Unseen::Memory => BendFault::Memory,
+            Unseen::Time => BendFault::Time,
+        }
     }
 }

@@ -3,6 +3,7 @@
 ghost use Rattle.std.specs.Prelude.{◌≡◌, [], IfOk};
 ghost use Rattle.nq_bend.specs.Bending.{IsLonger};
 
+use crate::old::Old;
 use nq_base::{NoMemory, Party};
 use nq_record::Sent;
 use std::alloc::Global;
@@ -66,6 +67,19 @@ impl Lanes {
             Some(new) => *new,
             None => None,
         }
+    }
+
+    /// Whether the old run did not lose the last packet on the link of a packet and of its kind.
+    pub(crate) fn was_heard(&self, packet: &Sent, old: &Old) -> bool {
+        for lane in &self.lanes {
+            if lane.is_of(packet) {
+                return match lane.old.last() {
+                    Some(last) => !old.is_overtaken(*last),
+                    None => true,
+                };
+            }
+        }
+        true
     }
 
     /// Adds a packet of the old run.

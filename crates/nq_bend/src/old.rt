@@ -8,7 +8,7 @@ ghost use Rattle.nq_world.specs.Playing.{HasSettings};
 
 use nq_base::{Event, NoMemory};
 use nq_keeper::{Keeper, ListKeeper};
-use nq_observe::{Cursor, Post};
+use nq_observe::{Cursor, Patience, Post, Unseen};
 use nq_replay::play::{Delivered, note};
 use nq_script::{Head, Schedule, Script};
 use nq_world::{MOST_EVENTS, NewFault, Stepped, World, begin};
@@ -61,6 +61,22 @@ impl Old {
         }
     }
 
+    /// The place of the event in which a packet first arrives.
+    pub(crate) fn first_arrival(&self, packet: u64) -> Option<usize> {
+        match self.arrivals.get(packet as usize) {
+            Some(first) => *first,
+            None => None,
+        }
+    }
+
+    /// Whether a clock ticks in the event at a place.
+    pub(crate) fn is_tick(&self, place: usize) -> bool {
+        matches!(
+            self.events.get(place),
+            Some(Event::ServerTick) | Some(Event::ClientTick(_))
+        )
+    }
+
     /// Whether a packet never arrives, though one that was sent later does.
     pub(crate) fn is_overtaken(&self, packet: u64) -> bool {
         match self.arrivals.get(packet as usize) {
@@ -107,23 +123,32 @@ impl Old {
 }
 
 /// The run of a schedule, up to the first event that a world refuses.
-pub(crate) fn run_of(alloc: Global, script: &Script) -> Result<Old, NoMemory>
+pub(crate) fn run_of<P: Patience>(
+    alloc: Global,
+    script: &Script,
+    patience: &mut P,
+) -> Result<Old, Unseen>
     requires ready { IsReady script.now }
     ensures told { IfOk result (λ old. AllByRecursion (IsTellable script.now.head) old.events) }
 {
     let keeper = ListKeeper::new(alloc, Vec::new(alloc))?;
     let mut world = match begin(alloc, &script.head, keeper) {
         Ok(world) => world,
-        Err(NewFault::Memory(_keeper)) => return Err(NoMemory::Memory),
-        Err(NewFault::Failed(_keeper)) => return Err(NoMemory::Memory),
+        Err(NewFault::Memory(_keeper)) => return Err(Unseen::Memory),
+        Err(NewFault::Failed(_keeper)) => return Err(Unseen::Memory),
     };
-    let played = play(alloc, &mut world, script);
+    let played = play(alloc, &mut world, script, patience);
     let _keeper = world.into_keeper();
     played
 }
 
 /// Plays a schedule over a world.
-fn play<K: Keeper>(alloc: Global, world: &mut World<K>, script: &Script) -> Result<Old, NoMemory>
+fn play<K: Keeper, P: Patience>(
+    alloc: Global,
+    world: &mut World<K>,
+    script: &Script,
+    patience: &mut P,
+) -> Result<Old, Unseen>
     requires ready { IsReady script.now }
     requires settings { HasSettings script.now.head.hosts script.now.head.longest script.now.head.term world.old }
     ensures told { IfOk result (λ old. AllByRecursion (IsTellable script.now.head) old.events) }
@@ -132,6 +157,9 @@ fn play<K: Keeper>(alloc: Global, world: &mut World<K>, script: &Script) -> Resu
     let mut delivered = Delivered::new(alloc);
     let mut cursor = Cursor::new();
     for turn in 0..MOST_EVENTS {
+        if patience.is_over() {
+            return Err(Unseen::Time);
+        }
         let least = delivered.next(world.packets().len() as usize);
         let next = cursor.next(&script.lines, script.head.hosts, least);
         run.end_flow(cursor.is_behind_flow)?;

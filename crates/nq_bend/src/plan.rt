@@ -4,7 +4,7 @@ ghost use Rattle.std.specs.Prelude.{◌≡◌, IsFalse, IsTrue};
 ghost use Rattle.nq_bend.specs.Bending.{IsLost};
 ghost use Rattle.nq_bend.specs.declared.bends.Bend.{Bend};
 
-use crate::bends::{Bend, Why};
+use crate::bends::{Bend, Then, Why};
 use crate::old::Old;
 use nq_script::Head;
 
@@ -17,6 +17,8 @@ pub(crate) struct Plan<'a> {
     pub(crate) old: &'a Old,
     /// The changes.
     pub(crate) bends: &'a [Bend],
+    /// What happens behind the last event.
+    pub(crate) then: Then,
 }
 
 impl Plan<'_> {
@@ -67,6 +69,21 @@ impl Plan<'_> {
         }
     }
 
+    /// Whether what is late arrives before the event at a place: a clock ticks in it, and the run goes on by itself.
+    pub(crate) fn waits_at(&self, place: usize) -> bool {
+        self.then == Then::GoOn && self.old.is_tick(place)
+    }
+
+    /// The event before which, or in which, a packet of the old run is to arrive first, if it is to.
+    pub(crate) fn moment_of(&self, packet: u64) -> Option<usize> {
+        for bend in self.bends.iter() {
+            if let Some(event) = moment_in(bend, packet) {
+                return Some(event);
+            }
+        }
+        self.old.first_arrival(packet)
+    }
+
     /// Why the delivery of a packet, in the event at a place, is left out whatever happened, if it is.
     pub(crate) fn leaves(&self, packet: u64, place: usize) -> Option<Why> {
         if self.is_lost(packet) {
@@ -76,6 +93,17 @@ impl Plan<'_> {
         } else {
             None
         }
+    }
+}
+
+/// The event before which a change lets a packet arrive, if it does.
+fn moment_in(bend: &Bend, packet: u64) -> Option<usize> {
+    match bend {
+        Bend::Later {
+            packet: moved,
+            event,
+        } if *moved == packet => Some(*event),
+        _ => None,
     }
 }
 

@@ -45,7 +45,7 @@ pub(crate) fn outer(hosts: u32, party: Party) -> Side {
 }
 
 /// The events from `from` to `to` of a run as a chart, with a column for each host and one for the server. Ticks in which nothing
-/// else happens share a row.
+/// else happens share a row, and so do those in which a party only sends again what gets lost.
 ///
 /// # Errors
 ///

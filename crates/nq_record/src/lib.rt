@@ -9,6 +9,7 @@ mod entries;
 mod making;
 mod packets;
 mod picture_rows;
+mod quiet;
 mod reasons;
 mod record;
 mod spans;

@@ -3,6 +3,7 @@
 use crate::chart::{Note, Part, Row, Side, Sign};
 use crate::drawing::{outer, place_of};
 use crate::making::Maker;
+use crate::quiet::{Quiet, is_quiet};
 use crate::record::{Act, Moment, Record, Sent};
 use nq_base::Party;
 use std::mem;
@@ -20,7 +21,7 @@ pub(crate) struct Rows {
 
 impl Rows {
     /// Adds the row of so many events.
-    fn add(&mut self, maker: &mut Maker, events: usize, row: Row) {
+    pub(crate) fn add(&mut self, maker: &mut Maker, events: usize, row: Row) {
         let place = self.rows.len();
         for _ in 0..events {
             maker.push(&mut self.places, place);
@@ -52,7 +53,7 @@ impl Rows {
 }
 
 /// What the clocks show that no row has told yet, by the places of the parties.
-type Clocks = Vec<Option<u64>>;
+pub(crate) type Clocks = Vec<Option<u64>>;
 
 /// Clocks of so many parties that all show this time.
 fn clocks_of(maker: &mut Maker, parties: usize, time: Option<u64>) -> Clocks {
@@ -64,12 +65,12 @@ fn clocks_of(maker: &mut Maker, parties: usize, time: Option<u64>) -> Clocks {
 }
 
 /// What the clocks show; from then on nothing is untold.
-fn taken(maker: &mut Maker, clocks: &mut Clocks) -> Clocks {
+pub(crate) fn taken(maker: &mut Maker, clocks: &mut Clocks) -> Clocks {
     let untold = clocks_of(maker, clocks.len(), None);
     mem::replace(clocks, untold)
 }
 
-/// The rows of the events from `from` to `to`. Ticks in which nothing else happens share a row.
+/// The rows of the events from `from` to `to`. Quiet ticks, one after the other, share a row.
 pub(crate) fn rows_of(maker: &mut Maker, record: &Record, from: usize, to: usize) -> Rows {
     let parties = (record.hosts as usize).saturating_add(1);
     let mut clocks = clocks_of(maker, parties, Some(0));
@@ -79,86 +80,25 @@ pub(crate) fn rows_of(maker: &mut Maker, record: &Record, from: usize, to: usize
         rows: Vec::new(maker.alloc),
         places: Vec::new(maker.alloc),
     };
-    let mut idle = Idle {
-        first: from,
-        count: 0,
-        party: Party::Server,
-    };
+    let mut quiet = Quiet::new(maker);
     for (place, moment) in record.moments.iter().enumerate() {
+        let is_shown = place >= from && place <= to;
+        let joins = is_quiet(record, moment) && quiet.takes(moment);
+        if is_shown && !joins {
+            quiet.end(maker, record, &mut rows, &mut clocks);
+        }
         if let Some(clock) = clocks.get_mut(place_of(record.hosts, moment.party)) {
             *clock = Some(moment.clock.0);
         }
-        if place >= from && place <= to {
-            if is_idle(moment) {
-                idle.add(place, moment);
-            } else {
-                idle.end(maker, record.hosts, &mut rows, &mut clocks);
-                let row = event_row(maker, record, place, moment, &mut clocks);
-                rows.add(maker, 1, row);
-            }
+        if is_shown && is_quiet(record, moment) {
+            quiet.add(maker, record, place, moment);
+        } else if is_shown {
+            let row = event_row(maker, record, place, moment, &mut clocks);
+            rows.add(maker, 1, row);
         }
     }
-    idle.end(maker, record.hosts, &mut rows, &mut clocks);
+    quiet.end(maker, record, &mut rows, &mut clocks);
     rows
-}
-
-/// Whether an event is a tick in which nothing else happens.
-fn is_idle(moment: &Moment) -> bool {
-    matches!(moment.act, Act::Tick) && moment.sent == 0 && moment.made == 0 && moment.changed == 0
-}
-
-/// Ticks in which nothing else happens, one after the other.
-#[derive(Clone, Copy)]
-struct Idle {
-    first: usize,
-    count: usize,
-    party: Party,
-}
-
-impl Idle {
-    /// One more.
-    fn add(&mut self, place: usize, moment: &Moment) {
-        if self.count == 0 {
-            self.first = place;
-            self.party = moment.party;
-        } else if self.party != moment.party {
-            self.party = Party::Server;
-        }
-        self.count = self.count.saturating_add(1);
-    }
-
-    /// Gives them a row, if there are any.
-    fn end(&mut self, maker: &mut Maker, hosts: u32, rows: &mut Rows, clocks: &mut Clocks) {
-        if self.count > 0 {
-            let row = self.row(maker, hosts, clocks);
-            rows.add(maker, self.count, row);
-            self.count = 0;
-        }
-    }
-
-    /// Their row.
-    fn row(&self, maker: &mut Maker, hosts: u32, clocks: &mut Clocks) -> Row {
-        let (name, text) = if self.count == 1 {
-            ("#", "tick")
-        } else {
-            ("#-#", "# ticks")
-        };
-        let last = self.first.saturating_add(self.count).saturating_sub(1);
-        let text = maker.filled(text, &[self.count as u64]);
-        let mut notes = Vec::new(maker.alloc);
-        let note = Note {
-            side: outer(hosts, self.party),
-            sign: Sign::Plain,
-            text,
-        };
-        maker.push(&mut notes, note);
-        Row {
-            name: maker.filled(name, &[self.first as u64, last as u64]),
-            clocks: taken(maker, clocks),
-            party: place_of(hosts, self.party),
-            notes,
-        }
-    }
 }
 
 /// The row of an event.
@@ -270,7 +210,7 @@ fn lost_notes(maker: &mut Maker, record: &Record, moment: &Moment, notes: &mut V
 }
 
 /// The side of a party on which another one stands.
-fn toward(hosts: u32, party: Party, another: Party) -> Side {
+pub(crate) fn toward(hosts: u32, party: Party, another: Party) -> Side {
     if place_of(hosts, another) < place_of(hosts, party) {
         Side::Left
     } else {

@@ -39,7 +39,7 @@ const QUIET: u64 = 2;
 const FAREWELL: u32 = 400;
 
 /// A host with those who ask it.
-pub(crate) struct Hosting<'a> {
+pub(crate) struct Hosting {
     alloc: Global,
     /// Its client.
     pub(crate) desk: HostDesk,
@@ -49,7 +49,7 @@ pub(crate) struct Hosting<'a> {
     first: usize,
     work: Option<Work>,
     aside: Option<Work>,
-    ledger: Ledger<'a>,
+    ledger: Ledger,
     made: u32,
     /// How many pages of lists were asked for.
     listed: u32,
@@ -58,14 +58,14 @@ pub(crate) struct Hosting<'a> {
     ender: Option<(usize, u32)>,
 }
 
-impl<'a> Hosting<'a> {
+impl Hosting {
     /// A host that nobody has asked yet.
     pub(crate) fn open(
         rt: &HostRuntime,
         desk: HostDesk,
         door: UnixListener,
-        ledger: Ledger<'a>,
-    ) -> Result<Hosting<'a>, HostDesk> {
+        ledger: Ledger,
+    ) -> Result<Hosting, HostDesk> {
         let mut desk = desk;
         let mut door = door;
         let alloc = rt.alloc();

@@ -10,10 +10,10 @@ use std::io::ErrorKind;
 /// The list of a host, in its folder. It has a line for each name under which this host has stored a file. Where it stores another one under the
 /// name, it first looks whether the one before is gone.
 #[derive(Drop)]
-pub(crate) struct Ledger<'a> {
-    rt: &'a HostRuntime,
+pub(crate) struct Ledger {
+    rt: HostRuntime,
     alloc: Global,
-    folder: &'a str,
+    folder: String,
     kept: Vec<u8>,
     left: Vec<u8>,
 }
@@ -68,9 +68,9 @@ fn part(
     Ok(())
 }
 
-impl<'a> Ledger<'a> {
+impl Ledger {
     /// The list in a folder. What earlier incarnations made is left to be looked after. None where it cannot be read.
-    pub(crate) fn open(rt: &'a HostRuntime, folder: &'a str) -> Option<Ledger<'a>> {
+    pub(crate) fn open(rt: &HostRuntime, folder: &str) -> Option<Ledger> {
         let alloc = rt.alloc();
         let Ok(path) = format!(in alloc; "{folder}/made") else {
             return None;
@@ -80,8 +80,14 @@ impl<'a> Ledger<'a> {
             Err(error) if error.kind() == ErrorKind::NotFound => Vec::new(alloc),
             Err(_) => return None,
         };
+        let Ok(own) = rt.clone() else {
+            return None;
+        };
+        let Ok(folder) = format!(in alloc; "{folder}") else {
+            return None;
+        };
         Some(Ledger {
-            rt,
+            rt: own,
             alloc,
             folder,
             kept: Vec::new(alloc),
@@ -122,7 +128,7 @@ impl<'a> Ledger<'a> {
 
     /// Writes the list down. Whether that went well.
     pub(crate) fn put_down(&self) -> bool {
-        let folder = self.folder;
+        let folder = self.folder.as_str();
         let Ok(path) = format!(in self.alloc; "{folder}/made") else {
             return false;
         };
@@ -132,6 +138,6 @@ impl<'a> Ledger<'a> {
         if all.extend_from_slice(&self.kept).is_err() {
             return false;
         }
-        replace_file(self.rt, folder, path.as_str(), &all).is_ok()
+        replace_file(&self.rt, folder, path.as_str(), &all).is_ok()
     }
 }

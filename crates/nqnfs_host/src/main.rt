@@ -166,13 +166,7 @@ fn open_door(rt: &HostRuntime, folder: &str) -> io::Result<UnixListener> {
 }
 
 /// Lives until it is told to end.
-fn live<'x>(
-    rt: &'x HostRuntime,
-    folder: &'x str,
-    who: Who,
-    link: HostLink,
-    door: UnixListener,
-) -> Ending {
+fn live(rt: &HostRuntime, folder: &str, who: Who, link: HostLink, door: UnixListener) -> Ending {
     let Ok(watch) = rt.clone() else {
         return told_memory(rt);
     };
@@ -195,7 +189,7 @@ fn live<'x>(
 }
 
 /// Works, and gives the leases back in the end.
-fn attend(rt: &HostRuntime, folder: &str, who: Who, hosting: Hosting<'_>) -> Ending {
+fn attend(rt: &HostRuntime, folder: &str, who: Who, hosting: Hosting) -> Ending {
     let mut hosting = hosting;
     let (number, inc) = (who.host.0, who.inc.0);
     let _told = println!(rt;

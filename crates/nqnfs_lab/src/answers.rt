@@ -47,16 +47,11 @@ impl Made {
             printed,
             verdict,
             told,
-            picture,
         } = run;
         self.number("status", status as u64)?;
         self.text("printed", printed)?;
         self.text("verdict", verdict)?;
-        self.text("told", told)?;
-        if !picture.is_empty() {
-            self.text("picture", picture)?;
-        }
-        Ok(())
+        self.text("told", told)
     }
 
     /// Adds how a schedule was bent.

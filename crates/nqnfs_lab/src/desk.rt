@@ -5,7 +5,7 @@ ghost use Rattle.std.specs.Prelude.{◌<◌, ◌^◌, length};
 use crate::answers::Made;
 use crate::files::{Kind, file_of};
 use crate::requests::{Bends, bends_in, number_in, text_in, then_in};
-use crate::runs::{Bending, Untold, bend_text, draw_run, tell_why};
+use crate::runs::{Bending, Untold, bend_text, tell_run, tell_why};
 use crate::watch::Watch;
 use bytes::{BufMut, Bytes};
 use http::header::{CONTENT_TYPE, HOST, ORIGIN};
@@ -114,7 +114,7 @@ fn run(watch: &mut Watch<'_>, body: &[u8]) -> Result<Answer, AllocError>
     requires { length body.now < 2 ^ 31 }
 {
     let alloc = watch.alloc();
-    let told = match draw_run(watch, body) {
+    let told = match tell_run(watch, body) {
         Ok(told) => told,
         Err(why) => return untold(alloc, why),
     };

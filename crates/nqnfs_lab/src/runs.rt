@@ -28,8 +28,6 @@ pub(crate) struct Told {
     pub(crate) verdict: Vec<u8>,
     /// What `nqnfs_look tell` prints.
     pub(crate) told: Vec<u8>,
-    /// What `nqnfs_look picture` prints.
-    pub(crate) picture: Vec<u8>,
 }
 
 /// Why nothing is told.
@@ -63,6 +61,7 @@ impl From<BendFault> for Untold {
         match fault {
             BendFault::Bad(place) => Untold::Bend(place),
             BendFault::Memory => Untold::Memory,
+            BendFault::Time => Untold::Time,
         }
     }
 }
@@ -75,7 +74,6 @@ impl Told {
             printed,
             verdict: Vec::new(alloc),
             told: Vec::new(alloc),
-            picture: Vec::new(alloc),
         }
     }
 }
@@ -91,18 +89,6 @@ pub(crate) fn tell_run(watch: &mut Watch<'_>, text: &[u8]) -> Result<Told, Untol
         watch.check()?;
         told.verdict = judged(alloc, &told.printed)?;
         told.told = looked(watch, text, View::Tell)?;
-    }
-    Ok(told)
-}
-
-/// Runs a schedule, and tells and draws what came of it.
-pub(crate) fn draw_run(watch: &mut Watch<'_>, text: &[u8]) -> Result<Told, Untold>
-    requires { length text.now < 2 ^ 31 }
-{
-    let mut told = tell_run(watch, text)?;
-    if told.status == 0 {
-        let (from, to) = (0, usize::MAX);
-        told.picture = looked(watch, text, View::Picture { from, to })?;
     }
     Ok(told)
 }
@@ -152,7 +138,7 @@ pub(crate) fn bend_text(
         _ => return Ok(Bending::Faulty(Told::without_journal(alloc, end, printed))),
     };
     watch.check()?;
-    let bent = bend(alloc, &script, bends, then)?;
+    let bent = bend(alloc, &script, bends, then, watch)?;
     if bent.text.len() > MOST_BYTES {
         return Err(Untold::Time);
     }

@@ -1,8 +1,18 @@
-//! A run that was printed, once more, by the command `replay`.
+//! A run that was printed, once more: by the command `replay`, and event by event over a world.
+
+ghost use Rattle.std.specs.Prelude.{◌≡◌, length, IsTrue, Some};
+ghost use Rattle.nq_keeper.specs.StoredKeeper.{empty_kept};
+ghost use Rattle.nq_replay.specs.Schedules.{IsReady};
+ghost use Rattle.nq_world.specs.Playing.{CanCome};
 
 use crate::parts::words_of;
 use crate::scenes::play;
+use nq_base::{Event, Journal};
 use nq_io::{MemSink, MemSource};
+use nq_journal::{is_in, print};
+use nq_keeper::{Keeper, ListKeeper};
+use nq_script::{Head, Line, Script, parse};
+use nq_world::{NewFault, Stepped, World, begin};
 use std::alloc::Global;
 
 /// How a schedule and a journal end.
@@ -19,8 +29,10 @@ pub(crate) fn tell_again(rt: &HostRuntime, text: &str) -> Option<()> {
     let (journal, counts) = behind.split_once(END)?;
     let schedule = ended(alloc, schedule)?;
     let journal = ended(alloc, journal)?;
+    let stepped = stepped(alloc, &schedule)?;
     let replayed = replayed(alloc, schedule)?;
     println!(rt; "replayed {}", word(replayed.bytes() == journal.as_slice())).ok()?;
+    println!(rt; "stepped {}", word(stepped.bytes() == journal.as_slice())).ok()?;
     let (first, _rest) = counts
         .split_once(" packets ")
         .unwrap_or((counts.trim(), ""));
@@ -44,14 +56,84 @@ fn replayed(alloc: Global, schedule: Vec<u8>) -> Option<MemSink> {
     let words = words_of(alloc, "replay");
     let mut source = MemSource::new(schedule, Vec::new(alloc));
     let mut out = MemSink::new(alloc, MOST_BYTES, Vec::new(alloc)).ok()?;
-    let _played = play(
-        alloc,
-        "plain",
-        &words,
-        &mut source,
-        &mut out,
-        Vec::new(alloc),
-    )
-    .ok()?;
+    let left = Vec::new(alloc);
+    let _played = play(alloc, "plain", &words, &mut source, &mut out, left).ok()?;
+    Some(out)
+}
+
+/// The journal of a world that takes in a schedule event by event; None where the schedule has a line of many events, or is refused.
+fn stepped(alloc: Global, schedule: &[u8]) -> Option<MemSink> {
+    if schedule.len() > MOST_BYTES {
+        return None;
+    }
+    match parse(alloc, schedule) {
+        Ok(script) => match ListKeeper::new(alloc, Vec::new(alloc)) {
+            Ok(keeper) => stepped_over(alloc, &script, keeper),
+            Err(_) => None,
+        },
+        Err(_) => None,
+    }
+}
+
+/// The same over a keeper that keeps nothing yet.
+fn stepped_over<K: Keeper + Drop>(alloc: Global, script: &Script, keeper: K) -> Option<MemSink>
+    requires ready { IsReady script.now }
+    requires empty { K.content keeper ≡ Some empty_kept }
+{
+    let mut world = match begin(alloc, &script.head, keeper) {
+        Ok(world) => world,
+        Err(NewFault::Memory(_keeper)) => return None,
+        Err(NewFault::Failed(_keeper)) => return None,
+    };
+    let stepped = step_all(&mut world, script);
+    let printed = printed(alloc, world.journal());
+    let _keeper = world.into_keeper();
+    stepped?;
+    printed
+}
+
+/// Takes in the events of a schedule one by one.
+fn step_all<K: Keeper>(world: &mut World<K>, script: &Script) -> Option<()>
+    requires hosts { script.now.head.hosts ≡ length world.old.clients }
+    requires longest { script.now.head.longest ≡ world.old.skew.window }
+{
+    for place in 0..script.lines.len() {
+        match script.lines.get(place)? {
+            Line::Events { event, times: 1 } => {
+                if !can_come(&script.head, &event) {
+                    return None;
+                }
+                match world.step(&event) {
+                    Stepped::Done => {}
+                    _ => return None,
+                }
+            }
+            Line::End => {}
+            _ => return None,
+        }
+    }
+    Some(())
+}
+
+/// Whether an event can come in the run of a schedule with this head.
+fn can_come(head: &Head, event: &Event) -> bool
+    ensures { IsTrue result → CanCome head.now.hosts head.now.longest event.now }
+{
+    match event {
+        Event::Call { host, .. } => host.0 < head.hosts,
+        Event::ClientTick(host) => host.0 < head.hosts,
+        Event::Restart(host) => host.0 < head.hosts,
+        Event::Crash { longest } => 5 <= *longest && *longest <= head.longest,
+        Event::Deliver(_) => true,
+        Event::ServerTick => true,
+    }
+}
+
+/// A journal of version 1 as it is printed.
+fn printed(alloc: Global, journal: &Journal) -> Option<MemSink> {
+    let mut out = MemSink::new(alloc, MOST_BYTES, Vec::new(alloc)).ok()?;
+    if is_in(journal, 1) {
+        print(alloc, journal, 1, &mut out);
+    }
     Some(out)
 }

@@ -6,6 +6,7 @@ mod parts;
 mod post;
 mod scenes;
 mod top;
+mod watched;
 
 use std::process::ExitCode;
 

@@ -65,12 +65,13 @@ impl Post {
     }
 }
 
-/// A party's link over the post. It tells nothing of its datagrams, and its first call fails where that is wanted.
+/// A party's link over the post. It tells nothing of its datagrams, and its first call, or its first sending, fails where that is wanted.
 #[derive(Drop)]
 pub(crate) struct PostLink {
     post: Rc<RefCell<Post>>,
     me: Party,
     fails: bool,
+    refuses: bool,
     faults: u64,
     receives: u64,
 }
@@ -82,9 +83,17 @@ impl PostLink {
             post,
             me,
             fails,
+            refuses: false,
             faults: 0,
             receives: 0,
         }
+    }
+
+    /// The link, whose first sending fails.
+    pub(crate) fn refusing(self) -> PostLink {
+        let mut link = self;
+        link.refuses = true;
+        link
     }
 }
 
@@ -114,8 +123,9 @@ impl Link for PostLink {
     ghost receives = { λ link. link.receives };
 
     fn send(&mut self, to: Party, bytes: &[u8]) -> Sent {
-        let fails = self.fails;
+        let fails = self.fails || self.refuses;
         self.fails = false;
+        self.refuses = false;
         if fails || !was_put(&self.post, self.me, to, bytes) {
             self.faults = self.faults.saturating_add(1);
             return Sent::Failed;

@@ -12,11 +12,15 @@
 //! Of a scene that begins with `summed` the SHA-256 of what it prints is told. One that begins with `replayed` has to print a schedule, its
 //! journal and counts. It is told whether `replay` of that schedule prints that journal, and whether a world has that journal that takes in
 //! the schedule event by event; then come the counts, but for packets and losses. In such a scene what is sent arrives, and the clock goes on at each reading.
+//!
+//! In a scene that begins with `watched` a server takes so many turns over an image, and somebody looks on: what he is told is printed. The clock goes on
+//! there too, and the first datagram that is sent is refused.
 
 use crate::again::tell_again;
 use crate::parts::{disk_of, failing, links_of, post_of, words_of};
 use crate::post::{PostLink, StoryClock};
 use crate::top::ran;
+use crate::watched::tell_watched;
 use nq_base::ending::Ending;
 use nq_disk::MemDisk;
 use nq_io::{MemSink, MemSource};
@@ -30,8 +34,8 @@ use std::str;
 /// The most bytes that a scene prints.
 const MOST_PRINTED: usize = 4_194_304;
 
-/// The last reading of the clock in a scene in which what is sent arrives.
-const LAST: u32 = 4_000;
+/// The last reading of a clock that goes on.
+pub(crate) const LAST: u32 = 4_000;
 
 /// What came of a scene: how it ended, and how many datagrams were sent.
 #[derive(Drop)]
@@ -68,6 +72,10 @@ fn tell(rt: &HostRuntime, line: &str, left: Vec<u8>) -> Option<Vec<u8>> {
     let (told, input) = line.split_once(": ").unwrap_or((line, ""));
     println!(rt; "- {told}").ok()?;
     let (scene, said) = told.split_once(' ').unwrap_or((told, ""));
+    if scene.starts_with("watched") {
+        tell_watched(rt, scene, said)?;
+        return Some(left);
+    }
     let words = words_of(alloc, said);
     let mut source = MemSource::new(text_of(alloc, input), failing(alloc, scene, "unread"));
     let mut out = MemSink::new(alloc, MOST_PRINTED, failing(alloc, scene, "unput")).ok()?;

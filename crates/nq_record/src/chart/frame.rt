@@ -17,6 +17,10 @@ pub(crate) fn open(page: &mut Page, chart: &Chart, layout: &Layout) {
         &[width, height, width, height],
     );
     page.put(&[Part::Text(STYLE), Part::Text(HEADS)]);
+    page.fill(
+        "\n<rect class=\"f\" width=\"#\" height=\"#\"/>",
+        &[width, height],
+    );
     // The title, for those who hear the page and for those who see it.
     let title = chart.title.as_str();
     page.put_within("\n<title>", &[], title, "</title>\n");

@@ -2,8 +2,8 @@ use Rattle.nq_bend.proofs.bending.change.Goals as goal
 
 pub loop-number-init : goal.loop-number-init
 loop-number-init g c = record {
-  settings = c.in_ok-drain_behind_flow.ensures.settings;
-  goes = λ count is. c.in_ok-drain_behind_flow.ensures.goes count is;
+  settings = c.in_ok-settle.ensures.settings;
+  goes = λ count is. c.in_ok-settle.ensures.goes count is;
 }
 
 pub loop-number-preserved : goal.loop-number-preserved

@@ -1,8 +1,7 @@
-use Rattle.std.proofs.Common.{refl}
 use Rattle.nq_bend.proofs.bending.repeat.Goals as goal
 
 pub loop-turn-preserved : goal.loop-turn-preserved
 loop-turn-preserved g c = record {
-  settings = c.in_ok-happen.ensures.settings;
-  goes = λ count is. c.in_ok-happen.ensures.beside count refl (c.loop-turn.invariant.goes count is);
+  settings = c.in_ok-come.ensures.settings;
+  goes = λ count is. c.in_ok-come.ensures.goes count (c.loop-turn.invariant.goes count is);
 }
