@@ -3,6 +3,7 @@
 use crate::askers::{Ask, Asker};
 use crate::desk::HostDesk;
 use crate::ledger::{Ledger, Made};
+use crate::listing::Listed;
 use crate::starts::pause;
 use crate::work::{Came, NO_MEMORY, NOBODY, Reply, Work, name_stored, own_name};
 use mio::net::UnixListener;
@@ -50,6 +51,8 @@ pub(crate) struct Hosting {
     aside: Option<Work>,
     ledger: Ledger,
     made: u32,
+    /// How many pages of lists were asked for.
+    listed: u32,
     asked: u64,
     /// Who told it to end, and the number of that ask.
     ender: Option<(usize, u32)>,
@@ -91,6 +94,7 @@ impl Hosting {
             aside: None,
             ledger,
             made: 0,
+            listed: 0,
             asked: 0,
             ender: None,
         })
@@ -230,6 +234,9 @@ impl Hosting {
             if self.work.is_none() && !self.take_up() {
                 return false;
             }
+            if self.is_listing() {
+                return self.list_on();
+            }
             let call = match &self.work {
                 Some(work) => work.asks(),
                 None => continue,
@@ -239,6 +246,63 @@ impl Hosting {
             }
         }
         true
+    }
+
+    /// Whether names are being listed.
+    fn is_listing(&mut self) -> bool {
+        match &mut self.work {
+            Some(work) => work.listing().is_some(),
+            None => false,
+        }
+    }
+
+    /// Goes on with the list under way: takes the page that came, and asks for the next one where that is due. Whether it is over.
+    fn list_on(&mut self) -> bool {
+        if let Some(page) = self.desk.take_listed() {
+            let listed = self.take_page(&page);
+            let came = match &mut self.work {
+                Some(work) => work.listed(listed),
+                None => Came::On,
+            };
+            self.came(came);
+        }
+        if self.ask_page().is_err() {
+            let came = match &self.work {
+                Some(work) => work.lacks(),
+                None => Came::On,
+            };
+            self.came(came);
+        }
+        self.work.is_none()
+    }
+
+    /// Takes a page for the list under way.
+    fn take_page(&mut self, page: &[u8]) -> Listed {
+        let who = self.desk.who();
+        let Some(work) = &mut self.work else {
+            return Listed::Goes;
+        };
+        match work.listing() {
+            Some(listing) => listing.take(self.alloc, who, page),
+            None => Listed::Goes,
+        }
+    }
+
+    /// Asks for the next page of the list under way, where that is due.
+    fn ask_page(&mut self) -> Result<(), NoMemory> {
+        let (who, now) = (self.desk.who(), self.desk.time());
+        let Some(work) = &mut self.work else {
+            return Ok(());
+        };
+        let Some(listing) = work.listing() else {
+            return Ok(());
+        };
+        if listing.is_due(now) {
+            self.listed = self.listed.wrapping_add(1);
+            let request = listing.ask(self.alloc, who, self.listed, now)?;
+            self.desk.send(&request);
+        }
+        Ok(())
     }
 
     /// Makes a call. Whether it has its answer.
@@ -440,6 +504,7 @@ impl Hosting {
             aside: _aside,
             ledger: _ledger,
             made: _,
+            listed: _,
             asked: _,
             ender: _,
         } = self;

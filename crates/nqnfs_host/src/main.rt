@@ -6,6 +6,7 @@ mod desk;
 mod hosting;
 mod ledger;
 mod link;
+mod listing;
 mod starts;
 mod work;
 
@@ -91,7 +92,7 @@ fn be_host(rt: &HostRuntime, host: Host) -> Ending {
     let Ok(folder) = format!(in rt.alloc(); "nqnfs-{number}") else {
         return Ending::Memory;
     };
-    let link = match HostLink::bind(rt, host) {
+    let link = match HostLink::bind(rt.alloc(), rt, host) {
         Ok(link) => link,
         Err(error) => return told_port(rt, number, &error),
     };

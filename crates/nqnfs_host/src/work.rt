@@ -2,9 +2,11 @@
 
 use crate::askers::Ask;
 use crate::ledger::Made;
+use crate::listing::{Listed, Listing};
 use nq_asks::Kind;
 use nq_base::{Answer, Call, FileId, Name, NoMemory, Who};
 use nq_command::prompt::answer_text;
+use nq_directory::Prefix;
 use nq_script::parse_call;
 use nq_script::words::{Words, is};
 use nq_whole::{Getting, Got, MOST_BYTES, Said, Storing, Tidying, Told};
@@ -34,6 +36,8 @@ enum Task {
     Get(Getting),
     /// Tidying up behind a store that was cut off.
     Tidy(Tidying),
+    /// Listing names. It makes no call.
+    List(Listing),
 }
 
 /// What a task says of an answer.
@@ -47,6 +51,8 @@ enum Stepped {
     Got(Got),
     /// Tidying says this.
     Tidied(Told),
+    /// A list makes no call, so this is no answer of its own.
+    Listing,
 }
 
 /// What came of a step.
@@ -119,6 +125,10 @@ fn task_of(alloc: Global, text: &[u8]) -> Option<Task> {
         let name = words.name()?;
         return Some(Task::Get(Getting::new(alloc, name)));
     }
+    if is(verb, b"ls") {
+        let prefix = Prefix::new(words.next().unwrap_or(b""))?;
+        return Some(Task::List(Listing::new(alloc, prefix)));
+    }
     match parse_call(alloc, text, 2) {
         Ok(call) => Some(Task::Call(call)),
         Err(_) => None,
@@ -181,6 +191,24 @@ impl Work {
             Task::Store(storing) => storing.asks(self.alloc),
             Task::Get(getting) => Ok(getting.asks()),
             Task::Tidy(tidying) => Ok(tidying.asks()),
+            Task::List(_) => Err(NoMemory::Memory),
+        }
+    }
+
+    /// The list under way, if this is one.
+    pub(crate) fn listing(&mut self) -> Option<&mut Listing> {
+        match &mut self.task {
+            Task::List(listing) => Some(listing),
+            _ => None,
+        }
+    }
+
+    /// What came of a page of the list.
+    pub(crate) fn listed(&mut self, listed: Listed) -> Came {
+        match listed {
+            Listed::Goes => Came::On,
+            Listed::Whole => self.gives(),
+            Listed::Memory => self.lacks(),
         }
     }
 
@@ -245,6 +273,7 @@ impl Work {
             Stepped::Stored(said) => self.stored(said, answer),
             Stepped::Got(got) => self.got(got, answer),
             Stepped::Tidied(told) => self.tidied(told),
+            Stepped::Listing => Came::On,
         }
     }
 
@@ -255,6 +284,7 @@ impl Work {
             Task::Store(storing) => Stepped::Stored(storing.take(answer)),
             Task::Get(getting) => Stepped::Got(getting.take(answer)),
             Task::Tidy(tidying) => Stepped::Tidied(tidying.take(answer)),
+            Task::List(_) => Stepped::Listing,
         }
     }
 
@@ -340,6 +370,7 @@ impl Work {
         let nothing = Task::Call(Call::Sync { file: FileId(0) });
         let bytes = match mem::replace(&mut self.task, nothing) {
             Task::Get(getting) => getting.into_bytes(),
+            Task::List(listing) => listing.into_lines(),
             _ => Vec::new(self.alloc),
         };
         let size = bytes.len();
