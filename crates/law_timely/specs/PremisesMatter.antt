@@ -1,9 +1,10 @@
--- Without one of its premises the law that nobody is waited for is false: while the server recovers, of a dead host, out of skew, and where packets
--- need longer than a tick, a `lookup` waits beyond its time.
+-- Without one of its premises the law that nobody is waited for is false: while the server recovers, of a dead host, out of skew, where packets
+-- need longer than a tick, and where the server crashes or the host starts again, a `lookup` waits beyond its time.
 use Rattle.std.specs.Prelude.{◌≡◌, ℕ, ◌+◌, ◌&&◌, Bool, true, false, nat_lt, List, [], ◌∷◌, ◌++◌, slice_get, zero, suc}
 use Rattle.nq_base.specs.declared.Call.{Call}
 use Rattle.nq_base.specs.declared.Event.{Event}
-use Rattle.nq_model.specs.Lines.{Play}
+use Rattle.nq_model.specs.JournalTest.{is_open}
+use Rattle.nq_model.specs.Lines.{Play, play}
 use Rattle.nq_model.specs.Skew.{is_within_skew}
 use Rattle.nq_model.specs.World.{Head}
 use Rattle.law_rounds.specs.DeliveryEnds.{calmed}
@@ -62,6 +63,21 @@ put_off_again =
 abbrev pub call_before_end : List Event
 call_before_end = both_tick 13 (looks_up ∷ Event.Deliver 0 ∷ Event.Deliver 1 ∷ Event.ServerTick ∷ [])
 
+-- a call and its reply pass, and the call is put off again and again
+abbrev pub put_off_from_now : List Event
+put_off_from_now = Event.Deliver 0 ∷ Event.Deliver 1 ∷ put_off_again
+
+-- the server crashes while a call is open, and the host starts again while one is
+abbrev pub crashed_then : Play
+crashed_then = play (play_events call_soon fresh_start) (Event.Crash 6)
+
+abbrev pub restarted_then : Play
+restarted_then = play (play_events call_soon fresh_start) (Event.Restart 0)
+
+-- all that is under way arrives, and both clocks tick five times
+abbrev pub goes_on_after : List Event
+goes_on_after = Event.Deliver 0 ∷ Event.Deliver 1 ∷ Event.Deliver 2 ∷ Event.Deliver 3 ∷ both_tick 5 []
+
 -- each time one premise is missing, and the call waits
 pub record PremisesMatter : Type 0 where
   pub recovering : waits_beyond crashed_start call_put_off put_off_again ≡ true
@@ -74,3 +90,9 @@ pub record PremisesMatter : Type 0 where
   pub out_of_skew_timely : is_timely [] crashed_start (call_before_end ++ server_alone 5) ≡ true
   pub serves_then : recovers (play_events call_before_end crashed_start).world.server.phase ≡ false
   pub skewed : is_within_skew 1 6 (play_events (call_before_end ++ server_alone 5) crashed_start).events ≡ false
+  pub served_before : recovers (play_events call_soon fresh_start).world.server.phase ≡ false
+  pub crashing : waits_beyond fresh_start call_soon (Event.Crash 6 ∷ put_off_from_now) ≡ true
+  pub crashing_timely : is_timely [] crashed_then put_off_from_now ≡ true
+  pub restarting : is_open (play_events goes_on_after restarted_then).world.journal (record { host = 0; inc = 1 }) 1 ≡ true
+  pub restarting_late : nat_lt (restarted_then.world.server.now + longest_wait) (play_events goes_on_after restarted_then).world.server.now ≡ true
+  pub restarting_timely : is_timely [] restarted_then goes_on_after ≡ true

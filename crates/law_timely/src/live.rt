@@ -29,7 +29,8 @@ pub fn timely_runs_are_met()
     ensures { TimelyIsMet }
 {}
 
-/// While the server recovers, of a dead host, out of skew, and where packets need longer than a tick, a `lookup` waits beyond that time.
+/// While the server recovers, of a dead host, out of skew, where packets need longer than a tick, and where the server crashes or the host starts
+/// again, a `lookup` waits beyond that time.
 pub fn premises_matter()
     ensures { PremisesMatter }
 {}
