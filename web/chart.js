@@ -3,7 +3,7 @@
 // It is drawn in strips of some rows, so that a browser lays out only those that are seen. What crosses a strip's edge is drawn in both.
 
 const STRIP = 30;
-const LAYERS = ["band", "bar", "line", "arrow", "dot", "text", "tip"];
+const LAYERS = ["band", "rule", "bar", "line", "arrow", "dot", "text", "tip"];
 const escaped = (text) => text.replace(/[&<>"]/g, (sign) => `&#${sign.charCodeAt(0)};`);
 
 // Draws a chart into an element, and its names into another one.
@@ -35,6 +35,7 @@ function strips(rows, pieces, { wide, high }) {
     const end = first + STRIP < rows.length ? rows[first + STRIP].top : high;
     const own = Object.fromEntries(LAYERS.map((layer) => [layer, ""]));
     for (const { layer, from, to, text } of pieces) if (from < end && to > top) own[layer] += text;
+    own.rule = `<path class="rule" d="${own.rule}"/>`;
     const text = LAYERS.map((layer) => own[layer]).join("");
     const size = `width="${wide}" height="${end - top}" style="contain-intrinsic-size:${wide}px ${end - top}px"`;
     drawn.push(`<svg class="strip" ${size} viewBox="0 ${top} ${wide} ${end - top}">${text}</svg>`);
@@ -59,7 +60,7 @@ function putRow(put, row, number, layout) {
   const piece = (layer, text) => put(layer, top, top + high, text);
   const label = labelOf(row);
   piece("band", `<rect class="band" data-row="${number}" x="0" y="${top}" width="${layout.wide}" height="${high}"/>`);
-  piece("band", `<path class="rule" d="M0 ${top}H${layout.wide}"/>`);
+  piece("rule", `M0 ${top}H${layout.wide}`);
   piece("text", `<text class="dim" data-row="${number}" x="6" y="${top + 17}">${label}</text>`);
   const word = row.kind === "resends" ? "unfold" : row.folds === undefined ? "" : "fold";
   if (word) piece("text", `<text class="fold" data-fold="${row.first}" x="6" y="${top + 32}">${word}</text>`);
