@@ -11,7 +11,7 @@ use Rattle.nq_base.specs.declared.Party.{Party}
 use Rattle.nq_keeper.specs.Keeping.{LeavesOne, Reads}
 use Rattle.nq_keeper.specs.declared.KeepFault.{KeepFault}
 use Rattle.nq_keeper.specs.declared.KeepFault.TheVariants as keep
-use Rattle.nq_serving.specs.declared.node.turns.Halt.{Halt}
+use Rattle.nq_base.specs.declared.ending.halt.Halt.{Halt}
 use Rattle.nq_serving.proofs.ServerTurns.{letter_not_link}
 use Rattle.nq_server.specs.Holding.{IsTaken}
 use Rattle.nq_server.specs.Stepping.{LeavesStep}
@@ -121,6 +121,7 @@ module _ {K : Type 0} (content : K → Option Kept) (faults : K → ℕ) (extens
   came_leaves (Err Halt.Keep) letter link link' at after from left = record { receives = (Some letter, from); left = left }
   came_leaves (Err Halt.Memory) letter link link' at after from left = record { receives = (Some letter, from); left = left }
   came_leaves (Err Halt.Spent) letter link link' at after from left = record { receives = (Some letter, from); left = left }
+  came_leaves (Err Halt.NoAnswer) letter link link' at after from left = record { receives = (Some letter, from); left = left }
 
   -- the turn stopped at its tick
   pub stopped_leaves : (why : Halt) (reading : ℕ) (clock clock' : ClockTold) (link : LinkTold) (at after : Moment K)

@@ -3,14 +3,13 @@
 use Rattle.std.specs.Option.{ForSome}
 use Rattle.std.specs.Prelude.{◌≡◌, ◌⊎◌, ℕ, Bool, Option, Some, None, Result, Ok, Err, nat_lt}
 use Rattle.nq_base.specs.Entries.{EntryList}
+use Rattle.nq_base.specs.declared.ending.halt.Halt.{Halt}
 use Rattle.nq_keeper.specs.Keeping.{LeavesOne}
 use Rattle.nq_model.specs.Kept.{Kept}
 use Rattle.nq_clock.specs.Clocks.{ClockTold}
 use Rattle.nq_link.specs.Links.{Letter, LinkTold}
 use Rattle.nq_serving.specs.Extending.{Extension}
 use Rattle.nq_serving.specs.ServerTurn.{Given, GoesOn, Moment, Receives, ServesTurn, Stages, given_of, step_on, tick_due}
-use Rattle.nq_serving.specs.declared.node.turns.Halt.{Halt}
-use Rattle.nq_serving.specs.declared.node.turns.Turn.{Turn}
 use Rattle.nq_server.specs.Holding.{Holding}
 
 -- this is found as the step of what a server was given makes it of this kept state
@@ -31,6 +30,7 @@ came_in content faults extension (Err Halt.Link) link link' at after receives = 
 came_in content faults extension (Err Halt.Keep) link link' at after receives = receives.0
 came_in content faults extension (Err Halt.Memory) link link' at after receives = receives.0
 came_in content faults extension (Err Halt.Spent) link link' at after receives = receives.0
+came_in content faults extension (Err Halt.NoAnswer) link link' at after receives = receives.0
 
 -- this is found as before the datagram that came, or as after it
 abbrev pub IsLeftReceiving : {K : Type 0} → (content : K → Option Kept) → (faults : K → ℕ) → (extension : Extension) → (received : Result Bool Halt) → (link link' : LinkTold)
@@ -54,11 +54,11 @@ IsLeftInStages content faults extension ended clock clock' link link' at after s
     ⊎ IsLeftBehind content faults extension stages.goes ended (nat_lt at.server.beside.time stages.reading) link link' stages.between after stages.rest found
 
 -- the same of a turn
-abbrev pub IsLeftInTurn : {K : Type 0} → (content : K → Option Kept) → (faults : K → ℕ) → (extension : Extension) → (turn : Turn) → (next next' : ℕ)
-    → (clock clock' : ClockTold) → (link link' : LinkTold) → (server server' : Holding K) → (log log' : EntryList) → ServesTurn content faults extension turn
+abbrev pub IsLeftInTurn : {K : Type 0} → (content : K → Option Kept) → (faults : K → ℕ) → (extension : Extension) → (ended : Result Bool Halt) → (next next' : ℕ)
+    → (clock clock' : ClockTold) → (link link' : LinkTold) → (server server' : Holding K) → (log log' : EntryList) → ServesTurn content faults extension ended
     next next' clock clock' link link' server server' log log' → (found : Option Kept) → Type 0
-IsLeftInTurn content faults extension turn next next' clock clock' link link' server server' log log' taken found =
-    IsLeftInStages content faults extension taken.ended clock clock' link link' (record { server = server; out = taken.out; log = log })
+IsLeftInTurn content faults extension ended next next' clock clock' link link' server server' log log' taken found =
+    IsLeftInStages content faults extension ended clock clock' link link' (record { server = server; out = taken.out; log = log })
     (record { server = server'; out = taken.out'; log = log' }) taken.stages found
 
 -- Whatever a stop between any earlier moment and the second of these leaves, a stop before the first leaves it, or this holds of it. It is
@@ -92,10 +92,10 @@ pub record LeavesStages {K : Type 0} (content : K → Option Kept) (faults : K �
   pub left : LeavesOnly content follows leaves at.server.keeper after.server.keeper (IsLeftInStages content faults extension ended clock clock' link link' at
       after stages)
 
--- A turn with this answer. Whatever a stop within it leaves is kept as before it, as after its tick, or as after its datagram; a step that
+-- A turn that ended so. Whatever a stop within it leaves is kept as before it, as after its tick, or as after its datagram; a step that
 -- failed may have been kept
 pub record LeavesTurn {K : Type 0} (content : K → Option Kept) (faults : K → ℕ) (extension : Extension) (follows : K → K → Type 0) (leaves : K → K → Option Kept → Type 0)
-    (turn : Turn) (next next' : ℕ) (clock clock' : ClockTold) (link link' : LinkTold) (server server' : Holding K) (log log' : EntryList) : Type 0 where
-  pub taken : ServesTurn content faults extension turn next next' clock clock' link link' server server' log log'
-  pub left : LeavesOnly content follows leaves server.keeper server'.keeper (IsLeftInTurn content faults extension turn next next' clock clock' link link'
+    (ended : Result Bool Halt) (next next' : ℕ) (clock clock' : ClockTold) (link link' : LinkTold) (server server' : Holding K) (log log' : EntryList) : Type 0 where
+  pub taken : ServesTurn content faults extension ended next next' clock clock' link link' server server' log log'
+  pub left : LeavesOnly content follows leaves server.keeper server'.keeper (IsLeftInTurn content faults extension ended next next' clock clock' link link'
       server server' log log' taken)
