@@ -13,7 +13,7 @@ use nq_base::{Host, Journal, Party, Ticks};
 use nq_clock::{Clock, StdClock};
 use nq_disk::{Disk, FileDisk};
 use nq_keeper::{KeepFault, Keeper};
-use nq_link::{Came, Link, UdpLink};
+use nq_link::{Came, Link};
 use nq_lister::Lister;
 use nq_server::Server;
 use nq_service::mount::{Greeter, Survey, serve_image};
@@ -21,6 +21,7 @@ use nq_serving::Extension;
 use nq_serving::daemon::{MOST_TURNS, Watcher};
 use nq_serving::traffic::CountedLink;
 use nq_store::OpenFault;
+use nq_udp::UdpLink;
 use nq_wire::Outbox;
 use std::alloc::Global;
 

@@ -4,12 +4,12 @@ ghost use Rattle.std.specs.Prelude.{◌≡◌, ◌↔◌, ◌<◌, ◌≤◌, �
 ghost use Rattle.nq_base.specs.declared.Party.{Party};
 ghost use Rattle.nq_io.specs.Faults.{Rose, count_up};
 ghost use Rattle.nq_link.specs.Link.{Comes, CountsReceive, CountsSend, Sends};
-ghost use Rattle.nq_link.specs.UdpLink.{CameFrom, ComesFrom, HasAddress, IsAt, IsAtPort, IsFromParty, IsLocal, IsOf, port_of};
+ghost use Rattle.nq_udp.specs.UdpLink.{CameFrom, ComesFrom, HasAddress, IsAt, IsAtPort, IsFromParty, IsLocal, IsOf, port_of};
 ghost use Rattle.nq_link.specs.declared.link.Sent.{Sent};
 
 use crate::socket::{PatientSocket, is_silence};
-use crate::{Came, Link, Party, Sent};
 use nq_base::Host;
+use nq_link::{Came, Link, Party, Sent};
 use std::io;
 use std::io::ErrorKind;
 use std::marker::Model;
@@ -47,7 +47,7 @@ pub struct UdpLink<R> {
 
 impl<R> Model for UdpLink<R> {
     ghost use Rattle.std.specs.Prelude.{option_and_then};
-    ghost use Rattle.nq_link.specs.UdpLink.{CountedSocket};
+    ghost use Rattle.nq_udp.specs.UdpLink.{CountedSocket};
 
     ghost Value = { CountedSocket };
 
