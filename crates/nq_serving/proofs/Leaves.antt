@@ -1,11 +1,13 @@
 -- What a stop within the stages of a server's turn leaves.
-use Rattle.std.proofs.Common.{◌≡◌, if◌then◌else◌, ◌⊎◌, ◌∙◌, ℕ, Bool, true, false, List, Option, Some, None, Result, Ok, Err, nat_lt, inl, inr, refl, sym, ap, subst}
+use Rattle.std.proofs.Common.{◌≡◌, if◌then◌else◌, ◌⊎◌, ◌∙◌, ℕ, Bool, true, false, List, Option, Some, None, Result, Ok, Err, nat_lt, inl, inr, refl}
+use Rattle.std.proofs.Common.{sym, ap, subst}
 use Rattle.nq_model.specs.Kept.{Kept}
 use Rattle.nq_clock.specs.Clocks.{ClockTold, ReadsOnce}
 use Rattle.nq_serving.specs.Leaving.{IsLeftAt, IsLeftBehind, LeavesOnly, LeavesReceiving, LeavesBehind, LeavesStages}
 use Rattle.nq_link.specs.Links.{Letter, LinkTold}
 use Rattle.nq_serving.specs.Extending.{Extension}
-use Rattle.nq_serving.specs.ServerTurn.{Given, ticks, Moment, Receives, Takes, TakesCame, TakesFrom, TakesLetter, TakesOf, answered, datagram, given_by, goes_on}
+use Rattle.nq_serving.specs.ServerTurn.{Given, ticks, Moment, Receives, Takes, TakesCame, TakesFrom, TakesLetter, TakesOf, answered, datagram}
+use Rattle.nq_serving.specs.ServerTurn.{given_by, goes_on}
 use Rattle.nq_serving.specs.ServerTurn.{step_on, taken, tick_due}
 use Rattle.nq_base.specs.declared.Party.{Party}
 use Rattle.nq_keeper.specs.Keeping.{LeavesOne, Reads}

@@ -1,5 +1,6 @@
 -- Which counts a turn of a server raises, and how much the server takes in in it.
-use Rattle.std.proofs.Common.{◌≡◌, ◌+◌, ◌≤◌, ◌⊎◌, inl, inr, ◌||◌, nat_lt, ℕ, Bool, true, false, List, Option, Some, None, Result, Ok, Err, refl, sym, subst, arith}
+use Rattle.std.proofs.Common.{◌≡◌, ◌+◌, ◌≤◌, ◌⊎◌, inl, inr, ◌||◌, nat_lt, ℕ, Bool, true, false, List, Option, Some, None, Result, Ok, Err, refl, sym}
+use Rattle.std.proofs.Common.{subst, arith}
 use Rattle.nq_base.specs.Entries.{EntryList}
 use Rattle.nq_link.specs.Link.{Letters}
 use Rattle.nq_model.specs.Kept.{Kept}
@@ -285,7 +286,8 @@ module _ {K : Type 0} (content : K → Option Kept) (faults : K → ℕ) (extens
       ]
 
   -- the count of the keeper's faults rises where a turn stops for the keeper, and stays otherwise
-  pub turn_keep : (ended : Result Bool Halt) (next next' : ℕ) (clock clock' : ClockTold) (link link' : LinkTold) (server server' : Holding K) (log log' : EntryList)
+  pub turn_keep : (ended : Result Bool Halt) (next next' : ℕ) (clock clock' : ClockTold) (link link' : LinkTold) (server server' : Holding K)
+      (log log' : EntryList)
       → ServesTurn content faults extension ended next next' clock clock' link link' server server' log log'
       → CountsKeep ended (faults server.keeper) (faults server'.keeper)
   turn_keep ended next next' clock clock' link link' server server' log log' t =
@@ -293,14 +295,16 @@ module _ {K : Type 0} (content : K → Option Kept) (faults : K → ℕ) (extens
       t.stages
 
   -- the count of the link's faults rises where a turn stops for the link, and stays otherwise
-  pub turn_link : (ended : Result Bool Halt) (next next' : ℕ) (clock clock' : ClockTold) (link link' : LinkTold) (server server' : Holding K) (log log' : EntryList)
+  pub turn_link : (ended : Result Bool Halt) (next next' : ℕ) (clock clock' : ClockTold) (link link' : LinkTold) (server server' : Holding K)
+      (log log' : EntryList)
       → ServesTurn content faults extension ended next next' clock clock' link link' server server' log log' → CountsLink ended link.faults link'.faults
   turn_link ended next next' clock clock' link link' server server' log log' t =
       stages-link ended clock clock' link link' (record { server = server; out = t.out; log = log }) (record { server = server'; out = t.out'; log = log' })
       t.stages
 
   -- a turn takes in two at most: a tick and a datagram
-  pub turn_few : (ended : Result Bool Halt) (next next' : ℕ) (clock clock' : ClockTold) (link link' : LinkTold) (server server' : Holding K) (log log' : EntryList)
+  pub turn_few : (ended : Result Bool Halt) (next next' : ℕ) (clock clock' : ClockTold) (link link' : LinkTold) (server server' : Holding K)
+      (log log' : EntryList)
       → ServesTurn content faults extension ended next next' clock clock' link link' server server' log log' → server'.taken ≤ server.taken + 2
   turn_few ended next next' clock clock' link link' server server' log log' t =
       stages-few ended clock clock' link link' (record { server = server; out = t.out; log = log }) (record { server = server'; out = t.out'; log = log' })

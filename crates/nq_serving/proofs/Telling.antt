@@ -20,7 +20,8 @@ by-link policy Halt.NoAnswer ended so is = let no = so ∙ ap (behind_turn polic
 
 module _ {K : Type 0} (content : K → Option Kept) (faults : K → ℕ) (policy : LinkPolicy) (extension : Extension) where
   -- nothing was taken in where the link failed
-  missed : (why : Halt) (link link' : LinkTold) (at after : Moment K) → why ≡ Halt.Link → Receives content faults extension (Err why) link link' at after → after ≡ at
+  missed : (why : Halt) (link link' : LinkTold) (at after : Moment K) → why ≡ Halt.Link → Receives content faults extension (Err why) link link' at after
+      → after ≡ at
   missed Halt.Link link link' at after is r = r.same
   missed Halt.Keep link link' at after is r = absurd (cc)
   missed Halt.Memory link link' at after is r = absurd (cc)
@@ -50,5 +51,6 @@ module _ {K : Type 0} (content : K → Option Kept) (faults : K → ℕ) (policy
       → Tells (content after.server.keeper)
   goes_tells at after t kept told =
       let s = t.took.stages in
-      behind-tells s.goes t.turn (nat_lt at.server.beside.time s.reading) at.link after.link (record { server = at.server; out = t.took.out; log = t.log }) s.between
+      behind-tells s.goes t.turn (nat_lt at.server.beside.time s.reading) at.link after.link (record { server = at.server; out = t.took.out; log = t.log })
+          s.between
       (record { server = after.server; out = t.took.out'; log = t.entered }) (tick_due at.server.beside.time s.reading) t.so s.rest s.ticks kept told

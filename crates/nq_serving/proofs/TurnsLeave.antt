@@ -22,17 +22,21 @@ use Rattle.nq_server.specs.Holding.{Boots, Holding, keeper_in}
 use Rattle.nq_server.specs.declared.server.BootFault.{BootFault}
 
 -- so many turns behind which others went on, what a stop within them leaves, and that the keeper tells after them what it keeps
-pub record GoneOn {K : Type 0} (content : K → Option Kept) (faults : K → ℕ) (policy : LinkPolicy) (extension : Extension) (follows : K → K → Type 0) (leaves : K → K → Option Kept
+pub record GoneOn {K : Type 0} (content : K → Option Kept) (faults : K → ℕ) (policy : LinkPolicy) (extension : Extension) (follows : K → K → Type 0)
+    (leaves : K → K → Option Kept
     → Type 0) (count : ℕ) (at after : Standing K) : Type 0 where
   pub goes : Goes content faults policy extension count at after
   pub only : LeavesOnly content follows leaves at.server.keeper after.server.keeper (IsLeftInGoes content faults policy extension count at after goes)
-  pub order : ForSome (content at.server.keeper) (λ kept. AreInOrder content faults policy extension follows leaves after.server.keeper (λ found. ⊥) count at after goes)
+  pub order : ForSome (content at.server.keeper) (λ kept. AreInOrder content faults policy extension follows leaves after.server.keeper
+      (λ found. ⊥) count at after goes)
   pub tells : ForSome (content at.server.keeper) (λ kept. Tells (content after.server.keeper))
   pub settled : IsSettled content leaves after.server.keeper
 
-module _ {K : Type 0} (content : K → Option Kept) (faults : K → ℕ) (policy : LinkPolicy) (extension : Extension) (follows : K → K → Type 0) (leaves : K → K → Option Kept → Type 0) where
+module _ {K : Type 0} (content : K → Option Kept) (faults : K → ℕ) (policy : LinkPolicy) (extension : Extension) (follows : K → K → Type 0) (leaves : K → K
+    → Option Kept → Type 0) where
   -- one turn
-  pub taking : (turn : Result Bool Halt) (ended : Result Unit Halt) (log entered : EntryList) (at after : Standing K) → ended ≡ behind_turn policy turn → log.entries ≡ []
+  pub taking : (turn : Result Bool Halt) (ended : Result Unit Halt) (log entered : EntryList) (at after : Standing K) → ended ≡ behind_turn policy turn
+      → log.entries ≡ []
       → LeavesTurn content faults extension follows leaves turn at.next after.next at.clock after.clock at.link after.link at.server after.server log entered
       → IsSettled content leaves after.server.keeper → LeavesTaking content faults policy extension follows leaves ended at after
   taking turn ended log entered at after so silent t settled = record {
@@ -120,18 +124,22 @@ module _ {K : Type 0} (content : K → Option Kept) (faults : K → ℕ) (policy
   ran_none longest turns time keeper ended left clock link why result is boots same stops halts is_left settled =
       let b = subst (λ r. Boots longest time r (content keeper) (content (keeper_in r)) (faults keeper) (faults (keeper_in r))) is boots in
       subst (λ e. LeavesRuns content faults policy extension follows leaves longest turns time keeper e left clock clock link link) (sym halts)
-      (subst (λ k. LeavesRuns content faults policy extension follows leaves longest turns time keeper (Err (halt_of why)) k clock clock link link) (sym is_left)
+      (subst (λ k. LeavesRuns content faults policy extension follows leaves longest turns time keeper (Err (halt_of why)) k clock clock link link)
+          (sym is_left)
       (not-booted longest turns time keeper (halt_of why) (keeper_in (Err why)) clock link (none content faults longest time keeper why b)
       (subst (λ r. follows keeper (keeper_in r)) is same)
       (subst (λ r. LeavesThen (λ kept. booted kept longest) (content keeper) (leaves keeper (keeper_in r))) is stops)
       (subst (λ k. IsSettled content leaves k) is_left settled)))
 
-module _ {K : Type 0} (content : K → Option Kept) (faults : K → ℕ) (policy : LinkPolicy) (extension : Extension) (follows : K → K → Type 0) (leaves : K → K → Option Kept → Type 0)
+module _ {K : Type 0} (content : K → Option Kept) (faults : K → ℕ) (policy : LinkPolicy) (extension : Extension) (follows : K → K → Type 0) (leaves : K → K
+    → Option Kept → Type 0)
     (itself : (keeper : K) → follows keeper keeper)
     (on : (first second third : K) → follows first second → follows second third → follows first third) where
-  all-further : (count : ℕ) (at after : Standing K) (goes : Goes content faults policy extension count at after) (last next : K) (Later New Then : Option Kept → Type 0)
+  all-further : (count : ℕ) (at after : Standing K) (goes : Goes content faults policy extension count at after) (last next : K)
+      (Later New Then : Option Kept → Type 0)
       → follows last next → ((first : K) (found : Option Kept) → follows first last → leaves first next found → leaves first last found ⊎ New found)
-      → ((found : Option Kept) → New found ⊎ Later found → Then found) → AreInOrder content faults policy extension follows leaves last Later count at after goes
+      → ((found : Option Kept) → New found ⊎ Later found → Then found) → AreInOrder content faults policy extension follows leaves last Later count at after
+          goes
       → AreInOrder content faults policy extension follows leaves next Then count at after goes
   all-further zero at after goes last next Later New Then same new or m =
       further content follows leaves on after.server.keeper last next Later New Then same new or m
@@ -158,8 +166,10 @@ module _ {K : Type 0} (content : K → Option Kept) (faults : K → ℕ) (policy
         λ kept told.
         let tells = g.tells kept told in (
           record { settled = t.settled; same = itself after.server.keeper; later = λ first found before l. inl l },
-          all-further count at middle g.goes middle.server.keeper after.server.keeper (λ found. ⊥) (IsLeftTaking content faults policy extension (Ok tt) middle after t.taken)
-              (λ found. IsLeftTaking content faults policy extension (Ok tt) middle after t.taken found ⊎ ⊥) next (t.only tells.0 tells.1) (λ found or. or) (g.order kept told),
+          all-further count at middle g.goes middle.server.keeper after.server.keeper (λ found. ⊥) (IsLeftTaking content faults policy extension
+              (Ok tt) middle after t.taken)
+              (λ found. IsLeftTaking content faults policy extension (Ok tt) middle after t.taken found ⊎ ⊥) next (t.only tells.0 tells.1) (λ found or. or)
+                  (g.order kept told),
         );
     tells = λ kept told. let tells = g.tells kept told in goes_tells content faults policy extension middle after t.taken tells.0 tells.1;
     settled = t.settled;
@@ -167,7 +177,8 @@ module _ {K : Type 0} (content : K → Option Kept) (faults : K → ℕ) (policy
 
   pub gone_stopped : (count turns : ℕ) (why : Halt) (at middle after : Standing K) → count < turns → follows at.server.keeper middle.server.keeper
       → follows middle.server.keeper after.server.keeper
-      → GoneOn content faults policy extension follows leaves count at middle → LeavesTaking content faults policy extension follows leaves (Err why) middle after
+      → GoneOn content faults policy extension follows leaves count at middle → LeavesTaking content faults policy extension follows leaves
+          (Err why) middle after
       → LeavesTurns content faults policy extension follows leaves turns (Err why) at after
   gone_stopped count turns why at middle after fewer same next g t = record {
     taken = record { count = count; fewer = fewer; middle = middle; before = g.goes; last = t.taken };
@@ -180,7 +191,8 @@ module _ {K : Type 0} (content : K → Option Kept) (faults : K → ℕ) (policy
     order =
         λ kept told.
         let tells = g.tells kept told in
-        all-further count at middle g.goes middle.server.keeper after.server.keeper (λ found. ⊥) (IsLeftTaking content faults policy extension (Err why) middle after t.taken)
+        all-further count at middle g.goes middle.server.keeper after.server.keeper (λ found. ⊥) (IsLeftTaking content faults policy extension
+            (Err why) middle after t.taken)
         (IsLeftTaking content faults policy extension (Err why) middle after t.taken) next (t.only tells.0 tells.1)
         (gone (IsLeftTaking content faults policy extension (Err why) middle after t.taken)) (g.order kept told);
     settled = t.settled;

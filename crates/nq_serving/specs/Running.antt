@@ -59,7 +59,8 @@ pub record RanNone {K : Type 0} (content : K → Option Kept) (faults : K → �
 
 -- Turns of this server over this link, with datagrams that are numbered from 0; they ended so. The server has its keeper still, after the calls
 -- that the turns made of it, and this is the keeper that is left.
-pub record Ran {K : Type 0} (content : K → Option Kept) (faults : K → ℕ) (policy : LinkPolicy) (extension : Extension) (follows : K → K → Type 0) (turns : ℕ) (server : Holding K)
+pub record Ran {K : Type 0} (content : K → Option Kept) (faults : K → ℕ) (policy : LinkPolicy) (extension : Extension) (follows : K → K → Type 0)
+    (turns : ℕ) (server : Holding K)
     (ended : Result Unit Halt) (left : K) (clock clock' : ClockTold) (link link' : LinkTold) : Type 0 where
   pub last : Standing K
   pub taken : TakesTurns content faults policy extension turns ended (standing server 0 clock link) last
@@ -69,14 +70,16 @@ pub record Ran {K : Type 0} (content : K → Option Kept) (faults : K → ℕ) (
   pub links : link' ≡ last.link
 
 -- a server booted over this keeper at this time, and turns of it ended so
-pub record RanBooted {K : Type 0} (content : K → Option Kept) (faults : K → ℕ) (policy : LinkPolicy) (extension : Extension) (follows : K → K → Type 0) (longest turns time : ℕ) (keeper : K)
+pub record RanBooted {K : Type 0} (content : K → Option Kept) (faults : K → ℕ) (policy : LinkPolicy) (extension : Extension) (follows : K → K → Type 0)
+    (longest turns time : ℕ) (keeper : K)
     (ended : Result Unit Halt) (left : K) (clock clock' : ClockTold) (link link' : LinkTold) : Type 0 where
   pub server : Holding K
   pub booted : Booted content faults follows longest time keeper server
   pub ran : Ran content faults policy extension follows turns server ended left clock clock' link link'
 
 -- a server booted and took turns; or none booted, and no turn was taken
-abbrev pub Runs : {K : Type 0} → (content : K → Option Kept) → (faults : K → ℕ) → LinkPolicy → Extension → (follows : K → K → Type 0) → (longest turns time : ℕ) → (keeper : K)
+abbrev pub Runs : {K : Type 0} → (content : K → Option Kept) → (faults : K → ℕ) → LinkPolicy → Extension → (follows : K → K → Type 0) →
+    (longest turns time : ℕ) → (keeper : K)
     → Result Unit Halt → (left : K) → (clock clock' : ClockTold) → (link link' : LinkTold) → Type 0
 Runs content faults policy extension follows longest turns time keeper (Ok done) left clock clock' link link' =
     RanBooted content faults policy extension follows longest turns time keeper (Ok done) left clock clock' link link'
@@ -86,7 +89,8 @@ Runs content faults policy extension follows longest turns time keeper (Err why)
 
 -- The clock was read once, and what was to be done from that time on ended so. This keeper is left: it is the one that was handed in, and
 -- keeps what the boot and the steps of the turns made of what it kept.
-pub record Serves {K : Type 0} (content : K → Option Kept) (faults : K → ℕ) (policy : LinkPolicy) (extension : Extension) (follows : K → K → Type 0) (longest turns : ℕ) (keeper : K)
+pub record Serves {K : Type 0} (content : K → Option Kept) (faults : K → ℕ) (policy : LinkPolicy) (extension : Extension) (follows : K → K → Type 0)
+    (longest turns : ℕ) (keeper : K)
     (ended : Result Unit Halt) (left : K) (clock clock' : ClockTold) (link link' : LinkTold) : Type 0 where
   pub time : ℕ
   pub between : ClockTold

@@ -8,7 +8,8 @@ pub returns-in-Ok-clause-stages : goal.returns-in-Ok-clause-stages
 returns-in-Ok-clause-stages g c =
     let clock_of = clock_told g.C.Clock.floor g.C.Clock.readings g.C.Clock.reads in
     let link_of = link_told g.L.Link.sent g.L.Link.waiting g.L.Link.faults g.L.Link.receives in
-    went_on_leaves g.K.Keeper.content g.K.Keeper.faults (extension_told g.W.Extension.owns g.W.Extension.replies) g.K.Keeper.follows g.K.Keeper.leaves g.met.K.Keeper.follows_on g.met.K.Keeper.parts
+    went_on_leaves g.K.Keeper.content g.K.Keeper.faults (extension_told g.W.Extension.owns g.W.Extension.replies) g.K.Keeper.follows g.K.Keeper.leaves
+        g.met.K.Keeper.follows_on g.met.K.Keeper.parts
     c.go_on.result c.is_below-rises.result c.now-reading.result (clock_of c.args.clock.now) (clock_of c.now-reading.new.self)
     (link_of c.args.link.now)
     (link_of c.go_on.new.link)
@@ -31,7 +32,8 @@ pub returns-in-Err-clause-stages : goal.returns-in-Err-clause-stages
 returns-in-Err-clause-stages g c =
     let clock_of = clock_told g.C.Clock.floor g.C.Clock.readings g.C.Clock.reads in
     let link_of = link_told g.L.Link.sent g.L.Link.waiting g.L.Link.faults g.L.Link.receives in
-    stopped_leaves g.K.Keeper.content g.K.Keeper.faults (extension_told g.W.Extension.owns g.W.Extension.replies) g.K.Keeper.follows g.K.Keeper.leaves g.met.K.Keeper.follows_on g.met.K.Keeper.parts
+    stopped_leaves g.K.Keeper.content g.K.Keeper.faults (extension_told g.W.Extension.owns g.W.Extension.replies) g.K.Keeper.follows g.K.Keeper.leaves
+        g.met.K.Keeper.follows_on g.met.K.Keeper.parts
     c.in-Err.why c.now-reading.result (clock_of c.args.clock.now) (clock_of c.now-reading.new.self)
     (link_of c.args.link.now)
     (record { server = c.args.server.now; out = c.args.out.now; log = c.args.log.now })
