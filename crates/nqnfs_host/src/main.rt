@@ -8,7 +8,6 @@ mod ledger;
 mod link;
 mod starts;
 mod words;
-mod work;
 
 use crate::desk::HostDesk;
 use crate::hosting::Hosting;
@@ -82,7 +81,7 @@ fn be_host(rt: &HostRuntime, host: Host) -> Ending {
     let Ok(folder) = format!(in rt.alloc(); "nqnfs-{number}") else {
         return Ending::Memory;
     };
-    let link = match HostLink::bind(rt, host) {
+    let link = match HostLink::bind(rt.alloc(), rt, host) {
         Ok(link) => link,
         Err(error) => return told_port(rt, number, &error),
     };
