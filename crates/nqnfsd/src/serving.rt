@@ -5,8 +5,8 @@ ghost use Rattle.nq_link.specs.Links.{link_told};
 ghost use Rattle.nq_lister.specs.Listing.{is_lookup, reply_in};
 ghost use Rattle.nq_serving.specs.Extending.{extension_told};
 ghost use Rattle.nq_store.specs.Opening.{back_of};
-ghost use Rattle.nqnfsd.specs.Statuses.{EndsSo, end_of_turns, end_unopened};
-ghost use Rattle.std.specs.Prelude.{◌≡◌, ◌≤◌};
+ghost use Rattle.nqnfsd.specs.Statuses.{EndsSo, IsWithoutParts, end_of_turns, end_unopened, file_at};
+ghost use Rattle.std.specs.Prelude.{◌≡◌, ◌≤◌, IfErr, IfOk};
 
 use nq_base::ending::{Ending, Halt};
 use nq_base::{Host, Journal, Party, Ticks};
@@ -84,7 +84,10 @@ pub(crate) struct Parts {
 }
 
 /// The file of an image as a disk, the server's link, which is bound, and the clock; or how the program ends without them.
-pub(crate) fn parts_of(rt: &HostRuntime, image: &str) -> Result<Parts, Ending> {
+pub(crate) fn parts_of(rt: &HostRuntime, image: &str) -> Result<Parts, Ending>
+    ensures file { IfOk result (λ parts. parts.disk ≡ file_at image.now) }
+    ensures without { IfErr result IsWithoutParts }
+{
     let Ok(net) = rt.clone() else {
         return Err(Ending::Memory);
     };
