@@ -1,11 +1,14 @@
 "use strict";
 // What the program answers: `nqnfs_lab` runs a schedule, bends it, and says why a line of its journal came.
 
+// What is said where nothing is said: only a request that is too long for a server of HTTP is answered so.
+const TOO_LONG = "a schedule here has at most 1,048,576 bytes";
+
 // Asks the program; what it answers, with a status of null where nobody does.
 async function ask(path, body) {
   try {
     const answer = await fetch(path, { method: "POST", body: typeof body === "string" ? body : JSON.stringify(body) });
-    return answer.ok ? await answer.json() : { status: answer.status, printed: await answer.text() };
+    return answer.ok ? await answer.json() : { status: answer.status, printed: (await answer.text()) || TOO_LONG };
   } catch {
     return { status: null, printed: "" };
   }
