@@ -1,0 +1,479 @@
+//! What a host does for one ask, call by call.
+
+ghost use Rattle.std.specs.Prelude.{◌≡◌, ◌≤◌, ◌↔◌, IfSome, IsSome, length};
+ghost use Rattle.nq_tasks.specs.Work.{Answers, nobodys};
+ghost use Rattle.nq_whole.specs.Heads.{most_bytes};
+
+use crate::asks::{Ask, Made};
+use crate::listing::{Listed, Listing};
+use crate::texts::{AGAIN, NO_MEMORY, NOT_WHOLE};
+use nq_asks::Kind;
+use nq_base::{Answer, Call, FileId, Name, NoMemory, Who};
+use nq_command::prompt::answer_text;
+use nq_directory::Prefix;
+use nq_script::parse_call;
+use nq_script::words::{Words, is};
+use nq_whole::{Getting, Got, MOST_BYTES, Said, Storing, Tidying, Told};
+use std::alloc::Global;
+use std::marker::Model;
+use std::mem;
+
+/// How often a file is read anew whose bytes were gone.
+const MOST_ANEW: u32 = 1000;
+
+/// The place of nobody.
+pub const NOBODY: usize = usize::MAX;
+
+/// What is done, call by call.
+#[derive(Drop)]
+enum Task {
+    /// A call.
+    Call(Call),
+    /// Storing a whole file.
+    Store(Storing),
+    /// Getting a whole file.
+    Get(Getting),
+    /// Tidying up behind a store that was cut off.
+    Tidy(Tidying),
+    /// Listing names. It makes no call.
+    List(Listing),
+}
+
+/// What a task says of an answer.
+#[derive(Clone, Copy)]
+enum Stepped {
+    /// A call has its answer.
+    Called,
+    /// Storing says this.
+    Stored(Said),
+    /// Getting says this.
+    Got(Got),
+    /// Tidying says this.
+    Tidied(Told),
+    /// A list makes no call, so this is no answer of its own.
+    Listing,
+}
+
+/// What came of a step.
+#[derive(Drop)]
+pub enum Came {
+    /// It goes on.
+    On,
+    /// It goes on later: the server recovers.
+    Later,
+    /// It is over, with this answer.
+    Over(Reply),
+    /// Tidying up is over. What was made is kept on the list, if it is there or may be there.
+    Tidied(Option<Made>),
+}
+
+/// The answer to an ask.
+#[derive(Drop)]
+pub struct Reply {
+    /// Who asked.
+    pub place: usize,
+    /// The number of the ask.
+    pub number: u32,
+    /// Its kind.
+    pub kind: Kind,
+    /// Its words.
+    pub text: Vec<u8>,
+    /// The bytes behind its line.
+    pub bytes: Vec<u8>,
+    /// The name under which a store was refused.
+    pub refused: Option<Name>,
+}
+
+/// An ask at work. Contracts see who asked, and the number of the ask.
+#[derive(Drop)]
+pub struct Work {
+    alloc: Global,
+    place: usize,
+    number: u32,
+    task: Task,
+    /// Why it was refused, once that is known.
+    why: Vec<u8>,
+    anew: u32,
+    made: Option<Made>,
+}
+
+impl Model for Work {
+    ghost use Rattle.nq_tasks.specs.Work.{Asked};
+
+    ghost Value = { Asked };
+
+    ghost view = { λ w. record { place = w.place; number = w.number } };
+}
+
+/// The request of this number for the next page of a list, where that is due at this time.
+fn due_page(
+    alloc: Global,
+    listing: &mut Listing,
+    who: Who,
+    number: u32,
+    now: u64,
+) -> Result<Option<Vec<u8>>, NoMemory> {
+    if listing.is_due(now) {
+        let request = listing.ask(alloc, who, number, now)?;
+        Ok(Some(request))
+    } else {
+        Ok(None)
+    }
+}
+
+/// The task that an ask names, beside a store; None where it names none.
+fn task_of(alloc: Global, text: &[u8]) -> Option<Task> {
+    let mut words = Words::new(text);
+    let verb = words.next()?;
+    if is(verb, b"get") {
+        let name = words.name()?;
+        return Some(Task::Get(Getting::new(alloc, name)));
+    }
+    if is(verb, b"ls") {
+        let prefix = Prefix::new(words.next().unwrap_or(b""))?;
+        return Some(Task::List(Listing::new(alloc, prefix)));
+    }
+    match parse_call(alloc, text, 2) {
+        Ok(call) => Some(Task::Call(call)),
+        Err(_) => None,
+    }
+}
+
+impl Work {
+    /// The work of a task.
+    fn of(alloc: Global, place: usize, number: u32, task: Task) -> Work
+        ensures { result ≡ record { place = place; number = number } }
+    {
+        Work {
+            alloc,
+            place,
+            number,
+            task,
+            why: Vec::new(alloc),
+            anew: 0,
+            made: None,
+        }
+    }
+
+    /// The work for an ask that stores no file; None where it names none.
+    pub fn new(alloc: Global, place: usize, ask: &Ask) -> Option<Work>
+        ensures { IfSome result (λ work. work ≡ record { place = place; number = ask.now.number }) }
+    {
+        let task = task_of(alloc, &ask.text)?;
+        Some(Work::of(alloc, place, ask.number, task))
+    }
+
+    /// The work of storing the bytes of an ask, of which there are not too many.
+    pub fn store(alloc: Global, place: usize, ask: Ask, made: Made) -> Option<Work>
+        ensures asked { IfSome result (λ work. work ≡ record { place = place; number = ask.number }) }
+        ensures fits { IsSome result ↔ (length ask.body.items ≤ most_bytes) }
+    {
+        let Ask {
+            number,
+            text: _text,
+            body,
+        } = ask;
+        if body.len() > MOST_BYTES {
+            return None;
+        }
+        let storing = Storing::new(made.name, made.own, body);
+        let mut work = Work::of(alloc, place, number, Task::Store(storing));
+        work.made = Some(made);
+        Some(work)
+    }
+
+    /// The work of tidying up behind a store, which nobody asked for.
+    pub fn tidy(alloc: Global, made: Made) -> Work
+        ensures { result ≡ nobodys }
+    {
+        let tidying = Tidying::new(made.own, made.name);
+        let mut work = Work::of(alloc, NOBODY, 0, Task::Tidy(tidying));
+        work.made = Some(made);
+        work
+    }
+
+    /// The work of storing what is delayed of a file, which nobody asked for.
+    pub fn sync(alloc: Global, file: FileId) -> Work
+        ensures { result ≡ nobodys }
+    {
+        Work::of(alloc, NOBODY, 0, Task::Call(Call::Sync { file }))
+    }
+
+    /// Who asked; `NOBODY` where nobody did.
+    pub fn place(&self) -> usize
+        ensures { result ≡ self.now.place }
+    {
+        self.place
+    }
+
+    /// The number of the ask.
+    pub fn number(&self) -> u32
+        ensures { result ≡ self.now.number }
+    {
+        self.number
+    }
+
+    /// The call that comes next. A list has none.
+    ///
+    /// # Errors
+    ///
+    /// Want of memory, and that there is no call.
+    pub fn asks(&self) -> Result<Call, NoMemory> {
+        match &self.task {
+            Task::Call(call) => call.copied(self.alloc),
+            Task::Store(storing) => storing.asks(self.alloc),
+            Task::Get(getting) => Ok(getting.asks()),
+            Task::Tidy(tidying) => Ok(tidying.asks()),
+            Task::List(_) => Err(NoMemory::Memory),
+        }
+    }
+
+    /// Whether it lists names. Then it makes no call.
+    pub fn is_listing(&self) -> bool {
+        matches!(&self.task, Task::List(_))
+    }
+
+    /// The request of this number for the next page of its list, where that is due at this time.
+    ///
+    /// # Errors
+    ///
+    /// Only want of memory.
+    pub fn asks_page(
+        &mut self,
+        who: Who,
+        number: u32,
+        now: u64,
+    ) -> Result<Option<Vec<u8>>, NoMemory>
+        ensures { self.new ≡ self.old }
+    {
+        match &mut self.task {
+            Task::List(listing) => due_page(self.alloc, listing, who, number, now),
+            _ => Ok(None),
+        }
+    }
+
+    /// Takes a datagram, which may be the page of its list that was asked for.
+    pub fn take_page(&mut self, who: Who, datagram: &[u8]) -> Came
+        ensures same { self.new ≡ self.old }
+        ensures own { Answers self.old result }
+    {
+        let listed = match &mut self.task {
+            Task::List(listing) => listing.take(self.alloc, who, datagram),
+            _ => Ok(Listed::Goes),
+        };
+        match listed {
+            Ok(Listed::Goes) => Came::On,
+            Ok(Listed::Later) => Came::Later,
+            Ok(Listed::Whole) => self.gives(),
+            Err(_) => self.lacks(),
+        }
+    }
+
+    /// The name under which a store is refused, if an answer of this kind says so.
+    fn refused(&self, kind: Kind) -> Option<Name> {
+        match kind {
+            Kind::Refused => match &self.made {
+                Some(made) => Some(made.name),
+                None => None,
+            },
+            _ => None,
+        }
+    }
+
+    /// It is over, with this answer and no bytes.
+    fn ends(&self, kind: Kind, text: Vec<u8>) -> Came
+        ensures { Answers self.now result }
+    {
+        Came::Over(Reply {
+            place: self.place,
+            number: self.number,
+            kind,
+            text,
+            bytes: Vec::new(self.alloc),
+            refused: self.refused(kind),
+        })
+    }
+
+    /// These words, or none where memory is wanting.
+    fn words(&self, words: &[u8]) -> Vec<u8> {
+        match words.to_vec(self.alloc) {
+            Ok(text) => text,
+            Err(_) => Vec::new(self.alloc),
+        }
+    }
+
+    /// An answer in words.
+    fn text(&self, answer: &Answer) -> Vec<u8> {
+        match answer_text(self.alloc, answer) {
+            Ok(text) => text,
+            Err(_) => self.words(NO_MEMORY),
+        }
+    }
+
+    /// It is over, with these words.
+    fn says(&self, kind: Kind, words: &[u8]) -> Came
+        ensures { Answers self.now result }
+    {
+        self.ends(kind, self.words(words))
+    }
+
+    /// It is over since memory was wanting.
+    pub fn lacks(&self) -> Came
+        ensures { Answers self.now result }
+    {
+        self.says(Kind::Refused, NO_MEMORY)
+    }
+
+    /// It is over, with an answer in words.
+    fn tells(&self, kind: Kind, answer: &Answer) -> Came
+        ensures { Answers self.now result }
+    {
+        self.ends(kind, self.text(answer))
+    }
+
+    /// Takes the answer to the call.
+    pub fn take(&mut self, answer: &Answer) -> Came
+        ensures same { self.new ≡ self.old }
+        ensures own { Answers self.old result }
+    {
+        match self.step(answer) {
+            Stepped::Called => self.answered(answer),
+            Stepped::Stored(said) => self.stored(said, answer),
+            Stepped::Got(got) => self.got(got, answer),
+            Stepped::Tidied(told) => self.tidied(told),
+            Stepped::Listing => Came::On,
+        }
+    }
+
+    /// Hands the answer to what is done.
+    fn step(&mut self, answer: &Answer) -> Stepped
+        ensures { self.new ≡ self.old }
+    {
+        match &mut self.task {
+            Task::Call(_) => Stepped::Called,
+            Task::Store(storing) => Stepped::Stored(storing.take(answer)),
+            Task::Get(getting) => Stepped::Got(getting.take(answer)),
+            Task::Tidy(tidying) => Stepped::Tidied(tidying.take(answer)),
+            Task::List(_) => Stepped::Listing,
+        }
+    }
+
+    /// A call has its answer.
+    fn answered(&self, answer: &Answer) -> Came
+        ensures { Answers self.now result }
+    {
+        match answer {
+            Answer::Ok(_) => self.tells(Kind::Done, answer),
+            _ => self.tells(Kind::Refused, answer),
+        }
+    }
+
+    /// What tidying says.
+    fn tidied(&self, told: Told) -> Came
+        ensures { Answers self.now result }
+    {
+        match told {
+            Told::Goes => Came::On,
+            Told::Gone => Came::Tidied(None),
+            Told::Kept => Came::Tidied(self.kept()),
+            Told::Unsure => Came::Tidied(self.kept()),
+        }
+    }
+
+    /// What was made, to be kept on the list.
+    fn kept(&self) -> Option<Made> {
+        match &self.made {
+            Some(made) => Some(Made {
+                own: made.own,
+                name: made.name,
+            }),
+            None => None,
+        }
+    }
+
+    /// What storing says.
+    fn stored(&mut self, said: Said, answer: &Answer) -> Came
+        ensures same { self.new ≡ self.old }
+        ensures own { Answers self.old result }
+    {
+        match said {
+            Said::Goes => Came::On,
+            Said::Done => self.says(Kind::Done, b"ok, stored"),
+            Said::Drops => {
+                self.why = self.text(answer);
+                Came::On
+            }
+            Said::NotWhole => {
+                self.why = self.words(NOT_WHOLE);
+                Came::On
+            }
+            Said::Refused => self.refuses(answer),
+        }
+    }
+
+    /// It is over, for the reason that is known, or else with this answer.
+    fn refuses(&mut self, answer: &Answer) -> Came
+        ensures same { self.new ≡ self.old }
+        ensures own { Answers self.old result }
+    {
+        if self.why.is_empty() {
+            return self.tells(Kind::Refused, answer);
+        }
+        let text = mem::replace(&mut self.why, Vec::new(self.alloc));
+        self.ends(Kind::Refused, text)
+    }
+
+    /// What getting says.
+    fn got(&mut self, got: Got, answer: &Answer) -> Came
+        ensures same { self.new ≡ self.old }
+        ensures own { Answers self.old result }
+    {
+        match got {
+            Got::Goes => Came::On,
+            Got::Anew => self.begins_anew(),
+            Got::Done => self.gives(),
+            Got::Refused => self.tells(Kind::Refused, answer),
+            Got::NotWhole => self.says(Kind::Refused, NOT_WHOLE),
+            Got::Memory => self.lacks(),
+        }
+    }
+
+    /// Getting has begun anew.
+    fn begins_anew(&mut self) -> Came
+        ensures same { self.new ≡ self.old }
+        ensures own { Answers self.old result }
+    {
+        self.anew = self.anew.saturating_add(1);
+        if self.anew > MOST_ANEW {
+            self.says(Kind::Refused, AGAIN)
+        } else {
+            Came::On
+        }
+    }
+
+    /// All bytes are there. No call is made behind it.
+    fn gives(&mut self) -> Came
+        ensures same { self.new ≡ self.old }
+        ensures own { Answers self.old result }
+    {
+        let nothing = Task::Call(Call::Sync { file: FileId(0) });
+        let bytes = match mem::replace(&mut self.task, nothing) {
+            Task::Get(getting) => getting.into_bytes(),
+            Task::List(listing) => listing.into_lines(),
+            _ => Vec::new(self.alloc),
+        };
+        let size = bytes.len();
+        let text = match format!(in self.alloc; "{size}") {
+            Ok(text) => text.into_bytes(),
+            Err(_) => Vec::new(self.alloc),
+        };
+        Came::Over(Reply {
+            place: self.place,
+            number: self.number,
+            kind: Kind::Bytes,
+            text,
+            bytes,
+            refused: None,
+        })
+    }
+}
