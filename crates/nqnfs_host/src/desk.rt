@@ -6,7 +6,7 @@ use nq_base::{Answer, Call, FileId, Journal, Party, Who};
 use nq_calling::{call_now, lost_text};
 use nq_client::Client;
 use nq_clock::{Clock, StdClock};
-use nq_hosts::node::{ClientTurn, client_turn};
+use nq_hosts::node::client_turn;
 use nq_link::{Link, send_all};
 use nq_wire::Outbox;
 use std::alloc::Global;
@@ -110,10 +110,9 @@ impl HostDesk {
         );
         self.note(&log);
         match turn {
-            ClientTurn::Quiet | ClientTurn::Link => {}
-            ClientTurn::Answered(answer) => self.answer = Some(answer),
-            ClientTurn::Memory => self.halt = Some(Halt::Memory),
-            ClientTurn::Spent => self.halt = Some(Halt::Spent),
+            Ok(None) | Err(Halt::Link) => {}
+            Ok(Some(answer)) => self.answer = Some(answer),
+            Err(why) => self.halt = Some(why),
         }
     }
 
