@@ -1,7 +1,7 @@
 //! What is wrong with the words behind a program's name.
 
 ghost use Rattle.std.specs.Prelude.{Some};
-ghost use Rattle.nq_words.specs.Wrongs.{wrong_words};
+ghost use Rattle.nq_words.specs.Wrongs.{bounds_words, wrong_words};
 
 use std::fmt;
 
@@ -36,11 +36,7 @@ impl<'a> fmt::Display for Wrong<'a> {
             Wrong::Word(word) => write!(f, "{word}: no such word"),
             Wrong::NoValue(word) => write!(f, "{word}: the word behind it is missing"),
             Wrong::Missing(word) => write!(f, "{word} is missing"),
-            Wrong::NoNumber { word, least, most } => {
-                let least = *least;
-                let most = *most;
-                write!(f, "{word}: no number from {least} to {most}")
-            }
+            Wrong::NoNumber { word, bounds } => { write!(f, "{word}: a number {bounds} is wanted") }
         }
     }
 }
