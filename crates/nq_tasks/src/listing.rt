@@ -12,6 +12,7 @@ use nq_directory::{FileName, Prefix};
 use nq_script::words::{push_bytes, push_digits};
 use std::alloc::Global;
 use std::marker::Model;
+use std::mem;
 
 /// After how many ticks a page is asked for again.
 const AGAIN: u64 = 2;
@@ -210,11 +211,10 @@ impl Listing {
         }
     }
 
-    /// The lines: each has a name and the number of its file.
-    pub fn into_lines(self) -> Vec<u8>
-        ensures { result.items ≡ self.lines }
+    /// Takes the lines out: each has a name and the number of its file.
+    pub fn take_lines(&mut self, alloc: Global) -> Vec<u8>
+        ensures { result.items ≡ self.old.lines }
     {
-        let Listing { lines, .. } = self;
-        lines
+        mem::replace(&mut self.lines, Vec::new(alloc))
     }
 }
