@@ -18,12 +18,27 @@ pub enum Wrong<'a> {
     NoValue(&'a str),
     /// A word is missing that stands for this.
     Missing(&'a str),
-    /// A word is no number from a least to a greatest one.
-    NoNumber {
-        word: &'a str,
-        least: u32,
-        most: u32,
-    },
+    /// A word is no number within these bounds.
+    NoNumber { word: &'a str, bounds: Bounds },
+}
+
+/// A least and a greatest number.
+#[derive(Clone, Copy)]
+pub struct Bounds {
+    /// The least one.
+    pub least: u32,
+    /// The greatest one.
+    pub most: u32,
+}
+
+impl fmt::Display for Bounds {
+    ghost output = { λ bounds. Some (bounds_words bounds) };
+
+    fn fmt<W: fmt::Write>(&self, f: &mut fmt::Formatter<W>) -> fmt::Result {
+        let least = self.least;
+        let most = self.most;
+        write!(f, "from {least} to {most}")
+    }
 }
 
 impl<'a> fmt::Display for Wrong<'a> {
