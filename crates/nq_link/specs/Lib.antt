@@ -4,4 +4,3 @@ pub mod Marks
 pub mod MemLink
 pub mod Packets
 pub mod Runs
-pub mod UdpLink

@@ -1,4 +1,4 @@
-//! Links, over which a party sends datagrams and receives them: the trait `Link`, a link in memory, and one over UDP.
+//! Links, over which a party sends datagrams and receives them: the trait `Link`, and a link in memory.
 //! The packets of a world are in `net`.
 //!
 //! A contract knows a link by the datagrams that were sent over it and those that wait, where the link tells them, and by a
@@ -9,11 +9,8 @@ mod link;
 mod mem_link;
 pub mod net;
 mod sending;
-mod socket;
-mod udp_link;
 
 pub use link::{Came, Link, Sent};
 pub use mem_link::MemLink;
 pub use nq_base::{NoMemory, Party};
 pub use sending::{MOST_BYTES, send_all};
-pub use udp_link::UdpLink;

@@ -10,8 +10,8 @@ use nq_base::Party;
 use nq_clock::StdClock;
 use nq_disk::{Disk, FileDisk};
 use nq_io::streams::{StdSink, StdSource};
-use nq_link::UdpLink;
 use nq_run::{NoMemory, Place, Words, blank_disk, parties_of, party_of, place_of};
+use nq_udp::UdpLink;
 use std::io;
 
 // The file in which a server keeps its files.

@@ -1,5 +1,0 @@
-use Rattle.std.proofs.Common.{◌≡◌}
-use Rattle.nq_link.proofs.socket.PatientSocket.look_and_wait.Given as goal
-
-abbrev pub invariant-loop-look : goal.invariant-loop-look
-invariant-loop-look l = l.self.receiver ≡ l.fn.self.receiver

@@ -1,0 +1,10 @@
+//! A link over UDP, from socket to socket.
+//!
+//! A contract knows to and from which address the last datagrams went, and that this is the address of their party. What the
+//! machine does with a datagram, no contract knows.
+#![tactic(auto)]
+
+mod socket;
+mod udp_link;
+
+pub use udp_link::UdpLink;
