@@ -1,5 +1,5 @@
 -- What holds behind each event that was taken holds at the end: so all events of a schedule with lists can be told in one.
-use Rattle.std.proofs.Common.{◌≡◌, ℕ, ◌+◌, List, [], ◌∷◌, length, Option, refl}
+use Rattle.std.proofs.Common.{◌≡◌, ℕ, ◌+◌, List, length, Option, refl}
 use Rattle.std.specs.List.{AllByRecursion}
 use Rattle.nq_base.specs.declared.Event.{Event}
 use Rattle.nq_model.specs.Kept.{Kept}

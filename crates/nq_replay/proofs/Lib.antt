@@ -1,4 +1,5 @@
 mod Appending
+pub mod EachTaken
 pub mod Endings
 mod Joining
 pub mod AsidesOnward

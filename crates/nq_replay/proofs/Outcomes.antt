@@ -26,7 +26,8 @@ use Rattle.nq_world.specs.declared.stepped.Stepped.{Stepped}
 text_of_run : (end : Ending) (head : Head) (events : List Event) (text : List ℕ) (held now : Option (List ℕ)) (w w' : ℕ) → Runs text head events
     → EndsPlayed end head (ran events) held now w w' → EndsText end text held now w w'
 text_of_run Ending.Done head events text held now w w' runs prints = record { head = head; events = events; runs = runs; printed = prints }
-text_of_run Ending.WriteFault head events text held now w w' runs prints = (record { head = head; events = events; runs = runs; printed = prints.0 }, prints.1)
+text_of_run Ending.WriteFault head events text held now w w' runs prints =
+    (record { head = head; events = events; runs = runs; printed = prints.0 }, prints.1)
 text_of_run Ending.Memory head events text held now w w' runs (inl same) = inl same
 text_of_run Ending.Memory head events text held now w w' runs (inr front) = inr (record { head = head; events = events; runs = runs; printed = front })
 text_of_run other head events text held now w w' runs prints = absurd prints
@@ -126,7 +127,8 @@ is_due head h lines ls due same is = rw (same.0, same.1) is
 
 pub ends_script : (end : Ending) (head : Head) (lines : List Line) (number : ℕ) (held now : Option (List ℕ)) (w w' : ℕ)
     → EndsPlayed end head (play head lines) held now w w' → play head lines ≡ stopped number no_packet → IsUnlessFault end Ending.Script 0 0 w w'
-ends_script end head lines number held now w w' ends is = script_unless end number held now w w' (subst (λ due. EndsPlayed end head due held now w w') is ends)
+ends_script end head lines number held now w w' ends is = script_unless end number held now w w'
+    (subst (λ due. EndsPlayed end head due held now w w') is ends)
 
 pub ends_skew : (end : Ending) (head : Head) (lines : List Line) (number : ℕ) (broken : SkewBroken) (held now : Option (List ℕ)) (w w' : ℕ)
     → EndsPlayed end head (play head lines) held now w w' → play head lines ≡ stopped number (out_of_skew broken) → IsUnlessFault end Ending.Skew 0 0 w w'
@@ -135,7 +137,8 @@ ends_skew end head lines number broken held now w w' ends is = skew_unless end n
 
 pub ends_passing : (end : Ending) (head : Head) (lines : List Line) (text : List ℕ) (number : ℕ) (bound : Bound) (held now : Option (List ℕ))
     (w w' : ℕ) → EndsPlayed end head (play head lines) held now w w'
-    → ((h : Head) (ls : List Line) → SpellsSchedule h ls text → (head ≡ h) × (lines ≡ ls)) → Passes text number bound → IsUnlessFault end Ending.Limit 0 0 w w'
+    → ((h : Head) (ls : List Line) → SpellsSchedule h ls text → (head ≡ h) ×
+    (lines ≡ ls)) → Passes text number bound → IsUnlessFault end Ending.Limit 0 0 w w'
 ends_passing end head lines text number Bound.Bytes held now w w' ends only passes = absurd passes
 ends_passing end head lines text number Bound.Events held now w w' ends only passes =
     limit_unless end number Limit.Events held now w w' (subst (λ due. EndsPlayed end head due held now w w') (is_due head passes.head lines
@@ -150,7 +153,8 @@ pub ends_faulty : (end : Ending) (head : Head) (lines : List Line) (text : List 
     → IsUnlessFault end Ending.Script 0 0 w w'
 ends_faulty end head lines text number held now w w' ends only bad (inl is) = absurd (bad is)
 ends_faulty end head lines text number held now w w' ends only bad (inr stops) =
-    ends_script end head lines number held now w w' ends (is_due head stops.head lines stops.lines _ (only stops.head stops.lines stops.spelled) stops.stopped)
+    ends_script end head lines number held now w w' ends (is_due head stops.head lines stops.lines _
+    (only stops.head stops.lines stops.spelled) stops.stopped)
 
 pub ends_done : (end : Ending) (head : Head) (lines : List Line) (h : Head) (ls : List Line) (events : List Event) (held now : Option (List ℕ))
     (w w' : ℕ) → EndsPlayed end head (play head lines) held now w w' → (head ≡ h) × (lines ≡ ls) → play h ls ≡ ran events
@@ -175,7 +179,8 @@ memory_before head (ran events) held w = inl refl
 memory_before head (stopped line answer) held w = refl
 
 -- where it stopped
-stop_memory : (end : Ending) (head : Head) (line : ℕ) (said : Stepped) (due : Ended (List Event)) (held now : Option (List ℕ)) (w w' : ℕ) → (end ≡ Ending.Memory)
+stop_memory : (end : Ending) (head : Head) (line : ℕ) (said : Stepped) (due : Ended (List Event)) (held now : Option (List ℕ)) (w w' : ℕ) →
+    (end ≡ Ending.Memory)
     × (now ≡ held) → EndsPlayed end head due held now w w'
 stop_memory end head line said (ran events) held now w w' is = rw is.0 (inl is.1)
 stop_memory end head line said (stopped number answer) held now w w' is = rw is.0 is.1
@@ -206,7 +211,8 @@ silent Ending.Limit line (Stepped.Limit l) held now w w' (inl e) tells = absurd 
 silent Ending.Limit line (Stepped.Limit l) held now w w' (inr e) tells = absurd (cc)
 silent other line said held now w w' which tells = absurd tells
 
-stop_at : (end : Ending) (head : Head) (line : ℕ) (said : Stepped) (due : Ended (List Event)) (held now : Option (List ℕ)) (w w' : ℕ) → StoppedAt due line said
+stop_at : (end : Ending) (head : Head) (line : ℕ) (said : Stepped) (due : Ended (List Event)) (held now : Option (List ℕ))
+    (w w' : ℕ) → StoppedAt due line said
     → TellsStop end line said held now w w' → EndsPlayed end head due held now w w'
 stop_at end head line said (ran events) held now w w' is tells = absurd is
 stop_at end head line said (stopped number answer) held now w w' is tells =
@@ -225,7 +231,8 @@ stop_ends end head line Stepped.Memory due P held now w w' comes tells = stop_me
     (silent end line Stepped.Memory held now w w' (inr refl) tells)
 
 -- where it was played to its end
-pub run_ends : (end : Ending) (head : Head) (due : Ended (List Event)) (P : List Event → Type 0) (held now : Option (List ℕ)) (w w' : ℕ) → Comes Played.All due P
+pub run_ends : (end : Ending) (head : Head) (due : Ended (List Event)) (P : List Event → Type 0) (held now : Option (List ℕ))
+    (w w' : ℕ) → Comes Played.All due P
     → ((events : List Event) → P events → EndsPlayed end head (ran events) held now w w') → EndsPlayed end head due held now w w'
 run_ends end head (ran events) P held now w w' comes prints = prints events comes
 run_ends end head (stopped number answer) P held now w w' comes prints = absurd comes

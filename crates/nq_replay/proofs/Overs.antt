@@ -17,7 +17,8 @@ use Rattle.nq_world.specs.declared.stepped.Stepped.{Stepped}
 
 -- ---- where it was played to its end
 
-pub keeps_run : {K : Type 0} (head : Head) (due : Ended (List Event)) (w : WorldOver K) (told : Option Kept) → RanTo due (λ events. Plays (beginning head) events w
+pub keeps_run : {K : Type 0} (head : Head) (due : Ended (List Event)) (w : WorldOver K) (told : Option Kept) → RanTo due
+    (λ events. Plays (beginning head) events w
     told) → KeepsPlayed head due told
 keeps_run head (ran events) w told plays = plays.keeps
 keeps_run head (stopped line answer) w told plays = absurd plays

@@ -4,7 +4,7 @@ use Rattle.nq_base.specs.declared.Event.{Event}
 use Rattle.nq_replay.proofs.Keeping.{Ends, Keeps, ends-packet, ends-then, keeps-repeated}
 use Rattle.nq_replay.specs.AsidesPlaying.{Ended, Played, at_line, ran, refused, took}
 use Rattle.nq_replay.specs.Playing.{beginning}
-use Rattle.nq_replay.specs.Rules.{Rules, play_event, play_flow, play_lines, play_plain, play_plainly, play_round, play_ticks}
+use Rattle.nq_replay.specs.Rules.{Rules, play_flow, play_lines, play_plain, play_plainly, play_round, play_ticks}
 use Rattle.nq_replay.specs.Text.{mixed}
 use Rattle.nq_replay.specs.Texts.{IsTellable}
 use Rattle.nq_script.specs.Lines.{SpellsLine}

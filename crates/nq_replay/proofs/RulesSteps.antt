@@ -115,7 +115,8 @@ has-flag (Some packet) sent room below reached = let low = below packet refl in 
 
 -- ---- asides
 
-went-beside : {S : Type 0} (due : Due S) (said : Stepped) (P Q : S → Type 0) → ((next : S) → due ≡ took next → P next → Q next) → Goes said due P → Goes said due Q
+went-beside : {S : Type 0} (due : Due S) (said : Stepped) (P Q : S → Type 0) →
+    ((next : S) → due ≡ took next → P next → Q next) → Goes said due P → Goes said due Q
 went-beside (took next) Stepped.Done P Q on goes = on next refl goes
 went-beside (refused answer) Stepped.Done P Q on goes = goes
 went-beside due Stepped.NoPacket P Q on goes = goes

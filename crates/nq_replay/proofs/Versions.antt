@@ -117,7 +117,8 @@ all_plain : (version : ℕ) (entries : List Entry) → Each (Has version) (map p
 all_plain version [] each = All-nil (Has version)
 all_plain version (entry ∷ entries) each = All-cons (Has version) entry entries (plain_has version entry each.0) (all_plain version entries each.1)
 
-ran_has : {K : Type 0} (script : Script) (w : WorldOver K) (told : Option Kept) (due : Ended (List Event)) → IsReady script → play script.head script.lines ≡ due
+ran_has : {K : Type 0} (script : Script) (w : WorldOver K) (told : Option Kept)
+    (due : Ended (List Event)) → IsReady script → play script.head script.lines ≡ due
     → RanTo due (λ events. Plays (beginning script.head) events w told) → All (Has script.head.version) w.entries
 ran_has script w told (ran events) ready is plays =
     let each = each-reverse (Has script.head.version) (run (beginning script.head) events).journal (run_has script.head script.lines ready.text events

@@ -1,5 +1,6 @@
 -- What reading a schedule and replaying it come to together.
 use Rattle.std.proofs.Common.{◌≡◌, ◌<◌, ◌≤◌, ℕ, List, Option, Some, Err, inl, inr, refl, sym, subst, arith, length}
+use Rattle.nq_base.specs.declared.Event.{Event}
 use Rattle.nq_base.specs.declared.ending.ending.Ending.{Ending}
 use Rattle.nq_io.specs.Whole.{IsAll}
 use Rattle.nq_model.specs.Kept.{Kept}

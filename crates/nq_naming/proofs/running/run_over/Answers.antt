@@ -1,4 +1,3 @@
-use Rattle.std.proofs.Common.{◌∙◌}
 use Rattle.nq_naming.proofs.Keeping.{played_told}
 use Rattle.nq_naming.proofs.running.run_over.Goals as goal
 

@@ -1,7 +1,5 @@
-use Rattle.std.proofs.Common.{[], arith, refl, subst, sym}
-use Rattle.nq_base.specs.declared.Event.{Event}
+use Rattle.std.proofs.Common.{[], arith, refl}
 use Rattle.nq_replay.specs.Playing.{beginning, play}
-use Rattle.nq_replay.specs.Text.{HoldsOfAsides}
 use Rattle.nq_replay.proofs.Heads.{are_for_world, few_lines}
 use Rattle.nq_replay.proofs.schedules.play_over.Goals as goal
 

@@ -1,4 +1,4 @@
-use Rattle.std.proofs.Common.{◌-◌, List}
+use Rattle.std.proofs.Common.{◌-◌}
 use Rattle.nq_model.specs.World.{Head}
 use Rattle.nq_replay.proofs.AsidesOnward.{IsOn}
 use Rattle.nq_replay.specs.RulesGoing.{IsAt}

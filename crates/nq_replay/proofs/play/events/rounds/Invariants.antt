@@ -1,4 +1,4 @@
-use Rattle.std.proofs.Common.{◌≡◌, ◌-◌, List}
+use Rattle.std.proofs.Common.{◌≡◌, ◌-◌}
 use Rattle.nq_model.specs.World.{Head}
 use Rattle.nq_replay.proofs.AsidesOnward.{IsOn}
 use Rattle.nq_replay.specs.RulesGoing.{IsAt}
@@ -11,7 +11,8 @@ abbrev pub invariant-loop-turn : goal.invariant-loop-turn
 invariant-loop-turn g l = record {
   on : (head : Head) (moment : g.W.OuterWorld.Moment) → head.hosts ≡ l.hosts
       → IsAt g.W.OuterWorld.rules g.W.OuterWorld.plays head moment l.fn.world l.fn.delivered
-      → IsOn (λ next. IsAt g.W.OuterWorld.rules g.W.OuterWorld.plays head next l.world l.delivered) (repeated (l.times - l.turn) (play_round g.W.OuterWorld.rules head))
+      → IsOn (λ next. IsAt g.W.OuterWorld.rules g.W.OuterWorld.plays head next l.world l.delivered)
+      (repeated (l.times - l.turn) (play_round g.W.OuterWorld.rules head))
       (repeated l.times (play_round g.W.OuterWorld.rules head) moment);
   keeps : g.W.OuterWorld.goes_on Stepped.Done l.fn.world l.world;
 }

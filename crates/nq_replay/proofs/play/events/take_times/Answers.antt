@@ -9,7 +9,8 @@ pub returns-in_default : goal.returns-in_default
 returns-in_default g c = record {
   goes = λ head moment at.
       let on = c.loop-turn.invariant.on head moment at in
-      stops-here (play_event g.W.OuterWorld.rules head c.args.event.now on.reached) (repeated (c.args.times - (c.loop-turn.turn + 1)) (play_event g.W.OuterWorld.rules head c.args.event.now))
+      stops-here (play_event g.W.OuterWorld.rules head c.args.event.now on.reached)
+      (repeated (c.args.times - (c.loop-turn.turn + 1)) (play_event g.W.OuterWorld.rules head c.args.event.now))
       c.take.result _ _ _ (c.take.ensures.goes head on.reached on.here) c.in_default.not-Done (repeat-step c.args.times c.loop-turn.turn
       (play_event g.W.OuterWorld.rules head c.args.event.now) on.reached _ c.loop-turn-test.true on.same);
   keeps = g.met.W.OuterWorld.goes_further c.take.result c.args.world.now c.loop-turn.world c.take.new.world c.loop-turn.invariant.keeps c.take.ensures.keeps;
@@ -19,8 +20,10 @@ pub loop-turn-preserved : goal.loop-turn-preserved
 loop-turn-preserved g c = record {
   on = λ head moment at.
       let on = c.loop-turn.invariant.on head moment at in
-      goes-on (play_event g.W.OuterWorld.rules head c.args.event.now on.reached) (repeated (c.args.times - (c.loop-turn.turn + 1)) (play_event g.W.OuterWorld.rules head c.args.event.now)) _ _
-      (c.in-Done.ensures.goes head on.reached on.here) (repeat-step c.args.times c.loop-turn.turn (play_event g.W.OuterWorld.rules head c.args.event.now) on.reached _
+      goes-on (play_event g.W.OuterWorld.rules head c.args.event.now on.reached)
+      (repeated (c.args.times - (c.loop-turn.turn + 1)) (play_event g.W.OuterWorld.rules head c.args.event.now)) _ _
+      (c.in-Done.ensures.goes head on.reached on.here) (repeat-step c.args.times c.loop-turn.turn
+      (play_event g.W.OuterWorld.rules head c.args.event.now) on.reached _
       c.loop-turn-test.true on.same);
   keeps = g.met.W.OuterWorld.goes_further Stepped.Done c.args.world.now c.loop-turn.world c.take.new.world c.loop-turn.invariant.keeps c.in-Done.ensures.keeps;
 }

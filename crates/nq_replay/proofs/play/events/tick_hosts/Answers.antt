@@ -10,7 +10,8 @@ pub returns-in_default : goal.returns-in_default
 returns-in_default g c = record {
   goes = λ head moment at.
       let on = c.loop-host.invariant.on head moment at in
-      stops-here (play_plainly g.W.OuterWorld.rules head (Event.ClientTick c.loop-host.host) on.reached) (play_ticks g.W.OuterWorld.rules head (c.loop-host.host + 1)
+      stops-here (play_plainly g.W.OuterWorld.rules head (Event.ClientTick c.loop-host.host) on.reached)
+      (play_ticks g.W.OuterWorld.rules head (c.loop-host.host + 1)
       (c.args.hosts - (c.loop-host.host + 1))) c.take_plainly.result _ _ _ (c.take_plainly.ensures.goes head on.reached on.here) c.in_default.not-Done
       (ticks-step g.W.OuterWorld.rules head c.args.hosts c.loop-host.host on.reached _ c.loop-host-test.true on.same);
   keeps = g.met.W.OuterWorld.goes_further c.take_plainly.result c.args.world.now c.loop-host.world c.take_plainly.new.world c.loop-host.invariant.keeps c.take_plainly.ensures.keeps;
@@ -20,8 +21,10 @@ pub loop-host-preserved : goal.loop-host-preserved
 loop-host-preserved g c = record {
   on = λ head moment at.
       let on = c.loop-host.invariant.on head moment at in
-      goes-on (play_plainly g.W.OuterWorld.rules head (Event.ClientTick c.loop-host.host) on.reached) (play_ticks g.W.OuterWorld.rules head (c.loop-host.host + 1)
-      (c.args.hosts - (c.loop-host.host + 1))) _ _ (c.in-Done.ensures.goes head on.reached on.here) (ticks-step g.W.OuterWorld.rules head c.args.hosts c.loop-host.host
+      goes-on (play_plainly g.W.OuterWorld.rules head (Event.ClientTick c.loop-host.host) on.reached)
+      (play_ticks g.W.OuterWorld.rules head (c.loop-host.host + 1)
+      (c.args.hosts - (c.loop-host.host + 1))) _ _ (c.in-Done.ensures.goes head on.reached on.here)
+      (ticks-step g.W.OuterWorld.rules head c.args.hosts c.loop-host.host
       on.reached _ c.loop-host-test.true on.same);
   keeps = g.met.W.OuterWorld.goes_further Stepped.Done c.args.world.now c.loop-host.world c.take_plainly.new.world c.loop-host.invariant.keeps c.in-Done.ensures.keeps;
 }

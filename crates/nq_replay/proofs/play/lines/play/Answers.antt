@@ -49,12 +49,15 @@ returns-in_default g c = record {
       let same = mixed-length c.args.asides.now c.args.script.now.lines in
       let below : c.loop-place.place < length all = omega arith in
       let there = is-there all c.loop-place.place below in
-      comes-here _ _ _ _ _ c.stopped.ensures (lines-step (play_line g.W.OuterWorld.rules head c.args.most) c.args.script.now.first c.loop-place.place all there.line
+      comes-here _ _ _ _ _ c.stopped.ensures
+      (lines-step (play_line g.W.OuterWorld.rules head c.args.most) c.args.script.now.first c.loop-place.place all there.line
       on.reached _ there.split on.same)
-      (stops-line (c.args.script.now.first + c.loop-place.place) _ (play_line g.W.OuterWorld.rules head c.args.most there.line on.reached) _ c.play_at.result _ _
+      (stops-line (c.args.script.now.first + c.loop-place.place) _
+      (play_line g.W.OuterWorld.rules head c.args.most there.line on.reached) _ c.play_at.result _ _
       refl (c.play_at.ensures.goes there.line there.here head on.reached hosts on.here) c.in_default.not-Done);
   stops = λ done. absurd (c.in_default.not-Done (ap said (sym c.stopped.ensures) ∙ done));
-  keeps = rw c.stopped.ensures (g.met.W.OuterWorld.goes_further c.play_at.result c.args.world.now c.loop-place.world c.play_at.new.world c.loop-place.invariant.keeps c.play_at.ensures.keeps);
+  keeps = rw c.stopped.ensures
+      (g.met.W.OuterWorld.goes_further c.play_at.result c.args.world.now c.loop-place.world c.play_at.new.world c.loop-place.invariant.keeps c.play_at.ensures.keeps);
 }
 
 pub loop-place-preserved : goal.loop-place-preserved
@@ -81,4 +84,5 @@ returns-clause-comes g c = λ head moment hosts none plays.
     let many = c.len-place-end.ensures in
     let past : length all ≤ c.loop-place.place = omega arith in
     ran-here _ on.reached _ on.here.playing
-    (lines-end (play_line g.W.OuterWorld.rules head c.args.most) (c.args.script.now.first + c.loop-place.place) c.loop-place.place all on.reached _ past on.same)
+    (lines-end (play_line g.W.OuterWorld.rules head c.args.most)
+    (c.args.script.now.first + c.loop-place.place) c.loop-place.place all on.reached _ past on.same)
