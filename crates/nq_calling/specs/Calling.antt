@@ -1,5 +1,5 @@
 -- A call that is made behind a turn.
-use Rattle.std.specs.Prelude.{◌≡◌, ℕ, []}
+use Rattle.std.specs.Prelude.{◌≡◌, ℕ, [], Option, Result}
 use Rattle.nq_base.specs.Entries.{EntryList}
 use Rattle.nq_base.specs.declared.Answer.{Answer}
 use Rattle.nq_base.specs.declared.Call.{Call}
@@ -7,7 +7,7 @@ use Rattle.nq_client.specs.Counted.{Counted}
 use Rattle.nq_client.specs.Outcome.{Called}
 use Rattle.nq_clock.specs.Clocks.{ClockTold}
 use Rattle.nq_hosts.specs.ClientTurn.{AttendsTurn}
-use Rattle.nq_hosts.specs.declared.node.turns.ClientTurn.{ClientTurn}
+use Rattle.nq_base.specs.declared.ending.halt.Halt.{Halt}
 use Rattle.nq_link.specs.Links.{LinkTold, Posts}
 use Rattle.nq_link.specs.declared.Sent.{Sent}
 use Rattle.nq_model.specs.ClientStep.{client_call}
@@ -25,7 +25,7 @@ pub record Makes (call : Call) (answer : Answer) (client client' : Counted) (log
 -- a turn was taken, which read the clock exactly once, and then a call was made
 pub record CallsNow (call : Call) (answer : Answer) (next next' : ℕ) (clock clock' : ClockTold) (link link' : LinkTold)
     (client client' : Counted) (log log' : EntryList) : Type 0 where
-  pub turn : ClientTurn
+  pub turn : Result (Option Answer) Halt
   pub between : Counted
   pub noted : EntryList
   pub heard : LinkTold

@@ -17,10 +17,9 @@ use Rattle.nq_base.specs.declared.ending.ending.Ending.{Ending}
 use Rattle.nq_base.specs.declared.ending.halt.Halt.{Halt}
 use Rattle.nq_io.specs.Faults.{Rose}
 use Rattle.nq_link.specs.Link.{Letters}
-use Rattle.nq_hosts.specs.ClientTurn.{TurnLink}
+use Rattle.nq_hosts.specs.ClientTurn.{CountsLink}
 use Rattle.nq_clock.specs.Clocks.{ClockTold}
 use Rattle.nq_link.specs.Links.{LinkTold}
-use Rattle.nq_hosts.specs.declared.node.turns.ClientTurn.{ClientTurn}
 use Rattle.nq_hosts.proofs.ClientCounts.{turn_link}
 use Rattle.nq_script.specs.Text.{text_of}
 use Rattle.nq_script.proofs.Cuts.{cut-again}
@@ -30,7 +29,7 @@ use Rattle.nq_hosts.specs.Calling.{FollowsUp, RunsCall, SendsOut, Waits, refusal
 use Rattle.nq_hosts.specs.Running as running
 use Rattle.nq_hosts.specs.Running.{AnswersAll, AttendsFrom, Begins, Runs, RunsLine, RunsText}
 use Rattle.nq_hosts.specs.UserTurning as turning
-use Rattle.nq_hosts.specs.UserTurning.{Between, EndsWithin, Goes, TakesTurn, TakesTurns, Turns, turn_of}
+use Rattle.nq_hosts.specs.UserTurning.{Between, EndsWithin, Goes, TakesTurn, TakesTurns, Turns}
 use Rattle.nq_hosts.specs.Using.{EndsBy, UsesText}
 use Rattle.nq_hosts.specs.declared.user.aims.Aim.{Aim}
 
@@ -56,15 +55,19 @@ same-why X Y Halt.NoAnswer before now c = c
 
 -- ---- one turn
 
-turn-counts : (turn : ClientTurn) (at after : Between) → turning.Attends turn at after → TurnLink turn at.link.faults after.link.faults
-turn-counts turn at after t = turn_link turn at.next after.next at.clock after.clock at.link after.link at.client after.client at.log after.log t
-
-went-on : (answer : Option Answer) (at after : Between) → turning.Attends (turn_of answer) at after → after.link.faults ≡ at.link.faults
-went-on None at after t = turn-counts ClientTurn.Quiet at after t
-went-on (Some answer) at after t = turn-counts (ClientTurn.Answered answer) at after t
+turn-counts : (ended : Result (Option Answer) Halt) (at after : Between) → turning.Attends ended at after → CountsLink ended at.link.faults after.link.faults
+turn-counts ended at after t = turn_link ended at.next after.next at.clock after.clock at.link after.link at.client after.client at.log after.log t
 
 turns-same : (aim : Aim) (done : Bool) (at after : Between) → Turns aim done at after → after.link.faults ≡ at.link.faults
-turns-same aim done at after t = went-on t.answer at after t.took
+turns-same aim done at after t = turn-counts (Ok t.answer) at after t.took
+
+-- a turn that stopped did so for the link, or for what the client itself stops for
+pub stops : (why : Halt) (at after : Between) → turning.Attends (Err why) at after → turning.Stops why at after
+stops Halt.Link at after t = t
+stops Halt.Keep at after t = turn-counts (Err Halt.Keep) at after t
+stops Halt.Memory at after t = t
+stops Halt.Spent at after t = t
+stops Halt.NoAnswer at after t = turn-counts (Err Halt.NoAnswer) at after t
 
 goes-same : (aim : Aim) (count : ℕ) (at after : Between) → Goes aim count at after → after.link.faults ≡ at.link.faults
 goes-same aim zero at after g = ap (λ (b : Between). b.link.faults) g
@@ -75,9 +78,9 @@ goes-same aim (suc count) at after g = turns-same aim false g.0 after g.2 ∙ go
 turn-outcome : (aim : Aim) (outcome : Result Bool Halt) (at after : Between) → TakesTurn aim outcome at after
     → Counts outcome at.link.faults after.link.faults
 turn-outcome aim (Ok done) at after t = turns-same aim done at after t
-turn-outcome aim (Err Halt.Link) at after t = turn-counts ClientTurn.Link at after t
-turn-outcome aim (Err Halt.Memory) at after t = turn-counts ClientTurn.Memory at after t
-turn-outcome aim (Err Halt.Spent) at after t = turn-counts ClientTurn.Spent at after t
+turn-outcome aim (Err Halt.Link) at after t = turn-counts (Err Halt.Link) at after t
+turn-outcome aim (Err Halt.Memory) at after t = turn-counts (Err Halt.Memory) at after t
+turn-outcome aim (Err Halt.Spent) at after t = turn-counts (Err Halt.Spent) at after t
 turn-outcome aim (Err Halt.Keep) at after t = absurd t
 turn-outcome aim (Err Halt.NoAnswer) at after t = absurd t
 

@@ -8,7 +8,6 @@ use Rattle.nq_model.specs.Client.{Client}
 use Rattle.nq_hosts.specs.ClientTurn.{AttendsTurn}
 use Rattle.nq_clock.specs.Clocks.{ClockTold}
 use Rattle.nq_link.specs.Links.{LinkTold}
-use Rattle.nq_hosts.specs.declared.node.turns.ClientTurn.{ClientTurn}
 use Rattle.nq_hosts.specs.declared.user.aims.Aim.{Aim}
 use Rattle.nq_hosts.specs.declared.user.session.Session.{Session}
 
@@ -24,32 +23,27 @@ pub record Between : Type 0 where
 abbrev pub between : Session → ClockTold → LinkTold → Between
 between session clock link = record { client = session.client; log = session.log; next = session.next; clock = clock; link = link }
 
--- one turn, with this answer
-abbrev pub Attends : ClientTurn → (at after : Between) → Type 0
-Attends turn at after =
-    AttendsTurn turn at.next after.next at.clock after.clock at.link after.link at.client after.client at.log after.log
+-- one turn, which ended so
+abbrev pub Attends : Result (Option Answer) Halt → (at after : Between) → Type 0
+Attends ended at after =
+    AttendsTurn ended at.next after.next at.clock after.clock at.link after.link at.client after.client at.log after.log
 
 -- whether a client is where turns are to bring it: the server knows it, or no call of it is under way
 abbrev pub reached : Aim → Client → Bool
 reached Aim.Attached client = client.attached
 reached Aim.Answered client = is_none client.call
 
--- what a turn that went on told: the answer to a call, if it brought one
-abbrev pub turn_of : Option Answer → ClientTurn
-turn_of None = ClientTurn.Quiet
-turn_of (Some answer) = ClientTurn.Answered answer
-
 -- one turn that went on, and whether the client then is where turns are to bring it
 pub record Turns (aim : Aim) (done : Bool) (at after : Between) : Type 0 where
   pub answer : Option Answer
-  pub took : Attends (turn_of answer) at after
+  pub took : Attends (Ok answer) at after
   pub so : done ≡ reached aim after.client.client
 
--- one turn that stopped so
+-- one turn that stopped so; none stops for a keeper, or for want of an answer
 abbrev pub Stops : Halt → (at after : Between) → Type 0
-Stops Halt.Link at after = Attends ClientTurn.Link at after
-Stops Halt.Memory at after = Attends ClientTurn.Memory at after
-Stops Halt.Spent at after = Attends ClientTurn.Spent at after
+Stops Halt.Link at after = Attends (Err Halt.Link) at after
+Stops Halt.Memory at after = Attends (Err Halt.Memory) at after
+Stops Halt.Spent at after = Attends (Err Halt.Spent) at after
 Stops Halt.Keep at after = ⊥
 Stops Halt.NoAnswer at after = ⊥
 

@@ -2,7 +2,5 @@
 //! read exactly once, and the link asked for exactly one receive.
 
 mod attending;
-mod turns;
 
 pub use attending::client_turn;
-pub use turns::ClientTurn;

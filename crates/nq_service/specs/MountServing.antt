@@ -50,7 +50,7 @@ pub record ServesNot {D : Type 0} (told : D → Option (List ℕ)) (faults : D �
 -- is synced
 pub record EndsServing {D : Type 0} (told : D → Option (List ℕ)) (faults : D → ℕ) (follows : D → D → Type 0) (leaves : D → D → List ℕ → Type 0)
     (extension : Extension) (longest turns : ℕ) (store : StoredStore D) (ended : Result Unit Halt) (left : D) (clock clock' : ClockTold)
-        (link link' : LinkTold) : Type 0 where
+    (link link' : LinkTold) : Type 0 where
   pub served : StoredStore D
   pub handed : left ≡ served.disk
   pub same : GoesOn faults follows store served
@@ -68,7 +68,7 @@ abbrev pub IsFoundAmong : {D : Type 0} → (told : D → Option (List ℕ)) → 
     → (image : List ℕ) → Type 0
 IsFoundAmong told faults follows leaves extension longest turns store ended left clock clock' link link' ends kept image =
     IsLeftInRuns (content_of told) (faults_of faults) LinkPolicy.GoOn extension (GoesOn faults follows) longest turns ends.serving.serves.time store ended
-        ends.served
+    ends.served
     ends.serving.serves.between clock' link link' ends.serving.serves.runs kept (kept_on image)
 
 -- a count of faults stood still, or it stood at the end of its type before, where it cannot rise

@@ -58,7 +58,7 @@ pub record Survives {D : Type 0} (told : D → Option (List ℕ)) (faults : D �
       (λ first last. LeavesKept (leaves first.disk last.disk)) longest turns store ended left clock clock' link link'
   pub survives : ForSome (told disk) (λ bytes. (kept : Kept) → AllStandFor (may_leave disk) kept
       → Each (leaves disk left.disk) (λ image. IsLeftInRuns (content_of told) (faults_of faults) LinkPolicy.Stop no_extension
-          (GoesOn faults follows) longest turns
+      (GoesOn faults follows) longest turns
       serving.serves.time store ended left serving.serves.between clock' link link' serving.serves.runs kept (kept_on image)))
   pub settled : ForSome (content_of told left) (λ kept. AllStandFor (leaves left.disk left.disk) kept)
 

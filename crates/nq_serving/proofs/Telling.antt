@@ -52,5 +52,5 @@ module _ {K : Type 0} (content : K → Option Kept) (faults : K → ℕ) (policy
   goes_tells at after t kept told =
       let s = t.took.stages in
       behind-tells s.goes t.turn (nat_lt at.server.beside.time s.reading) at.link after.link (record { server = at.server; out = t.took.out; log = t.log })
-          s.between
+      s.between
       (record { server = after.server; out = t.took.out'; log = t.entered }) (tick_due at.server.beside.time s.reading) t.so s.rest s.ticks kept told

@@ -125,7 +125,7 @@ module _ {K : Type 0} (content : K → Option Kept) (faults : K → ℕ) (policy
       let b = subst (λ r. Boots longest time r (content keeper) (content (keeper_in r)) (faults keeper) (faults (keeper_in r))) is boots in
       subst (λ e. LeavesRuns content faults policy extension follows leaves longest turns time keeper e left clock clock link link) (sym halts)
       (subst (λ k. LeavesRuns content faults policy extension follows leaves longest turns time keeper (Err (halt_of why)) k clock clock link link)
-          (sym is_left)
+      (sym is_left)
       (not-booted longest turns time keeper (halt_of why) (keeper_in (Err why)) clock link (none content faults longest time keeper why b)
       (subst (λ r. follows keeper (keeper_in r)) is same)
       (subst (λ r. LeavesThen (λ kept. booted kept longest) (content keeper) (leaves keeper (keeper_in r))) is stops)
@@ -139,7 +139,7 @@ module _ {K : Type 0} (content : K → Option Kept) (faults : K → ℕ) (policy
       (Later New Then : Option Kept → Type 0)
       → follows last next → ((first : K) (found : Option Kept) → follows first last → leaves first next found → leaves first last found ⊎ New found)
       → ((found : Option Kept) → New found ⊎ Later found → Then found) → AreInOrder content faults policy extension follows leaves last Later count at after
-          goes
+      goes
       → AreInOrder content faults policy extension follows leaves next Then count at after goes
   all-further zero at after goes last next Later New Then same new or m =
       further content follows leaves on after.server.keeper last next Later New Then same new or m
@@ -169,7 +169,7 @@ module _ {K : Type 0} (content : K → Option Kept) (faults : K → ℕ) (policy
           all-further count at middle g.goes middle.server.keeper after.server.keeper (λ found. ⊥) (IsLeftTaking content faults policy extension
               (Ok tt) middle after t.taken)
               (λ found. IsLeftTaking content faults policy extension (Ok tt) middle after t.taken found ⊎ ⊥) next (t.only tells.0 tells.1) (λ found or. or)
-                  (g.order kept told),
+              (g.order kept told),
         );
     tells = λ kept told. let tells = g.tells kept told in goes_tells content faults policy extension middle after t.taken tells.0 tells.1;
     settled = t.settled;
@@ -178,7 +178,7 @@ module _ {K : Type 0} (content : K → Option Kept) (faults : K → ℕ) (policy
   pub gone_stopped : (count turns : ℕ) (why : Halt) (at middle after : Standing K) → count < turns → follows at.server.keeper middle.server.keeper
       → follows middle.server.keeper after.server.keeper
       → GoneOn content faults policy extension follows leaves count at middle → LeavesTaking content faults policy extension follows leaves
-          (Err why) middle after
+      (Err why) middle after
       → LeavesTurns content faults policy extension follows leaves turns (Err why) at after
   gone_stopped count turns why at middle after fewer same next g t = record {
     taken = record { count = count; fewer = fewer; middle = middle; before = g.goes; last = t.taken };
@@ -192,7 +192,7 @@ module _ {K : Type 0} (content : K → Option Kept) (faults : K → ℕ) (policy
         λ kept told.
         let tells = g.tells kept told in
         all-further count at middle g.goes middle.server.keeper after.server.keeper (λ found. ⊥) (IsLeftTaking content faults policy extension
-            (Err why) middle after t.taken)
+        (Err why) middle after t.taken)
         (IsLeftTaking content faults policy extension (Err why) middle after t.taken) next (t.only tells.0 tells.1)
         (gone (IsLeftTaking content faults policy extension (Err why) middle after t.taken)) (g.order kept told);
     settled = t.settled;

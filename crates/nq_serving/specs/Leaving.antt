@@ -107,7 +107,7 @@ pub record LeavesStages {K : Type 0} (content : K → Option Kept) (faults : K �
 pub record LeavesTurn {K : Type 0} (content : K → Option Kept) (faults : K → ℕ) (extension : Extension) (follows : K → K → Type 0) (leaves : K → K
     → Option Kept → Type 0)
     (ended : Result Bool Halt) (next next' : ℕ) (clock clock' : ClockTold) (link link' : LinkTold) (server server' : Holding K)
-        (log log' : EntryList) : Type 0 where
+    (log log' : EntryList) : Type 0 where
   pub taken : ServesTurn content faults extension ended next next' clock clock' link link' server server' log log'
   pub left : LeavesOnly content follows leaves server.keeper server'.keeper (IsLeftInTurn content faults extension ended next next' clock clock' link link'
       server server' log log' taken)

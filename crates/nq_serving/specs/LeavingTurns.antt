@@ -49,7 +49,7 @@ IsLeftByBoot longest kept found = (found ≡ Some kept) ⊎ (found ≡ Some (boo
 abbrev pub IsLeftInRuns : {K : Type 0} → (content : K → Option Kept) → (faults : K → ℕ) → LinkPolicy → Extension → (follows : K → K → Type 0) →
     (longest turns time : ℕ)
     → (keeper : K) → (ended : Result Unit Halt) → (left : K) → (clock clock' : ClockTold) → (link link' : LinkTold)
-        → Runs content faults policy extension follows
+    → Runs content faults policy extension follows
     longest turns time keeper ended left clock clock' link link' → (kept : Kept) → (found : Option Kept) → Type 0
 IsLeftInRuns content faults policy extension follows longest turns time keeper (Ok done) left clock clock' link link' runs kept found =
     IsLeftByBoot longest kept found
@@ -75,24 +75,24 @@ pub record IsBeforeEnd {K : Type 0} (content : K → Option Kept) (follows : K �
 abbrev pub AreInOrder : {K : Type 0} → (content : K → Option Kept) → (faults : K → ℕ) → LinkPolicy → Extension → (follows : K → K → Type 0) → (leaves : K
     → K → Option Kept
     → Type 0) → (last : K) → (Later : Option Kept → Type 0) → (count : ℕ) → (at after : Standing K) → Goes content faults policy extension count at after
-        → Type 0
+    → Type 0
 AreInOrder content faults policy extension follows leaves last Later zero at after goes = IsBeforeEnd content follows leaves after.server.keeper last Later
 AreInOrder content faults policy extension follows leaves last Later (suc count) at after goes =
     IsBeforeEnd content follows leaves after.server.keeper last Later
     × AreInOrder content faults policy extension follows leaves last (λ found. IsLeftTaking content faults policy extension
-        (Ok tt) goes.0 after goes.2 found ⊎ Later found) count at
+    (Ok tt) goes.0 after goes.2 found ⊎ Later found) count at
     goes.0 goes.1
 
 -- the same of turns up to the first that ended them
 abbrev pub TurnsAreInOrder : {K : Type 0} → (content : K → Option Kept) → (faults : K → ℕ) → LinkPolicy → Extension → (follows : K → K → Type 0)
     → (leaves : K → K → Option Kept → Type 0) → (turns : ℕ) → (ended : Result Unit Halt) → (at after : Standing K)
-        → TakesTurns content faults policy extension turns
+    → TakesTurns content faults policy extension turns
     ended at after → Type 0
 TurnsAreInOrder content faults policy extension follows leaves turns (Ok done) at after taken =
     AreInOrder content faults policy extension follows leaves after.server.keeper (λ found. ⊥) turns at after taken
 TurnsAreInOrder content faults policy extension follows leaves turns (Err why) at after taken =
     AreInOrder content faults policy extension follows leaves after.server.keeper (λ found. IsLeftTaking content faults policy extension
-        (Err why) taken.middle after taken.last found)
+    (Err why) taken.middle after taken.last found)
     taken.count at taken.middle taken.before
 
 -- the same of the turns of a server that booted, if one did

@@ -3,11 +3,11 @@
 ghost use Rattle.std.specs.Prelude.{◌≡◌, ◌<◌, ◌^◌, length, Option, Ok};
 ghost use Rattle.nq_base.specs.declared.Answer.{Answer};
 ghost use Rattle.nq_base.specs.declared.Party.{Party};
-ghost use Rattle.nq_hosts.specs.ClientTurn.{AttendsTurn, GoesOn, Receives, SendsOut, Stages, Takes, first_of, given_by, goes_on, tick_due, turn_of};
+ghost use Rattle.nq_hosts.specs.ClientTurn.{AttendsTurn, GoesOn, Receives, SendsOut, Stages, Takes, first_of, given_by, goes_on, tick_due};
 ghost use Rattle.nq_clock.specs.Clocks.{clock_told};
 ghost use Rattle.nq_link.specs.Links.{link_told, most_bytes};
 
-use crate::node::turns::{ClientTurn, Stop};
+use nq_base::ending::Halt;
 use nq_base::{Answer, Journal, Party, Ticks};
 use nq_client::{Client, Heard};
 use nq_clock::Clock;
@@ -18,7 +18,8 @@ use std::alloc::Global;
 /// A turn of a client. It reads the clock once. Where the reading is above the client's time, the client takes in one tick to that
 /// time. It asks the link for one receive. The client takes in the datagram that came, cut to 4401 bytes; one that another party
 /// than the server sent is dropped. Then all that came out is sent, in order. `next` is the number that the client is told of
-/// the next datagram that it is given; it rises by one for each that it takes in, and stops at `u64::MAX`.
+/// the next datagram that it is given; it rises by one for each that it takes in, and stops at `u64::MAX`. It answers with what answers
+/// the call under way, if anything does.
 ///
 /// # Errors
 ///
@@ -32,7 +33,7 @@ pub fn client_turn<L: Link, C: Clock>(
     clock: &mut C,
     next: &mut u64,
     log: &mut Journal,
-) -> ClientTurn
+) -> Result<Option<Answer>, Halt>
     ensures turn { AttendsTurn result next.old next.new
         (clock_told C.floor C.readings C.reads clock.old) (clock_told C.floor C.readings C.reads clock.new)
         (link_told L.sent L.waiting L.faults L.receives link.old)
@@ -40,20 +41,7 @@ pub fn client_turn<L: Link, C: Clock>(
         client.old client.new log.old log.new }
 {
     let mut out = Outbox::new(alloc, 0).unwrap();
-    answered(attend(client, link, clock, next, &mut out, log))
-}
-
-/// The answer of a turn that ended so.
-fn answered(ended: Result<Option<Answer>, Stop>) -> ClientTurn
-    ensures { result ≡ turn_of ended }
-{
-    match ended {
-        Ok(Some(answer)) => ClientTurn::Answered(answer),
-        Ok(None) => ClientTurn::Quiet,
-        Err(Stop::Link) => ClientTurn::Link,
-        Err(Stop::Memory) => ClientTurn::Memory,
-        Err(Stop::Spent) => ClientTurn::Spent,
-    }
+    attend(client, link, clock, next, &mut out, log)
 }
 
 /// The stages of a turn. It answers with what answers the call under way, if anything does.
@@ -64,7 +52,7 @@ fn attend<L: Link, C: Clock>(
     next: &mut u64,
     out: &mut Outbox,
     log: &mut Journal,
-) -> Result<Option<Answer>, Stop>
+) -> Result<Option<Answer>, Halt>
     ensures { Stages result (clock_told C.floor C.readings C.reads clock.old) (clock_told C.floor C.readings C.reads clock.new)
         (link_told L.sent L.waiting L.faults L.receives link.old)
         (link_told L.sent L.waiting L.faults L.receives link.new)
@@ -86,7 +74,7 @@ fn go_on<L: Link>(
     next: &mut u64,
     out: &mut Outbox,
     log: &mut Journal,
-) -> Result<Option<Answer>, Stop>
+) -> Result<Option<Answer>, Halt>
     ensures { GoesOn (Ok ticked) result
         (link_told L.sent L.waiting L.faults L.receives link.old)
         (link_told L.sent L.waiting L.faults L.receives link.new)
@@ -104,14 +92,14 @@ fn send_out<L: Link>(
     link: &mut L,
     out: &Outbox,
     answer: Option<Answer>,
-) -> Result<Option<Answer>, Stop>
+) -> Result<Option<Answer>, Halt>
     ensures { SendsOut out.now.datagrams answer result
         (link_told L.sent L.waiting L.faults L.receives link.old)
         (link_told L.sent L.waiting L.faults L.receives link.new) }
 {
     match send_all(link, out) {
         Sent::All => Ok(answer),
-        Sent::Failed => Err(Stop::Link),
+        Sent::Failed => Err(Halt::Link),
     }
 }
 
@@ -132,7 +120,7 @@ fn tick_to(
     next: &u64,
     out: &mut Outbox,
     log: &mut Journal,
-) -> Result<Option<Answer>, Stop>
+) -> Result<Option<Answer>, Halt>
     requires { reading < 2 ^ 62 }
     ensures { Takes (tick_due client.old.client.now reading) result
         (record { client = client.old; out = out.old; log = log.old; next = next.now })
@@ -152,7 +140,7 @@ fn take_from<L: Link>(
     next: &mut u64,
     out: &mut Outbox,
     log: &mut Journal,
-) -> Result<Option<Answer>, Stop>
+) -> Result<Option<Answer>, Halt>
     ensures { Receives result
         (link_told L.sent L.waiting L.faults L.receives link.old)
         (link_told L.sent L.waiting L.faults L.receives link.new)
@@ -171,7 +159,7 @@ fn take_through<L: Link>(
     next: &mut u64,
     out: &mut Outbox,
     log: &mut Journal,
-) -> Result<Option<Answer>, Stop>
+) -> Result<Option<Answer>, Halt>
     requires { length buffer.old ≡ most_bytes }
     ensures { Receives result
         (link_told L.sent L.waiting L.faults L.receives link.old)
@@ -181,7 +169,7 @@ fn take_through<L: Link>(
 {
     match link.receive(buffer) {
         Came::Nothing => Ok(None),
-        Came::Failed => Err(Stop::Link),
+        Came::Failed => Err(Halt::Link),
         Came::Datagram { length, sender } => {
             take_in(client, sender, &buffer[..length], next, out, log)
         }
@@ -196,7 +184,7 @@ fn take_in(
     next: &mut u64,
     out: &mut Outbox,
     log: &mut Journal,
-) -> Result<Option<Answer>, Stop>
+) -> Result<Option<Answer>, Halt>
     ensures { Takes (given_by (sender, datagram.now)) result
         (record { client = client.old; out = out.old; log = log.old; next = next.old })
         (record { client = client.new; out = out.new; log = log.new; next = next.new }) }
@@ -214,13 +202,13 @@ fn take_in(
 }
 
 /// The answer that a turn brings where a client has taken something so.
-fn made(how: Heard) -> Result<Option<Answer>, Stop>
+fn made(how: Heard) -> Result<Option<Answer>, Halt>
     ensures { result ≡ goes_on how }
 {
     match how {
         Heard::Nothing | Heard::Ignored => Ok(None),
         Heard::Answered(answer) => Ok(Some(answer)),
-        Heard::Memory => Err(Stop::Memory),
-        Heard::Spent => Err(Stop::Spent),
+        Heard::Memory => Err(Halt::Memory),
+        Heard::Spent => Err(Halt::Spent),
     }
 }

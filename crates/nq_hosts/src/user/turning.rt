@@ -5,7 +5,7 @@ ghost use Rattle.nq_clock.specs.Clocks.{clock_told};
 ghost use Rattle.nq_link.specs.Links.{link_told};
 ghost use Rattle.nq_hosts.specs.UserTurning.{TakesTurn, TakesTurns, between, reached};
 
-use crate::node::{ClientTurn, client_turn};
+use crate::node::client_turn;
 use crate::user::aims::Aim;
 use crate::user::session::Session;
 use nq_base::ending::Halt;
@@ -61,11 +61,8 @@ fn take_turn<L: Link, C: Clock>(
         &mut session.next,
         &mut session.log,
     ) {
-        ClientTurn::Quiet => Ok(is_reached(&session.client, aim)),
-        ClientTurn::Answered(_) => Ok(is_reached(&session.client, aim)),
-        ClientTurn::Link => Err(Halt::Link),
-        ClientTurn::Memory => Err(Halt::Memory),
-        ClientTurn::Spent => Err(Halt::Spent),
+        Ok(_answer) => Ok(is_reached(&session.client, aim)),
+        Err(why) => Err(why),
     }
 }
 

@@ -9,7 +9,7 @@ returns-in-Ok-clause-stages g c =
     let clock_of = clock_told g.C.Clock.floor g.C.Clock.readings g.C.Clock.reads in
     let link_of = link_told g.L.Link.sent g.L.Link.waiting g.L.Link.faults g.L.Link.receives in
     went_on_leaves g.K.Keeper.content g.K.Keeper.faults (extension_told g.W.Extension.owns g.W.Extension.replies) g.K.Keeper.follows g.K.Keeper.leaves
-        g.met.K.Keeper.follows_on g.met.K.Keeper.parts
+    g.met.K.Keeper.follows_on g.met.K.Keeper.parts
     c.go_on.result c.is_below-rises.result c.now-reading.result (clock_of c.args.clock.now) (clock_of c.now-reading.new.self)
     (link_of c.args.link.now)
     (link_of c.go_on.new.link)
@@ -33,7 +33,7 @@ returns-in-Err-clause-stages g c =
     let clock_of = clock_told g.C.Clock.floor g.C.Clock.readings g.C.Clock.reads in
     let link_of = link_told g.L.Link.sent g.L.Link.waiting g.L.Link.faults g.L.Link.receives in
     stopped_leaves g.K.Keeper.content g.K.Keeper.faults (extension_told g.W.Extension.owns g.W.Extension.replies) g.K.Keeper.follows g.K.Keeper.leaves
-        g.met.K.Keeper.follows_on g.met.K.Keeper.parts
+    g.met.K.Keeper.follows_on g.met.K.Keeper.parts
     c.in-Err.why c.now-reading.result (clock_of c.args.clock.now) (clock_of c.now-reading.new.self)
     (link_of c.args.link.now)
     (record { server = c.args.server.now; out = c.args.out.now; log = c.args.log.now })

@@ -13,7 +13,7 @@ returns-in-Nothing-clause-receives g c =
     let link_of = link_told g.L.Link.sent g.L.Link.waiting g.L.Link.faults g.L.Link.receives in
     let at : Moment g.row.K.Denot = record { server = c.args.server.now; out = c.args.out.now; log = c.args.log.now } in
     still_leaves g.K.Keeper.content g.K.Keeper.faults (extension_told g.E.Extension.owns g.E.Extension.replies) g.K.Keeper.follows g.K.Keeper.leaves
-        g.met.K.Keeper.follows_on g.met.K.Keeper.parts (Ok false)
+    g.met.K.Keeper.follows_on g.met.K.Keeper.parts (Ok false)
     (link_of c.args.link.now) (link_of c.receive.new.self) at (search rules)
 
 pub returns-in-Failed-clause-receives : goal.returns-in-Failed-clause-receives
@@ -21,7 +21,7 @@ returns-in-Failed-clause-receives g c =
     let link_of = link_told g.L.Link.sent g.L.Link.waiting g.L.Link.faults g.L.Link.receives in
     let at : Moment g.row.K.Denot = record { server = c.args.server.now; out = c.args.out.now; log = c.args.log.now } in
     still_leaves g.K.Keeper.content g.K.Keeper.faults (extension_told g.E.Extension.owns g.E.Extension.replies) g.K.Keeper.follows g.K.Keeper.leaves
-        g.met.K.Keeper.follows_on g.met.K.Keeper.parts
+    g.met.K.Keeper.follows_on g.met.K.Keeper.parts
     (Err Halt.Link) (link_of c.args.link.now) (link_of c.receive.new.self) at (search rules)
 
 pub returns-in-Datagram-clause-receives : goal.returns-in-Datagram-clause-receives
@@ -32,9 +32,9 @@ returns-in-Datagram-clause-receives g c =
     let at : Moment g.row.K.Denot = record { server = c.args.server.now; out = c.args.out.now; log = c.args.log.now } in
     let after : Moment g.row.K.Denot = record { server = c.take_in.new.server; out = c.take_in.new.out; log = c.take_in.new.log } in
     subst (λ r. LeavesReceiving g.K.Keeper.content g.K.Keeper.faults (extension_told g.E.Extension.owns g.E.Extension.replies) g.K.Keeper.follows
-        g.K.Keeper.leaves r link link' at after) (sym c.taken.ensures)
+    g.K.Keeper.leaves r link link' at after) (sym c.taken.ensures)
     (came_leaves g.K.Keeper.content g.K.Keeper.faults (extension_told g.E.Extension.owns g.E.Extension.replies) g.K.Keeper.follows g.K.Keeper.leaves
-        g.met.K.Keeper.follows_on g.met.K.Keeper.parts
+    g.met.K.Keeper.follows_on g.met.K.Keeper.parts
     c.take_in.result (c.in-Datagram.sender, take c.in-Datagram.length c.receive.new.into) link link' at after
     (record {
       hears =

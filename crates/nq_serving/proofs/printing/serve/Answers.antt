@@ -17,8 +17,13 @@ returns-in_default-clause-serves g c =
         serves = record {
           time = c.now-now.result;
           between = clock_of c.now-now.new.self;
-          read = record { rises = c.now-now.ensures.rises; floor = c.now-now.ensures.floor; below = c.now-now.ensures.below; told = c.now-now.ensures.told;
-              once = c.now-now.ensures.reads };
+          read = record {
+            rises = c.now-now.ensures.rises;
+            floor = c.now-now.ensures.floor;
+            below = c.now-now.ensures.below;
+            told = c.now-now.ensures.told;
+            once = c.now-now.ensures.reads;
+          };
           runs = inr (record { none = (refl, refl); same = g.met.K.Keeper.follows_itself c.args.keeper; clocks = refl; links = refl });
         };
         only = λ kept told found left. inl (c.pause.ensures.leaves kept told found left);
@@ -36,7 +41,7 @@ returns-clause-serves g c =
     let link_of = link_told g.L.Link.sent g.L.Link.waiting g.L.Link.faults g.L.Link.receives in
     let ran = c.boot_and_run-ran.result in
     tells (λ ended. LeavesServing g.K.Keeper.content g.K.Keeper.faults LinkPolicy.Stop no_extension g.K.Keeper.follows g.K.Keeper.leaves c.args.longest
-        c.args.turns c.args.keeper
+    c.args.turns c.args.keeper
     ended ran.left
     (clock_of c.args.clock.now) (clock_of c.boot_and_run-ran.new.clock) (link_of c.args.link.now) (link_of c.boot_and_run-ran.new.link))
     ran.end c.args.turns c.tell.result (g.S.Sink.held c.args.out.now) (g.S.Sink.held c.tell.new.out) (g.S.Sink.faults c.args.out.now)
@@ -45,8 +50,13 @@ returns-clause-serves g c =
       serves = record {
         time = c.now-now.result;
         between = clock_of c.now-now.new.self;
-        read = record { rises = c.now-now.ensures.rises; floor = c.now-now.ensures.floor; below = c.now-now.ensures.below; told = c.now-now.ensures.told;
-            once = c.now-now.ensures.reads };
+        read = record {
+          rises = c.now-now.ensures.rises;
+          floor = c.now-now.ensures.floor;
+          below = c.now-now.ensures.below;
+          told = c.now-now.ensures.told;
+          once = c.now-now.ensures.reads;
+        };
         runs = c.boot_and_run-ran.ensures.runs.runs;
       };
       only = c.boot_and_run-ran.ensures.runs.only;
@@ -66,7 +76,7 @@ returns-clause-cause g c =
     (g.K.Keeper.content c.args.keeper) (g.K.Keeper.faults c.args.keeper) (g.K.Keeper.faults ran.left) (g.L.Link.faults c.args.link.now)
     (g.L.Link.faults c.boot_and_run-ran.new.link) (g.S.Sink.faults c.args.out.now) (g.S.Sink.faults c.tell.new.out) c.tell.ensures
     (halts_by g.K.Keeper.content g.K.Keeper.faults LinkPolicy.Stop no_extension g.K.Keeper.follows most_taken_by_server c.args.longest c.args.turns
-        c.now-now.result c.args.keeper
+    c.now-now.result c.args.keeper
     ran.end ran.left (clock_of c.now-now.new.self) (clock_of c.boot_and_run-ran.new.clock) (link_of c.args.link.now)
     (link_of c.boot_and_run-ran.new.link)
     refl (omega (arith, c.ranges.turns)) c.boot_and_run-ran.ensures.runs.runs)

@@ -16,7 +16,7 @@ returns-in-Ok-clause-runs g c =
     let last = standing c.take_turns-ended.new.server c.take_turns-ended.new.next (clock_of c.take_turns-ended.new.clock)
     (link_of c.take_turns-ended.new.link) in
     ran_booted g.K.Keeper.content g.K.Keeper.faults c.args.policy (extension_told g.W.Extension.owns g.W.Extension.replies) g.K.Keeper.follows
-        g.K.Keeper.leaves c.args.longest c.args.turns c.args.now c.args.keeper
+    g.K.Keeper.leaves c.args.longest c.args.turns c.args.now c.args.keeper
     c.take_turns-ended.result c.into_keeper.result (clock_of c.args.clock.now) (clock_of c.take_turns-ended.new.clock) (link_of c.args.link.now)
     (link_of c.take_turns-ended.new.link) c.in-Ok.server c.boot.result c.in-Ok.is c.boot.ensures.boots c.boot.ensures.follows c.boot.ensures.leaves
     (record {
@@ -31,7 +31,7 @@ returns-in-Ok-clause-runs g c =
       only =
           subst (λ k. LeavesOnly g.K.Keeper.content g.K.Keeper.follows g.K.Keeper.leaves c.in-Ok.server.keeper k
           (IsLeftInTurns g.K.Keeper.content g.K.Keeper.faults c.args.policy (extension_told g.W.Extension.owns g.W.Extension.replies) c.args.turns
-              c.take_turns-ended.result
+          c.take_turns-ended.result
           (standing c.in-Ok.server 0 (clock_of c.args.clock.now) (link_of c.args.link.now)) last c.take_turns-ended.ensures.turns.taken))
           (sym c.into_keeper.ensures) c.take_turns-ended.ensures.turns.only;
       order = c.take_turns-ended.ensures.turns.order;
@@ -44,7 +44,7 @@ returns-in-Err-clause-runs g c =
     let clock_of = clock_told g.C.Clock.floor g.C.Clock.readings g.C.Clock.reads in
     let link_of = link_told g.L.Link.sent g.L.Link.waiting g.L.Link.faults g.L.Link.receives in
     ran_none g.K.Keeper.content g.K.Keeper.faults c.args.policy (extension_told g.W.Extension.owns g.W.Extension.replies) g.K.Keeper.follows
-        g.K.Keeper.leaves c.args.longest c.args.turns c.args.now c.args.keeper
+    g.K.Keeper.leaves c.args.longest c.args.turns c.args.now c.args.keeper
     c.not_booted.result.end c.not_booted.result.left (clock_of c.args.clock.now) (link_of c.args.link.now) c.in-Err.fault c.boot.result c.in-Err.is
     c.boot.ensures.boots c.boot.ensures.follows c.boot.ensures.leaves c.not_booted.ensures.why c.not_booted.ensures.keeper c.not_booted.ensures.settled
 

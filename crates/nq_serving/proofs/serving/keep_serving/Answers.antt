@@ -14,8 +14,13 @@ returns-clause-serves g c =
       serves = record {
         time = c.now-now.result;
         between = clock_of c.now-now.new.self;
-        read = record { rises = c.now-now.ensures.rises; floor = c.now-now.ensures.floor; below = c.now-now.ensures.below; told = c.now-now.ensures.told;
-            once = c.now-now.ensures.reads };
+        read = record {
+          rises = c.now-now.ensures.rises;
+          floor = c.now-now.ensures.floor;
+          below = c.now-now.ensures.below;
+          told = c.now-now.ensures.told;
+          once = c.now-now.ensures.reads;
+        };
         runs = c.boot_and_run.ensures.runs.runs;
       };
       only = c.boot_and_run.ensures.runs.only;
@@ -29,6 +34,6 @@ returns-clause-cause g c =
     let clock_of = clock_told g.C.Clock.floor g.C.Clock.readings g.C.Clock.reads in
     let ran = c.boot_and_run.result in
     halts_by g.K.Keeper.content g.K.Keeper.faults LinkPolicy.GoOn (extension_told g.W.Extension.owns g.W.Extension.replies) g.K.Keeper.follows
-        most_taken_by_server c.args.longest c.args.turns c.now-now.result c.args.keeper
+    most_taken_by_server c.args.longest c.args.turns c.now-now.result c.args.keeper
     ran.end ran.left (clock_of c.now-now.new.self) (clock_of c.boot_and_run.new.clock) (link_of c.args.link.now) (link_of c.boot_and_run.new.link)
     refl (omega (arith, c.requires.few)) c.boot_and_run.ensures.runs.runs

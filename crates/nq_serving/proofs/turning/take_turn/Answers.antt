@@ -14,6 +14,6 @@ returns-clause-turn g c =
     let after = standing c.serve_turn-turn.new.server c.serve_turn-turn.new.next (clock_of c.serve_turn-turn.new.clock)
     (link_of c.serve_turn-turn.new.link) in
     taking g.K.Keeper.content g.K.Keeper.faults c.args.policy (extension_told g.W.Extension.owns g.W.Extension.replies) g.K.Keeper.follows g.K.Keeper.leaves
-        c.serve_turn-turn.result c.behind_turn.result c.unwrap-log.result
+    c.serve_turn-turn.result c.behind_turn.result c.unwrap-log.result
     c.serve_turn-turn.new.log at after c.behind_turn.ensures
     (subst (λ r. IfOk r (λ j. j.entries ≡ [])) c.unwrap-log.ensures c.new.ensures.empty) c.serve_turn-turn.ensures.turn c.pause.ensures.leaves

@@ -26,7 +26,7 @@ returns-in-Err-clause-turns g c =
     let clock_of = clock_told g.C.Clock.floor g.C.Clock.readings g.C.Clock.reads in
     let link_of = link_told g.L.Link.sent g.L.Link.waiting g.L.Link.faults g.L.Link.receives in
     gone_stopped g.K.Keeper.content g.K.Keeper.faults c.args.policy (extension_told g.W.Extension.owns g.W.Extension.replies) g.K.Keeper.follows
-        g.K.Keeper.leaves g.met.K.Keeper.follows_itself g.met.K.Keeper.follows_on
+    g.K.Keeper.leaves g.met.K.Keeper.follows_itself g.met.K.Keeper.follows_on
     c.loop-turn._turn c.args.turns c.in-Err.why
     (standing c.args.server.now c.args.next.now (clock_of c.args.clock.now) (link_of c.args.link.now))
     (standing c.loop-turn.server c.loop-turn.next (clock_of c.loop-turn.clock) (link_of c.loop-turn.link))
@@ -41,7 +41,7 @@ loop-turn-preserved g c =
       goes =
           rw add-one (
           gone_on g.K.Keeper.content g.K.Keeper.faults c.args.policy (extension_told g.W.Extension.owns g.W.Extension.replies) g.K.Keeper.follows
-              g.K.Keeper.leaves g.met.K.Keeper.follows_itself g.met.K.Keeper.follows_on
+          g.K.Keeper.leaves g.met.K.Keeper.follows_itself g.met.K.Keeper.follows_on
           c.loop-turn._turn
           (standing c.args.server.now c.args.next.now (clock_of c.args.clock.now) (link_of c.args.link.now))
           (standing c.loop-turn.server c.loop-turn.next (clock_of c.loop-turn.clock) (link_of c.loop-turn.link))
@@ -56,7 +56,7 @@ returns-clause-turns g c =
     let clock_of = clock_told g.C.Clock.floor g.C.Clock.readings g.C.Clock.reads in
     let link_of = link_told g.L.Link.sent g.L.Link.waiting g.L.Link.faults g.L.Link.receives in
     gone_all g.K.Keeper.content g.K.Keeper.faults c.args.policy (extension_told g.W.Extension.owns g.W.Extension.replies) g.K.Keeper.follows
-        g.K.Keeper.leaves c.loop-turn._turn c.args.turns
+    g.K.Keeper.leaves c.loop-turn._turn c.args.turns
     (standing c.args.server.now c.args.next.now (clock_of c.args.clock.now) (link_of c.args.link.now))
     (standing c.loop-turn.server c.loop-turn.next (clock_of c.loop-turn.clock) (link_of c.loop-turn.link))
     (omega (arith, c.loop-turn-test.false, c.loop-turn.auto._turn-end)) c.loop-turn.invariant.goes
