@@ -63,10 +63,20 @@ class Browser:
 
     def open(self, address):
         """Opens a page, and waits until it shows a run."""
+        self.value("window.isLeft = true")
         self.tell("Page.navigate", url="about:blank")
         self.tell("Page.navigate", url=address)
-        while not self.value("typeof current === 'function' && document.readyState === 'complete' && current() !== null"):
+        there = "!window.isLeft && document.readyState === 'complete' && typeof current === 'function' && current() !== null"
+        assert self.until(there), f"{address} shows no run"
+
+    def until(self, expression):
+        """Waits until an expression is true on the page; whether it is within half a minute."""
+        end = time.monotonic() + 30
+        while time.monotonic() < end:
+            if self.value(expression):
+                return True
             time.sleep(0.02)
+        return False
 
     def value(self, expression):
         """What an expression is on the page, once it is there."""

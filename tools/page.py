@@ -16,6 +16,7 @@ import functools
 import json
 import pathlib
 import shutil
+import statistics
 import subprocess
 import sys
 import tempfile
@@ -25,12 +26,15 @@ from browser import Browser
 ROOT = pathlib.Path(__file__).resolve().parent.parent
 WINDOWS = {f"{wide}-{look}": (wide, high, look) for wide, high in ((1280, 900), (390, 844)) for look in ("light", "dark")}
 PICTURES = ("a-delayed-write-is-lost", "two-crashes", "an-ordinary-session", "a-put-that-waits")
+# A change has to show within so many milliseconds, in the middle of so many tries.
 MOST = 200
+TRIES = 9
 
 # What the page shows of a run, and what is not as it has to be.
 SHOWN = """function () {
   const faults = [];
   const { run } = current();
+  drawBetween(shown.chart, 0, shown.chart.layout.high);
   const texts = [...document.querySelectorAll("#chart text")].map((text) => text.getBoundingClientRect());
   texts.sort((one, other) => one.top - other.top);
   texts.forEach((one, place) => {
@@ -41,7 +45,7 @@ SHOWN = """function () {
   });
   if (document.documentElement.scrollWidth > innerWidth) faults.push("wider than the window");
   const folds = shown.chart.rows.some(({ kind }) => kind === "resends");
-  for (const { number } of run.packets) if (!shown.chart.shows.has(number) && !folds) faults.push(`packet ${number} is not shown`);
+  for (const { number } of run.packets) if (!partsOf(shown.chart).has(number) && !folds) faults.push(`packet ${number} is not shown`);
   const journal = [...document.querySelectorAll("#journal li")].map((line) => line.lastChild.textContent + "\\n").join("");
   return { schedule: editor.field.value, journal, verdict: run.verdict, faults, says: document.getElementById("verdict").textContent };
 }"""
@@ -99,22 +103,32 @@ SOLVED = """(async () => {
   return faults;
 })()"""
 
-TIMED = """(async (schedule) => {
-  await beginWith(schedule, null);
-  const { run } = current();
-  const packet = run.packets.filter(({ arrivals }) => arrivals.length > 0)[20];
-  const begun = performance.now();
-  await bendPacket({ kind: "lose", packet: packet.number });
-  await new Promise(requestAnimationFrame);
-  document.getElementById("chart").getBoundingClientRect();
-  return [run.events.length, Math.round(performance.now() - begun), current().run !== run];
-})(%s)"""
+# How many milliseconds a change takes, from a reader's press until the frame that shows it is made, in a few tries.
+TIMED = """(async (schedule, tries) => {
+  const frame = () => new Promise((done) => {
+    const made = new MessageChannel();
+    made.port1.onmessage = done;
+    requestAnimationFrame(() => made.port2.postMessage(null));
+  });
+  const took = [];
+  for (let go = 0; go < tries; go += 1) {
+    await beginWith(schedule, null);
+    const { run } = current();
+    const { number } = run.packets.filter(({ arrivals }) => arrivals.length > 0)[20 + go];
+    await new Promise((done) => setTimeout(done, 300));
+    const begun = performance.now();
+    await bendPacket({ kind: "lose", packet: number });
+    await frame();
+    took.push(current().run === run ? Infinity : Math.round(performance.now() - begun));
+  }
+  return [current().before.events.length, took];
+})(%s, %d)"""
 
 TIP = """(() => {
   document.querySelector(".chart").scrollIntoView();
   const place = (part) => { const box = part.getBoundingClientRect(); return [box.left + box.width / 2, box.top + box.height / 2]; };
   const tip = document.querySelector(".tip[data-packet='0']");
-  return [place(tip), [place(tip)[0], shown.chart.bands[3].getBoundingClientRect().bottom - 4]];
+  return [place(tip), [place(tip)[0], bandOf(shown.chart, 3).getBoundingClientRect().bottom - 4]];
 })()"""
 
 
@@ -156,8 +170,7 @@ def deed_faults(browser, address):
     """What is not as it has to be where a reader drags, goes back, opens an address, or solves."""
     browser.value("begins('put-then-fetch')")
     browser.drag(*browser.value(TIP))
-    browser.value("new Promise((done) => setTimeout(done, 500))")
-    if not browser.value("current().before && current().run.packets[0].arrivals[0] > 1"):
+    if not browser.until("current().before && current().run.packets[0].arrivals[0] > 1"):
         yield "a packet is not dragged"
     browser.value("document.getElementById('undo').click()")
     if browser.value("current().before !== null"):
@@ -175,10 +188,10 @@ def time_faults(browser, programs):
     """Whether a change of a run of 500 events is shown in time."""
     storm = subprocess.run([programs.nqnfs, "storm", "lossy", "1", "500"], stdout=subprocess.PIPE, text=True).stdout
     schedule = storm[: storm.index("\nend\n") + 5]
-    events, took, is_bent = browser.value(TIMED % json.dumps(schedule))
-    print(f"a change in a run of {events} events shows after {took} ms", flush=True)
-    if took > MOST or not is_bent:
-        yield f"a change shows after {took} ms"
+    events, took = browser.value(TIMED % (json.dumps(schedule), TRIES))
+    print(f"changes in a run of {events} events show after {', '.join(map(str, took))} ms", flush=True)
+    if statistics.median(took) > MOST:
+        yield f"a change shows after {statistics.median(took)} ms"
 
 
 def stored_faults(browser):

@@ -1,23 +1,30 @@
 #!/usr/bin/env python3
 """Tries wrong bodies: each edit of wrong.edits is made in a copy of its crate, and the prover has to refuse it.
 
-    wrong.py                tries all of them, one crate after another: hours
+    wrong.py                tries all of them, one crate after another
     wrong.py CRATE ..       those of these crates
     wrong.py --only WORD    those of which the first line has this word
     wrong.py --look         proves nothing, and says which edits no longer fit the files
+    wrong.py --over FOLDER  takes the libraries below from another checkout of the same text
 
-It begins with what `rt check` kept of the crate, so check it before. While it runs, the edits stand in the crate's folder must-fail.
-It ends with status 1 where an edit is still proved or could not be tried.
+It takes the libraries that `rt ci` left in crates/*/out, so run that before. Edits of a crate that touch different functions are tried together,
+in a check of these functions; one that is still proved there is tried alone, in a check of the whole crate. For each edit it says
+at which function and clauses the prover stopped, and `elsewhere` where these are other ones than wrong.edits says.
+It ends with status 1 where an edit is still proved, could not be tried, or was refused elsewhere.
 """
 
 import argparse
 import os
 import re
+import shutil
 import subprocess
 import sys
+import tempfile
 
-TOP = os.path.join(os.path.dirname(os.path.abspath(__file__)), "..")
+TOP = os.path.abspath(os.path.join(os.path.dirname(os.path.abspath(__file__)), ".."))
 EDITS = os.path.join(TOP, "tools", "wrong.edits")
+FUNCTION = re.compile(r"^\s*(?:pub(?:\(crate\))?\s+)?fn\s+(\w+)", re.M)
+IMPL = re.compile(r"^impl(?:<.*?>)?\s+(?:(\w+)(?:<.*?>)?\s+for\s+)?(\w+)(?:<.*>)?\s*\{|^\}", re.M)
 
 
 def read_edits():
@@ -39,86 +46,195 @@ def read_edits():
     return edits
 
 
-def name_of(edit):
-    """The name of an edit's file."""
-    return "wrong_" + re.sub(r"[^a-z0-9]+", "_", edit["does"].lower()).strip("_") + ".edit"
+def crates_of(top):
+    """The crates of a checkout in their order, each with the libraries that it names."""
+    crates = {}
+    with open(os.path.join(top, "crates.txt")) as text:
+        for line in text:
+            line = line.partition("#")[0].strip()
+            if line:
+                name, _, below = line.partition(":")
+                crates[name.split()[0]] = below.split()
+    return crates
+
+
+def content_of(edit):
+    """The text of an edit's file, or None where it is not there."""
+    path = os.path.join(TOP, "crates", edit["crate"], edit["file"])
+    if not os.path.exists(path):
+        return None
+    with open(path) as text:
+        return text.read()
+
+
+def made(edit, content):
+    """A text with an edit made in it, and why that cannot be, if it cannot."""
+    if content is None:
+        return None, "its file is not there"
+    for old, new in edit["pairs"]:
+        if content.count(old) != 1:
+            return None, f"a text stands {content.count(old)} times: {old.strip()}"
+        content = content.replace(old, new)
+    return content, None
 
 
 def misfit(edit):
     """Why an edit does not fit its file, if it does not."""
-    path = os.path.join(TOP, "crates", edit["crate"], edit["file"])
-    if not os.path.exists(path):
-        return "its file is not there"
-    with open(path) as text:
-        content = text.read()
-    for old, new in edit["pairs"]:
-        if content.count(old) != 1:
-            return f"a text stands {content.count(old)} times: {old.strip()}"
-        content = content.replace(old, new)
-    return None
+    return made(edit, content_of(edit))[1]
 
 
-def crates_in_order():
-    """The names in crates.txt."""
-    with open(os.path.join(TOP, "crates.txt")) as text:
-        return [line.split(":")[0] for line in text if line.strip() and not line.startswith("#")]
+def named_function(edit):
+    """The function that an edit says to refuse it."""
+    return edit["refused by"].partition(",")[0].strip("`")
 
 
-def write_edits(place, edits):
-    """Writes the edits of a crate where `rt must-fail` finds them."""
-    for edit in edits:
-        with open(os.path.join(place, name_of(edit)), "w") as out:
-            out.write(f"file: {edit['file']}\n")
-            for old, new in edit["pairs"]:
-                out.write(f"old: {old}\nnew: {new}\n")
+def function_of(edit):
+    """The function that an edit touches; the one that refuses it, where it touches a constant."""
+    content, old = content_of(edit), edit["pairs"][0][0]
+    if old.startswith("const "):
+        return named_function(edit)
+    place = content.index(old)
+    names = [found.group(1) for found in FUNCTION.finditer(content) if found.start(1) <= place]
+    return names[-1] if names else ""
 
 
-def take_away(place, edits, was_there):
-    """Takes the edits away, and the folder where it was not there before."""
-    for edit in edits:
-        path = os.path.join(place, name_of(edit))
-        if os.path.exists(path):
-            os.remove(path)
-    if not was_there:
-        os.rmdir(place)
+def module_of(edit):
+    """The module that an edit touches; empty for the root."""
+    path = edit["file"][len("src/"):-len(".rt")]
+    return "" if path in ("lib", "main") else path.replace("/", "::")
 
 
-def tried(crate, edits):
-    """What `rt must-fail` says of a crate with these edits."""
-    place = os.path.join(TOP, "crates", crate, "must-fail")
-    was_there = os.path.isdir(place)
-    os.makedirs(place, exist_ok=True)
-    try:
-        write_edits(place, edits)
-        ran = subprocess.run(["rt", "must-fail", crate], cwd=TOP, capture_output=True, text=True)
-    finally:
-        take_away(place, edits, was_there)
+def path_of(edit):
+    """The path below the crate of the function that an edit touches, as the prover names it."""
+    content, around = content_of(edit), ""
+    for found in IMPL.finditer(content, 0, content.index(edit["pairs"][0][0])):
+        around = f"{found.group(2)}{found.group(1) or ''}" if found.group(2) else ""
+    return "::".join(it for it in (module_of(edit), around, function_of(edit)) if it)
+
+
+def groups_of(edits):
+    """The edits of a crate in groups, with the texts that each group makes: no two of a group touch one function."""
+    while edits:
+        texts, group, later, touched = {}, [], [], set()
+        for edit in edits:
+            place = (edit["file"], function_of(edit))
+            text, why = made(edit, texts.get(edit["file"]) or content_of(edit))
+            if place in touched or why:
+                later.append(edit)
+                continue
+            touched.add(place)
+            group.append(edit)
+            texts[edit["file"]] = text
+        yield group, texts
+        edits = later
+
+
+def below(crates, name):
+    """All libraries of the checkout on which a crate stands."""
+    found = []
+    for one in crates[name]:
+        if one in crates and one not in found:
+            found += [one] + [it for it in below(crates, one) if it not in found and it != one]
+    return list(dict.fromkeys(found))
+
+
+def words_of(over, crate):
+    """The words with which the prover checks a crate over the libraries of a checkout."""
+    kit = os.path.dirname(subprocess.run(["rt", "doc"], capture_output=True, text=True, check=True).stdout.strip())
+    crates = crates_of(TOP)
+    rlib = lambda name: os.path.join(over, "crates", name, "out", "rlib", f"{name}.rlib")
+    lacking = [name for name in below(crates, crate) if not os.path.isdir(rlib(name))]
+    if lacking:
+        sys.exit(f"wrong.py: {rlib(lacking[0])} is not there: run `rt ci` before")
+    root = "src/main.rt" if os.path.exists(os.path.join(TOP, "crates", crate, "src", "main.rt")) else "src/lib.rt"
+    words = [f"{kit}/bin/rattle", "check", "--crate-name", crate, root, "--jobs", "1", "-L", f"dependency={kit}/rlibs"]
+    for name in [*crates[crate], "std"]:
+        words += ["--extern", f"{name}={rlib(name) if name in crates else f'{kit}/rlibs/{name}.rlib'}"]
+    for name in below(crates, crate):
+        words += ["-L", f"dependency={os.path.dirname(rlib(name))}"]
+    return words + ["--antt-project", f"{kit}/rattle/logic/antt-project.json", "--logic-built", f"{kit}/logic_built"]
+
+
+def checked(over, crate, texts, paths):
+    """What the prover says of a crate with these texts in place of its own: of these functions and modules, or of all of it where none are named."""
+    with tempfile.TemporaryDirectory(prefix="wrong-") as room:
+        for part in ("src", "specs", "proofs"):
+            folder = os.path.join(TOP, "crates", crate, part)
+            if os.path.isdir(folder):
+                shutil.copytree(folder, os.path.join(room, part))
+        for path, text in texts.items():
+            with open(os.path.join(room, path), "w") as out:
+                out.write(text)
+        only = [word for path in paths for word in ("--only", path)]
+        ran = subprocess.run(words_of(over, crate) + only, cwd=room, stdin=subprocess.DEVNULL, capture_output=True, text=True, errors="replace")
     return ran.stdout + ran.stderr
 
 
-def verdict_of(said, edit):
-    """What `rt must-fail` says of an edit."""
-    told = re.search(rf"{edit['crate']}/{re.escape(name_of(edit))}: (.*)", said)
-    words = told.group(1) if told else ""
-    if words.startswith("refused, as it must be (only"):
-        return "refused, but by no clause"
-    for begins, verdict in (("refused", "refused"), ("NOT REFUSED", "STILL PROVED"), ("BAD EDIT", "cannot be read")):
-        if words.startswith(begins):
-            return verdict
-    return "not tried"
+def is_verdict(said):
+    """Whether the prover came to an end."""
+    return re.search(r"^(only=\d+ proved=\d+|logic=(not-)?proved)", said, re.M) is not None
 
 
-def try_crate(crate, edits):
-    """Tries the edits of a crate, and gives how many were not refused."""
-    said = tried(crate, edits)
-    missed = 0
-    for edit in edits:
-        verdict = verdict_of(said, edit)
-        missed += verdict != "refused"
-        print(f"{crate}: {verdict}: {edit['does']} ({edit['refused by']})", flush=True)
-    if missed:
-        print(said[-2000:], file=sys.stderr)
-    return missed
+def stopped_at(edit, said):
+    """The goals of the edited function at which the prover stopped, and other functions that are not proved; None where all is proved."""
+    goals, others = [], []
+    path = "::".join(it for it in (edit["crate"], module_of(edit)) if it) + "::"
+    for name, why in re.findall(r"^fn (\S+): (?:not proved|no proof|could not tell)(.*)$", said, re.M):
+        if "it calls" in why:
+            continue
+        mine = name.startswith(path) and name.split("::")[-1] == function_of(edit)
+        (goals if mine else others).append(f"{name.split('::')[-1]}{why}")
+    if not goals:
+        return None, others
+    content = content_of(edit)
+    starts = [(content.count("\n", 0, found.start(1)) + 1, found.group(1)) for found in FUNCTION.finditer(content)]
+    named = []
+    for file, line, goal in re.findall(r"^note: (src/\S+?):(\d+):\d+: it is not proved .*?\(`([^`]+)`\)", said, re.M):
+        names = [name for start, name in starts if start <= int(line)]
+        if file == edit["file"] and names and names[-1] == function_of(edit):
+            named.append(goal)
+    return list(dict.fromkeys(named)), others
+
+
+def place_told(edit, goals):
+    """How the place at which the prover stopped stands to the one that the edit tells."""
+    clause = edit["refused by"].partition(", ")[2]
+    if named_function(edit) != function_of(edit):
+        return "elsewhere"
+    clauses = re.findall(r"-clause-([a-z_]+)", " ".join(goals))
+    return "" if clause == "its contract" or not clauses or clause in clauses else "elsewhere"
+
+
+def verdict_of(edit, said):
+    """What comes of an edit: a verdict in words, and whether it is as it has to be."""
+    goals, _ = stopped_at(edit, said)
+    if goals is None:
+        return "STILL PROVED", False
+    told = f" at {function_of(edit)}: {', '.join(goals)}" if goals else f" at {function_of(edit)}, where its proof names what is gone"
+    place = place_told(edit, goals)
+    return f"refused{', ' + place if place else ''}{told}", not place
+
+
+def try_alone(over, edit):
+    """Tries an edit in a check of the whole crate: whether the prover refuses another function for it."""
+    text, _ = made(edit, content_of(edit))
+    said = checked(over, edit["crate"], {edit["file"]: text}, [])
+    if not is_verdict(said):
+        return "not tried: " + " ".join(said.split())[:300], False
+    goals, others = stopped_at(edit, said)
+    if goals is None and others:
+        return f"refused, elsewhere at {'; '.join(others)[:200]}", False
+    return verdict_of(edit, said)
+
+
+def try_group(over, crate, group, texts):
+    """Tries the edits of a group together, and gives each with its verdict."""
+    said = checked(over, crate, texts, sorted({path_of(edit) for edit in group}))
+    if not is_verdict(said):
+        if len(group) == 1:
+            return [(group[0], "not tried: " + " ".join(said.split())[:300], False)]
+        return [one for edit in group for one in try_group(over, crate, [edit], {edit["file"]: made(edit, content_of(edit))[0]})]
+    return [(edit, *(try_alone(over, edit) if stopped_at(edit, said)[0] is None else verdict_of(edit, said))) for edit in group]
 
 
 def main():
@@ -126,6 +242,7 @@ def main():
     asked.add_argument("crates", metavar="CRATE", nargs="*", help="a crate whose edits are tried")
     asked.add_argument("--only", metavar="WORD", default="", help="only the edits of which the first line has this word")
     asked.add_argument("--look", action="store_true", help="only say which edits no longer fit the files")
+    asked.add_argument("--over", metavar="FOLDER", default=TOP, help="a checkout in which `rt ci` ran over the same text")
     said = asked.parse_args()
     edits = [edit for edit in read_edits() if not said.crates or edit["crate"] in said.crates]
     edits = [edit for edit in edits if said.only in edit["does"]]
@@ -137,10 +254,13 @@ def main():
             print(f"{edit['crate']}: does not fit: {edit['does']}: {edit['why']}")
     if said.look:
         return 1 if missed else 0
-    for crate in crates_in_order():
+    for crate in crates_of(TOP):
         mine = [edit for edit in edits if edit["crate"] == crate and not edit["why"]]
-        if mine:
-            missed += try_crate(crate, mine)
+        for group, texts in groups_of(mine):
+            for edit, verdict, is_well in try_group(said.over, crate, group, texts):
+                missed += not is_well
+                print(f"{crate}: {verdict}: {edit['does']} ({edit['refused by']})", flush=True)
+    print(f"{len(edits)} edits, {missed} not refused as they should be")
     return 1 if missed else 0
 
 

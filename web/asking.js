@@ -1,20 +1,22 @@
 "use strict";
 // What the program answers: `nqnfs_lab` runs a schedule, bends it, and says why a line of its journal came.
 
-// Asks the program; what it answers. A page without the program has only its stored runs.
+// What is said where nothing is said: only a request that is too long for a server of HTTP is answered so.
+const TOO_LONG = "a schedule here has at most 1,048,576 bytes";
+
+// Asks the program; what it answers, with a status of null where nobody does.
 async function ask(path, body) {
-  const answer = await fetch(path, { method: "POST", body: typeof body === "string" ? body : JSON.stringify(body) });
-  return answer.ok ? answer.json() : { status: answer.status, printed: await answer.text() };
+  try {
+    const answer = await fetch(path, { method: "POST", body: typeof body === "string" ? body : JSON.stringify(body) });
+    return answer.ok ? await answer.json() : { status: answer.status, printed: (await answer.text()) || TOO_LONG };
+  } catch {
+    return { status: null, printed: "" };
+  }
 }
 
-// Whether the program is there.
+// Whether the program is there. It has no time (503) where the machine is busy.
 async function isThere() {
-  if (location.protocol === "file:") return false;
-  try {
-    return (await ask("/run", STARTS[0].schedule)).status === 0;
-  } catch {
-    return false;
-  }
+  return location.protocol !== "file:" && [0, 503].includes((await ask("/run", STARTS[0].schedule)).status);
 }
 
 // The run of a schedule: as the program runs it, or as it is stored.

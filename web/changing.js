@@ -7,10 +7,13 @@ async function change(bends, words, at) {
   await bendFrom({ from: run, bends, words, at });
 }
 
-// Bends a run. The change is kept with what it was made from, so that a host that was cut off can be joined.
+// Bends a run. The change is kept with what it was made from, so that a host that was cut off can be joined. Where the reader went on
+// before the program answered, nothing changes.
 async function bendFrom({ from, bends, words, at }) {
   const then = document.querySelector("input[name=then]:checked").value;
+  const shownNow = current();
   const run = await bent(from.schedule, bends, then);
+  if (current() !== shownNow) return;
   if (run.status !== 0) return refuse(run);
   keep({ run, before: from, words, made: { from, bends, at }, event: eventAfter(run, at) });
   show();
@@ -70,12 +73,15 @@ async function typed(schedule) {
   show();
 }
 
-// Says a fault, and marks its line.
-function refuse({ printed }) {
+// Says why there is no run, and marks the line at fault.
+function refuse({ status, printed }) {
   const line = /line (\d+)/.exec(printed);
+  const why = status === null ? "The program does not answer. Is nqnfs_lab running?" : `This is no run: ${printed.trim()}.`;
   document.getElementById("verdict").className = "bad";
-  document.getElementById("verdict").textContent = `This is no run: ${printed.trim()}. The run before is shown.`;
-  if (line) markLine(null, Number(line[1]) - 1);
+  document.getElementById("verdict").textContent = `${why} The run before is shown.`;
+  if (!line) return;
+  markLine(null, Number(line[1]) - 1);
+  bringLine(Number(line[1]) - 1);
 }
 
 // Shows what was changed, and what had to be left out.

@@ -1,57 +1,96 @@
 "use strict";
 // The chart of a run: a line for each party, a row for each event, an arrow for each packet.
-// It is drawn in strips of some rows, so that a browser lays out only those that are seen. What crosses a strip's edge is drawn in both.
+// It is made of strips of some rows. A strip is empty until it is to be seen. What crosses a strip's edge is drawn in both.
 
 const STRIP = 30;
 const LAYERS = ["band", "rule", "bar", "line", "arrow", "dot", "text", "tip"];
 const escaped = (text) => text.replace(/[&<>"]/g, (sign) => `&#${sign.charCodeAt(0)};`);
 
-// Draws a chart into an element, and its names into another one.
+// Draws a chart into an element, and its names into another one. Its strips are empty as yet.
 function drawChart(place, names, rows, packets, hosts) {
   const layout = layoutOf(rows, packets, hosts);
+  const strips = stripsOf(rows, piecesOf(rows, packets, layout), layout);
+  const over = `<svg class="over" width="${layout.wide}" height="${layout.high}"><path id="ghost" class="arrow ghost" d=""/></svg>`;
+  place.innerHTML = `${HEADS}${strips.map(({ shell }) => shell).join("")}${over}`;
+  place.style.width = `${layout.wide}px`;
+  place.querySelectorAll(".strip").forEach((part, number) => { strips[number].part = part; });
+  names.innerHTML = layout.parties.map((name, party) => `<span style="left:${layout.lines[party]}px">${name}</span>`).join("");
+  names.style.width = `${layout.wide}px`;
+  return { rows, packets, layout, place, strips, bands: [], parts: null };
+}
+
+const HEADS = `<svg class="heads" width="0" height="0"><defs><marker id="tip" viewBox="0 0 8 8" refX="7.5" refY="4" markerWidth="8" markerHeight="8" ` +
+  `markerUnits="userSpaceOnUse" orient="auto"><path class="head" d="M0 .5L8 4L0 7.5z"/></marker></defs></svg>`;
+
+// All that a chart shows: each piece with its layer, and the heights between which it stands.
+function piecesOf(rows, packets, layout) {
   const pieces = [];
   const put = (layer, from, to, text) => pieces.push({ layer, from, to, text });
   rows.forEach((row, number) => putRow(put, row, number, layout));
   layout.spans.forEach((span) => putBar(put, span, rows, layout));
   layout.lines.forEach((x) => put("line", 0, layout.high, `<path class="line" d="M${x} 0V${layout.high}"/>`));
   packets.forEach((packet) => putArrows(put, packet, rows, layout));
-  const over = `<svg class="over" width="${layout.wide}" height="${layout.high}"><path id="ghost" class="arrow ghost" d=""/></svg>`;
-  place.innerHTML = `${HEADS}${strips(rows, pieces, layout)}${over}`;
-  place.style.width = `${layout.wide}px`;
-  names.innerHTML = layout.parties.map((name, party) => `<span style="left:${layout.lines[party]}px">${name}</span>`).join("");
-  names.style.width = `${layout.wide}px`;
-  let parts = null;
-  return { rows, packets, layout, place, bands: [...place.querySelectorAll(".band")], get shows() { return (parts ??= partsOf(place)); } };
+  return pieces;
 }
 
-const HEADS = `<svg class="heads" width="0" height="0"><defs><marker id="tip" viewBox="0 0 8 8" refX="7.5" refY="4" markerWidth="8" markerHeight="8" ` +
-  `markerUnits="userSpaceOnUse" orient="auto"><path class="head" d="M0 .5L8 4L0 7.5z"/></marker></defs></svg>`;
-
-// The strips of a chart, each with what is in it, layer upon layer.
-function strips(rows, pieces, { wide, high }) {
-  const drawn = [];
+// The strips of a chart, each with the pieces that it shows.
+function stripsOf(rows, pieces, { wide, high }) {
+  const strips = [];
   for (let first = 0; first < rows.length; first += STRIP) {
     const top = first === 0 ? 0 : rows[first].top;
     const end = first + STRIP < rows.length ? rows[first + STRIP].top : high;
-    const own = Object.fromEntries(LAYERS.map((layer) => [layer, ""]));
-    for (const { layer, from, to, text } of pieces) if (from < end && to > top) own[layer] += text;
-    own.rule = `<path class="rule" d="${own.rule}"/>`;
-    const text = LAYERS.map((layer) => own[layer]).join("");
     const size = `width="${wide}" height="${end - top}" style="contain-intrinsic-size:${wide}px ${end - top}px"`;
-    drawn.push(`<svg class="strip" ${size} viewBox="0 ${top} ${wide} ${end - top}">${text}</svg>`);
+    const shell = `<svg class="strip" ${size} viewBox="0 ${top} ${wide} ${end - top}"></svg>`;
+    strips.push({ top, end, shell, part: null, pieces: pieces.filter(({ from, to }) => from < end && to > top) });
   }
-  return drawn.join("");
+  return strips;
+}
+
+// Draws a strip, unless it is drawn, layer upon layer.
+function drawStrip(chart, strip) {
+  if (strip.pieces === null) return;
+  const own = Object.fromEntries(LAYERS.map((layer) => [layer, ""]));
+  for (const { layer, text } of strip.pieces) own[layer] += text;
+  own.rule = `<path class="rule" d="${own.rule}"/>`;
+  strip.part.innerHTML = LAYERS.map((layer) => own[layer]).join("");
+  strip.pieces = null;
+  for (const band of strip.part.querySelectorAll(".band")) chart.bands[Number(band.dataset.row)] = band;
+}
+
+// Draws what is between two heights of a chart.
+function drawBetween(chart, top, bottom) {
+  for (const strip of chart.strips) if (strip.top < bottom && strip.end > top) drawStrip(chart, strip);
+}
+
+// Draws the other strips too, one after another while the browser has time.
+function drawLater(chart) {
+  const next = chart.strips.find(({ pieces }) => pieces !== null);
+  if (!next || !next.part.isConnected) return;
+  const inTime = window.requestIdleCallback ?? setTimeout;
+  inTime(() => {
+    drawStrip(chart, next);
+    drawLater(chart);
+  });
+}
+
+// The band of a row.
+function bandOf(chart, row) {
+  const strip = chart.strips[Math.floor(row / STRIP)];
+  if (strip) drawStrip(chart, strip);
+  return chart.bands[row];
 }
 
 // What shows each packet, for marking; looked up when it is first wanted.
-function partsOf(place) {
-  const shows = new Map();
-  for (const part of place.querySelectorAll("[data-packet]")) {
+function partsOf(chart) {
+  if (chart.parts) return chart.parts;
+  chart.parts = new Map();
+  drawBetween(chart, 0, chart.layout.high);
+  for (const part of chart.place.querySelectorAll("[data-packet]")) {
     const number = Number(part.dataset.packet);
-    if (shows.has(number)) shows.get(number).push(part);
-    else shows.set(number, [part]);
+    if (chart.parts.has(number)) chart.parts.get(number).push(part);
+    else chart.parts.set(number, [part]);
   }
-  return shows;
+  return chart.parts;
 }
 
 // A row: its band, the numbers of its events, who acts, and the texts beside the parties.

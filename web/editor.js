@@ -40,8 +40,12 @@ function markLine(now, fault) {
     mark.hidden = line === null || line < 0;
     mark.style.top = `${4 + HIGH * line}px`;
   }
+}
+
+// Scrolls so that a line is seen, unless the reader types.
+function bringLine(line) {
   if (document.activeElement === editor.field) return;
-  const top = HIGH * (fault ?? now);
+  const top = HIGH * line;
   const { scrollTop, clientHeight } = editor.field;
   if (top < scrollTop || top + 40 > scrollTop + clientHeight) editor.field.scrollTop = top - clientHeight / 2;
 }

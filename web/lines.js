@@ -1,6 +1,9 @@
 "use strict";
 // The journal on the page, and why a line of it came.
 
+// How many lines of the journal are laid out together, where they are seen.
+const TOGETHER = 50;
+
 // The lines of the journal, each with the numbers of the promises of which it is an instance.
 function showJournal(run) {
   const asked = askedOf(run.entries);
@@ -11,7 +14,9 @@ function showJournal(run) {
     const data = entry ? ` class="of" data-line="${number + 1}"` : "";
     return `<li${data}>${line} <span class="promise">${promises.join(" ").padEnd(4)}</span><span>${escaped(text)}</span></li>`;
   });
-  place("journal").innerHTML = items.join("");
+  const lists = [];
+  for (let first = 0; first < items.length; first += TOGETHER) lists.push(`<ol>${items.slice(first, first + TOGETHER).join("")}</ol>`);
+  place("journal").innerHTML = lists.join("");
 }
 
 // Tells the promises of the line at which a reader points.
@@ -49,17 +54,17 @@ function ledList(led) {
   return list;
 }
 
-// Marks the lines of the journal that are of an event.
+// Marks the lines of the journal that are of an event; the first of them.
 function markEntries(event) {
   const last = event.firstEntry + event.entries.length;
-  let first = null;
-  [...place("journal").children].forEach((item, line) => {
-    const of = event.firstEntry < line && line <= last;
-    item.classList.toggle("now", of);
-    if (of && !first) first = item;
-  });
-  if (!first) return;
+  const items = [...place("journal").querySelectorAll("li")];
+  items.forEach((item, line) => item.classList.toggle("now", event.firstEntry < line && line <= last));
+  return event.entries.length > 0 ? items[event.firstEntry + 1] : null;
+}
+
+// Scrolls the journal so that a line is seen.
+function bringItem(item) {
   const list = place("journal");
-  const above = first.offsetTop - list.offsetTop;
+  const above = item.getBoundingClientRect().top - list.getBoundingClientRect().top + list.scrollTop;
   if (above < list.scrollTop || above + 40 > list.scrollTop + list.clientHeight) list.scrollTop = above - list.clientHeight / 2;
 }

@@ -39,9 +39,11 @@ function pairs(before, now) {
   });
 }
 
+// A table that is made when it is unfolded.
 function foldedTable(summary, rows, before, ask) {
   const folded = made("details", "");
-  folded.append(made("summary", "", summary), tableWith(rows, before, ask));
+  folded.append(made("summary", "", summary));
+  folded.addEventListener("toggle", () => folded.append(tableWith(rows, before, ask)), { once: true });
   return folded;
 }
 

@@ -38,6 +38,7 @@ function hear() {
   place("journal").addEventListener("click", ({ target }) => target.closest(".of") && askWhy(Number(target.closest(".of").dataset.line)));
   place("journal").addEventListener("pointerover", ({ target }) => target.closest(".of") && tellPromises(target.closest(".of")));
   place("way").addEventListener("click", showWay);
+  place("frame").addEventListener("scroll", drawSeen);
   place("chart").addEventListener("click", ({ target }) => pressed(target));
   place("chart").addEventListener("pointerover", ({ target }) => point(target.closest("[data-packet]")));
   document.querySelectorAll("input[name=then]").forEach((choice) => choice.addEventListener("change", thenChanged));
@@ -59,7 +60,7 @@ async function begins(name) {
 async function beginWith(schedule, event) {
   const run = await runOf(schedule);
   if (!run) return beginWith(STARTS[0].schedule, null);
-  if (run.status !== 0 && !current()) await beginWith(STARTS[0].schedule, null);
+  if (run.status !== 0 && !current() && schedule !== STARTS[0].schedule) await beginWith(STARTS[0].schedule, null);
   if (run.status !== 0) {
     showSchedule(schedule);
     return refuse(run);
@@ -97,9 +98,10 @@ function draw() {
   const { run } = current();
   const rows = rowsOf(run.events, run.packets, shown.open);
   shown.chart = drawChart(place("chart"), place("names"), rows, run.packets, run.hosts);
+  drawLater(shown.chart);
 }
 
-// Goes to an event, and scrolls to its row if that is wanted.
+// Goes to an event, and scrolls to its row if that is wanted. All is written before anything is measured, so that the page is laid out once.
 function go(number, scroll) {
   const entry = current();
   const { events, states, hosts, lines } = entry.run;
@@ -110,10 +112,14 @@ function go(number, scroll) {
   keepAddress(entry);
   if (!event) return;
   place("slider").value = event.number;
-  markLine(lines.findIndex(({ first, count }) => first <= event.number && event.number < first + count), null);
-  markEntries(event);
+  const line = lines.findIndex(({ first, count }) => first <= event.number && event.number < first + count);
+  markLine(line, null);
+  const item = markEntries(event);
   const row = markRow(shown.chart, event.number);
+  bringLine(line);
+  if (item) bringItem(item);
   if (scroll && row) bring(row);
+  drawSeen();
 }
 
 function goToLine(line) {
@@ -121,9 +127,15 @@ function goToLine(line) {
   if (count > 0) go(first, true);
 }
 
+// Draws what is seen of the chart.
+function drawSeen() {
+  const { scrollTop, clientHeight } = place("frame");
+  if (shown.chart) drawBetween(shown.chart, scrollTop, scrollTop + clientHeight);
+}
+
 // Scrolls the chart so that a row is seen, and the party that acts in it.
 function bring(row) {
-  const frame = document.querySelector(".chart");
+  const frame = place("frame");
   const head = place("names").offsetHeight;
   if (row.top < frame.scrollTop || row.top + row.high + head + 10 > frame.scrollTop + frame.clientHeight) {
     frame.scrollTop = row.top - (frame.clientHeight - head) / 3;

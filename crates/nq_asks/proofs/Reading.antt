@@ -21,12 +21,14 @@ kind-again Kind.Done = refl
 kind-again Kind.Refused = refl
 kind-again Kind.Bytes = refl
 kind-again Kind.Note = refl
+kind-again Kind.Wait = refl
 
 cut-kind : (kind : Kind) (text : List ℕ) → cut_at 32 (kind_word kind ++ 32 ∷ text) ≡ Some (kind_word kind, text)
 cut-kind Kind.Done text = cut-again 32 (codes "ok") text (lacks-tested 32 (codes "ok") refl)
 cut-kind Kind.Refused text = cut-again 32 (codes "no") text (lacks-tested 32 (codes "no") refl)
 cut-kind Kind.Bytes text = cut-again 32 (codes "bytes") text (lacks-tested 32 (codes "bytes") refl)
 cut-kind Kind.Note text = cut-again 32 (codes "note") text (lacks-tested 32 (codes "note") refl)
+cut-kind Kind.Wait text = cut-again 32 (codes "wait") text (lacks-tested 32 (codes "wait") refl)
 
 kind-then : (kind : Kind) (text : List ℕ) → kind_then (kind_word kind ++ 32 ∷ text) ≡ Some (kind, text)
 unfolding kind_then
@@ -65,7 +67,8 @@ kind-found word kind is =
     one-kind word (codes "ok") Kind.Done kind _ refl (
     one-kind word (codes "no") Kind.Refused kind _ refl (
     one-kind word (codes "bytes") Kind.Bytes kind _ refl (
-    one-kind word (codes "note") Kind.Note kind None refl (no-kind word kind)))) is
+    one-kind word (codes "note") Kind.Note kind _ refl (
+    one-kind word (codes "wait") Kind.Wait kind None refl (no-kind word kind))))) is
 
 -- a line that is spelled as an answer is read as it
 pub answer-only : (number : ℕ) (kind : Kind) (text line : List ℕ) → number < 2 ^ 32 → line ≡ answer_line number kind text

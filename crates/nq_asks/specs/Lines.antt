@@ -16,6 +16,7 @@ kind_word Kind.Done = codes "ok"
 kind_word Kind.Refused = codes "no"
 kind_word Kind.Bytes = codes "bytes"
 kind_word Kind.Note = codes "note"
+kind_word Kind.Wait = codes "wait"
 
 -- the kind of answer that a word tells
 unfoldable pub kind_of : List ℕ → Option Kind
@@ -24,6 +25,7 @@ kind_of word =
     else if bytes_eq word (codes "no") then Some Kind.Refused
     else if bytes_eq word (codes "bytes") then Some Kind.Bytes
     else if bytes_eq word (codes "note") then Some Kind.Note
+    else if bytes_eq word (codes "wait") then Some Kind.Wait
     else None
 
 -- the line of an answer: the number of its ask, its kind, and words; behind `bytes` stands how many bytes follow the line

@@ -19,6 +19,8 @@ pub enum Kind {
     Bytes,
     /// The answer comes later; the words say what the host has to tell meanwhile.
     Note,
+    /// The answer comes later; the words say why.
+    Wait,
 }
 
 /// Appends the line of an ask, without an end of line.
@@ -63,6 +65,7 @@ fn kind_word(kind: Kind) -> &'static [u8]
         Kind::Refused => b"no",
         Kind::Bytes => b"bytes",
         Kind::Note => b"note",
+        Kind::Wait => b"wait",
     }
 }
 
@@ -79,6 +82,8 @@ fn kind_of(word: &[u8]) -> Option<Kind>
         Some(Kind::Bytes)
     } else if is(word, b"note") {
         Some(Kind::Note)
+    } else if is(word, b"wait") {
+        Some(Kind::Wait)
     } else {
         None
     }

@@ -1,18 +1,18 @@
 -- What words say is within its range.
-use Rattle.std.proofs.Common.{◌≡◌, ◌≤◌, ℕ, Bool, true, false, nat_le, nat_lt, List, [], ◌∷◌, Option, Some, None, codes, refl, arith}
+use Rattle.std.proofs.Common.{◌≡◌, ◌<◌, ◌≤◌, ℕ, Bool, true, false, nat_le, nat_lt, List, [], ◌∷◌, Option, Some, None, codes, refl, arith}
 use Rattle.std.specs.Prelude.{IfSome, if◌then◌else◌}
 use Rattle.std.specs.Str.{bytes_eq}
 use Rattle.std.proofs.lemmas.Bool.Decides.{nat_tests}
 use Rattle.nq_base.specs.Steps.{◌>>=◌}
-use Rattle.nq_command.specs.Commands.{AreHosts, IsRanged, IsTerm, alone_of, client_of, command_of, counted_of, kind_of, loop_of, numbered_of}
+use Rattle.nq_command.specs.Commands.{AreHosts, IsKind, IsRanged, IsTerm, alone_of, client_of, command_of, counted_of, kind_of, loop_of, numbered_of}
 use Rattle.nq_command.specs.Commands.{paired_of, ranged_of, serve_of, storm_of}
 use Rattle.nq_command.specs.declared.commands.Command.{Command}
 use Rattle.nq_script.specs.WordsReading.{number_of, only_if, u64_of}
 
 -- the first of two, or the other
-one_of : (test : Bool) (one other : Option Command) → IfSome one IsRanged → IfSome other IsRanged → IfSome (if test then one else other) IsRanged
-one_of true one other is so = is
-one_of false one other is so = so
+one_of : {A : Type 0} (P : A → Type 0) (test : Bool) (one other : Option A) → IfSome one P → IfSome other P → IfSome (if test then one else other) P
+one_of P true one other is so = is
+one_of P false one other is so = so
 
 -- what follows from a step
 behind : {A B : Type 0} (P : A → Type 0) (Q : B → Type 0) (step : Option A) (next : A → Option B) → IfSome step P
@@ -59,11 +59,19 @@ loop_ranged hosts turns =
     behind AreHosts IsRanged (ranged_of 1 64 hosts) _ (ranged_within 1 64 hosts) (λ h fits. behind_any IsRanged (ranged_of 1 1000000 turns)
     (λ n. Some (Command.Loop h n)) (λ n. fits))
 
+kind_ranged : (word : List ℕ) → IfSome (kind_of word) IsKind
+unfolding kind_of
+kind_ranged word =
+    one_of IsKind (bytes_eq word (codes "steady")) (Some 0) _ (omega arith) (
+    one_of IsKind (bytes_eq word (codes "lossy")) (Some 1) _ (omega arith) (
+    one_of IsKind (bytes_eq word (codes "cut")) (Some 2) _ (omega arith) (
+    one_of IsKind (bytes_eq word (codes "hostile")) (Some 3) None (omega arith) tt)))
+
 storm_ranged : (kind start events : List ℕ) → IfSome (storm_of kind start events) IsRanged
 unfolding storm_of
 storm_ranged kind start events =
-    behind_any IsRanged (kind_of kind) _ (λ k. behind_any IsRanged (number_of 18446744073709551615 start) _
-    (λ s. behind_any IsRanged (ranged_of 1 100000 events) (λ n. Some (Command.Storm k s n)) (λ n. tt)))
+    behind IsKind IsRanged (kind_of kind) _ (kind_ranged kind) (λ k is. behind_any IsRanged (number_of 18446744073709551615 start) _
+    (λ s. behind_any IsRanged (ranged_of 1 100000 events) (λ n. Some (Command.Storm k s n)) (λ n. is)))
 
 client_ranged : (host inc turns : List ℕ) → IfSome (client_of host inc turns) IsRanged
 unfolding client_of
@@ -74,28 +82,28 @@ client_ranged host inc turns =
 alone_ranged : (name : List ℕ) → IfSome (alone_of name) IsRanged
 unfolding alone_of
 alone_ranged name =
-    one_of (bytes_eq name (codes "replay")) (Some Command.Replay) _ tt (
-    one_of (bytes_eq name (codes "check")) (Some Command.Check) _ tt (
-    one_of (bytes_eq name (codes "staged")) (Some Command.Staged) _ tt (
-    one_of (bytes_eq name (codes "names")) (Some Command.Names) _ tt (
-    one_of (bytes_eq name (codes "format")) (Some Command.Format) None tt tt))))
+    one_of IsRanged (bytes_eq name (codes "replay")) (Some Command.Replay) _ tt (
+    one_of IsRanged (bytes_eq name (codes "check")) (Some Command.Check) _ tt (
+    one_of IsRanged (bytes_eq name (codes "staged")) (Some Command.Staged) _ tt (
+    one_of IsRanged (bytes_eq name (codes "names")) (Some Command.Names) _ tt (
+    one_of IsRanged (bytes_eq name (codes "format")) (Some Command.Format) None tt tt))))
 
 counted_ranged : (name turns : List ℕ) → IfSome (counted_of name turns) IsRanged
 unfolding counted_of
-counted_ranged name turns = one_of (bytes_eq name (codes "serve")) (serve_of turns (Some 60)) None (serve_ranged turns (Some 60) (omega arith, omega arith)) tt
+counted_ranged name turns = one_of IsRanged (bytes_eq name (codes "serve")) (serve_of turns (Some 60)) None (serve_ranged turns (Some 60) (omega arith, omega arith)) tt
 
 paired_ranged : (name first second : List ℕ) → IfSome (paired_of name first second) IsRanged
 unfolding paired_of
 paired_ranged name first second =
-    one_of (bytes_eq name (codes "serve")) (serve_of first (ranged_of 5 600 second)) _ (serve_ranged first (ranged_of 5 600 second)
+    one_of IsRanged (bytes_eq name (codes "serve")) (serve_of first (ranged_of 5 600 second)) _ (serve_ranged first (ranged_of 5 600 second)
     (ranged_within 5 600 second)) (
-    one_of (bytes_eq name (codes "loop")) (loop_of first second) None (loop_ranged first second) tt)
+    one_of IsRanged (bytes_eq name (codes "loop")) (loop_of first second) None (loop_ranged first second) tt)
 
 numbered_ranged : (name first second third : List ℕ) → IfSome (numbered_of name first second third) IsRanged
 unfolding numbered_of
 numbered_ranged name first second third =
-    one_of (bytes_eq name (codes "storm")) (storm_of first second third) _ (storm_ranged first second third) (
-    one_of (bytes_eq name (codes "client")) (client_of first second third) None (client_ranged first second third) tt)
+    one_of IsRanged (bytes_eq name (codes "storm")) (storm_of first second third) _ (storm_ranged first second third) (
+    one_of IsRanged (bytes_eq name (codes "client")) (client_of first second third) None (client_ranged first second third) tt)
 
 -- a command that words say is within its range
 pub command_ranged : (words : List (List ℕ)) → IfSome (command_of words) IsRanged

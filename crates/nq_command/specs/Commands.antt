@@ -1,6 +1,6 @@
 -- What words say.
 use Rattle.nq_base.specs.Steps.{◌>>=◌}
-use Rattle.std.specs.Prelude.{◌≡◌, ◌≤◌, ℕ, nat_lt, List, [], ◌∷◌, Option, Some, None, if◌then◌else◌, codes, ⊤}
+use Rattle.std.specs.Prelude.{◌≡◌, ◌<◌, ◌≤◌, ℕ, nat_lt, List, [], ◌∷◌, Option, Some, None, if◌then◌else◌, codes, ⊤}
 use Rattle.std.specs.Str.{bytes_eq}
 use Rattle.nq_command.specs.declared.commands.Command.{Command}
 use Rattle.nq_script.specs.WordsReading.{number_of}
@@ -114,8 +114,14 @@ IsTerm longest = (5 ≤ longest) × (longest ≤ 600)
 abbrev pub AreHosts : ℕ → Type 0
 AreHosts hosts = (1 ≤ hosts) × (hosts ≤ 64)
 
--- a command whose server, if it has one, has a longest term that a server can have, and a loop of as many hosts as there can be
+-- a kind of which there is a fate
+abbrev pub IsKind : ℕ → Type 0
+IsKind kind = kind < 4
+
+-- a command whose server, if it has one, has a longest term that a server can have, whose storm is of a fate that there is, and a loop of as many
+-- hosts as there can be
 abbrev pub IsRanged : Command → Type 0
 IsRanged (Command.Serve turns longest) = IsTerm longest
 IsRanged (Command.Loop hosts turns) = AreHosts hosts
+IsRanged (Command.Storm kind start events) = IsKind kind
 IsRanged other = ⊤

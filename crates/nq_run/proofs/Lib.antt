@@ -12,3 +12,4 @@ pub mod ReplayPromises
 pub mod Saying
 pub mod StagedPromises
 pub mod StormPromises
+pub mod Usage

@@ -1,5 +1,6 @@
 -- What each command does.
-use Rattle.std.specs.Prelude.{ℕ, List, Option, Some, None, ⊤}
+use Rattle.std.specs.Prelude.{◌≡◌, ℕ, List, [], ◌∷◌, Option, Some, None, map, ⊤}
+use Rattle.std.specs.Option.{option_map}
 use Rattle.nq_command.specs.declared.commands.Command.{Command}
 use Rattle.nq_storm.specs.Kinds.{LackKind, TellOthers}
 use Rattle.nq_storm.specs.Rules.{Rule}
@@ -14,6 +15,10 @@ SaysNothing other told = ⊥
 abbrev pub NeverSays : Option Command → (told : List (Option Rule)) → Type 0
 NeverSays (Some (Command.Storm kind start events)) told = TellOthers kind told
 NeverSays other told = SaysNothing other told
+
+-- the four fates: each tells its rule, and they are of the kinds 0 to 3 in this order
+abbrev pub AreTheFour : (told : List (Option Rule)) → Type 0
+AreTheFour told = map (option_map (λ rule. rule.kind)) told ≡ Some 0 ∷ Some 1 ∷ Some 2 ∷ Some 3 ∷ []
 
 -- what the command that is said does, of what each command does
 abbrev pub Does : Option Command → (formats : Type 0) → (serves : (turns longest : ℕ) → Type 0) → (replays : Type 0)

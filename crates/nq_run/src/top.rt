@@ -1,9 +1,9 @@
 //! Running what the words say over a disk.
 
-ghost use Rattle.std.specs.Prelude.{◌≡◌, ◌+◌, ℕ, List, Some, false, true, length, map};
+ghost use Rattle.std.specs.Prelude.{◌≡◌, ◌+◌, ℕ, List, None, Some, false, true, length, map};
 ghost use Rattle.nq_command.specs.Commands.{IsCheck, IsFormat, IsNames, IsReplay, IsStaged, command_of};
 ghost use Rattle.nq_command.specs.declared.commands.Command.{Command};
-ghost use Rattle.nq_run.specs.Commands.{Does, NeverSays, SaysNothing};
+ghost use Rattle.nq_run.specs.Commands.{AreTheFour, Does, NeverSays, SaysNothing};
 ghost use Rattle.nq_run.specs.Running.{LoopsOn, ReplaysOn, StormsOn};
 ghost use Rattle.nq_base.specs.Status.{status_of};
 ghost use Rattle.nq_base.specs.declared.ending.ending.Ending.{Ending};
@@ -56,8 +56,9 @@ const MOST_BYTES: usize = 16_777_216;
 /// premise, since the run itself tests it. What the words have no use for stays as it was: the input, the disk, the link, the links of a
 /// loop, the clock, the fates.
 ///
-/// The answer is the exit status, with the disk. It is 6 only where the disk failed, and for `serve` 10 exactly where the image is wrong. Where
-/// the input or the output failed, it says so, or tells a fault that came before.
+/// The answer is the exit status, with the disk. With the four fates it is 1 exactly where the words say no command. It is 6 only where the
+/// disk failed, and for `serve` 10 exactly where the image is wrong. Where the input or the output failed, it says so, or tells a fault that came
+/// before.
 /// `docs/commands.md` says when each status comes, and what is printed then.
 pub fn run<S: Source, K: Sink, D: Disk + Drop, L: Link, C: Clock>(
     alloc: Global,
@@ -74,6 +75,7 @@ pub fn run<S: Source, K: Sink, D: Disk + Drop, L: Link, C: Clock>(
     requires links { (hosts turns : ℕ) → command_of words.now ≡ Some (Command.Loop hosts turns) → length links.old ≡ hosts + 1 }
     ensures usage { result.status ≡ status_of Ending.Usage → SaysNothing (command_of words.now) (map (λ fate. (Fate-box fate).told fate.value) fates.old) }
     ensures never { NeverSays (command_of words.now) (map (λ fate. (Fate-box fate).told fate.value) fates.old) → result.status ≡ status_of Ending.Usage }
+    ensures known { AreTheFour (map (λ fate. (Fate-box fate).told fate.value) fates.old) → result.status ≡ status_of Ending.Usage → command_of words.now ≡ None }
     ensures nothing { result.status ≡ status_of Ending.Usage
         → (S.left input.new ≡ S.left input.old) × PrintsLine usage_line (K.held out.old) (K.held out.new) (K.faults out.old) (K.faults out.new) }
     ensures formats { IsFormat words.now → Formats D.faults D.told D.may_leave result.status disk result.disk }

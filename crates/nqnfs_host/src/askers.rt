@@ -4,6 +4,7 @@ use mio::net::UnixStream;
 use nq_asks::{Kind, Numbers, ask_in, push_answer};
 use nq_base::NoMemory;
 use nq_script::words::{Words, cut, is};
+use nq_tasks::Ask;
 use nq_whole::MOST_BYTES;
 use std::alloc::Global;
 use std::io::{ErrorKind, Read, Write};
@@ -16,17 +17,6 @@ const MOST_PARTS: u32 = 4096;
 
 /// How many bytes are read at once.
 const READ_SIZE: usize = 16384;
-
-/// What somebody asks: the words of a line and, where they say that a whole file is stored, its bytes.
-#[derive(Drop)]
-pub(crate) struct Ask {
-    /// Its number.
-    pub(crate) number: u32,
-    /// The words.
-    pub(crate) text: Vec<u8>,
-    /// The bytes.
-    pub(crate) body: Vec<u8>,
-}
 
 /// Somebody who asks.
 #[derive(Drop)]

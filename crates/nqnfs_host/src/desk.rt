@@ -2,12 +2,12 @@
 
 use crate::link::HostLink;
 use nq_base::ending::Halt;
-use nq_base::{Answer, Call, FileId, Journal, Who};
+use nq_base::{Answer, Call, FileId, Journal, Party, Who};
 use nq_calling::{call_now, lost_text};
 use nq_client::Client;
 use nq_clock::{Clock, StdClock};
 use nq_hosts::node::client_turn;
-use nq_link::send_all;
+use nq_link::{Link, send_all};
 use nq_wire::Outbox;
 use std::alloc::Global;
 use std::mem;
@@ -168,6 +168,16 @@ impl HostDesk {
             }
             answer => Some(answer),
         }
+    }
+
+    /// Sends a request for a page of a list.
+    pub(crate) fn send(&mut self, request: &[u8]) {
+        let _sent = self.link.send(Party::Server, request);
+    }
+
+    /// The page of a list that came last, until it is taken.
+    pub(crate) fn take_listed(&mut self) -> Option<Vec<u8>> {
+        self.link.take_listed()
     }
 
     /// The answer that turns brought to the call under way.

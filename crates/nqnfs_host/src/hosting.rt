@@ -1,14 +1,16 @@
 //! A host at work: it hears the server and those who ask, and waits for both at once.
 
-use crate::askers::{Ask, Asker};
+use crate::askers::Asker;
 use crate::desk::HostDesk;
-use crate::ledger::{Ledger, Made};
+use crate::ledger::Ledger;
 use crate::starts::pause;
-use crate::work::{Came, NO_MEMORY, NOBODY, Reply, Work, name_stored, own_name};
 use mio::net::UnixListener;
 use mio::{Events, Interest, Poll, Token};
 use nq_asks::Kind;
 use nq_base::{Answer, Call, Name, NoMemory};
+use nq_tasks::{
+    Ask, Came, Listed, Made, NO_MEMORY, NOBODY, Reply, Waiting, Work, name_stored, own_name,
+};
 use std::alloc::Global;
 use std::io;
 use std::time::Duration;
@@ -37,6 +39,9 @@ const QUIET: u64 = 2;
 /// How often it looks at most, in the end, whether what was delayed is stored.
 const FAREWELL: u32 = 400;
 
+/// The number of the first request for a page of an incarnation. No request of a client has so great a number.
+const FIRST_NUMBER: u32 = 1 << 31;
+
 /// A host with those who ask it.
 pub(crate) struct Hosting {
     alloc: Global,
@@ -50,7 +55,11 @@ pub(crate) struct Hosting {
     aside: Option<Work>,
     ledger: Ledger,
     made: u32,
+    /// How many requests for pages of lists were sent.
+    listed: u32,
     asked: u64,
+    /// How long the ask at work waits.
+    waiting: Waiting,
     /// Who told it to end, and the number of that ask.
     ender: Option<(usize, u32)>,
 }
@@ -91,7 +100,9 @@ impl Hosting {
             aside: None,
             ledger,
             made: 0,
+            listed: 0,
             asked: 0,
+            waiting: Waiting::new(alloc, 0),
             ender: None,
         })
     }
@@ -125,6 +136,7 @@ impl Hosting {
         self.write();
         self.hear_end();
         let has_called = self.call_on();
+        self.wait_on();
         has_read || has_called || !self.desk.link.is_dry()
     }
 
@@ -188,7 +200,7 @@ impl Hosting {
     /// Sends what is owed to askers, and lets those go who are gone.
     fn write(&mut self) {
         let at_work = match &self.work {
-            Some(work) => work.place,
+            Some(work) => work.place(),
             None => NOBODY,
         };
         for (place, asker) in self.askers.iter_mut().enumerate() {
@@ -231,6 +243,7 @@ impl Hosting {
                 return false;
             }
             let call = match &self.work {
+                Some(work) if work.is_listing() => return self.list_on(),
                 Some(work) => work.asks(),
                 None => continue,
             };
@@ -241,14 +254,77 @@ impl Hosting {
         true
     }
 
-    /// Makes a call. Whether it has its answer.
-    fn make(&mut self, call: Result<Call, NoMemory>) -> bool {
-        let Ok(call) = call else {
-            let came = match &self.work {
-                Some(work) => work.lacks(),
+    /// Goes on with the list at work: takes the page that came, and asks for the next one where that is due. Whether it is over.
+    fn list_on(&mut self) -> bool {
+        let who = self.desk.who();
+        if let Some(page) = self.desk.take_listed() {
+            let came = match &mut self.work {
+                Some(work) => work.take_page(who, &page),
                 None => Came::On,
             };
             self.came(came);
+        }
+        let (number, now) = (self.next_number(), self.desk.time());
+        let asked = match &mut self.work {
+            Some(work) => work.asks_page(who, number, now),
+            None => return true,
+        };
+        match asked {
+            Ok(request) => self.send_request(request),
+            Err(NoMemory::Memory) => self.lack(),
+        }
+        self.work.is_none()
+    }
+
+    /// The ask at work is over, since memory was wanting.
+    fn lack(&mut self) {
+        let came = match &self.work {
+            Some(work) => work.lacks(),
+            None => Came::On,
+        };
+        self.came(came);
+    }
+
+    /// The number of the next request for a page.
+    fn next_number(&self) -> u32 {
+        FIRST_NUMBER | self.listed.wrapping_add(1)
+    }
+
+    /// Sends a request for a page, if there is one.
+    fn send_request(&mut self, request: Option<Vec<u8>>) {
+        if let Some(request) = request {
+            self.listed = self.listed.wrapping_add(1);
+            self.desk.send(&request);
+        }
+    }
+
+    /// Finds out why the ask at work waits, and tells whoever asked.
+    fn wait_on(&mut self) {
+        let (place, number, is_listing) = match &self.work {
+            Some(work) => (work.place(), work.number(), work.is_listing()),
+            None => return,
+        };
+        let (who, now) = (self.desk.who(), self.desk.time());
+        if !is_listing {
+            if let Some(page) = self.desk.take_listed() {
+                self.waiting.take(self.alloc, who, &page);
+            }
+            let next = self.next_number();
+            if let Ok(request) = self.waiting.asks(self.alloc, who, next, now) {
+                self.send_request(request);
+            }
+        }
+        if let Some(words) = self.waiting.tells(now) {
+            if let Some(Some(asker)) = self.askers.get_mut(place) {
+                asker.answer(number, Kind::Wait, words, &[]);
+            }
+        }
+    }
+
+    /// Makes a call. Whether it has its answer.
+    fn make(&mut self, call: Result<Call, NoMemory>) -> bool {
+        let Ok(call) = call else {
+            self.lack();
             return true;
         };
         match self.desk.ask(&call) {
@@ -286,6 +362,7 @@ impl Hosting {
             if let Some(ask) = ask {
                 self.first = place.saturating_add(1);
                 self.asked = self.desk.time();
+                self.waiting = Waiting::new(self.alloc, self.asked);
                 self.begin(place, ask);
                 return true;
             }
@@ -353,6 +430,7 @@ impl Hosting {
     fn came(&mut self, came: Came) {
         match came {
             Came::On => {}
+            Came::Later => self.waiting.hear(Listed::Later),
             Came::Tidied(Some(made)) => {
                 self.work = None;
                 let _noted = self.ledger.keep(&made);
@@ -440,7 +518,9 @@ impl Hosting {
             aside: _aside,
             ledger: _ledger,
             made: _,
+            listed: _,
             asked: _,
+            waiting: _waiting,
             ender: _,
         } = self;
         desk

@@ -3,6 +3,7 @@
 use crate::starts::replace_file;
 use nq_base::Name;
 use nq_script::words::{Words, cut};
+use nq_tasks::Made;
 use std::alloc::{AllocError, Global};
 use std::fs;
 use std::io::ErrorKind;
@@ -16,15 +17,6 @@ pub(crate) struct Ledger {
     folder: String,
     kept: Vec<u8>,
     left: Vec<u8>,
-}
-
-/// A file that was made for bytes, and the name under which they were to be stored.
-#[derive(Clone, Copy)]
-pub(crate) struct Made {
-    /// The file that was made.
-    pub(crate) own: Name,
-    /// The name.
-    pub(crate) name: Name,
 }
 
 /// What a line tells.

@@ -7,6 +7,7 @@ ghost use Rattle.nq_link.specs.Link.{Comes, CountsReceive, CountsSend, Sends};
 use mio::net::UdpSocket;
 use nq_base::Host;
 use nq_link::{Came, Link, Party, Sent};
+use std::alloc::Global;
 use std::io::{self, ErrorKind};
 use std::marker::Model;
 use std::net::{IpAddr, Ipv4Addr, Net, SocketAddr};
@@ -18,12 +19,14 @@ const SERVER_PORT: u16 = 20560;
 const FIRST_HOST_PORT: u16 = 20561;
 
 /// A host's UDP socket on 127.0.0.1, whose receives do not wait. A datagram that another party than the server sent is taken and counts as
-/// nothing. Each error of the socket is a fault. Contracts see its counts.
+/// nothing, and so does a page of a list, which is set aside. Each error of the socket is a fault. Contracts see its counts.
 #[derive(Drop)]
 pub(crate) struct HostLink {
+    alloc: Global,
     /// The socket.
     pub(crate) socket: UdpSocket,
     is_dry: bool,
+    listed: Option<Vec<u8>>,
     faults: u64,
     receives: u64,
 }
@@ -35,6 +38,9 @@ impl Model for HostLink {
 
     ghost view = { λ l. (l.faults, l.receives) };
 }
+
+/// The second word of a reply.
+const REPLY: [u8; 4] = [0, 0, 0, 1];
 
 /// An address on this machine.
 fn local(port: u16) -> SocketAddr {
@@ -54,13 +60,23 @@ fn is_silence(error: &io::Error) -> bool {
     matches!(error.kind(), ErrorKind::WouldBlock | ErrorKind::Interrupted)
 }
 
+/// Whether a datagram is a page of a list, as far as its first words tell: a reply with a number that no request of a client has.
+fn is_page(datagram: &[u8]) -> bool {
+    match (datagram.first(), datagram.get(4..8)) {
+        (Some(first), Some(second)) => *first >= 128 && second == REPLY.as_slice(),
+        _ => false,
+    }
+}
+
 impl HostLink {
     /// The link of a host below 64, if its port can be bound.
-    pub(crate) fn bind(net: &impl Net, host: Host) -> io::Result<HostLink> {
+    pub(crate) fn bind(alloc: Global, net: &impl Net, host: Host) -> io::Result<HostLink> {
         let port = FIRST_HOST_PORT.saturating_add(host.0.min(63) as u16);
         Ok(HostLink {
+            alloc,
             socket: UdpSocket::bind(net, local(port))?,
             is_dry: true,
+            listed: None,
             faults: 0,
             receives: 0,
         })
@@ -69,6 +85,20 @@ impl HostLink {
     /// Whether the last receive found nothing.
     pub(crate) fn is_dry(&self) -> bool {
         self.is_dry
+    }
+
+    /// The last page of a list that came, until it is taken.
+    pub(crate) fn take_listed(&mut self) -> Option<Vec<u8>> {
+        self.listed.take()
+    }
+
+    /// Sets a page of a list aside. Where memory is wanting it is lost, as a datagram may be.
+    fn set_aside(&mut self, datagram: &[u8])
+        ensures { self.new ≡ self.old }
+    {
+        if let Ok(bytes) = datagram.to_vec(self.alloc) {
+            self.listed = Some(bytes);
+        }
     }
 
     /// Counts a fault.
@@ -114,10 +144,17 @@ impl Link for HostLink {
         self.count_receive();
         self.is_dry = false;
         match self.socket.recv_from(into) {
-            Ok((length, address)) if is_server(address) => Came::Datagram {
-                length,
-                sender: Party::Server,
-            },
+            Ok((length, address)) if is_server(address) => {
+                let datagram = &into[..length];
+                if is_page(datagram) {
+                    self.set_aside(datagram);
+                    return Came::Nothing;
+                }
+                Came::Datagram {
+                    length,
+                    sender: Party::Server,
+                }
+            }
             Ok(_) => Came::Nothing,
             Err(error) if is_silence(&error) => {
                 self.is_dry = true;

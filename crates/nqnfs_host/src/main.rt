@@ -7,19 +7,19 @@ mod hosting;
 mod ledger;
 mod link;
 mod starts;
-mod work;
+mod words;
 
 use crate::desk::HostDesk;
 use crate::hosting::Hosting;
 use crate::ledger::Ledger;
 use crate::link::HostLink;
 use crate::starts::{NoStart, let_second_pass, next_inc, pause};
+use crate::words::{Order, order_of};
 use mio::net::UnixListener;
 use nq_base::ending::{Ending, Halt};
 use nq_base::{Host, Who};
 use nq_clock::StdClock;
-use nq_script::words::number;
-use std::env;
+use nq_words::{Unread, args_of};
 use std::fs::{self, DirBuilder, Permissions};
 use std::io::{self, ErrorKind};
 use std::os::unix::fs::{DirBuilderExt, PermissionsExt};
@@ -27,6 +27,9 @@ use std::process::ExitCode;
 
 // What `--version` says.
 const VERSION: &str = "nqnfs_host 1";
+
+// Which words there are.
+const USAGE: &str = "nqnfs_host HOST";
 
 const HELP: &str = "nqnfs_host HOST
 
@@ -46,43 +49,30 @@ fn main(rt: HostRuntime) -> ExitCode {
 
 /// Does what the words behind the program's name say; how that ends.
 fn obey(rt: &HostRuntime) -> Ending {
-    let Ok(args) = env::args(rt) else {
-        return Ending::Memory;
+    let words = match args_of(rt) {
+        Ok(words) => words,
+        Err(Unread::Memory) => return told_memory(rt),
+        Err(Unread::NoText) => return told(
+            rt,
+            Ending::Usage,
+            "a word is no text: its bytes are no UTF-8",
+        ),
     };
-    let mut words = args;
-    let _program = words.next();
-    let Some(word) = words.next() else {
-        return usage(rt, "the number of a host is missing");
-    };
-    if words.next().is_some() {
-        return usage(rt, "there is a word too many");
-    }
-    obey_word(rt, word.as_str())
-}
-
-/// Does what a word says; how that ends.
-fn obey_word(rt: &HostRuntime, word: &str) -> Ending {
-    if word == "--help" {
-        let _told = print!(rt; "{HELP}");
-        return Ending::Done;
-    }
-    if word == "--version" {
-        let _told = println!(rt; "{VERSION}");
-        return Ending::Done;
-    }
-    match number(word.as_bytes(), 63) {
-        Some(host) => be_host(rt, Host(host as u32)),
-        None => {
-            let _told = eprintln!(rt; "nqnfs_host: {word} is no host: 0 to 63");
+    match order_of(words.as_slice()) {
+        Ok(Order::Be(host)) => be_host(rt, host),
+        Ok(Order::Help) => {
+            let _told = print!(rt; "{HELP}");
+            Ending::Done
+        }
+        Ok(Order::Version) => {
+            let _told = println!(rt; "{VERSION}");
+            Ending::Done
+        }
+        Err(wrong) => {
+            let _told = eprintln!(rt; "nqnfs_host: {wrong}; usage: {USAGE}");
             Ending::Usage
         }
     }
-}
-
-/// Tells which words there are, and what is wrong.
-fn usage(rt: &HostRuntime, wrong: &str) -> Ending {
-    let _told = eprintln!(rt; "nqnfs_host: {wrong}; usage: nqnfs_host HOST");
-    Ending::Usage
 }
 
 /// Is this host.
@@ -91,7 +81,7 @@ fn be_host(rt: &HostRuntime, host: Host) -> Ending {
     let Ok(folder) = format!(in rt.alloc(); "nqnfs-{number}") else {
         return Ending::Memory;
     };
-    let link = match HostLink::bind(rt, host) {
+    let link = match HostLink::bind(rt.alloc(), rt, host) {
         Ok(link) => link,
         Err(error) => return told_port(rt, number, &error),
     };

@@ -9,8 +9,8 @@ use std::os::unix::net::UnixStream;
 use std::str;
 use std::time::Duration;
 
-/// After how many seconds without an answer it is said that it is waited for.
-const QUIETLY: u64 = 3;
+/// After how many seconds in which the host says nothing it is said that it is waited for. A host that works at the ask says why before.
+const QUIETLY: u64 = 4;
 
 /// The most reads for one answer.
 const MOST_READS: u64 = 1 << 40;
@@ -18,10 +18,11 @@ const MOST_READS: u64 = 1 << 40;
 /// How many bytes are read at once.
 const READ_SIZE: usize = 16384;
 
-// What is said once an answer is waited for.
-const WAITING: &str =
-    "waiting: other asks come first, no server runs, it recovers, or another host has a lease on the file; \
-    Ctrl-C ends this program, and the host goes on with what was asked";
+// What is said once an answer is waited for, where the host does not say why.
+const WAITING: &str = "waiting: no server answers the host, or other asks come first";
+
+// What is said behind it.
+const GOES_ON: &str = "Ctrl-C ends this program, and the host goes on with what was asked";
 
 /// What a host answers.
 #[derive(Drop)]
@@ -84,6 +85,7 @@ impl<'a> Asking<'a> {
         for _read in 0..MOST_READS {
             match self.reply_in()? {
                 Some(reply) if matches!(reply.kind, Kind::Note) => self.tell_note(&reply),
+                Some(reply) if matches!(reply.kind, Kind::Wait) => self.tell_wait(&reply.text),
                 Some(reply) => return Ok(reply),
                 None => self.read()?,
             }
@@ -95,6 +97,13 @@ impl<'a> Asking<'a> {
     fn tell_note(&self, note: &Reply) {
         let words = str::from_utf8(&note.text).unwrap_or("");
         let _told = println!(self.rt; "{words}");
+    }
+
+    /// Tells that the answer is waited for, and why.
+    fn tell_wait(&mut self, why: &[u8]) {
+        let words = str::from_utf8(why).unwrap_or("waiting");
+        let _told = eprintln!(self.rt; "{words}; {GOES_ON}");
+        self.is_told = true;
     }
 
     /// The answer, if all of it has come.
@@ -137,8 +146,7 @@ impl<'a> Asking<'a> {
             Ok(_) => Err(gone()),
             Err(error) if is_silence(&error) => {
                 if !self.is_told {
-                    let _told = eprintln!(self.rt; "{WAITING}");
-                    self.is_told = true;
+                    self.tell_wait(WAITING.as_bytes());
                 }
                 Ok(())
             }

@@ -3,17 +3,20 @@
 
 mod asking;
 mod prompting;
+mod words;
 
 use crate::asking::Asking;
 use crate::prompting::{Did, serve_line, serve_lines};
+use crate::words::{Order, order_of};
 use nq_base::ending::Ending;
-use nq_script::words::number;
-use std::alloc::AllocError;
-use std::env;
+use nq_words::{Unread, args_of};
 use std::process::ExitCode;
 
 // What `--version` says.
 const VERSION: &str = "nqnfs_user 2";
+
+// Which words there are.
+const USAGE: &str = "nqnfs_user HOST [COMMAND]";
 
 const HELP: &str = "nqnfs_user HOST [COMMAND]
 
@@ -33,50 +36,34 @@ fn main(rt: HostRuntime) -> ExitCode {
 
 /// Does what the words behind the program's name say; the status then.
 fn obey(rt: &HostRuntime) -> u8 {
-    let Ok(args) = env::args(rt) else {
-        return Ending::Memory.status();
-    };
-    let mut words = args;
-    let _program = words.next();
-    let Some(word) = words.next() else {
-        let _told = eprintln!(rt;
-            "nqnfs_user: the number of a host is missing; usage: nqnfs_user HOST [COMMAND]"
-        );
-        return Ending::Usage.status();
-    };
-    if word.as_str() == "--help" {
-        let _told = print!(rt; "{HELP}");
-        return Ending::Done.status();
-    }
-    if word.as_str() == "--version" {
-        let _told = println!(rt; "{VERSION}");
-        return Ending::Done.status();
-    }
-    let mut line = String::new(rt.alloc());
-    for more in words {
-        if push_word(&mut line, more.as_str()).is_err() {
-            return Ending::Memory.status();
+    let words = match args_of(rt) {
+        Ok(words) => words,
+        Err(Unread::Memory) => return Ending::Memory.status(),
+        Err(Unread::NoText) => {
+            let _told = eprintln!(rt; "nqnfs_user: a word is no text: its bytes are no UTF-8");
+            return Ending::Usage.status();
         }
-    }
-    match number(word.as_str().as_bytes(), 63) {
-        Some(host) => ask_host(rt, host, line.as_str()),
-        None => {
-            let _told = eprintln!(rt; "nqnfs_user: {word} is no host: 0 to 63");
+    };
+    match order_of(rt.alloc(), words.as_slice()) {
+        Ok(Order::Ask { host, line }) => ask_host(rt, host, line.as_str()),
+        Ok(Order::Help) => {
+            let _told = print!(rt; "{HELP}");
+            Ending::Done.status()
+        }
+        Ok(Order::Version) => {
+            let _told = println!(rt; "{VERSION}");
+            Ending::Done.status()
+        }
+        Ok(Order::Memory) => Ending::Memory.status(),
+        Err(wrong) => {
+            let _told = eprintln!(rt; "nqnfs_user: {wrong}; usage: {USAGE}");
             Ending::Usage.status()
         }
     }
 }
 
-/// Adds a word, with a blank before it where it is not the first.
-fn push_word(line: &mut String, word: &str) -> Result<(), AllocError> {
-    if !line.is_empty() {
-        line.push_str(" ")?;
-    }
-    line.push_str(word)
-}
-
 /// Asks a host: one line, or all lines of the input where that one is empty.
-fn ask_host(rt: &HostRuntime, host: u64, line: &str) -> u8 {
+fn ask_host(rt: &HostRuntime, host: u32, line: &str) -> u8 {
     let Ok(path) = format!(in rt.alloc(); "nqnfs-{host}/asks") else {
         return Ending::Memory.status();
     };

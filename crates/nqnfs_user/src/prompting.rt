@@ -5,6 +5,7 @@ use nq_asks::Kind;
 use nq_base::Name;
 use nq_base::ending::Ending;
 use nq_command::prompt::{Line, Wrong, line_of, wrong_of};
+use nq_script::words::{Words, is};
 use nq_whole::MOST_BYTES;
 use std::fs::{self, File};
 use std::io::{self, BufRead, BufReader, ErrorKind, Write};
@@ -27,6 +28,7 @@ write F B VALUE      write a block          put F B VALUE       write it through
 sync F               store what is delayed  remove F            take a file away
 store PATH NAME      store a whole file of this machine
 get NAME PATH        get it again, as a new file of this machine
+ls [PREFIX]          the names that begin so
 help, quit           what there is to say, and to leave
 end                  end the host, once all is stored
 ";
@@ -74,6 +76,9 @@ pub(crate) fn serve_lines(rt: &HostRuntime, asking: &mut Asking<'_>) -> Ending {
 
 /// Does what a line says.
 pub(crate) fn serve_line(rt: &HostRuntime, asking: &mut Asking<'_>, text: &[u8]) -> Did {
+    if is_list(text) {
+        return serve_list(rt, asking, text);
+    }
     match line_of(rt.alloc(), text) {
         Line::Empty => Did::Done,
         Line::Quit => Did::Quit,
@@ -92,6 +97,36 @@ pub(crate) fn serve_line(rt: &HostRuntime, asking: &mut Asking<'_>, text: &[u8])
             Err(_) => refuse(rt, NO_TEXT),
         },
     }
+}
+
+/// Whether a line asks for names: `ls`, or `ls PREFIX`.
+fn is_list(text: &[u8]) -> bool {
+    let mut words = Words::new(text);
+    match (words.next(), words.next()) {
+        (Some(verb), None) => is(verb, b"ls"),
+        (Some(verb), Some(prefix)) => is(verb, b"ls") && prefix.len() <= 64 && words.is_empty(),
+        _ => false,
+    }
+}
+
+/// Lists names, each with the number of its file.
+fn serve_list(rt: &HostRuntime, asking: &mut Asking<'_>, text: &[u8]) -> Did {
+    match asking.ask(text, &[]) {
+        Ok(reply) => match reply.kind {
+            Kind::Bytes => tell_names(rt, &reply.bytes),
+            _ => tell(rt, &reply),
+        },
+        Err(_) => tell_gone(rt),
+    }
+}
+
+/// Tells the lines of a list.
+fn tell_names(rt: &HostRuntime, lines: &[u8]) -> Did {
+    let _told = match str::from_utf8(lines) {
+        Ok(names) if !names.is_empty() => print!(rt; "{names}"),
+        _ => println!(rt; "ok, no file"),
+    };
+    Did::Done
 }
 
 /// Tells words on a line of their own, of what was refused.

@@ -66,13 +66,15 @@ pub record ServedFile (path : List ℕ) (end : Ending) : Type 0 where
   pub longest : ℕ
   pub long : 5 ≤ longest
   pub short : longest ≤ 600
+  pub disk : SeenFile
+  pub fresh : disk ≡ file_at path
   pub left : SeenFile
   pub clock : ClockTold
   pub clock' : ClockTold
   pub link : LinkTold
   pub link' : LinkTold
   pub so : EndsSo untold (λ disk. disk.faults) (λ disk. Anything) StaysFile (λ first last. Anything) (extension_told is_lookup reply_in) longest end
-      (file_at path) left clock clock' link link'
+      disk left clock clock' link link'
 
 -- the program ends so where the machine gave it no file, no link or no clock
 abbrev pub IsWithoutParts : Ending → Type 0

@@ -1,10 +1,15 @@
+use Rattle.nq_command.proofs.Ranges.{command_ranged}
 use Rattle.nq_command.specs.Commands.{command_of}
 use Rattle.nq_run.proofs.Commands.{left_so, says_check, says_format, says_names, says_replay, says_staged}
+use Rattle.nq_run.proofs.Usage.{said-none}
 use Rattle.nq_run.specs.Frames.{reads_clock, reads_input, uses_disk, uses_fates, uses_link, uses_links}
 use Rattle.nq_run.proofs.top.run.Goals as goal
 
 pub returns-clause-usage : goal.returns-clause-usage
 returns-clause-usage g c = λ none. (c.run_command.ensures.usage none).0
+
+pub returns-clause-known : goal.returns-clause-known
+returns-clause-known g c = λ four none. said-none (command_of c.args.words.now) _ four (command_ranged c.args.words.now) (c.run_command.ensures.usage none).0
 
 pub returns-clause-never : goal.returns-clause-never
 returns-clause-never g c = λ never. (c.run_command.ensures.never never).0

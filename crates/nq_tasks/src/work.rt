@@ -1,27 +1,28 @@
 //! What a host does for one ask, call by call.
 
-use crate::askers::Ask;
-use crate::ledger::Made;
+ghost use Rattle.std.specs.Prelude.{◌≡◌, ◌≤◌, ◌↔◌, IfSome, IsSome, length};
+ghost use Rattle.nq_tasks.specs.Work.{Answers, nobodys};
+ghost use Rattle.nq_whole.specs.Heads.{most_bytes};
+
+use crate::asks::{Ask, Made};
+use crate::listing::{Listed, Listing};
+use crate::texts::{AGAIN, NO_MEMORY, NOT_WHOLE};
 use nq_asks::Kind;
 use nq_base::{Answer, Call, FileId, Name, NoMemory, Who};
 use nq_command::prompt::answer_text;
+use nq_directory::Prefix;
 use nq_script::parse_call;
 use nq_script::words::{Words, is};
 use nq_whole::{Getting, Got, MOST_BYTES, Said, Storing, Tidying, Told};
 use std::alloc::Global;
+use std::marker::Model;
 use std::mem;
 
 /// How often a file is read anew whose bytes were gone.
 const MOST_ANEW: u32 = 1000;
 
 /// The place of nobody.
-pub(crate) const NOBODY: usize = usize::MAX;
-
-/// What is said of a file that was made by calls.
-const NOT_WHOLE: &[u8] = b"the file of this name was not stored as a whole one";
-
-/// What is said where memory was wanting.
-pub(crate) const NO_MEMORY: &[u8] = b"memory: memory was wanting";
+pub const NOBODY: usize = usize::MAX;
 
 /// What is done, call by call.
 #[derive(Drop)]
@@ -34,6 +35,8 @@ enum Task {
     Get(Getting),
     /// Tidying up behind a store that was cut off.
     Tidy(Tidying),
+    /// Listing names. It makes no call.
+    List(Listing),
 }
 
 /// What a task says of an answer.
@@ -47,13 +50,17 @@ enum Stepped {
     Got(Got),
     /// Tidying says this.
     Tidied(Told),
+    /// A list makes no call, so this is no answer of its own.
+    Listing,
 }
 
 /// What came of a step.
 #[derive(Drop)]
-pub(crate) enum Came {
+pub enum Came {
     /// It goes on.
     On,
+    /// It goes on later: the server recovers.
+    Later,
     /// It is over, with this answer.
     Over(Reply),
     /// Tidying up is over. What was made is kept on the list, if it is there or may be there.
@@ -62,27 +69,26 @@ pub(crate) enum Came {
 
 /// The answer to an ask.
 #[derive(Drop)]
-pub(crate) struct Reply {
+pub struct Reply {
     /// Who asked.
-    pub(crate) place: usize,
+    pub place: usize,
     /// The number of the ask.
-    pub(crate) number: u32,
+    pub number: u32,
     /// Its kind.
-    pub(crate) kind: Kind,
+    pub kind: Kind,
     /// Its words.
-    pub(crate) text: Vec<u8>,
+    pub text: Vec<u8>,
     /// The bytes behind its line.
-    pub(crate) bytes: Vec<u8>,
+    pub bytes: Vec<u8>,
     /// The name under which a store was refused.
-    pub(crate) refused: Option<Name>,
+    pub refused: Option<Name>,
 }
 
-/// An ask at work.
+/// An ask at work. Contracts see who asked, and the number of the ask.
 #[derive(Drop)]
-pub(crate) struct Work {
+pub struct Work {
     alloc: Global,
-    /// Who asked.
-    pub(crate) place: usize,
+    place: usize,
     number: u32,
     task: Task,
     /// Why it was refused, once that is known.
@@ -91,23 +97,27 @@ pub(crate) struct Work {
     made: Option<Made>,
 }
 
-/// The name under which an ask stores a file, if it does.
-pub(crate) fn name_stored(text: &[u8]) -> Option<Name> {
-    let mut words = Words::new(text);
-    let verb = words.next()?;
-    if is(verb, b"store") {
-        words.name()
-    } else {
-        None
-    }
+impl Model for Work {
+    ghost use Rattle.nq_tasks.specs.Work.{Asked};
+
+    ghost Value = { Asked };
+
+    ghost view = { λ w. record { place = w.place; number = w.number } };
 }
 
-/// A name for a file with the bytes of a whole one: no host takes it a second time, since an incarnation is taken once.
-pub(crate) fn own_name(alloc: Global, who: Who, count: u32) -> Option<Name> {
-    let (host, inc) = (who.host.0, who.inc.0);
-    match format!(in alloc; "~{host}.{inc}.{count}") {
-        Ok(text) => Name::new(text.as_str().as_bytes()),
-        Err(_) => None,
+/// The request of this number for the next page of a list, where that is due at this time.
+fn due_page(
+    alloc: Global,
+    listing: &mut Listing,
+    who: Who,
+    number: u32,
+    now: u64,
+) -> Result<Option<Vec<u8>>, NoMemory> {
+    if listing.is_due(now) {
+        let request = listing.ask(alloc, who, number, now)?;
+        Ok(Some(request))
+    } else {
+        Ok(None)
     }
 }
 
@@ -119,6 +129,10 @@ fn task_of(alloc: Global, text: &[u8]) -> Option<Task> {
         let name = words.name()?;
         return Some(Task::Get(Getting::new(alloc, name)));
     }
+    if is(verb, b"ls") {
+        let prefix = Prefix::new(words.next().unwrap_or(b""))?;
+        return Some(Task::List(Listing::new(alloc, prefix)));
+    }
     match parse_call(alloc, text, 2) {
         Ok(call) => Some(Task::Call(call)),
         Err(_) => None,
@@ -127,7 +141,9 @@ fn task_of(alloc: Global, text: &[u8]) -> Option<Task> {
 
 impl Work {
     /// The work of a task.
-    fn of(alloc: Global, place: usize, number: u32, task: Task) -> Work {
+    fn of(alloc: Global, place: usize, number: u32, task: Task) -> Work
+        ensures { result ≡ record { place = place; number = number } }
+    {
         Work {
             alloc,
             place,
@@ -140,13 +156,18 @@ impl Work {
     }
 
     /// The work for an ask that stores no file; None where it names none.
-    pub(crate) fn new(alloc: Global, place: usize, ask: &Ask) -> Option<Work> {
+    pub fn new(alloc: Global, place: usize, ask: &Ask) -> Option<Work>
+        ensures { IfSome result (λ work. work ≡ record { place = place; number = ask.now.number }) }
+    {
         let task = task_of(alloc, &ask.text)?;
         Some(Work::of(alloc, place, ask.number, task))
     }
 
     /// The work of storing the bytes of an ask, of which there are not too many.
-    pub(crate) fn store(alloc: Global, place: usize, ask: Ask, made: Made) -> Option<Work> {
+    pub fn store(alloc: Global, place: usize, ask: Ask, made: Made) -> Option<Work>
+        ensures asked { IfSome result (λ work. work ≡ record { place = place; number = ask.number }) }
+        ensures fits { IsSome result ↔ (length ask.body.items ≤ most_bytes) }
+    {
         let Ask {
             number,
             text: _text,
@@ -162,7 +183,9 @@ impl Work {
     }
 
     /// The work of tidying up behind a store, which nobody asked for.
-    pub(crate) fn tidy(alloc: Global, made: Made) -> Work {
+    pub fn tidy(alloc: Global, made: Made) -> Work
+        ensures { result ≡ nobodys }
+    {
         let tidying = Tidying::new(made.own, made.name);
         let mut work = Work::of(alloc, NOBODY, 0, Task::Tidy(tidying));
         work.made = Some(made);
@@ -170,17 +193,79 @@ impl Work {
     }
 
     /// The work of storing what is delayed of a file, which nobody asked for.
-    pub(crate) fn sync(alloc: Global, file: FileId) -> Work {
+    pub fn sync(alloc: Global, file: FileId) -> Work
+        ensures { result ≡ nobodys }
+    {
         Work::of(alloc, NOBODY, 0, Task::Call(Call::Sync { file }))
     }
 
-    /// The call that comes next.
-    pub(crate) fn asks(&self) -> Result<Call, NoMemory> {
+    /// Who asked; `NOBODY` where nobody did.
+    pub fn place(&self) -> usize
+        ensures { result ≡ self.now.place }
+    {
+        self.place
+    }
+
+    /// The number of the ask.
+    pub fn number(&self) -> u32
+        ensures { result ≡ self.now.number }
+    {
+        self.number
+    }
+
+    /// The call that comes next. A list has none.
+    ///
+    /// # Errors
+    ///
+    /// Want of memory, and that there is no call.
+    pub fn asks(&self) -> Result<Call, NoMemory> {
         match &self.task {
             Task::Call(call) => call.copied(self.alloc),
             Task::Store(storing) => storing.asks(self.alloc),
             Task::Get(getting) => Ok(getting.asks()),
             Task::Tidy(tidying) => Ok(tidying.asks()),
+            Task::List(_) => Err(NoMemory::Memory),
+        }
+    }
+
+    /// Whether it lists names. Then it makes no call.
+    pub fn is_listing(&self) -> bool {
+        matches!(&self.task, Task::List(_))
+    }
+
+    /// The request of this number for the next page of its list, where that is due at this time.
+    ///
+    /// # Errors
+    ///
+    /// Only want of memory.
+    pub fn asks_page(
+        &mut self,
+        who: Who,
+        number: u32,
+        now: u64,
+    ) -> Result<Option<Vec<u8>>, NoMemory>
+        ensures { self.new ≡ self.old }
+    {
+        match &mut self.task {
+            Task::List(listing) => due_page(self.alloc, listing, who, number, now),
+            _ => Ok(None),
+        }
+    }
+
+    /// Takes a datagram, which may be the page of its list that was asked for.
+    pub fn take_page(&mut self, who: Who, datagram: &[u8]) -> Came
+        ensures same { self.new ≡ self.old }
+        ensures own { Answers self.old result }
+    {
+        let listed = match &mut self.task {
+            Task::List(listing) => listing.take(self.alloc, who, datagram),
+            _ => Ok(Listed::Goes),
+        };
+        match listed {
+            Ok(Listed::Goes) => Came::On,
+            Ok(Listed::Later) => Came::Later,
+            Ok(Listed::Whole) => self.gives(),
+            Err(_) => self.lacks(),
         }
     }
 
@@ -196,7 +281,9 @@ impl Work {
     }
 
     /// It is over, with this answer and no bytes.
-    fn ends(&self, kind: Kind, text: Vec<u8>) -> Came {
+    fn ends(&self, kind: Kind, text: Vec<u8>) -> Came
+        ensures { Answers self.now result }
+    {
         Came::Over(Reply {
             place: self.place,
             number: self.number,
@@ -224,42 +311,57 @@ impl Work {
     }
 
     /// It is over, with these words.
-    fn says(&self, kind: Kind, words: &[u8]) -> Came {
+    fn says(&self, kind: Kind, words: &[u8]) -> Came
+        ensures { Answers self.now result }
+    {
         self.ends(kind, self.words(words))
     }
 
     /// It is over since memory was wanting.
-    pub(crate) fn lacks(&self) -> Came {
+    pub fn lacks(&self) -> Came
+        ensures { Answers self.now result }
+    {
         self.says(Kind::Refused, NO_MEMORY)
     }
 
     /// It is over, with an answer in words.
-    fn tells(&self, kind: Kind, answer: &Answer) -> Came {
+    fn tells(&self, kind: Kind, answer: &Answer) -> Came
+        ensures { Answers self.now result }
+    {
         self.ends(kind, self.text(answer))
     }
 
     /// Takes the answer to the call.
-    pub(crate) fn take(&mut self, answer: &Answer) -> Came {
+    pub fn take(&mut self, answer: &Answer) -> Came
+        ensures same { self.new ≡ self.old }
+        ensures own { Answers self.old result }
+    {
         match self.step(answer) {
             Stepped::Called => self.answered(answer),
             Stepped::Stored(said) => self.stored(said, answer),
             Stepped::Got(got) => self.got(got, answer),
             Stepped::Tidied(told) => self.tidied(told),
+            Stepped::Listing => Came::On,
         }
     }
 
     /// Hands the answer to what is done.
-    fn step(&mut self, answer: &Answer) -> Stepped {
+    fn step(&mut self, answer: &Answer) -> Stepped
+        ensures { self.new ≡ self.old }
+    {
         match &mut self.task {
             Task::Call(_) => Stepped::Called,
             Task::Store(storing) => Stepped::Stored(storing.take(answer)),
             Task::Get(getting) => Stepped::Got(getting.take(answer)),
             Task::Tidy(tidying) => Stepped::Tidied(tidying.take(answer)),
+            Task::List(_) => Stepped::Listing,
         }
     }
 
     /// A call has its answer.
-    fn answered(&self, answer: &Answer) -> Came {
+    fn answered(&self, answer: &Answer) -> Came
+        ensures { Answers self.now result }
+    {
         match answer {
             Answer::Ok(_) => self.tells(Kind::Done, answer),
             _ => self.tells(Kind::Refused, answer),
@@ -267,7 +369,9 @@ impl Work {
     }
 
     /// What tidying says.
-    fn tidied(&self, told: Told) -> Came {
+    fn tidied(&self, told: Told) -> Came
+        ensures { Answers self.now result }
+    {
         match told {
             Told::Goes => Came::On,
             Told::Gone => Came::Tidied(None),
@@ -288,7 +392,10 @@ impl Work {
     }
 
     /// What storing says.
-    fn stored(&mut self, said: Said, answer: &Answer) -> Came {
+    fn stored(&mut self, said: Said, answer: &Answer) -> Came
+        ensures same { self.new ≡ self.old }
+        ensures own { Answers self.old result }
+    {
         match said {
             Said::Goes => Came::On,
             Said::Done => self.says(Kind::Done, b"ok, stored"),
@@ -305,7 +412,10 @@ impl Work {
     }
 
     /// It is over, for the reason that is known, or else with this answer.
-    fn refuses(&mut self, answer: &Answer) -> Came {
+    fn refuses(&mut self, answer: &Answer) -> Came
+        ensures same { self.new ≡ self.old }
+        ensures own { Answers self.old result }
+    {
         if self.why.is_empty() {
             return self.tells(Kind::Refused, answer);
         }
@@ -314,7 +424,10 @@ impl Work {
     }
 
     /// What getting says.
-    fn got(&mut self, got: Got, answer: &Answer) -> Came {
+    fn got(&mut self, got: Got, answer: &Answer) -> Came
+        ensures same { self.new ≡ self.old }
+        ensures own { Answers self.old result }
+    {
         match got {
             Got::Goes => Came::On,
             Got::Anew => self.begins_anew(),
@@ -326,20 +439,27 @@ impl Work {
     }
 
     /// Getting has begun anew.
-    fn begins_anew(&mut self) -> Came {
+    fn begins_anew(&mut self) -> Came
+        ensures same { self.new ≡ self.old }
+        ensures own { Answers self.old result }
+    {
         self.anew = self.anew.saturating_add(1);
         if self.anew > MOST_ANEW {
-            self.says(Kind::Refused, b"others store it again and again")
+            self.says(Kind::Refused, AGAIN)
         } else {
             Came::On
         }
     }
 
     /// All bytes are there. No call is made behind it.
-    fn gives(&mut self) -> Came {
+    fn gives(&mut self) -> Came
+        ensures same { self.new ≡ self.old }
+        ensures own { Answers self.old result }
+    {
         let nothing = Task::Call(Call::Sync { file: FileId(0) });
         let bytes = match mem::replace(&mut self.task, nothing) {
             Task::Get(getting) => getting.into_bytes(),
+            Task::List(listing) => listing.into_lines(),
             _ => Vec::new(self.alloc),
         };
         let size = bytes.len();

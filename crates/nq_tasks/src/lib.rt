@@ -1,0 +1,15 @@
+//! What a host does for one ask, call by call, whatever is answered: a call, a whole file, a list of names, and tidying up behind a store that
+//! was cut off. Nothing here reads a clock, a socket or a file.
+#![tactic(auto)]
+
+mod asks;
+mod listing;
+mod texts;
+mod waiting;
+mod work;
+
+pub use asks::{Ask, Made, name_stored, own_name};
+pub use listing::{Listed, Listing};
+pub use texts::NO_MEMORY;
+pub use waiting::Waiting;
+pub use work::{Came, NOBODY, Reply, Work};
