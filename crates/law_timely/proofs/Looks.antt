@@ -21,7 +21,7 @@ use Rattle.walk_steps.proofs.Tests.{is-at-most, is-not-at-most}
 use Rattle.law_rounds.proofs.Busy.{asks-next}
 use Rattle.law_rounds.proofs.Meant.{replied-free}
 use Rattle.law_timely.specs.NobodyIsWaitedFor.{needs_no_lease}
-use Rattle.law_timely.proofs.Calls.{StillOpen, Keeps, settles, sends, hear-keeps}
+use Rattle.law_rounds.proofs.Calling.{StillOpen, settles, sends, hear-keeps, tick-keeps}
 
 -- whether a request is of such a call
 abbrev pub is_look : Request → Bool
@@ -207,23 +207,6 @@ settles-not t u called look = settle-cases t (λ v. v ≡ t) (record {
 
 renews-not : (t : ClientStep) → is_asking (send_next false t) ≡ true → send_next true t ≡ send_next false t
 renews-not t e = rw e refl
-
--- a tick keeps the call and the pause
-pub tick-keeps : (c : Client) → Keeps ⊤ (at_time c (c.now + 1)) (client_tick c (c.now + 1))
-unfolding at_time sends_again
-tick-keeps c = tick-cases c (c.now + 1) (Keeps ⊤ (at_time c (c.now + 1))) (record {
-  again = λ ticket asks long. record { calls = λ v is. (v, is, refl, refl); now = refl; pause = λ yes. refl };
-  quiet = λ ticket asks short. start;
-  free = λ none. sends ⊤ (at_time c (c.now + 1)) true (settle (begun (at_time c (c.now + 1)))) (settles ⊤ (at_time c (c.now + 1))
-      (begun (at_time c (c.now + 1))) start);
-})
-  where
-    start : Keeps ⊤ (at_time c (c.now + 1)) (begun (at_time c (c.now + 1)))
-    start = record { calls = λ v is. (v, is, refl, refl); now = refl; pause = λ yes. refl }
-
-pub tick-opens : (c : Client) → StillOpen c.call (client_tick c (c.now + 1)).client.call
-unfolding at_time
-tick-opens c = (tick-keeps c).calls
 
 module _ (limit : ℕ) (c : Client) (alone : Alone c) (h : Looking limit c) where
   ticked-free : c.ticket ≡ None → Asks (send_next true (settle (begun (at_time c (c.now + 1)))))
