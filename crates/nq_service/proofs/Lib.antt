@@ -1,3 +1,4 @@
+mod LeftFirst
 mod MountFailing
 mod Nothing
 pub mod Failing

@@ -1,8 +1,6 @@
 -- What a stop within serving leaves, from what one leaves before the store was opened and behind it.
 use Rattle.std.proofs.Common.{◌≡◌, ◌⊎◌, ◌<◌, ◌≤◌, ℕ, List, [], ◌∷◌, Option, Some, None, Result, Ok, Err, length, inl, inr, refl, sym, ap, subst, ◌∙◌, arith}
 use Rattle.std.specs.Option.{ForSome}
-use Rattle.nq_serving.specs.DaemonLeaving.{IsLeftInRuns}
-use Rattle.nq_serving.specs.DaemonServing.{Runs}
 use Rattle.nq_serving.specs.Extending.{Extension}
 use Rattle.nq_serving.specs.Leaving.{IsSettled}
 use Rattle.nq_base.specs.declared.ending.halt.Halt.{Halt}
@@ -13,6 +11,8 @@ use Rattle.nq_io.specs.Faults.{Rose}
 use Rattle.nq_model.specs.Kept.{Kept}
 use Rattle.nq_store.proofs.Emptied.{nothing_on}
 use Rattle.nq_service.proofs.MountFailing.{failed_by, stood_still}
+use Rattle.nq_service.proofs.LeftFirst.{left_either, left_first, left_same}
+use Rattle.nq_serving.specs.declared.turning.LinkPolicy.{LinkPolicy}
 use Rattle.nq_service.specs.Opening.{FailsEarly, IsOpenedAs, IsReady, OpensOrMakes, OpensReady}
 use Rattle.nq_service.specs.MountServing.{EndsServing, IsFoundAmong, IsWhyNot, ServesImage, ServesNot, StoodStill}
 use Rattle.nq_clock.specs.Clocks.{ClockTold}
@@ -22,24 +22,6 @@ use Rattle.nq_store.specs.Opening.{FollowsOpen, LeavesLike, back_of}
 use Rattle.nq_store.specs.Storing.{AllStandFor, GoesOn, HasRisen, LeavesKept, StoredStore, content_of, faults_of, kept_on, kept_told}
 use Rattle.nq_store.specs.declared.fault.OpenFault.{OpenFault}
 use Rattle.nq_store.specs.declared.fault.OpenFault.TheVariants as opening
-
-left-same : (kept : Kept) (bytes image : List ℕ) (before : List ℕ → Type 0) → before bytes → AllStandFor before kept
-    → before image ⊎ (kept_on image ≡ kept_on bytes) → kept_on image ≡ Some kept
-left-same kept bytes image before stays same (inl b) = same image b
-left-same kept bytes image before stays same (inr e) = e ∙ same bytes stays
-
--- what is kept at first is left by the boot
-left-first : {K : Type 0} (content : K → Option Kept) (faults : K → ℕ) (extension : Extension) (follows : K → K → Type 0) (longest turns time : ℕ) (keeper : K)
-    (ended : Result Unit Halt) (left : K) (clock clock' : ClockTold) (link link' : LinkTold)
-    (runs : Runs content faults extension follows longest turns time keeper ended left clock clock' link link') (kept : Kept) (found : Option Kept)
-    → found ≡ Some kept → IsLeftInRuns content faults extension follows longest turns time keeper ended left clock clock' link link' runs kept found
-left-first content faults extension follows longest turns time keeper (Ok done) left clock clock' link link' runs kept found e = inl (inl e)
-left-first content faults extension follows longest turns time keeper (Err why) left clock clock' link link' (inl runs) kept found e = inl (inl e)
-left-first content faults extension follows longest turns time keeper (Err why) left clock clock' link link' (inr none) kept found e = inl e
-
-left-either : {A B : Type 0} (P : Type 0) → (A → P) → (B → P) → A ⊎ B → P
-left-either P f g (inl a) = f a
-left-either P f g (inr b) = g b
 
 -- the disk of a store of which a stop leaves exactly what is kept
 pub all_settled : {D : Type 0} (told : D → Option (List ℕ)) (leaves : D → D → List ℕ → Type 0) (store : StoredStore D) (left : D) → left ≡ store.disk
@@ -62,10 +44,10 @@ module _ {D : Type 0} (told : D → Option (List ℕ)) (faults : D → ℕ) (may
       → Each (leaves ready left) (IsFoundAmong told faults follows leaves extension longest turns store ended left clock clock' link link' ends kept)
   found-ready ready store ended left clock clock' link link' ends stays parts like keeps bytes kept is same image l =
       let s = ends.serving in
-      left-either (IsFoundAmong told faults follows leaves extension longest turns store ended left clock clock' link link' ends kept image)
-      (λ first. left-first (content_of told) (faults_of faults) extension (GoesOn faults follows) longest turns s.serves.time store ended ends.served
+      left_either (IsFoundAmong told faults follows leaves extension longest turns store ended left clock clock' link link' ends kept image)
+      (λ first. left_first (content_of told) (faults_of faults) LinkPolicy.GoOn extension (GoesOn faults follows) longest turns s.serves.time store ended ends.served
       s.serves.between clock' link link' s.serves.runs kept (kept_on image)
-      (left-same kept bytes image (may_leave ready) (stays bytes is) same (like bytes is image first)))
+      (left_same kept bytes image (may_leave ready) (stays bytes is) same (like bytes is image first)))
       (λ later. s.only kept (keeps ∙ ap kept_told is ∙ same bytes (stays bytes is)) (kept_on image) (image, later, refl))
       (parts ends.served.disk image ends.same.disk (subst (λ (d : D). leaves ready d image) ends.handed l))
 
@@ -84,8 +66,8 @@ module _ {D : Type 0} (told : D → Option (List ℕ)) (faults : D → ℕ) (may
       → Each (leaves disk left) (IsFoundAmong told faults follows leaves extension longest turns store ended left clock clock' link link' ends kept)
   found-first disk ready store ended left clock clock' link link' ends stays outer parts goes opens on told_on no_more like keeps bytes kept is same image l =
       let s = ends.serving in
-      left-either (IsFoundAmong told faults follows leaves extension longest turns store ended left clock clock' link link' ends kept image)
-      (λ first. left-first (content_of told) (faults_of faults) extension (GoesOn faults follows) longest turns s.serves.time store ended ends.served
+      left_either (IsFoundAmong told faults follows leaves extension longest turns store ended left clock clock' link link' ends kept image)
+      (λ first. left_first (content_of told) (faults_of faults) LinkPolicy.GoOn extension (GoesOn faults follows) longest turns s.serves.time store ended ends.served
       s.serves.between clock' link link' s.serves.runs kept (kept_on image) (same image (no_more image first)))
       (λ later. found-ready ready store ended left clock clock' link link' ends (stays ready) (λ last i next. parts ready store.disk last i opens next) like
       keeps bytes kept (told_on ∙ is) (λ i may. same i (no_more i (outer disk ready i goes (inr may)))) image later)
@@ -130,10 +112,10 @@ module _ {D : Type 0} (told : D → Option (List ℕ)) (faults : D → ℕ) (may
         fresh = opened.fresh;
         ends = ends;
         failed = λ keep. subst (λ (d : D). HasRisen (faults disk) (faults d)) (sym ends.handed)
-            (failed_by faults follows ended disk store ends.served (content_of told store) rises opened.fresh (opened.counts ∙ is_ready.counts) ends.same
+            (failed_by faults follows ended disk store ends.served (content_of told store) link.faults link'.faults rises opened.fresh (opened.counts ∙ is_ready.counts) ends.same
             ends.cause keep);
         done = λ all. subst (λ (d : D). StoodStill (faults disk) (faults d)) (sym ends.handed)
-            (stood_still faults follows ended disk store ends.served (content_of told store) rises opened.fresh (opened.counts ∙ is_ready.counts)
+            (stood_still faults follows ended disk store ends.served (content_of told store) link.faults link'.faults rises opened.fresh (opened.counts ∙ is_ready.counts)
             ends.same ends.cause all);
         survives = λ bytes is some kept same.
             let still = is_ready.stays bytes is some in
@@ -187,9 +169,9 @@ module _ {D : Type 0} (told : D → Option (List ℕ)) (faults : D → ℕ) (may
     stays = λ bytes is some. let still = opens.is_ready.stays bytes is some in opens.opened.stays bytes (still.0 ∙ is);
     survives = λ bytes is some kept same image l.
         let still = opens.is_ready.stays bytes is some in
-        left-either (kept_on image ≡ Some kept)
+        left_either (kept_on image ≡ Some kept)
         (λ first. same image (still.1 image first))
-        (λ later. left-same kept bytes image (may_leave opens.ready) (stays opens.ready bytes (still.0 ∙ is))
+        (λ later. left_same kept bytes image (may_leave opens.ready) (stays opens.ready bytes (still.0 ∙ is))
         (λ i may. same i (still.1 i (outer disk opens.ready i opens.is_ready.same (inr may))))
         (opens.opened.still bytes (still.0 ∙ is) image later))
         (parts disk opens.ready (back_of fault) image opens.is_ready.same (follows-back opens.ready fault opens.opened.same) l);

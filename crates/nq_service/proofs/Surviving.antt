@@ -3,8 +3,10 @@ use Rattle.std.proofs.Common.{◌≡◌, ◌⊎◌, ◌≤◌, ℕ, List, Option
 use Rattle.std.specs.Option.{ForSome}
 use Rattle.nq_base.specs.declared.ending.ending.Ending.{Ending}
 use Rattle.nq_base.specs.declared.ending.halt.Halt.{Halt}
-use Rattle.nq_serving.specs.ServerLeaving.{IsLeftInRuns, LeavesServing}
-use Rattle.nq_serving.specs.Serving.{Runs, Tells}
+use Rattle.nq_serving.specs.Extending.{no_extension}
+use Rattle.nq_serving.specs.LeavingTurns.{IsLeftInRuns, LeavesServing}
+use Rattle.nq_serving.specs.Serving.{Tells}
+use Rattle.nq_serving.specs.declared.turning.LinkPolicy.{LinkPolicy}
 use Rattle.nq_model.specs.Kept.{Kept}
 use Rattle.nq_clock.specs.Clocks.{ClockTold}
 use Rattle.nq_link.specs.Links.{LinkTold}
@@ -13,30 +15,13 @@ use Rattle.nq_store.specs.Opening.{AnswersOpen, FollowsOpen, LeavesLike, disk_of
 use Rattle.nq_store.specs.Storing.{AllStandFor, GoesOn, HasRisen, IsFresh, IsKept, LeavesKept, StoredStore, content_of, faults_of, kept_on, kept_told}
 use Rattle.nq_store.specs.declared.fault.OpenFault.{OpenFault}
 use Rattle.nq_service.proofs.Failing.{failed_by, right_of}
-
-left-same : (kept : Kept) (bytes image : List ℕ) (before : List ℕ → Type 0) → before bytes → AllStandFor before kept
-    → before image ⊎ (kept_on image ≡ kept_on bytes) → kept_on image ≡ Some kept
-left-same kept bytes image before stays same (inl b) = same image b
-left-same kept bytes image before stays same (inr e) = e ∙ same bytes stays
+use Rattle.nq_service.proofs.LeftFirst.{left_either, left_first, left_same}
 
 -- a disk that was only opened
 pub stays_same : (told : Option (List ℕ)) (before leaves : List ℕ → Type 0) → ((bytes : List ℕ) → told ≡ Some bytes → before bytes)
     → LeavesLike told before leaves → ForSome told (λ bytes. StaysSame before leaves)
-stays_same told before leaves stays like = λ bytes is kept same image left. left-same kept bytes image before (stays bytes is) same (like bytes is
+stays_same told before leaves stays like = λ bytes is kept same image left. left_same kept bytes image before (stays bytes is) same (like bytes is
     image left)
-
--- what is kept at first is left by the boot
-left-first : {K : Type 0} (content : K → Option Kept) (faults : K → ℕ) (follows : K → K → Type 0) (longest turns time : ℕ) (keeper : K)
-    (ended : Result Unit Halt) (left : K) (clock clock' : ClockTold) (link link' : LinkTold)
-    (runs : Runs content faults follows longest turns time keeper ended left clock clock' link link') (kept : Kept) (found : Option Kept)
-    → found ≡ Some kept → IsLeftInRuns content faults follows longest turns time keeper ended left clock clock' link link' runs kept found
-left-first content faults follows longest turns time keeper (Ok done) left clock clock' link link' runs kept found e = inl (inl e)
-left-first content faults follows longest turns time keeper (Err why) left clock clock' link link' (inl runs) kept found e = inl (inl e)
-left-first content faults follows longest turns time keeper (Err why) left clock clock' link link' (inr none) kept found e = inl e
-
-left-either : {A B : Type 0} (P : Type 0) → (A → P) → (B → P) → A ⊎ B → P
-left-either P f g (inl a) = f a
-left-either P f g (inr b) = g b
 
 module _ {D : Type 0} (told : D → Option (List ℕ)) (faults : D → ℕ) (may_leave : D → List ℕ → Type 0) (follows : D → D → Type 0)
     (leaves : D → D → List ℕ → Type 0) where
@@ -46,17 +31,17 @@ module _ {D : Type 0} (told : D → Option (List ℕ)) (faults : D → ℕ) (may
       → ((image : List ℕ) → leaves disk left.disk image → leaves disk store.disk image ⊎ leaves store.disk left.disk image)
       → LeavesLike (told disk) (may_leave disk) (leaves disk store.disk)
       → content_of told store ≡ kept_told (told disk)
-      → LeavesServing (content_of told) (faults_of faults) (GoesOn faults follows) (λ first last. LeavesKept (leaves first.disk last.disk)) longest turns
+      → LeavesServing (content_of told) (faults_of faults) LinkPolicy.Stop no_extension (GoesOn faults follows) (λ first last. LeavesKept (leaves first.disk last.disk)) longest turns
       store ended left clock clock' link link'
       → Survives told faults may_leave follows leaves longest turns disk store ended left clock clock' link link'
   survives longest turns disk store ended left clock clock' link link' stays parts like keeps s = record {
     serving = s;
     survives = λ bytes is kept same image l.
-        left-either (IsLeftInRuns (content_of told) (faults_of faults) (GoesOn faults follows) longest turns s.serves.time store ended left
+        left_either (IsLeftInRuns (content_of told) (faults_of faults) LinkPolicy.Stop no_extension (GoesOn faults follows) longest turns s.serves.time store ended left
         s.serves.between clock' link link' s.serves.runs kept (kept_on image))
-        (λ first. left-first (content_of told) (faults_of faults) (GoesOn faults follows) longest turns s.serves.time store ended left s.serves.between
+        (λ first. left_first (content_of told) (faults_of faults) LinkPolicy.Stop no_extension (GoesOn faults follows) longest turns s.serves.time store ended left s.serves.between
         clock' link link' s.serves.runs kept (kept_on image)
-        (left-same kept bytes image (may_leave disk) (stays bytes is) same (like bytes is image first)))
+        (left_same kept bytes image (may_leave disk) (stays bytes is) same (like bytes is image first)))
         (λ later. s.only kept (keeps ∙ ap kept_told is ∙ same bytes (stays bytes is)) (kept_on image) (image, later, refl))
         (parts image l);
     settled = λ kept is image l. s.settled kept is (kept_on image) (image, l, refl);
@@ -85,7 +70,7 @@ module _ {D : Type 0} (told : D → Option (List ℕ)) (faults : D → ℕ) (may
       → ((last : D) (image : List ℕ) → follows store.disk last → leaves disk last image → leaves disk store.disk image ⊎ leaves store.disk last image)
       → LeavesLike (told disk) (may_leave disk) (leaves disk store.disk)
       → content_of told store ≡ kept_told (told disk)
-      → EndsServing told faults follows (λ ended served. LeavesServing (content_of told) (faults_of faults) (GoesOn faults follows) (λ first last.
+      → EndsServing told faults follows (λ ended served. LeavesServing (content_of told) (faults_of faults) LinkPolicy.Stop no_extension (GoesOn faults follows) (λ first last.
       LeavesKept (leaves first.disk last.disk)) longest turns store ended served clock clock' link link') code turns store left link link' held
       now w w'
       → EndsServing told faults follows (λ ended served. Survives told faults may_leave follows leaves longest turns disk store ended served clock
@@ -98,7 +83,7 @@ module _ {D : Type 0} (told : D → Option (List ℕ)) (faults : D → ℕ) (may
     handed = e.handed;
     same = e.same;
     tells = tells-on e.end turns
-        (λ ended. LeavesServing (content_of told) (faults_of faults) (GoesOn faults follows) (λ first last. LeavesKept (leaves first.disk last.disk))
+        (λ ended. LeavesServing (content_of told) (faults_of faults) LinkPolicy.Stop no_extension (GoesOn faults follows) (λ first last. LeavesKept (leaves first.disk last.disk))
         longest turns store ended e.served clock clock' link link')
         (λ ended. Survives told faults may_leave follows leaves longest turns disk store ended e.served clock clock' link link')
         held e.between w e.count
@@ -119,7 +104,7 @@ module _ {D : Type 0} (told : D → Option (List ℕ)) (faults : D → ℕ) (may
       → OnOk result (ForSome (told disk) IsKept) → IfOk result (λ s. content_of told s ≡ kept_told (told disk)) → IfOk result IsFresh
       → AnswersOpen (λ s. s.disk) faults result disk → FollowsOpen (λ s. s.disk) follows result disk
       → LeavesLike (told disk) (may_leave disk) (leaves disk (disk_of (λ s. s.disk) result))
-      → EndsServing told faults follows (λ ended served. LeavesServing (content_of told) (faults_of faults) (GoesOn faults follows) (λ first last.
+      → EndsServing told faults follows (λ ended served. LeavesServing (content_of told) (faults_of faults) LinkPolicy.Stop no_extension (GoesOn faults follows) (λ first last.
       LeavesKept (leaves first.disk last.disk)) longest turns store ended served clock clock' link link') code turns store left link link' held
       now w w'
       → ServesStore told faults may_leave follows leaves code longest turns disk left clock clock' link link' held now w w'

@@ -3,8 +3,9 @@
 -- stop between two moments may leave. An `extension` stands beside the server.
 use Rattle.std.specs.Option.{ForSome}
 use Rattle.std.specs.Prelude.{◌≡◌, ◌⊎◌, ◌<◌, ◌≤◌, ◌^◌, ◌-◌, ℕ, List, [], Option, Some, None, Result, Ok, Err, length}
-use Rattle.nq_serving.specs.DaemonLeaving.{IsLeftInRuns, LeavesServing}
-use Rattle.nq_serving.specs.DaemonServing.{EndsBy}
+use Rattle.nq_serving.specs.LeavingTurns.{IsLeftInRuns, LeavesServing}
+use Rattle.nq_serving.specs.Running.{HaltsBy}
+use Rattle.nq_serving.specs.declared.turning.LinkPolicy.{LinkPolicy}
 use Rattle.nq_serving.specs.Extending.{Extension}
 use Rattle.nq_base.specs.declared.ending.halt.Halt.{Halt}
 use Rattle.nq_plan.specs.Standing.{stands_as}
@@ -48,12 +49,14 @@ pub record ServesNot {D : Type 0} (told : D → Option (List ℕ)) (faults : D �
 -- a stop leaves stands for exactly what the server keeps then. This refuses a server that answers `ok` once the gate byte is written and before it
 -- is synced
 pub record EndsServing {D : Type 0} (told : D → Option (List ℕ)) (faults : D → ℕ) (follows : D → D → Type 0) (leaves : D → D → List ℕ → Type 0)
-    (extension : Extension) (longest turns : ℕ) (store : StoredStore D) (ended : Result Unit Halt) (left : D) (clock clock' : ClockTold) (link link' : LinkTold) : Type 0 where
+    (extension : Extension) (longest turns : ℕ) (store : StoredStore D) (ended : Result Unit Halt) (left : D) (clock clock' : ClockTold)
+        (link link' : LinkTold) : Type 0 where
   pub served : StoredStore D
   pub handed : left ≡ served.disk
   pub same : GoesOn faults follows store served
-  pub cause : EndsBy ended (content_of told store) (faults_of faults store) (faults_of faults served)
-  pub serving : LeavesServing (content_of told) (faults_of faults) extension (GoesOn faults follows) (λ first last. LeavesKept (leaves first.disk last.disk))
+  pub cause : HaltsBy LinkPolicy.GoOn ended (content_of told store) (faults_of faults store) (faults_of faults served) link.faults link'.faults
+  pub serving : LeavesServing (content_of told) (faults_of faults) LinkPolicy.GoOn extension (GoesOn faults follows) (λ first last. LeavesKept
+      (leaves first.disk last.disk))
       longest turns store ended served clock clock' link link'
   pub settled : ForSome (content_of told served) (λ kept. AllStandFor (leaves left left) kept)
 
@@ -64,7 +67,8 @@ abbrev pub IsFoundAmong : {D : Type 0} → (told : D → Option (List ℕ)) → 
     → (link link' : LinkTold) → EndsServing told faults follows leaves extension longest turns store ended left clock clock' link link' → (kept : Kept)
     → (image : List ℕ) → Type 0
 IsFoundAmong told faults follows leaves extension longest turns store ended left clock clock' link link' ends kept image =
-    IsLeftInRuns (content_of told) (faults_of faults) extension (GoesOn faults follows) longest turns ends.serving.serves.time store ended ends.served
+    IsLeftInRuns (content_of told) (faults_of faults) LinkPolicy.GoOn extension (GoesOn faults follows) longest turns ends.serving.serves.time store ended
+        ends.served
     ends.serving.serves.between clock' link link' ends.serving.serves.runs kept (kept_on image)
 
 -- a count of faults stood still, or it stood at the end of its type before, where it cannot rise

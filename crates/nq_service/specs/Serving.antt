@@ -8,7 +8,9 @@ use Rattle.nq_base.specs.Status.{status_of}
 use Rattle.nq_base.specs.declared.ending.ending.Ending.{Ending}
 use Rattle.nq_base.specs.declared.ending.halt.Halt.{Halt}
 use Rattle.nq_plan.specs.Standing.{stands_as}
-use Rattle.nq_serving.specs.ServerLeaving.{IsLeftInRuns, LeavesServing}
+use Rattle.nq_serving.specs.Extending.{no_extension}
+use Rattle.nq_serving.specs.LeavingTurns.{IsLeftInRuns, LeavesServing}
+use Rattle.nq_serving.specs.declared.turning.LinkPolicy.{LinkPolicy}
 use Rattle.nq_serving.specs.Serving.{EndsBy, Tells}
 use Rattle.nq_io.specs.Faults.{Rose}
 use Rattle.nq_model.specs.Kept.{Kept}
@@ -52,10 +54,11 @@ StaysSame before leaves = (kept : Kept) → AllStandFor before kept → AllStand
 pub record Survives {D : Type 0} (told : D → Option (List ℕ)) (faults : D → ℕ) (may_leave : D → List ℕ → Type 0) (follows : D → D → Type 0)
     (leaves : D → D → List ℕ → Type 0) (longest turns : ℕ) (disk : D) (store : StoredStore D) (ended : Result Unit Halt) (left : StoredStore D)
     (clock clock' : ClockTold) (link link' : LinkTold) : Type 0 where
-  pub serving : LeavesServing (content_of told) (faults_of faults) (GoesOn faults follows) (λ first last. LeavesKept (leaves first.disk last.disk))
-      longest turns store ended left clock clock' link link'
+  pub serving : LeavesServing (content_of told) (faults_of faults) LinkPolicy.Stop no_extension (GoesOn faults follows)
+      (λ first last. LeavesKept (leaves first.disk last.disk)) longest turns store ended left clock clock' link link'
   pub survives : ForSome (told disk) (λ bytes. (kept : Kept) → AllStandFor (may_leave disk) kept
-      → Each (leaves disk left.disk) (λ image. IsLeftInRuns (content_of told) (faults_of faults) (GoesOn faults follows) longest turns
+      → Each (leaves disk left.disk) (λ image. IsLeftInRuns (content_of told) (faults_of faults) LinkPolicy.Stop no_extension
+          (GoesOn faults follows) longest turns
       serving.serves.time store ended left serving.serves.between clock' link link' serving.serves.runs kept (kept_on image)))
   pub settled : ForSome (content_of told left) (λ kept. AllStandFor (leaves left.disk left.disk) kept)
 

@@ -4,7 +4,9 @@ ghost use Rattle.std.specs.Prelude.{◌≡◌, ◌≤◌, IfOk, string_bytes};
 ghost use Rattle.nq_clock.specs.Clocks.{clock_told};
 ghost use Rattle.nq_link.specs.Links.{link_told};
 ghost use Rattle.nq_base.specs.Status.{status_of};
-ghost use Rattle.nq_serving.specs.ServerLeaving.{LeavesServing};
+ghost use Rattle.nq_serving.specs.Extending.{no_extension};
+ghost use Rattle.nq_serving.specs.LeavingTurns.{LeavesServing};
+ghost use Rattle.nq_serving.specs.declared.turning.LinkPolicy.{LinkPolicy};
 ghost use Rattle.nq_service.specs.Serving.{EndsServing, PrintsBehind, ServesDisk, TellsByte, image_line};
 ghost use Rattle.nq_store.specs.Storing.{GoesOn, LeavesKept, content_of, faults_of};
 
@@ -14,7 +16,7 @@ use nq_clock::Clock;
 use nq_disk::Disk;
 use nq_io::{Sink, put_line};
 use nq_link::Link;
-use nq_serving::server::{Served, serve};
+use nq_serving::serve;
 use nq_store::{OpenFault, Store};
 use std::alloc::Global;
 
@@ -118,8 +120,8 @@ fn serve_store<D: Disk + Drop, L: Link, C: Clock, K: Sink>(
     requires long { 5 ≤ longest }
     requires short { longest ≤ 600 }
     ensures serves { EndsServing D.told D.faults D.follows
-        (λ ended served. LeavesServing (content_of D.told) (faults_of D.faults) (GoesOn D.faults D.follows) (λ first last. LeavesKept (D.leaves first.disk last.disk))
-        longest turns store ended served
+        (λ ended served. LeavesServing (content_of D.told) (faults_of D.faults) LinkPolicy.Stop no_extension (GoesOn D.faults D.follows)
+        (λ first last. LeavesKept (D.leaves first.disk last.disk)) longest turns store ended served
         (clock_told C.floor C.readings C.reads clock.old) (clock_told C.floor C.readings C.reads clock.new)
         (link_told L.sent L.waiting L.faults L.receives link.old)
         (link_told L.sent L.waiting L.faults L.receives link.new))
@@ -128,8 +130,8 @@ fn serve_store<D: Disk + Drop, L: Link, C: Clock, K: Sink>(
         (link_told L.sent L.waiting L.faults L.receives link.new)
         (K.held out.old) (K.held out.new) (K.faults out.old) (K.faults out.new) }
 {
-    let Served { end, keeper } = serve(alloc, store, turns, longest, link, clock, out);
-    tell_end(alloc, end, keeper.into_disk(), out)
+    let served = serve(alloc, store, turns, longest, link, clock, out);
+    tell_end(alloc, served.end, served.left.into_disk(), out)
 }
 
 /// Tells how serving ended, with the byte of the image that says so where no number is left for a boot.

@@ -1,17 +1,19 @@
 -- What a stop within the stages of a server's turn leaves.
-use Rattle.std.proofs.Common.{◌≡◌, if◌then◌else◌, ◌⊎◌, ◌∙◌, ℕ, Bool, true, false, List, Option, Some, None, Result, Ok, Err, nat_lt, inl, inr, refl, sym, ap, subst}
+use Rattle.std.proofs.Common.{◌≡◌, if◌then◌else◌, ◌⊎◌, ◌∙◌, ℕ, Bool, true, false, List, Option, Some, None, Result, Ok, Err, nat_lt, inl, inr, refl}
+use Rattle.std.proofs.Common.{sym, ap, subst}
 use Rattle.nq_model.specs.Kept.{Kept}
 use Rattle.nq_clock.specs.Clocks.{ClockTold, ReadsOnce}
 use Rattle.nq_serving.specs.Leaving.{IsLeftAt, IsLeftBehind, LeavesOnly, LeavesReceiving, LeavesBehind, LeavesStages}
 use Rattle.nq_link.specs.Links.{Letter, LinkTold}
 use Rattle.nq_serving.specs.Extending.{Extension}
-use Rattle.nq_serving.specs.ServerTurn.{Given, ticks, Moment, Receives, Takes, TakesCame, TakesFrom, TakesLetter, TakesOf, answered, datagram, given_by, goes_on}
+use Rattle.nq_serving.specs.ServerTurn.{Given, ticks, Moment, Receives, Takes, TakesCame, TakesFrom, TakesLetter, TakesOf, answered, datagram}
+use Rattle.nq_serving.specs.ServerTurn.{given_by, goes_on}
 use Rattle.nq_serving.specs.ServerTurn.{step_on, taken, tick_due}
 use Rattle.nq_base.specs.declared.Party.{Party}
 use Rattle.nq_keeper.specs.Keeping.{LeavesOne, Reads}
 use Rattle.nq_keeper.specs.declared.KeepFault.{KeepFault}
 use Rattle.nq_keeper.specs.declared.KeepFault.TheVariants as keep
-use Rattle.nq_serving.specs.declared.node.turns.Halt.{Halt}
+use Rattle.nq_base.specs.declared.ending.halt.Halt.{Halt}
 use Rattle.nq_serving.proofs.ServerTurns.{letter_not_link}
 use Rattle.nq_server.specs.Holding.{IsTaken}
 use Rattle.nq_server.specs.Stepping.{LeavesStep}
@@ -121,6 +123,7 @@ module _ {K : Type 0} (content : K → Option Kept) (faults : K → ℕ) (extens
   came_leaves (Err Halt.Keep) letter link link' at after from left = record { receives = (Some letter, from); left = left }
   came_leaves (Err Halt.Memory) letter link link' at after from left = record { receives = (Some letter, from); left = left }
   came_leaves (Err Halt.Spent) letter link link' at after from left = record { receives = (Some letter, from); left = left }
+  came_leaves (Err Halt.NoAnswer) letter link link' at after from left = record { receives = (Some letter, from); left = left }
 
   -- the turn stopped at its tick
   pub stopped_leaves : (why : Halt) (reading : ℕ) (clock clock' : ClockTold) (link : LinkTold) (at after : Moment K)

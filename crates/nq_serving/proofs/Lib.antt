@@ -1,10 +1,9 @@
 pub mod Causes
-pub mod DaemonCauses
-pub mod DaemonLeaves
 pub mod Joining
 pub mod Leaves
 pub mod Runs
 pub mod ServerCounts
-pub mod ServerLeaves
 pub mod ServerTurns
 pub mod Telling
+pub mod TurnCauses
+pub mod TurnsLeave

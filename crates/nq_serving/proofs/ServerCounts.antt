@@ -1,5 +1,6 @@
 -- Which counts a turn of a server raises, and how much the server takes in in it.
-use Rattle.std.proofs.Common.{◌≡◌, ◌+◌, ◌≤◌, ◌⊎◌, inl, inr, ◌||◌, nat_lt, ℕ, Bool, true, false, List, Option, Some, None, Result, Ok, Err, refl, sym, subst, arith}
+use Rattle.std.proofs.Common.{◌≡◌, ◌+◌, ◌≤◌, ◌⊎◌, inl, inr, ◌||◌, nat_lt, ℕ, Bool, true, false, List, Option, Some, None, Result, Ok, Err, refl, sym}
+use Rattle.std.proofs.Common.{subst, arith}
 use Rattle.nq_base.specs.Entries.{EntryList}
 use Rattle.nq_link.specs.Link.{Letters}
 use Rattle.nq_model.specs.Kept.{Kept}
@@ -12,10 +13,9 @@ use Rattle.nq_keeper.specs.Keeping.{Reads}
 use Rattle.nq_keeper.specs.declared.KeepFault.{KeepFault}
 use Rattle.nq_keeper.specs.declared.KeepFault.TheVariants as keep
 use Rattle.nq_serving.specs.Extending.{Extension}
-use Rattle.nq_serving.specs.ServerTurn.{CountsKeep, CountsLink, Given, GoesOn, Moment, Receives, Sends, SendsOut, ServesTurn, Stages, Takes, TurnKeep}
-use Rattle.nq_serving.specs.ServerTurn.{TakesCame, TakesLetter, TakesOf, TurnLink, answered, datagram, goes_on, step_on, tick_due, turn_of}
-use Rattle.nq_serving.specs.declared.node.turns.Halt.{Halt}
-use Rattle.nq_serving.specs.declared.node.turns.Turn.{Turn}
+use Rattle.nq_serving.specs.ServerTurn.{CountsKeep, CountsLink, Given, GoesOn, Moment, Receives, Sends, SendsOut, ServesTurn, Stages, Takes}
+use Rattle.nq_serving.specs.ServerTurn.{TakesCame, TakesLetter, TakesOf, answered, datagram, goes_on, step_on, tick_due}
+use Rattle.nq_base.specs.declared.ending.halt.Halt.{Halt}
 use Rattle.nq_serving.proofs.ServerTurns.{not_link}
 use Rattle.nq_server.specs.Holding.{Holding, IsTaken}
 use Rattle.nq_server.specs.declared.Received.{Received}
@@ -55,6 +55,7 @@ sent-link letters moved (Err Halt.Link) link link' s = s.2.1
 sent-link letters moved (Err Halt.Keep) link link' s = absurd s
 sent-link letters moved (Err Halt.Memory) link link' s = absurd s
 sent-link letters moved (Err Halt.Spent) link link' s = absurd s
+sent-link letters moved (Err Halt.NoAnswer) link link' s = absurd s
 
 sent-keep : (letters : Letters) (moved : Bool) (ended : Result Bool Halt) (link link' : LinkTold) (before now : ℕ) → SendsOut letters moved ended link link'
     → now ≡ before → CountsKeep ended before now
@@ -63,6 +64,7 @@ sent-keep letters moved (Err Halt.Link) link link' before now s same = same
 sent-keep letters moved (Err Halt.Keep) link link' before now s same = absurd s
 sent-keep letters moved (Err Halt.Memory) link link' before now s same = absurd s
 sent-keep letters moved (Err Halt.Spent) link link' before now s same = absurd s
+sent-keep letters moved (Err Halt.NoAnswer) link link' before now s same = absurd s
 
 -- why a stage stopped is why the turn does
 as-ended : (why : Halt) (before now : ℕ) → CountsKeep {X = Unit} (Err why) before now → CountsKeep {X = Bool} (Err why) before now
@@ -70,32 +72,7 @@ as-ended Halt.Link before now counts = counts
 as-ended Halt.Keep before now counts = counts
 as-ended Halt.Memory before now counts = counts
 as-ended Halt.Spent before now counts = counts
-
--- ---- the answer of a turn
-
-by-keep : (turn : Turn) (ended : Result Bool Halt) (before now : ℕ) → turn ≡ turn_of ended → CountsKeep ended before now → TurnKeep turn before now
-by-keep turn (Ok true) before now is counts = rw is counts
-by-keep turn (Ok false) before now is counts = rw is counts
-by-keep turn (Err Halt.Link) before now is counts = rw is counts
-by-keep turn (Err Halt.Keep) before now is counts = rw is counts
-by-keep turn (Err Halt.Memory) before now is counts = rw is counts
-by-keep turn (Err Halt.Spent) before now is counts = rw is counts
-
-by-link : (turn : Turn) (ended : Result Bool Halt) (before now : ℕ) → turn ≡ turn_of ended → CountsLink ended before now → TurnLink turn before now
-by-link turn (Ok true) before now is counts = rw is counts
-by-link turn (Ok false) before now is counts = rw is counts
-by-link turn (Err Halt.Link) before now is counts = rw is counts
-by-link turn (Err Halt.Keep) before now is counts = rw is counts
-by-link turn (Err Halt.Memory) before now is counts = rw is counts
-by-link turn (Err Halt.Spent) before now is counts = rw is counts
-
-of-spent : (ended : Result Bool Halt) → Turn.Spent ≡ turn_of ended → ended ≡ Err Halt.Spent
-of-spent (Ok true) same = absurd (cc)
-of-spent (Ok false) same = absurd (cc)
-of-spent (Err Halt.Link) same = absurd (cc)
-of-spent (Err Halt.Keep) same = absurd (cc)
-of-spent (Err Halt.Memory) same = absurd (cc)
-of-spent (Err Halt.Spent) same = refl
+as-ended Halt.NoAnswer before now counts = counts
 
 -- ---- what an extension answers
 
@@ -191,6 +168,7 @@ module _ {K : Type 0} (content : K → Option Kept) (faults : K → ℕ) (extens
   received-keep (Err Halt.Keep) link link' at after r = came-keep r.0 (Err Halt.Keep) at after r.1.takes
   received-keep (Err Halt.Memory) link link' at after r = came-keep r.0 (Err Halt.Memory) at after r.1.takes
   received-keep (Err Halt.Spent) link link' at after r = came-keep r.0 (Err Halt.Spent) at after r.1.takes
+  received-keep (Err Halt.NoAnswer) link link' at after r = came-keep r.0 (Err Halt.NoAnswer) at after r.1.takes
 
   received-link : (received : Result Bool Halt) (link link' : LinkTold) (at after : Moment K) → Receives content faults extension received link link' at after
       → CountsLink received link.faults link'.faults
@@ -199,6 +177,7 @@ module _ {K : Type 0} (content : K → Option Kept) (faults : K → ℕ) (extens
   received-link (Err Halt.Keep) link link' at after r = r.1.count
   received-link (Err Halt.Memory) link link' at after r = r.1.count
   received-link (Err Halt.Spent) link link' at after r = r.1.count
+  received-link (Err Halt.NoAnswer) link link' at after r = r.1.count
 
   received-few : (received : Result Bool Halt) (link link' : LinkTold) (at after : Moment K) → Receives content faults extension received link link' at after
       → after.server.taken ≤ at.server.taken + 1
@@ -207,6 +186,7 @@ module _ {K : Type 0} (content : K → Option Kept) (faults : K → ℕ) (extens
   received-few (Err Halt.Keep) link link' at after r = came-few r.0 (Err Halt.Keep) at after r.1.takes
   received-few (Err Halt.Memory) link link' at after r = came-few r.0 (Err Halt.Memory) at after r.1.takes
   received-few (Err Halt.Spent) link link' at after r = came-few r.0 (Err Halt.Spent) at after r.1.takes
+  received-few (Err Halt.NoAnswer) link link' at after r = came-few r.0 (Err Halt.NoAnswer) at after r.1.takes
 
   -- ---- behind the receive
 
@@ -232,6 +212,7 @@ module _ {K : Type 0} (content : K → Option Kept) (faults : K → ℕ) (extens
   sends-spent (Err Halt.Keep) ticked between link link' at after r s = let same = s.0 in absurd (cc)
   sends-spent (Err Halt.Memory) ticked between link link' at after r s = let same = s.0 in absurd (cc)
   sends-spent (Err Halt.Spent) ticked between link link' at after r s = came-spent r.0 at after r.1.takes
+  sends-spent (Err Halt.NoAnswer) ticked between link link' at after r s = let same = s.0 in absurd (cc)
 
   -- ---- behind the tick
 
@@ -250,6 +231,7 @@ module _ {K : Type 0} (content : K → Option Kept) (faults : K → ℕ) (extens
   rest-link (Err Halt.Keep) ended ticked link link' at after not g = rw (g.0, g.1) refl
   rest-link (Err Halt.Memory) ended ticked link link' at after not g = rw (g.0, g.1) refl
   rest-link (Err Halt.Spent) ended ticked link link' at after not g = rw (g.0, g.1) refl
+  rest-link (Err Halt.NoAnswer) ended ticked link link' at after not g = rw (g.0, g.1) refl
   rest-link (Ok tt) ended ticked link link' at after not g =
       sends-link g.0 ended ticked link g.1 link' after g.3 (received-link g.0 link g.1 at after g.2)
 
@@ -264,6 +246,7 @@ module _ {K : Type 0} (content : K → Option Kept) (faults : K → ℕ) (extens
   rest-spent (Err Halt.Keep) ticked link link' at after g = let same = g.0 in absurd (cc)
   rest-spent (Err Halt.Memory) ticked link link' at after g = let same = g.0 in absurd (cc)
   rest-spent (Err Halt.Spent) ticked link link' at after g = inl refl
+  rest-spent (Err Halt.NoAnswer) ticked link link' at after g = let same = g.0 in absurd (cc)
   rest-spent (Ok tt) ticked link link' at after g = inr (sends-spent g.0 ticked g.1 link link' at after g.2 g.3)
 
   -- ---- the whole turn
@@ -303,33 +286,34 @@ module _ {K : Type 0} (content : K → Option Kept) (faults : K → ℕ) (extens
       ]
 
   -- the count of the keeper's faults rises where a turn stops for the keeper, and stays otherwise
-  pub turn_keep : (turn : Turn) (next next' : ℕ) (clock clock' : ClockTold) (link link' : LinkTold) (server server' : Holding K) (log log' : EntryList)
-      → ServesTurn content faults extension turn next next' clock clock' link link' server server' log log'
-      → TurnKeep turn (faults server.keeper) (faults server'.keeper)
-  turn_keep turn next next' clock clock' link link' server server' log log' t =
-      by-keep turn t.ended (faults server.keeper) (faults server'.keeper) t.answer
-      (stages-keep t.ended clock clock' link link' (record { server = server; out = t.out; log = log }) (record { server = server'; out = t.out'; log = log' })
-      t.stages)
+  pub turn_keep : (ended : Result Bool Halt) (next next' : ℕ) (clock clock' : ClockTold) (link link' : LinkTold) (server server' : Holding K)
+      (log log' : EntryList)
+      → ServesTurn content faults extension ended next next' clock clock' link link' server server' log log'
+      → CountsKeep ended (faults server.keeper) (faults server'.keeper)
+  turn_keep ended next next' clock clock' link link' server server' log log' t =
+      stages-keep ended clock clock' link link' (record { server = server; out = t.out; log = log }) (record { server = server'; out = t.out'; log = log' })
+      t.stages
 
   -- the count of the link's faults rises where a turn stops for the link, and stays otherwise
-  pub turn_link : (turn : Turn) (next next' : ℕ) (clock clock' : ClockTold) (link link' : LinkTold) (server server' : Holding K) (log log' : EntryList)
-      → ServesTurn content faults extension turn next next' clock clock' link link' server server' log log' → TurnLink turn link.faults link'.faults
-  turn_link turn next next' clock clock' link link' server server' log log' t =
-      by-link turn t.ended link.faults link'.faults t.answer
-      (stages-link t.ended clock clock' link link' (record { server = server; out = t.out; log = log }) (record { server = server'; out = t.out'; log = log' })
-      t.stages)
+  pub turn_link : (ended : Result Bool Halt) (next next' : ℕ) (clock clock' : ClockTold) (link link' : LinkTold) (server server' : Holding K)
+      (log log' : EntryList)
+      → ServesTurn content faults extension ended next next' clock clock' link link' server server' log log' → CountsLink ended link.faults link'.faults
+  turn_link ended next next' clock clock' link link' server server' log log' t =
+      stages-link ended clock clock' link link' (record { server = server; out = t.out; log = log }) (record { server = server'; out = t.out'; log = log' })
+      t.stages
 
   -- a turn takes in two at most: a tick and a datagram
-  pub turn_few : (turn : Turn) (next next' : ℕ) (clock clock' : ClockTold) (link link' : LinkTold) (server server' : Holding K) (log log' : EntryList)
-      → ServesTurn content faults extension turn next next' clock clock' link link' server server' log log' → server'.taken ≤ server.taken + 2
-  turn_few turn next next' clock clock' link link' server server' log log' t =
-      stages-few t.ended clock clock' link link' (record { server = server; out = t.out; log = log }) (record { server = server'; out = t.out'; log = log' })
+  pub turn_few : (ended : Result Bool Halt) (next next' : ℕ) (clock clock' : ClockTold) (link link' : LinkTold) (server server' : Holding K)
+      (log log' : EntryList)
+      → ServesTurn content faults extension ended next next' clock clock' link link' server server' log log' → server'.taken ≤ server.taken + 2
+  turn_few ended next next' clock clock' link link' server server' log log' t =
+      stages-few ended clock clock' link link' (record { server = server; out = t.out; log = log }) (record { server = server'; out = t.out'; log = log' })
       t.stages
 
   -- a turn stops because no more is taken in only where all are taken in, or all but one
   pub turn_spent : (next next' : ℕ) (clock clock' : ClockTold) (link link' : LinkTold) (server server' : Holding K) (log log' : EntryList)
-      → ServesTurn content faults extension Turn.Spent next next' clock clock' link link' server server' log log'
+      → ServesTurn content faults extension (Err Halt.Spent) next next' clock clock' link link' server server' log log'
       → (taken : ℕ) × (taken ≡ most_taken_by_server) × (taken ≤ server.taken + 1)
   turn_spent next next' clock clock' link link' server server' log log' t =
-      stages-spent t.ended clock clock' link link' (record { server = server; out = t.out; log = log }) (record { server = server'; out = t.out'; log = log' })
-      (of-spent t.ended t.answer) t.stages
+      stages-spent (Err Halt.Spent) clock clock' link link' (record { server = server; out = t.out; log = log })
+      (record { server = server'; out = t.out'; log = log' }) refl t.stages

@@ -7,7 +7,7 @@ use Rattle.nq_link.specs.Links.{Letter}
 use Rattle.nq_model.specs.Kept.{Kept}
 use Rattle.nq_serving.specs.Extending.{Extension}
 use Rattle.nq_serving.specs.ServerTurn.{Given, Moment, Takes, TakesLetter, TakesOf, answered, datagram, goes_on}
-use Rattle.nq_serving.specs.declared.node.turns.Halt.{Halt}
+use Rattle.nq_base.specs.declared.ending.halt.Halt.{Halt}
 use Rattle.nq_server.specs.declared.Received.{Received}
 
 no_link : (how : Received) → goes_on how ≡ Err Halt.Link → ⊥

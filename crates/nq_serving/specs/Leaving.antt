@@ -3,14 +3,13 @@
 use Rattle.std.specs.Option.{ForSome}
 use Rattle.std.specs.Prelude.{◌≡◌, ◌⊎◌, ℕ, Bool, Option, Some, None, Result, Ok, Err, nat_lt}
 use Rattle.nq_base.specs.Entries.{EntryList}
+use Rattle.nq_base.specs.declared.ending.halt.Halt.{Halt}
 use Rattle.nq_keeper.specs.Keeping.{LeavesOne}
 use Rattle.nq_model.specs.Kept.{Kept}
 use Rattle.nq_clock.specs.Clocks.{ClockTold}
 use Rattle.nq_link.specs.Links.{Letter, LinkTold}
 use Rattle.nq_serving.specs.Extending.{Extension}
 use Rattle.nq_serving.specs.ServerTurn.{Given, GoesOn, Moment, Receives, ServesTurn, Stages, given_of, step_on, tick_due}
-use Rattle.nq_serving.specs.declared.node.turns.Halt.{Halt}
-use Rattle.nq_serving.specs.declared.node.turns.Turn.{Turn}
 use Rattle.nq_server.specs.Holding.{Holding}
 
 -- this is found as the step of what a server was given makes it of this kept state
@@ -24,22 +23,26 @@ IsLeftAt content (Some given) at found =
     (found ≡ content at.server.keeper) ⊎ ((kept : Kept) × (content at.server.keeper ≡ Some kept) × IsMade given at kept found)
 
 -- the datagram that the stage that receives took in, if one came
-abbrev pub came_in : {K : Type 0} → (content : K → Option Kept) → (faults : K → ℕ) → (extension : Extension) → (received : Result Bool Halt) → (link link' : LinkTold)
+abbrev pub came_in : {K : Type 0} → (content : K → Option Kept) → (faults : K → ℕ) → (extension : Extension) → (received : Result Bool Halt) →
+    (link link' : LinkTold)
     → (at after : Moment K) → Receives content faults extension received link link' at after → Option Letter
 came_in content faults extension (Ok some) link link' at after receives = receives.0
 came_in content faults extension (Err Halt.Link) link link' at after receives = None
 came_in content faults extension (Err Halt.Keep) link link' at after receives = receives.0
 came_in content faults extension (Err Halt.Memory) link link' at after receives = receives.0
 came_in content faults extension (Err Halt.Spent) link link' at after receives = receives.0
+came_in content faults extension (Err Halt.NoAnswer) link link' at after receives = receives.0
 
 -- this is found as before the datagram that came, or as after it
-abbrev pub IsLeftReceiving : {K : Type 0} → (content : K → Option Kept) → (faults : K → ℕ) → (extension : Extension) → (received : Result Bool Halt) → (link link' : LinkTold)
+abbrev pub IsLeftReceiving : {K : Type 0} → (content : K → Option Kept) → (faults : K → ℕ) → (extension : Extension) → (received : Result Bool Halt) →
+    (link link' : LinkTold)
     → (at after : Moment K) → Receives content faults extension received link link' at after → (found : Option Kept) → Type 0
 IsLeftReceiving content faults extension received link link' at after receives found =
     IsLeftAt content (given_of extension (came_in content faults extension received link link' at after receives)) at found
 
 -- the same behind the tick; nothing is taken in where the tick stopped the turn
-abbrev pub IsLeftBehind : {K : Type 0} → (content : K → Option Kept) → (faults : K → ℕ) → (extension : Extension) → (goes : Result Unit Halt) → (ended : Result Bool Halt)
+abbrev pub IsLeftBehind : {K : Type 0} → (content : K → Option Kept) → (faults : K → ℕ) → (extension : Extension) → (goes : Result Unit Halt) →
+    (ended : Result Bool Halt)
     → (ticked : Bool) → (link link' : LinkTold) → (at after : Moment K) → GoesOn content faults extension goes ended ticked link link' at after
     → (found : Option Kept) → Type 0
 IsLeftBehind content faults extension (Err why) ended ticked link link' at after rest found = ⊥
@@ -47,18 +50,20 @@ IsLeftBehind content faults extension (Ok done) ended ticked link link' at after
     IsLeftReceiving content faults extension rest.0 link rest.1 at after rest.2 found
 
 -- this is found as at a moment of these stages: before or after the tick, if one was due, or before or after the datagram, if one came
-abbrev pub IsLeftInStages : {K : Type 0} → (content : K → Option Kept) → (faults : K → ℕ) → (extension : Extension) → (ended : Result Bool Halt) → (clock clock' : ClockTold)
+abbrev pub IsLeftInStages : {K : Type 0} → (content : K → Option Kept) → (faults : K → ℕ) → (extension : Extension) → (ended : Result Bool Halt) →
+    (clock clock' : ClockTold)
     → (link link' : LinkTold) → (at after : Moment K) → Stages content faults extension ended clock clock' link link' at after → (found : Option Kept) → Type 0
 IsLeftInStages content faults extension ended clock clock' link link' at after stages found =
     IsLeftAt content (tick_due at.server.beside.time stages.reading) at found
     ⊎ IsLeftBehind content faults extension stages.goes ended (nat_lt at.server.beside.time stages.reading) link link' stages.between after stages.rest found
 
 -- the same of a turn
-abbrev pub IsLeftInTurn : {K : Type 0} → (content : K → Option Kept) → (faults : K → ℕ) → (extension : Extension) → (turn : Turn) → (next next' : ℕ)
-    → (clock clock' : ClockTold) → (link link' : LinkTold) → (server server' : Holding K) → (log log' : EntryList) → ServesTurn content faults extension turn
+abbrev pub IsLeftInTurn : {K : Type 0} → (content : K → Option Kept) → (faults : K → ℕ) → (extension : Extension) → (ended : Result Bool Halt) →
+    (next next' : ℕ)
+    → (clock clock' : ClockTold) → (link link' : LinkTold) → (server server' : Holding K) → (log log' : EntryList) → ServesTurn content faults extension ended
     next next' clock clock' link link' server server' log log' → (found : Option Kept) → Type 0
-IsLeftInTurn content faults extension turn next next' clock clock' link link' server server' log log' taken found =
-    IsLeftInStages content faults extension taken.ended clock clock' link link' (record { server = server; out = taken.out; log = log })
+IsLeftInTurn content faults extension ended next next' clock clock' link link' server server' log log' taken found =
+    IsLeftInStages content faults extension ended clock clock' link link' (record { server = server; out = taken.out; log = log })
     (record { server = server'; out = taken.out'; log = log' }) taken.stages found
 
 -- Whatever a stop between any earlier moment and the second of these leaves, a stop before the first leaves it, or this holds of it. It is
@@ -74,28 +79,35 @@ abbrev pub IsSettled : {K : Type 0} → (content : K → Option Kept) → (leave
 IsSettled content leaves at = LeavesOne (content at) (leaves at at)
 
 -- the stage that receives, and what a stop within it leaves
-pub record LeavesReceiving {K : Type 0} (content : K → Option Kept) (faults : K → ℕ) (extension : Extension) (follows : K → K → Type 0) (leaves : K → K → Option Kept
+pub record LeavesReceiving {K : Type 0} (content : K → Option Kept) (faults : K → ℕ) (extension : Extension) (follows : K → K → Type 0) (leaves : K → K
+    → Option Kept
     → Type 0) (received : Result Bool Halt) (link link' : LinkTold) (at after : Moment K) : Type 0 where
   pub receives : Receives content faults extension received link link' at after
-  pub left : LeavesOnly content follows leaves at.server.keeper after.server.keeper (IsLeftReceiving content faults extension received link link' at after receives)
+  pub left : LeavesOnly content follows leaves at.server.keeper after.server.keeper (IsLeftReceiving content faults extension received link link' at after
+      receives)
 
 -- what comes after the tick, and what a stop within it leaves
-pub record LeavesBehind {K : Type 0} (content : K → Option Kept) (faults : K → ℕ) (extension : Extension) (follows : K → K → Type 0) (leaves : K → K → Option Kept → Type 0)
+pub record LeavesBehind {K : Type 0} (content : K → Option Kept) (faults : K → ℕ) (extension : Extension) (follows : K → K → Type 0) (leaves : K → K
+    → Option Kept → Type 0)
     (goes : Result Unit Halt) (ended : Result Bool Halt) (ticked : Bool) (link link' : LinkTold) (at after : Moment K) : Type 0 where
   pub rest : GoesOn content faults extension goes ended ticked link link' at after
-  pub left : LeavesOnly content follows leaves at.server.keeper after.server.keeper (IsLeftBehind content faults extension goes ended ticked link link' at after rest)
+  pub left : LeavesOnly content follows leaves at.server.keeper after.server.keeper (IsLeftBehind content faults extension goes ended ticked link link' at
+      after rest)
 
 -- the stages of a turn, and what a stop within them leaves
-pub record LeavesStages {K : Type 0} (content : K → Option Kept) (faults : K → ℕ) (extension : Extension) (follows : K → K → Type 0) (leaves : K → K → Option Kept → Type 0)
+pub record LeavesStages {K : Type 0} (content : K → Option Kept) (faults : K → ℕ) (extension : Extension) (follows : K → K → Type 0) (leaves : K → K
+    → Option Kept → Type 0)
     (ended : Result Bool Halt) (clock clock' : ClockTold) (link link' : LinkTold) (at after : Moment K) : Type 0 where
   pub stages : Stages content faults extension ended clock clock' link link' at after
   pub left : LeavesOnly content follows leaves at.server.keeper after.server.keeper (IsLeftInStages content faults extension ended clock clock' link link' at
       after stages)
 
--- A turn with this answer. Whatever a stop within it leaves is kept as before it, as after its tick, or as after its datagram; a step that
+-- A turn that ended so. Whatever a stop within it leaves is kept as before it, as after its tick, or as after its datagram; a step that
 -- failed may have been kept
-pub record LeavesTurn {K : Type 0} (content : K → Option Kept) (faults : K → ℕ) (extension : Extension) (follows : K → K → Type 0) (leaves : K → K → Option Kept → Type 0)
-    (turn : Turn) (next next' : ℕ) (clock clock' : ClockTold) (link link' : LinkTold) (server server' : Holding K) (log log' : EntryList) : Type 0 where
-  pub taken : ServesTurn content faults extension turn next next' clock clock' link link' server server' log log'
-  pub left : LeavesOnly content follows leaves server.keeper server'.keeper (IsLeftInTurn content faults extension turn next next' clock clock' link link'
+pub record LeavesTurn {K : Type 0} (content : K → Option Kept) (faults : K → ℕ) (extension : Extension) (follows : K → K → Type 0) (leaves : K → K
+    → Option Kept → Type 0)
+    (ended : Result Bool Halt) (next next' : ℕ) (clock clock' : ClockTold) (link link' : LinkTold) (server server' : Holding K)
+        (log log' : EntryList) : Type 0 where
+  pub taken : ServesTurn content faults extension ended next next' clock clock' link link' server server' log log'
+  pub left : LeavesOnly content follows leaves server.keeper server'.keeper (IsLeftInTurn content faults extension ended next next' clock clock' link link'
       server server' log log' taken)

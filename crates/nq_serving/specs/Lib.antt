@@ -1,8 +1,7 @@
-pub mod DaemonLeaving
-pub mod DaemonServing
 pub mod Extending
 pub mod Leaving
-pub mod ServerLeaving
+pub mod LeavingTurns
+pub mod Running
 pub mod ServerTurn
 pub mod Serving
 pub mod Turning

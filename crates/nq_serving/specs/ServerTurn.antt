@@ -2,6 +2,7 @@
 -- it keeps, and `faults` is its count of faults. An `extension` stands beside the server.
 use Rattle.std.specs.Prelude.{◌≡◌, ◌↔◌, ◌||◌, ℕ, Bool, true, false, List, [], Option, Some, None, Result, Ok, Err, is_some, nat_lt, if◌then◌else◌}
 use Rattle.nq_base.specs.declared.Party.{Party}
+use Rattle.nq_base.specs.declared.ending.halt.Halt.{Halt}
 use Rattle.nq_datagrams.specs.Incoming.{datagram_in}
 use Rattle.nq_io.specs.Faults.{Rose}
 use Rattle.nq_base.specs.Entries.{EntryList}
@@ -17,8 +18,6 @@ use Rattle.nq_model.specs.ServerStep.{receive, tick}
 use Rattle.nq_clock.specs.Clocks.{ClockTold, ReadsOnce}
 use Rattle.nq_link.specs.Links.{Hears, Letter, LinkTold, Posts, ReceivesOnce, most_bytes}
 use Rattle.nq_serving.specs.Extending.{AddsReply, Extension}
-use Rattle.nq_serving.specs.declared.node.turns.Halt.{Halt}
-use Rattle.nq_serving.specs.declared.node.turns.Turn.{Turn}
 use Rattle.nq_server.specs.Holding.{Holding, IsTaken, IsUntouched}
 use Rattle.nq_server.specs.State.{server_of}
 use Rattle.nq_server.specs.Stepping.{next_of}
@@ -181,44 +180,28 @@ pub record Stages {K : Type 0} (content : K → Option Kept) (faults : K → ℕ
   pub ticks : Takes content faults (tick_due at.server.beside.time reading) goes at between
   pub rest : GoesOn content faults extension goes ended (nat_lt at.server.beside.time reading) link link' between after
 
--- the answer of a turn that ended so
-abbrev pub turn_of : Result Bool Halt → Turn
-turn_of (Ok true) = Turn.Took
-turn_of (Ok false) = Turn.Quiet
-turn_of (Err Halt.Link) = Turn.Link
-turn_of (Err Halt.Keep) = Turn.Keep
-turn_of (Err Halt.Memory) = Turn.Memory
-turn_of (Err Halt.Spent) = Turn.Spent
-
--- the count of the keeper's faults rises where it stopped for the keeper, and stays otherwise
+-- The count of the keeper's faults rises where it stopped for the keeper, and stays otherwise. For want of an answer no server stops
 abbrev pub CountsKeep : {X : Type 0} → Result X Halt → (before now : ℕ) → Type 0
+CountsKeep (Ok done) before now = now ≡ before
+CountsKeep (Err Halt.Link) before now = now ≡ before
 CountsKeep (Err Halt.Keep) before now = Rose before now
-CountsKeep other before now = now ≡ before
+CountsKeep (Err Halt.Memory) before now = now ≡ before
+CountsKeep (Err Halt.Spent) before now = now ≡ before
+CountsKeep (Err Halt.NoAnswer) before now = ⊥
 
 -- the count of the link's faults rises where it stopped for the link, and stays otherwise
 abbrev pub CountsLink : {X : Type 0} → Result X Halt → (before now : ℕ) → Type 0
 CountsLink (Err Halt.Link) before now = Rose before now
 CountsLink other before now = now ≡ before
 
--- the same by the answer of a turn
-abbrev pub TurnKeep : Turn → (before now : ℕ) → Type 0
-TurnKeep Turn.Keep before now = Rose before now
-TurnKeep other before now = now ≡ before
-
--- the same of the link's
-abbrev pub TurnLink : Turn → (before now : ℕ) → Type 0
-TurnLink Turn.Link before now = Rose before now
-TurnLink other before now = now ≡ before
-
--- a turn with this answer: its stages, with an outbox that is empty at first and whose datagrams are numbered from `next` on
-pub record ServesTurn {K : Type 0} (content : K → Option Kept) (faults : K → ℕ) (extension : Extension) (turn : Turn) (next next' : ℕ) (clock clock' : ClockTold)
-    (link link' : LinkTold) (server server' : Holding K) (log log' : EntryList) : Type 0 where
+-- A turn that ended so: with whether the clock rose or a datagram came, or with why it stopped. It is its stages, with an outbox that is empty at
+-- first and whose datagrams are numbered from `next` on
+pub record ServesTurn {K : Type 0} (content : K → Option Kept) (faults : K → ℕ) (extension : Extension) (ended : Result Bool Halt) (next next' : ℕ)
+    (clock clock' : ClockTold) (link link' : LinkTold) (server server' : Holding K) (log log' : EntryList) : Type 0 where
   pub out : Datagrams
   pub out' : Datagrams
   pub first : out.first ≡ next
   pub empty : out.datagrams ≡ []
   pub last : next' ≡ next_of out'
-  pub ended : Result Bool Halt
-  pub answer : turn ≡ turn_of ended
   pub stages : Stages content faults extension ended clock clock' link link' (record { server = server; out = out; log = log })
       (record { server = server'; out = out'; log = log' })

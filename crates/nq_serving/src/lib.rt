@@ -2,10 +2,18 @@
 //! went over a link.
 #![tactic(auto)]
 
-pub mod daemon;
+mod ended;
 mod extending;
 mod node;
-pub mod server;
+mod printing;
+mod serving;
 pub mod traffic;
+mod turning;
+mod watching;
 
+pub use ended::Ended;
 pub use extending::Extension;
+pub use printing::serve;
+pub use serving::{MOST_TURNS, keep_serving};
+pub use turning::LinkPolicy;
+pub use watching::{Nobody, Watcher};

@@ -1,8 +1,291 @@
 //! The turns of a server: it reads its clock once, takes in what is due, receives once, and sends what came out. Contracts see that the clock is
 //! read exactly once, and the link asked for exactly one receive.
 
-mod serving;
-mod turns;
+ghost use Rattle.std.specs.Prelude.{◌≡◌, ◌<◌, ◌^◌, ◌||◌, length, nat_lt, Ok};
+ghost use Rattle.nq_base.specs.declared.Party.{Party};
+ghost use Rattle.nq_clock.specs.Clocks.{clock_told};
+ghost use Rattle.nq_link.specs.Links.{link_told, most_bytes};
+ghost use Rattle.nq_serving.specs.Leaving.{IsLeftAt, LeavesBehind, LeavesOnly, LeavesReceiving, LeavesStages, LeavesTurn};
+ghost use Rattle.nq_serving.specs.Extending.{extension_told};
+ghost use Rattle.nq_serving.specs.ServerTurn.{SendsOut, Takes, TakesLetter, TakesOf, answered, given_as, given_by, goes_on, taken, tick_due};
 
-pub(crate) use serving::serve_turn;
-pub(crate) use turns::Turn;
+use crate::extending::Extension;
+use crate::watching::Watcher;
+use nq_base::ending::Halt;
+use nq_base::{Host, Journal, Party, Ticks};
+use nq_clock::Clock;
+use nq_keeper::{KeepFault, Keeper};
+use nq_link::{Came, Link, MOST_BYTES, Sent, send_all};
+use nq_server::{Received, Server};
+use nq_wire::Outbox;
+use std::alloc::Global;
+
+/// A turn of a server. It reads the clock once. Where the reading is above the server's time, the server takes in one tick to that
+/// time. It asks the link for one receive. The server takes in the datagram that came, cut to 4401 bytes, or the watcher answers it
+/// where it is its own; one that no host sent is dropped. The watcher is told of what was entered. Then all that came out is sent, in
+/// order. `next` is the number of the next datagram that the server makes; it rises by
+/// one for each, and stops at `u64::MAX`. What a stop at any moment of the turn leaves is kept as before it, as after the tick, or as
+/// after the datagram. It answers whether the clock rose or a datagram came.
+///
+/// # Errors
+///
+/// `Link` only where the link counted a fault, `Keep` only where the keeper did, `Memory` where memory was refused, and `Spent`
+/// where the server was at the step that stopped the turn. What was done before stays done, the rest of the turn is left out,
+/// and the datagram of the step that was refused is gone.
+pub(crate) fn serve_turn<K: Keeper, L: Link, C: Clock, W: Watcher<L> + Extension>(
+    alloc: Global,
+    server: &mut Server<K>,
+    watcher: &mut W,
+    link: &mut L,
+    clock: &mut C,
+    next: &mut u64,
+    log: &mut Journal,
+) -> Result<bool, Halt>
+    ensures turn { LeavesTurn K.content K.faults (extension_told W.owns W.replies) K.follows K.leaves result next.old next.new
+        (clock_told C.floor C.readings C.reads clock.old) (clock_told C.floor C.readings C.reads clock.new)
+        (link_told L.sent L.waiting L.faults L.receives link.old)
+        (link_told L.sent L.waiting L.faults L.receives link.new)
+        server.old server.new log.old log.new }
+    ensures follows { K.follows server.old.keeper server.new.keeper }
+{
+    let mut out = Outbox::new(alloc, *next).unwrap();
+    let ended = serve(alloc, server, watcher, link, clock, &mut out, log);
+    *next = out.next();
+    ended
+}
+
+/// The stages of a turn. It answers whether the clock rose or a datagram came.
+fn serve<K: Keeper, L: Link, C: Clock, W: Watcher<L> + Extension>(
+    alloc: Global,
+    server: &mut Server<K>,
+    watcher: &mut W,
+    link: &mut L,
+    clock: &mut C,
+    out: &mut Outbox,
+    log: &mut Journal,
+) -> Result<bool, Halt>
+    ensures stages { LeavesStages K.content K.faults (extension_told W.owns W.replies) K.follows K.leaves result
+        (clock_told C.floor C.readings C.reads clock.old) (clock_told C.floor C.readings C.reads clock.new)
+        (link_told L.sent L.waiting L.faults L.receives link.old)
+        (link_told L.sent L.waiting L.faults L.receives link.new)
+        (record { server = server.old; out = out.old; log = log.old })
+        (record { server = server.new; out = out.new; log = log.new }) }
+    ensures follows { K.follows server.old.keeper server.new.keeper }
+{
+    let reading = clock.now();
+    let rises = is_below(server, reading);
+    match tick_to(server, reading, out, log) {
+        Ok(()) => go_on(alloc, server, watcher, link, rises, out, log),
+        Err(why) => Err(why),
+    }
+}
+
+/// Whether a server's clock shows less than this time.
+fn is_below<K: Keeper>(server: &Server<K>, time: Ticks) -> bool
+    ensures { result ≡ nat_lt server.now.beside.time time }
+{
+    server.time() < time
+}
+
+/// What a turn does after its tick: it receives, takes in, tells, and sends.
+fn go_on<K: Keeper, L: Link, W: Watcher<L> + Extension>(
+    alloc: Global,
+    server: &mut Server<K>,
+    watcher: &mut W,
+    link: &mut L,
+    ticked: bool,
+    out: &mut Outbox,
+    log: &mut Journal,
+) -> Result<bool, Halt>
+    ensures goes { LeavesBehind K.content K.faults (extension_told W.owns W.replies) K.follows K.leaves (Ok tt) result ticked
+        (link_told L.sent L.waiting L.faults L.receives link.old)
+        (link_told L.sent L.waiting L.faults L.receives link.new)
+        (record { server = server.old; out = out.old; log = log.old })
+        (record { server = server.new; out = out.new; log = log.new }) }
+    ensures follows { K.follows server.old.keeper server.new.keeper }
+{
+    let received = take_from(alloc, server, &*watcher, link, out, log);
+    watcher.entered(log);
+    match received {
+        Ok(came) => send_out(link, out, either(ticked, came)),
+        Err(why) => Err(why),
+    }
+}
+
+/// Whether one of the two is so.
+fn either(one: bool, other: bool) -> bool
+    ensures { result ≡ (one || other) }
+{
+    one || other
+}
+
+/// Sends all that came out, and ends the turn with what moved it.
+fn send_out<L: Link>(link: &mut L, out: &Outbox, moved: bool) -> Result<bool, Halt>
+    ensures { SendsOut out.now.datagrams moved result
+        (link_told L.sent L.waiting L.faults L.receives link.old)
+        (link_told L.sent L.waiting L.faults L.receives link.new) }
+{
+    match send_all(link, out) {
+        Sent::All => Ok(moved),
+        Sent::Failed => Err(Halt::Link),
+    }
+}
+
+/// Gives a server the tick to this time, where the time is above its own.
+fn tick_to<K: Keeper>(
+    server: &mut Server<K>,
+    reading: Ticks,
+    out: &mut Outbox,
+    log: &mut Journal,
+) -> Result<(), Halt>
+    requires { reading < 2 ^ 62 }
+    ensures ticked { Takes K.content K.faults (tick_due server.old.beside.time reading) result
+        (record { server = server.old; out = out.old; log = log.old })
+        (record { server = server.new; out = out.new; log = log.new }) }
+    ensures leaves { LeavesOnly K.content K.follows K.leaves server.old.keeper server.new.keeper
+        (IsLeftAt K.content (tick_due server.old.beside.time reading)
+        (record { server = server.old; out = out.old; log = log.old })) }
+    ensures follows { K.follows server.old.keeper server.new.keeper }
+{
+    if is_below(server, reading) {
+        made(server.tick(reading, out, log))
+    } else {
+        Ok(())
+    }
+}
+
+/// Receives once, and gives a server the datagram that came; answers whether one came.
+#[tactic(auto, unfolding(nq_link::specs::Links::most_bytes))]
+fn take_from<K: Keeper, E: Extension, L: Link>(
+    alloc: Global,
+    server: &mut Server<K>,
+    extension: &E,
+    link: &mut L,
+    out: &mut Outbox,
+    log: &mut Journal,
+) -> Result<bool, Halt>
+    ensures receives { LeavesReceiving K.content K.faults (extension_told E.owns E.replies) K.follows K.leaves result
+        (link_told L.sent L.waiting L.faults L.receives link.old)
+        (link_told L.sent L.waiting L.faults L.receives link.new)
+        (record { server = server.old; out = out.old; log = log.old })
+        (record { server = server.new; out = out.new; log = log.new }) }
+    ensures follows { K.follows server.old.keeper server.new.keeper }
+{
+    let mut buffer = [0; MOST_BYTES];
+    take_through(alloc, server, extension, link, &mut buffer, out, log)
+}
+
+/// Receives once into a buffer, and gives a server the datagram that came; answers whether one came.
+fn take_through<K: Keeper, E: Extension, L: Link>(
+    alloc: Global,
+    server: &mut Server<K>,
+    extension: &E,
+    link: &mut L,
+    buffer: &mut [u8],
+    out: &mut Outbox,
+    log: &mut Journal,
+) -> Result<bool, Halt>
+    requires { length buffer.old ≡ most_bytes }
+    ensures receives { LeavesReceiving K.content K.faults (extension_told E.owns E.replies) K.follows K.leaves result
+        (link_told L.sent L.waiting L.faults L.receives link.old)
+        (link_told L.sent L.waiting L.faults L.receives link.new)
+        (record { server = server.old; out = out.old; log = log.old })
+        (record { server = server.new; out = out.new; log = log.new }) }
+    ensures follows { K.follows server.old.keeper server.new.keeper }
+{
+    match link.receive(buffer) {
+        Came::Nothing => Ok(false),
+        Came::Failed => Err(Halt::Link),
+        Came::Datagram { length, sender } => taken(take_in(
+            alloc,
+            server,
+            extension,
+            sender,
+            &buffer[..length],
+            out,
+            log,
+        )),
+    }
+}
+
+/// What the stage that receives answers where a datagram came and was taken so.
+fn taken(made: Result<(), Halt>) -> Result<bool, Halt>
+    ensures { result ≡ taken made }
+{
+    match made {
+        Ok(()) => Ok(true),
+        Err(why) => Err(why),
+    }
+}
+
+/// Gives a server and its extension a datagram, if a host sent it.
+fn take_in<K: Keeper, E: Extension>(
+    alloc: Global,
+    server: &mut Server<K>,
+    extension: &E,
+    sender: Party,
+    datagram: &[u8],
+    out: &mut Outbox,
+    log: &mut Journal,
+) -> Result<(), Halt>
+    ensures takes { TakesLetter K.content K.faults (extension_told E.owns E.replies) (sender, datagram.now) result
+        (record { server = server.old; out = out.old; log = log.old })
+        (record { server = server.new; out = out.new; log = log.new }) }
+    ensures leaves { LeavesOnly K.content K.follows K.leaves server.old.keeper server.new.keeper
+        (IsLeftAt K.content (given_by (extension_told E.owns E.replies) (sender, datagram.now))
+        (record { server = server.old; out = out.old; log = log.old })) }
+    ensures follows { K.follows server.old.keeper server.new.keeper }
+{
+    match sender {
+        Party::Server => Ok(()),
+        Party::Client(host) => take_from_host(alloc, server, extension, host, datagram, out, log),
+    }
+}
+
+/// Has the extension answer a host's datagram that is its own, and gives the server any other one.
+fn take_from_host<K: Keeper, E: Extension>(
+    alloc: Global,
+    server: &mut Server<K>,
+    extension: &E,
+    host: Host,
+    datagram: &[u8],
+    out: &mut Outbox,
+    log: &mut Journal,
+) -> Result<(), Halt>
+    ensures takes { TakesOf K.content K.faults (extension_told E.owns E.replies) (E.owns datagram.now) host datagram.now result
+        (record { server = server.old; out = out.old; log = log.old })
+        (record { server = server.new; out = out.new; log = log.new }) }
+    ensures leaves { LeavesOnly K.content K.follows K.leaves server.old.keeper server.new.keeper
+        (IsLeftAt K.content (given_as (E.owns datagram.now) host datagram.now)
+        (record { server = server.old; out = out.old; log = log.old })) }
+    ensures follows { K.follows server.old.keeper server.new.keeper }
+{
+    if extension.is_own(datagram) {
+        answered(extension.answer(alloc, server, host, datagram, out))
+    } else {
+        made(server.receive(alloc, host, datagram, out, log))
+    }
+}
+
+/// Whether a turn goes on after an extension has answered so.
+fn answered(how: Result<(), KeepFault>) -> Result<(), Halt>
+    ensures { result ≡ answered how }
+{
+    match how {
+        Ok(()) => Ok(()),
+        Err(KeepFault::Failed) => Err(Halt::Keep),
+        Err(KeepFault::Memory) => Err(Halt::Memory),
+    }
+}
+
+/// Whether a turn goes on after a server has taken something so.
+fn made(how: Received) -> Result<(), Halt>
+    ensures { result ≡ goes_on how }
+{
+    match how {
+        Received::Done | Received::Dropped(_) => Ok(()),
+        Received::Fault => Err(Halt::Keep),
+        Received::Memory => Err(Halt::Memory),
+        Received::Spent => Err(Halt::Spent),
+    }
+}

@@ -1,17 +1,21 @@
 -- How the program ends. Below, `told` is what a disk tells of its bytes, `faults` is its count of faults, `may_leave` is what a stop at a moment may
 -- leave of its bytes, `follows` says that a disk is another one after some of its calls, and `leaves` is what a stop between two moments may leave. An
 -- `extension` stands beside the server.
-use Rattle.std.specs.Prelude.{◌≡◌, ◌⊎◌, ◌^◌, ◌-◌, ℕ, List, Option, Result, Ok, Err}
+use Rattle.std.specs.Prelude.{◌≡◌, ◌⊎◌, ◌≤◌, ◌^◌, ◌-◌, ℕ, List, Option, Result, Ok, Err, false}
 use Rattle.nq_base.specs.declared.ending.ending.Ending.{Ending}
 use Rattle.nq_base.specs.declared.ending.halt.Halt.{Halt}
 use Rattle.nq_clock.specs.Clocks.{ClockTold}
+use Rattle.nq_disk.specs.FileDisk.{Anything, SeenFile, StaysFile, unasked, untold}
 use Rattle.nq_link.specs.Links.{LinkTold}
+use Rattle.nq_lister.specs.Listing.{is_lookup, reply_in}
 use Rattle.nq_service.specs.MountServing.{ServesImage, ServesNot}
-use Rattle.nq_serving.specs.Extending.{Extension}
+use Rattle.nq_serving.specs.Extending.{Extension, extension_told}
 use Rattle.nq_serving.specs.Serving.{end_of}
 use Rattle.nq_store.specs.Opening.{back_of}
 use Rattle.nq_store.specs.declared.fault.OpenFault.{OpenFault}
 use Rattle.nq_store.specs.declared.fault.OpenFault.TheVariants as opening
+use Rattle.nqnfsd.specs.declared.words.Order.{Order}
+use Rattle.nqnfsd.specs.declared.words.Order.TheVariants as order
 
 -- how many turns the program takes at most
 abbrev pub most_turns : ℕ
@@ -50,3 +54,42 @@ abbrev pub EndsSo : {D : Type 0} → (told : D → Option (List ℕ)) → (fault
 EndsSo told faults may_leave follows leaves extension longest end disk left clock clock' link link' =
     EndsServed told faults may_leave follows leaves extension longest end disk left clock clock' link link'
     ⊎ EndsUnopened told faults may_leave leaves end disk left clock clock' link link'
+
+-- ---- the program
+
+-- a disk over the file at this path, of which nothing was asked yet
+abbrev pub file_at : (path : List ℕ) → SeenFile
+file_at path = record { path = path; is_open = false; name_lasts = false; asked = unasked; faults = 0 }
+
+-- it was served from the image in the file at this path, with some clock and link and with terms within the bounds, and the program ends so
+pub record ServedFile (path : List ℕ) (end : Ending) : Type 0 where
+  pub longest : ℕ
+  pub long : 5 ≤ longest
+  pub short : longest ≤ 600
+  pub left : SeenFile
+  pub clock : ClockTold
+  pub clock' : ClockTold
+  pub link : LinkTold
+  pub link' : LinkTold
+  pub so : EndsSo untold (λ disk. disk.faults) (λ disk. Anything) StaysFile (λ first last. Anything) (extension_told is_lookup reply_in) longest end
+      (file_at path) left clock clock' link link'
+
+-- the program ends so where the machine gave it no file, no link or no clock
+abbrev pub IsWithoutParts : Ending → Type 0
+IsWithoutParts end = (end ≡ Ending.Memory) ⊎ (end ≡ Ending.LinkFault)
+
+-- how the program ends that was told to serve over the file at this path
+abbrev pub EndsOver : (path : List ℕ) → Ending → Type 0
+EndsOver path end = IsWithoutParts end ⊎ ServedFile path end
+
+-- a text was printed, or the output failed
+abbrev pub IsSaid : Ending → Type 0
+IsSaid end = (end ≡ Ending.Done) ⊎ (end ≡ Ending.WriteFault)
+
+-- How the program ends that was told to do this. It ends with 0 only where it said what it was asked for, or took all its turns while its disk did
+-- not fail
+abbrev pub EndsOrder : Order → Ending → Type 0
+EndsOrder order.Usage end = end ≡ Ending.Usage
+EndsOrder order.Help end = IsSaid end
+EndsOrder order.Version end = IsSaid end
+EndsOrder (order.Serve options) end = (path : List ℕ) × EndsOver path end

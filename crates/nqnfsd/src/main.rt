@@ -2,6 +2,9 @@
 //! killed, which is safe at any moment. Where there is no image it makes one.
 #![tactic(auto)]
 
+ghost use Rattle.std.specs.Prelude.{◌≡◌};
+ghost use Rattle.nqnfsd.specs.Statuses.{EndsOrder, EndsOver, IsSaid, ServedFile, file_at};
+
 mod memory;
 mod serving;
 mod words;
@@ -21,7 +24,7 @@ use std::{env, io};
 const IMAGE: &str = "nqnfs.img";
 
 // What `--version` says.
-const VERSION: &str = "nqnfsd 1";
+const VERSION: &str = "nqnfsd 1\n";
 
 const HELP: &str = "nqnfsd [IMAGE] [--longest N] [--every S]
 
@@ -36,27 +39,43 @@ IMAGE        the file with all that is kept; nqnfs.img where it is not said.
 ";
 
 fn main(rt: HostRuntime) -> ExitCode {
-    ExitCode::from(obey(&rt).status())
+    let end = match words_of(&rt) {
+        Ok(words) => obey(&rt, words.as_slice(), order_of(words.as_slice())),
+        Err(_) => Ending::Memory,
+    };
+    ExitCode::from(end.status())
 }
 
-/// Does what the words say; how that ends.
-fn obey(rt: &HostRuntime) -> Ending {
-    let Ok(words) = words_of(rt) else {
-        return Ending::Memory;
-    };
-    let options = match order_of(words.as_slice()) {
-        Order::Serve(options) => options,
-        order => return tell(rt, &order),
-    };
-    let image = image_of(words.as_slice(), &options);
+/// Does what is to be done; how the program ends.
+fn obey(rt: &HostRuntime, words: &[String], order: Order) -> Ending
+    ensures ends { EndsOrder order result }
+{
+    match order {
+        Order::Serve(options) => serve(rt, image_of(words, &options), options),
+        Order::Help => say(rt, HELP),
+        Order::Version => say(rt, VERSION),
+        Order::Usage => {
+            let _told = eprintln!(rt; "usage: nqnfsd [IMAGE] [--longest N] [--every S]");
+            Ending::Usage
+        }
+    }
+}
+
+/// Serves over an image, if the machine gives what that needs; how the program ends.
+fn serve(rt: &HostRuntime, image: &str, options: Options) -> Ending
+    ensures ends { EndsOver image.now result }
+{
     match parts_of(rt, image) {
-        Ok(parts) => serve(rt, image, parts, options),
+        Ok(parts) => serve_with(rt, image, parts, options),
         Err(end) => end,
     }
 }
 
-/// Serves over an image with these parts of the machine; how that ends.
-fn serve(rt: &HostRuntime, image: &str, parts: Parts, options: Options) -> Ending {
+/// Serves over an image with these parts of the machine; how the program ends.
+fn serve_with(rt: &HostRuntime, image: &str, parts: Parts, options: Options) -> Ending
+    requires file { parts.disk ≡ file_at image.now }
+    ensures ends { ServedFile image.now result }
+{
     let Parts { disk, link, clock } = parts;
     let (mut link, mut clock) = (link, clock);
     let mut teller = Teller {
@@ -74,23 +93,10 @@ fn serve(rt: &HostRuntime, image: &str, parts: Parts, options: Options) -> Endin
     ended.end
 }
 
-/// Says what there is to say where nothing is served; how the program ends.
-fn tell(rt: &HostRuntime, order: &Order) -> Ending {
-    match order {
-        Order::Help => say(rt, HELP),
-        Order::Version => {
-            let _told = println!(rt; "{VERSION}");
-            Ending::Done
-        }
-        Order::Usage | Order::Serve(_) => {
-            let _told = eprintln!(rt; "usage: nqnfsd [IMAGE] [--longest N] [--every S]");
-            Ending::Usage
-        }
-    }
-}
-
 /// Prints a text.
-fn say(rt: &HostRuntime, text: &str) -> Ending {
+fn say(rt: &HostRuntime, text: &str) -> Ending
+    ensures { IsSaid result }
+{
     match print!(rt; "{text}") {
         Ok(()) => Ending::Done,
         Err(_) => Ending::WriteFault,

@@ -5,8 +5,8 @@ ghost use Rattle.nq_link.specs.Links.{link_told};
 ghost use Rattle.nq_lister.specs.Listing.{is_lookup, reply_in};
 ghost use Rattle.nq_serving.specs.Extending.{extension_told};
 ghost use Rattle.nq_store.specs.Opening.{back_of};
-ghost use Rattle.nqnfsd.specs.Statuses.{EndsSo, end_of_turns, end_unopened};
-ghost use Rattle.std.specs.Prelude.{◌≡◌, ◌≤◌};
+ghost use Rattle.nqnfsd.specs.Statuses.{EndsSo, IsWithoutParts, end_of_turns, end_unopened, file_at};
+ghost use Rattle.std.specs.Prelude.{◌≡◌, ◌≤◌, IfErr, IfOk};
 
 use nq_base::ending::{Ending, Halt};
 use nq_base::{Host, Journal, Party, Ticks};
@@ -17,9 +17,8 @@ use nq_link::{Came, Link};
 use nq_lister::Lister;
 use nq_server::Server;
 use nq_service::mount::{Greeter, Survey, serve_image};
-use nq_serving::Extension;
-use nq_serving::daemon::{MOST_TURNS, Watcher};
 use nq_serving::traffic::CountedLink;
+use nq_serving::{Ended, Extension, MOST_TURNS, Watcher};
 use nq_store::OpenFault;
 use nq_udp::UdpLink;
 use nq_wire::Outbox;
@@ -46,6 +45,10 @@ impl<R> Greeter for Teller<'_, R> {
 }
 
 impl<L, R: Watcher<L>> Watcher<L> for Teller<'_, R> {
+    fn entered(&mut self, log: &Journal) {
+        self.report.entered(log);
+    }
+
     fn turned(&mut self, link: &L, now: Ticks, rows: usize, log: &Journal) {
         self.report.turned(link, now, rows, log);
     }
@@ -80,15 +83,11 @@ pub(crate) struct Parts {
     pub(crate) clock: StdClock<HostRuntime>,
 }
 
-/// How serving ended, and the disk as it was left.
-#[derive(Drop)]
-pub(crate) struct Ended<D> {
-    pub(crate) end: Ending,
-    pub(crate) disk: D,
-}
-
 /// The file of an image as a disk, the server's link, which is bound, and the clock; or how the program ends without them.
-pub(crate) fn parts_of(rt: &HostRuntime, image: &str) -> Result<Parts, Ending> {
+pub(crate) fn parts_of(rt: &HostRuntime, image: &str) -> Result<Parts, Ending>
+    ensures file { IfOk result (λ parts. parts.disk ≡ file_at image.now) }
+    ensures without { IfErr result IsWithoutParts }
+{
     let Ok(net) = rt.clone() else {
         return Err(Ending::Memory);
     };
@@ -121,18 +120,18 @@ pub(crate) fn serve_disk<D: Disk + Drop, L: Link, C: Clock, W: Watcher<L> + Gree
     link: &mut L,
     clock: &mut C,
     watcher: &mut W,
-) -> Ended<D>
+) -> Ended<Ending, D>
     requires long { 5 ≤ longest }
     requires short { longest ≤ 600 }
-    ensures ends { EndsSo D.told D.faults D.may_leave D.follows D.leaves (extension_told W.owns W.replies) longest result.end disk result.disk
+    ensures ends { EndsSo D.told D.faults D.may_leave D.follows D.leaves (extension_told W.owns W.replies) longest result.end disk result.left
         (clock_told C.floor C.readings C.reads clock.old) (clock_told C.floor C.readings C.reads clock.new)
         (link_told L.sent L.waiting L.faults L.receives link.old)
         (link_told L.sent L.waiting L.faults L.receives link.new) }
 {
     match serve_image(rt.alloc(), disk, MOST_TURNS, longest, link, clock, watcher) {
-        Ok(left) => Ended {
-            end: tell_end(rt, image, left.ended),
-            disk: left.disk,
+        Ok(ran) => Ended {
+            end: tell_end(rt, image, ran.end),
+            left: ran.left,
         },
         Err(fault) => tell_fault(rt, image, fault),
     }
@@ -158,23 +157,23 @@ fn complain(rt: &HostRuntime, image: &str, words: &str) {
 }
 
 /// Says why an image was not opened.
-fn tell_fault<D>(rt: &HostRuntime, image: &str, fault: OpenFault<D>) -> Ended<D>
+fn tell_fault<D>(rt: &HostRuntime, image: &str, fault: OpenFault<D>) -> Ended<Ending, D>
     ensures end { result.end ≡ end_unopened fault }
-    ensures disk { result.disk ≡ back_of fault }
+    ensures disk { result.left ≡ back_of fault }
 {
     match fault {
         OpenFault::NotAnImage(disk) => {
             complain(rt, image, "the file is no image");
             Ended {
                 end: Ending::Spent,
-                disk,
+                left: disk,
             }
         }
         OpenFault::BadField(disk, place) => {
             let _told = eprintln!(rt; "nqnfsd: {image}: the image is wrong at byte {place}");
             Ended {
                 end: Ending::Spent,
-                disk,
+                left: disk,
             }
         }
         OpenFault::Failed(disk) => {
@@ -185,12 +184,12 @@ fn tell_fault<D>(rt: &HostRuntime, image: &str, fault: OpenFault<D>) -> Ended<D>
             );
             Ended {
                 end: Ending::KeepFault,
-                disk,
+                left: disk,
             }
         }
         OpenFault::Memory(disk) => Ended {
             end: Ending::Memory,
-            disk,
+            left: disk,
         },
     }
 }

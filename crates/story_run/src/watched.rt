@@ -10,9 +10,8 @@ use nq_io::streams::StdSink;
 use nq_keeper::{KeepFault, Keeper};
 use nq_server::Server;
 use nq_service::mount::{Greeter, Survey, serve_image};
-use nq_serving::Extension;
-use nq_serving::daemon::{Nobody, Watcher};
 use nq_serving::traffic::{CountedLink, Gauge, Report};
+use nq_serving::{Extension, Nobody, Watcher};
 use nq_wire::Outbox;
 use std::alloc::Global;
 use std::cell::RefCell;
@@ -39,6 +38,10 @@ impl<R> Greeter for Onlooker<'_, R> {
 }
 
 impl<L, R: Watcher<L>> Watcher<L> for Onlooker<'_, R> {
+    fn entered(&mut self, log: &Journal) {
+        self.report.entered(log);
+    }
+
     fn turned(&mut self, link: &L, now: Ticks, rows: usize, log: &Journal) {
         self.report.turned(link, now, rows, log);
     }
@@ -103,7 +106,7 @@ pub(crate) fn tell_watched(rt: &HostRuntime, scene: &str, turns: &str) -> Option
         &mut onlooker,
     );
     let all = match served {
-        Ok(left) => left.ended.is_ok(),
+        Ok(ran) => ran.end.is_ok(),
         Err(_) => false,
     };
     println!(rt;

@@ -14,8 +14,7 @@ use nq_base::ending::Halt;
 use nq_clock::Clock;
 use nq_disk::Disk;
 use nq_link::Link;
-use nq_serving::Extension;
-use nq_serving::daemon::{Served, Watcher, keep_serving};
+use nq_serving::{Ended, Extension, Watcher, keep_serving};
 use nq_store::{OpenFault, Store};
 use std::alloc::Global;
 
@@ -23,15 +22,6 @@ use std::alloc::Global;
 pub trait Greeter {
     /// An image was opened that holds so much.
     fn opened(&mut self, survey: &Survey);
-}
-
-/// What serving over an image leaves.
-#[derive(Drop)]
-pub struct Left<D> {
-    /// Why it ended; `Ok` where all turns were taken.
-    pub ended: Result<(), Halt>,
-    /// The disk that was handed in.
-    pub disk: D,
 }
 
 /// Serves over the image on a disk, which is made where the disk has no byte, as [`keep_serving`] tells of the store that the disk opens as.
@@ -51,11 +41,11 @@ pub fn serve_image<D: Disk + Drop, L: Link, C: Clock, W: Watcher<L> + Greeter + 
     link: &mut L,
     clock: &mut C,
     watcher: &mut W,
-) -> Result<Left<D>, OpenFault<D>>
+) -> Result<Ended<Result<(), Halt>, D>, OpenFault<D>>
     requires few { turns < 2 ^ 60 }
     requires long { 5 ≤ longest }
     requires short { longest ≤ 600 }
-    ensures serves { IfOk result (λ left. ServesImage D.told D.faults D.may_leave D.follows D.leaves (extension_told W.owns W.replies) longest turns disk left.ended left.disk
+    ensures serves { IfOk result (λ left. ServesImage D.told D.faults D.may_leave D.follows D.leaves (extension_told W.owns W.replies) longest turns disk left.end left.left
         (clock_told C.floor C.readings C.reads clock.old) (clock_told C.floor C.readings C.reads clock.new)
         (link_told L.sent L.waiting L.faults L.receives link.old)
         (link_told L.sent L.waiting L.faults L.receives link.new)) }
@@ -79,12 +69,12 @@ fn serve_store<D: Disk + Drop, L: Link, C: Clock, W: Watcher<L> + Greeter + Exte
     link: &mut L,
     clock: &mut C,
     watcher: &mut W,
-) -> Left<D>
+) -> Ended<Result<(), Halt>, D>
     requires few { turns < 2 ^ 60 }
     requires long { 5 ≤ longest }
     requires short { longest ≤ 600 }
     requires fresh { IsFresh store }
-    ensures { EndsServing D.told D.faults D.follows D.leaves (extension_told W.owns W.replies) longest turns store result.ended result.disk
+    ensures { EndsServing D.told D.faults D.follows D.leaves (extension_told W.owns W.replies) longest turns store result.end result.left
         (clock_told C.floor C.readings C.reads clock.old) (clock_told C.floor C.readings C.reads clock.new)
         (link_told L.sent L.waiting L.faults L.receives link.old)
         (link_told L.sent L.waiting L.faults L.receives link.new) }
@@ -92,12 +82,10 @@ fn serve_store<D: Disk + Drop, L: Link, C: Clock, W: Watcher<L> + Greeter + Exte
     let mut store = store;
     greet(&mut store, watcher);
     let keeper = RecentKeeper::new(alloc, store);
-    let Served { ended, keeper } = keep_serving(
-        alloc, keeper, turns, longest, link, clock, watcher,
-    );
-    Left {
-        ended,
-        disk: keeper.into_keeper().into_disk(),
+    let ran = keep_serving(alloc, keeper, turns, longest, link, clock, watcher);
+    Ended {
+        end: ran.end,
+        left: ran.left.into_keeper().into_disk(),
     }
 }
 

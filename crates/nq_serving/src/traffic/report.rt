@@ -1,8 +1,8 @@
 //! A report of what a server did, line by line.
 
-use crate::daemon::Watcher;
 use crate::traffic::counted::CountedLink;
 use crate::traffic::counts::{Counts, PROCEDURES};
+use crate::watching::Watcher;
 use nq_base::{Entry, Journal, NoMemory, Ticks};
 use nq_io::{Put, Sink};
 use std::alloc::Global;
@@ -137,6 +137,8 @@ fn line_of(
 }
 
 impl<L, S: Sink, G: Gauge> Watcher<CountedLink<L>> for Report<S, G> {
+    fn entered(&mut self, _log: &Journal) {}
+
     fn turned(&mut self, link: &CountedLink<L>, now: Ticks, rows: usize, log: &Journal) {
         for entry in log.entries() {
             self.told.note(entry);

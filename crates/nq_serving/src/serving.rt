@@ -1,0 +1,141 @@
+//! Serving: a server boots, and takes turns.
+
+ghost use Rattle.std.specs.Prelude.{◌≡◌, ◌<◌, ◌≤◌, ◌^◌, Err};
+ghost use Rattle.nq_serving.specs.LeavingTurns.{LeavesRuns, LeavesServing};
+ghost use Rattle.nq_serving.specs.Running.{HaltsBy, halt_of};
+ghost use Rattle.nq_serving.specs.declared.turning.LinkPolicy.{LinkPolicy};
+ghost use Rattle.nq_serving.specs.Extending.{extension_told};
+ghost use Rattle.nq_serving.specs.Leaving.{IsSettled};
+ghost use Rattle.nq_clock.specs.Clocks.{clock_told};
+ghost use Rattle.nq_link.specs.Links.{link_told};
+ghost use Rattle.nq_server.specs.Holding.{keeper_in};
+
+use crate::ended::Ended;
+use crate::extending::Extension;
+use crate::turning::{LinkPolicy, take_turns};
+use crate::watching::Watcher;
+use nq_base::Ticks;
+use nq_base::ending::Halt;
+use nq_clock::Clock;
+use nq_keeper::Keeper;
+use nq_link::Link;
+use nq_server::{BootFault, Server};
+use std::alloc::Global;
+
+/// The most turns that are taken: more than a machine takes in a thousand years, and few enough that none is refused for its number.
+pub const MOST_TURNS: u64 = (1 << 60) - 1;
+
+/// Boots a server over a keeper at the time of one reading of the clock, and takes turns of it over a link, at most so many. The longest
+/// term that the server grants is 5 to 600 ticks. Each turn has a journal of its own, which is dropped behind it. A turn that the link
+/// stopped is borne, and the next one is taken: what that turn had yet to send is lost, or nothing came. The watcher is told of each turn, and
+/// answers the datagrams that are its own. What a stop at any moment of the
+/// call leaves is what was kept when the keeper was handed in, or what was kept after the boot and some of the ticks and datagrams of
+/// the turns, one after the other; a step that failed may be among them.
+///
+/// # Errors
+///
+/// `Keep` only where the keeper counted a fault, `Memory` where memory was refused, and `Spent` exactly where no number is left for the
+/// boot. No link ends it. The turns before the one that stopped stay done.
+pub fn keep_serving<K: Keeper, L: Link, C: Clock, W: Watcher<L> + Extension>(
+    alloc: Global,
+    keeper: K,
+    turns: u64,
+    longest: u32,
+    link: &mut L,
+    clock: &mut C,
+    watcher: &mut W,
+) -> Ended<Result<(), Halt>, K>
+    requires few { turns < 2 ^ 60 }
+    requires long { 5 ≤ longest }
+    requires short { longest ≤ 600 }
+    ensures serves { LeavesServing K.content K.faults LinkPolicy.GoOn (extension_told W.owns W.replies) K.follows K.leaves longest turns keeper result.end result.left
+        (clock_told C.floor C.readings C.reads clock.old) (clock_told C.floor C.readings C.reads clock.new)
+        (link_told L.sent L.waiting L.faults L.receives link.old)
+        (link_told L.sent L.waiting L.faults L.receives link.new) }
+    ensures follows { K.follows keeper result.left }
+    ensures cause { HaltsBy LinkPolicy.GoOn result.end (K.content keeper) (K.faults keeper) (K.faults result.left)
+        (L.faults link.old) (L.faults link.new) }
+{
+    let now = clock.now();
+    boot_and_run(
+        alloc,
+        keeper,
+        now,
+        LinkPolicy::GoOn,
+        turns,
+        longest,
+        link,
+        clock,
+        watcher,
+    )
+}
+
+/// Boots a server over a keeper at this time, and takes turns of it, at most so many.
+pub(crate) fn boot_and_run<K: Keeper, L: Link, C: Clock, W: Watcher<L> + Extension>(
+    alloc: Global,
+    keeper: K,
+    now: Ticks,
+    policy: LinkPolicy,
+    turns: u64,
+    longest: u32,
+    link: &mut L,
+    clock: &mut C,
+    watcher: &mut W,
+) -> Ended<Result<(), Halt>, K>
+    requires long { 5 ≤ longest }
+    requires short { longest ≤ 600 }
+    requires early { now < 2 ^ 62 }
+    ensures runs { LeavesRuns K.content K.faults policy (extension_told W.owns W.replies) K.follows K.leaves longest turns now keeper result.end result.left
+        (clock_told C.floor C.readings C.reads clock.old) (clock_told C.floor C.readings C.reads clock.new)
+        (link_told L.sent L.waiting L.faults L.receives link.old)
+        (link_told L.sent L.waiting L.faults L.receives link.new) }
+    ensures follows { K.follows keeper result.left }
+{
+    match Server::boot(alloc, keeper, longest, now) {
+        Ok(server) => {
+            let mut server = server;
+            let mut next = 0;
+            let ended = take_turns(
+                alloc,
+                &mut server,
+                link,
+                clock,
+                &mut next,
+                watcher,
+                policy,
+                turns,
+            );
+            Ended {
+                end: ended,
+                left: server.into_keeper(),
+            }
+        }
+        Err(fault) => not_booted(fault),
+    }
+}
+
+/// What serving comes to where no server booted: the keeper is left.
+fn not_booted<K: Keeper>(fault: BootFault<K>) -> Ended<Result<(), Halt>, K>
+    ensures why { result.end ≡ Err (halt_of fault) }
+    ensures keeper { result.left ≡ keeper_in (Err fault) }
+    ensures settled { IsSettled K.content K.leaves result.left }
+{
+    match fault {
+        BootFault::Failed(keeper) => unserved(Halt::Keep, keeper),
+        BootFault::Memory(keeper) => unserved(Halt::Memory, keeper),
+        BootFault::Spent(keeper) => unserved(Halt::Spent, keeper),
+    }
+}
+
+/// What serving comes to that ended before it began.
+fn unserved<K: Keeper>(why: Halt, keeper: K) -> Ended<Result<(), Halt>, K>
+    ensures why { result.end ≡ Err why }
+    ensures keeper { result.left ≡ keeper }
+    ensures settled { IsSettled K.content K.leaves result.left }
+{
+    keeper.pause();
+    Ended {
+        end: Err(why),
+        left: keeper,
+    }
+}

@@ -1,0 +1,104 @@
+//! Turns of a server, one after another, each with a journal of its own, so that memory does not grow.
+
+ghost use Rattle.std.specs.Prelude.{◌≡◌};
+ghost use Rattle.nq_serving.specs.LeavingTurns.{LeavesTaking, LeavesTurns};
+ghost use Rattle.nq_serving.specs.Extending.{extension_told};
+ghost use Rattle.nq_serving.specs.Turning.{behind_link, behind_turn, standing};
+ghost use Rattle.nq_clock.specs.Clocks.{clock_told};
+ghost use Rattle.nq_link.specs.Links.{link_told};
+
+use crate::extending::Extension;
+use crate::node::serve_turn;
+use crate::watching::Watcher;
+use nq_base::Journal;
+use nq_base::ending::Halt;
+use nq_clock::Clock;
+use nq_keeper::Keeper;
+use nq_link::Link;
+use nq_server::Server;
+use std::alloc::Global;
+
+/// What a turn that the link stopped means for those behind it.
+#[derive(Clone, Copy)]
+pub enum LinkPolicy {
+    /// It is the last one.
+    Stop,
+    /// The next one is taken. What it had yet to send is lost, as a datagram may be.
+    GoOn,
+}
+
+/// Takes so many turns of a server, up to the first that ends them.
+pub(crate) fn take_turns<K: Keeper, L: Link, C: Clock, W: Watcher<L> + Extension>(
+    alloc: Global,
+    server: &mut Server<K>,
+    link: &mut L,
+    clock: &mut C,
+    next: &mut u64,
+    watcher: &mut W,
+    policy: LinkPolicy,
+    turns: u64,
+) -> Result<(), Halt>
+    ensures turns { LeavesTurns K.content K.faults policy (extension_told W.owns W.replies) K.follows K.leaves turns result
+        (standing server.old next.old (clock_told C.floor C.readings C.reads clock.old)
+        (link_told L.sent L.waiting L.faults L.receives link.old))
+        (standing server.new next.new (clock_told C.floor C.readings C.reads clock.new)
+        (link_told L.sent L.waiting L.faults L.receives link.new)) }
+    ensures follows { K.follows server.old.keeper server.new.keeper }
+{
+    server.pause();
+    for _turn in 0..turns {
+        match take_turn(alloc, server, link, clock, next, watcher, policy) {
+            Ok(()) => {}
+            Err(why) => return Err(why),
+        }
+    }
+    Ok(())
+}
+
+/// Takes one turn of a server, with a journal that is dropped behind it.
+fn take_turn<K: Keeper, L: Link, C: Clock, W: Watcher<L> + Extension>(
+    alloc: Global,
+    server: &mut Server<K>,
+    link: &mut L,
+    clock: &mut C,
+    next: &mut u64,
+    watcher: &mut W,
+    policy: LinkPolicy,
+) -> Result<(), Halt>
+    ensures turn { LeavesTaking K.content K.faults policy (extension_told W.owns W.replies) K.follows K.leaves result
+        (standing server.old next.old (clock_told C.floor C.readings C.reads clock.old)
+        (link_told L.sent L.waiting L.faults L.receives link.old))
+        (standing server.new next.new (clock_told C.floor C.readings C.reads clock.new)
+        (link_told L.sent L.waiting L.faults L.receives link.new)) }
+    ensures follows { K.follows server.old.keeper server.new.keeper }
+{
+    let mut log = Journal::new(alloc).unwrap();
+    let turn = serve_turn(alloc, server, watcher, link, clock, next, &mut log);
+    server.pause();
+    watcher.turned(link, server.time(), server.table().len(), &log);
+    behind_turn(policy, turn)
+}
+
+/// Whether turns go on behind one that ended so, or why not.
+fn behind_turn(policy: LinkPolicy, turn: Result<bool, Halt>) -> Result<(), Halt>
+    ensures { result ≡ behind_turn policy turn }
+{
+    match turn {
+        Ok(_moved) => Ok(()),
+        Err(Halt::Link) => behind_link(policy),
+        Err(Halt::Keep) => Err(Halt::Keep),
+        Err(Halt::Memory) => Err(Halt::Memory),
+        Err(Halt::Spent) => Err(Halt::Spent),
+        Err(Halt::NoAnswer) => Err(Halt::NoAnswer),
+    }
+}
+
+/// Whether turns go on behind one that the link stopped.
+fn behind_link(policy: LinkPolicy) -> Result<(), Halt>
+    ensures { result ≡ behind_link policy }
+{
+    match policy {
+        LinkPolicy::Stop => Err(Halt::Link),
+        LinkPolicy::GoOn => Ok(()),
+    }
+}
