@@ -53,8 +53,8 @@ module _ (most : ℕ) (head : Head) (dead : List ℕ) (host : ℕ) (live : is_de
   same-line p e u leads = ap (λ (w : World). host_row w.server.kept host) leads
 
   -- a request whose sequence was drawn now, and whose number is in no reply
-  new-free : (p : Play) (e : Event) (l : IsLawful most head p) (serves : recovers p.world.server.phase ≡ false) (c : Client) (at : slice_get p.world.clients host ≡ Some c)
-      (on : c.attached ≡ true) (u : ClientStep) → step p.world e ≡ after_client p.world host u → (t : Ticket)
+  new-free : (p : Play) (e : Event) (l : IsLawful most head p) (serves : recovers p.world.server.phase ≡ false) (c : Client)
+      (at : slice_get p.world.clients host ≡ Some c) (on : c.attached ≡ true) (u : ClientStep) → step p.world e ≡ after_client p.world host u → (t : Ticket)
       → ((n : ℕ) → sequence_of t.request ≡ Some n → c.seq ≤ n)
       → ((st : Refusal) → Comes p (to_host host (reply t.xid (Reply.Refused c.who.inc st))) → ⊥) → IsFree host c.who (play p e) t
   unfolding after_client
@@ -162,7 +162,8 @@ module _ (most : ℕ) (head : Head) (dead : List ℕ) (host : ℕ) (live : is_de
     idle = none-asks most head host dead live p during.before during.timely (covered most head dead host live who q old from p k) c at
 
     pub ticks-on : Looking (from + 2) (client_tick c (c.now + 1)).client
-    ticks-on = tick-looking (from + 2) c (is-at most head host p during.before c at).alone (looking p w c v at is number (λ s has. none-some s (sym idle ∙ has)))
+    ticks-on = tick-looking (from + 2) c (is-at most head host p during.before c at).alone
+        (looking p w c v at is number (λ s has. none-some s (sym idle ∙ has)))
 
     pub ticks-free : (s : Ticket) → (client_tick c (c.now + 1)).client.ticket ≡ Some s → IsFree host who (play p (Event.ClientTick host)) s
     ticks-free s has = subst (λ x. IsFree host x (play p (Event.ClientTick host)) s) (k.same c at)
