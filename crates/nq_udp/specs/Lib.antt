@@ -1,1 +1,3 @@
+pub mod Book
+pub mod Local
 pub mod UdpLink
