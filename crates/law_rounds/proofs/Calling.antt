@@ -1,12 +1,14 @@
 -- What a step leaves of a client's call: it is answered, or the same with its number; and the client pauses as before, unless a request was
 -- put off.
-use Rattle.std.proofs.Common.{◌≡◌, ◌⊎◌, ℕ, Bool, true, false, Option, Some, None, refl, sym, ap, ◌∙◌, inl, inr}
+use Rattle.std.proofs.Common.{◌≡◌, ◌⊎◌, ℕ, ◌+◌, Bool, true, false, Option, Some, None, refl, sym, ap, ◌∙◌, inl, inr}
+use Rattle.std.specs.Prelude.{⊤}
 use Rattle.nq_base.specs.declared.Answer.{Answer}
 use Rattle.nq_base.specs.declared.Refusal.{Refusal}
 use Rattle.nq_base.specs.declared.Reply.{Reply}
 use Rattle.nq_base.specs.declared.Request.{Request}
 use Rattle.nq_base.specs.declared.Value.{Value}
 use Rattle.nq_model.specs.Client.{Client, ClientStep, Job, Ticket, UnderWay, begun}
+use Rattle.nq_model.specs.ClientStep.{client_tick, sends_again, at_time}
 use Rattle.nq_model.specs.Hear.{hear, reply_counts, is_put_off, answers_call, marks_through, with_through, pauses, replied, cancels, vacates_lease}
 use Rattle.nq_model.specs.Hear.{notes_notice, evicted}
 use Rattle.nq_model.specs.Message.{Message, reply}
@@ -18,7 +20,7 @@ use Rattle.walk_steps.proofs.PartCases.{answers-call-cases, lease-done-cases}
 use Rattle.walk_steps.proofs.RepliedCases.{replied-cases}
 use Rattle.walk_steps.proofs.SendCases.{send-cases}
 use Rattle.walk_steps.proofs.SettleCases.{settle-cases}
-use Rattle.walk_steps.proofs.StepCases.{evicted-cases, heard-cases}
+use Rattle.walk_steps.proofs.StepCases.{tick-cases, evicted-cases, heard-cases}
 use Rattle.law_rounds.proofs.EffortReplies.{Goes, start, optional-goes, pushed-goes, refused-goes, read-goes, write-goes, known-goes, attached-goes}
 use Rattle.law_rounds.proofs.EffortReplies.{start-same}
 
@@ -178,3 +180,22 @@ module _ (Premise : Type 0) (c : Client) where
           waiting = λ e. same (cancels (begun c) file) (notes_notice (cancels (begun c) file) file tag) refl refl refl cut;
         })));
   })
+
+-- ---- a tick
+
+-- a tick keeps the call and the pause
+pub tick-keeps : (c : Client) → Keeps ⊤ (at_time c (c.now + 1)) (client_tick c (c.now + 1))
+unfolding at_time sends_again
+tick-keeps c = tick-cases c (c.now + 1) (Keeps ⊤ (at_time c (c.now + 1))) (record {
+  again = λ ticket asks long. record { calls = λ v is. (v, is, refl, refl); now = refl; pause = λ yes. refl };
+  quiet = λ ticket asks short. start;
+  free = λ none. sends ⊤ (at_time c (c.now + 1)) true (settle (begun (at_time c (c.now + 1)))) (settles ⊤ (at_time c (c.now + 1))
+      (begun (at_time c (c.now + 1))) start);
+})
+  where
+    start : Keeps ⊤ (at_time c (c.now + 1)) (begun (at_time c (c.now + 1)))
+    start = record { calls = λ v is. (v, is, refl, refl); now = refl; pause = λ yes. refl }
+
+pub tick-opens : (c : Client) → StillOpen c.call (client_tick c (c.now + 1)).client.call
+unfolding at_time
+tick-opens c = (tick-keeps c).calls
