@@ -1,5 +1,6 @@
 pub mod AsidesGoing
 pub mod AsidesPlaying
+pub mod AsidesRunning
 pub mod Delivering
 pub mod Ending
 pub mod Going
