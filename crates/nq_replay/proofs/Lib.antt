@@ -3,7 +3,6 @@ pub mod EachTaken
 pub mod Endings
 mod Joining
 pub mod AsidesOnward
-pub mod AsidesOutcomes
 pub mod Dropping
 pub mod FirstRuns
 pub mod Flags

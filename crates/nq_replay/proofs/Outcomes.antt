@@ -102,13 +102,13 @@ script_unless Ending.Script line held now w w' tells = inl refl
 script_unless Ending.Memory line held now w w' tells = inr tt
 script_unless other line held now w w' tells = absurd tells
 
-pub skew_unless : (end : Ending) (line : ℕ) (broken : SkewBroken) (held now : Option (List ℕ)) (w w' : ℕ) → TellsStop end line (Stepped.SkewBroken broken)
+skew_unless : (end : Ending) (line : ℕ) (broken : SkewBroken) (held now : Option (List ℕ)) (w w' : ℕ) → TellsStop end line (Stepped.SkewBroken broken)
     held now w w' → IsUnlessFault end Ending.Skew 0 0 w w'
 skew_unless Ending.Skew line broken held now w w' tells = inl refl
 skew_unless Ending.Memory line broken held now w w' tells = inr tt
 skew_unless other line broken held now w w' tells = absurd tells
 
-pub limit_unless : (end : Ending) (line : ℕ) (limit : Limit) (held now : Option (List ℕ)) (w w' : ℕ) → TellsStop end line (Stepped.Limit limit) held now w
+limit_unless : (end : Ending) (line : ℕ) (limit : Limit) (held now : Option (List ℕ)) (w w' : ℕ) → TellsStop end line (Stepped.Limit limit) held now w
     w' → IsUnlessFault end Ending.Limit 0 0 w w'
 limit_unless Ending.Limit line limit held now w w' tells = inl refl
 limit_unless Ending.Memory line limit held now w w' tells = inr tt

@@ -1,6 +1,5 @@
 pub mod AsidesGoing
 pub mod AsidesPlaying
-pub mod AsidesRunning
 pub mod Delivering
 pub mod Ending
 pub mod Going

@@ -1,4 +1,4 @@
-use Rattle.nq_replay.proofs.AsidesOutcomes.{ends_done, ends_faulty, ends_passing, ends_skew, is_due, passes_none, text_of_fault, text_of_schedule}
+use Rattle.nq_played.proofs.Outcomes.{ends_done, ends_faulty, ends_passing, ends_skew, is_due, passes_none, text_of_fault, text_of_schedule}
 use Rattle.nq_replay.proofs.Outcomes.{names_bad, script_unless}
 use Rattle.nq_replay.specs.Text.{mixed}
 use Rattle.nq_naming.proofs.Outcomes.{lacks_text}

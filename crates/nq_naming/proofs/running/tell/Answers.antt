@@ -5,7 +5,7 @@ use Rattle.nq_replay.specs.Playing.{beginning}
 use Rattle.nq_replay.specs.Texts.{IsTellable}
 use Rattle.nq_script.specs.Lines.{once}
 use Rattle.nq_script.specs.Schedule.{SpellsSchedule}
-use Rattle.nq_replay.proofs.AsidesOutcomes.{memory_before, run_ends, stop_ends}
+use Rattle.nq_played.proofs.Outcomes.{memory_before, run_ends, stop_ends}
 use Rattle.nq_naming.specs.Running.{IsPrinted}
 use Rattle.nq_naming.specs.Text.{FirstBadNames, SpellsNames}
 use Rattle.nq_naming.proofs.Printed.{is-printed}

@@ -3,7 +3,7 @@ use Rattle.nq_replay.specs.Ending.{TellsOver}
 use Rattle.nq_model.specs.Stepped.{out_of_skew}
 use Rattle.nq_staged.specs.Running.{FaultyStaged, IsPrinted, PassesStaged, RunsStaged, StopsStaged}
 use Rattle.nq_io.specs.Whole.{IsAll}
-use Rattle.nq_replay.proofs.AsidesOutcomes.{ends_over, ends_text, still_counts, still_unless}
+use Rattle.nq_played.proofs.Outcomes.{ends_over, ends_text, still_counts, still_unless}
 use Rattle.nq_replay.proofs.Endings.{over_counts, over_unless, told_text}
 use Rattle.nq_staged.specs.Playing.{play}
 use Rattle.nq_staged.specs.Text.{FirstBadStaged, SpellsStaged}

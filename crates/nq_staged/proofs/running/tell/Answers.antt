@@ -1,7 +1,7 @@
 use Rattle.std.proofs.Common.{List}
 use Rattle.nq_staged.specs.Worlds.{PlaysOutside}
 use Rattle.nq_replay.specs.Playing.{beginning}
-use Rattle.nq_replay.proofs.AsidesOutcomes.{run_ends, stop_ends}
+use Rattle.nq_played.proofs.Outcomes.{run_ends, stop_ends}
 use Rattle.nq_staged.specs.Running.{IsPrinted}
 use Rattle.nq_staged.specs.Text.{FirstBadStaged, SpellsStaged}
 use Rattle.nq_staged.specs.Playing.{play}

@@ -1,21 +1,33 @@
--- What a command comes to that plays texts of some kind. The names are those of `specs/AsidesRunning`.
+-- What a command comes to that plays texts of some kind. The names are those of `specs/Running`.
 use Rattle.std.proofs.Common.{◌≡◌, inl, inr, ℕ, List, Option, refl, sym, subst}
 use Rattle.nq_base.specs.declared.SkewBroken.{SkewBroken}
 use Rattle.nq_base.specs.declared.ending.ending.Ending.{Ending}
 use Rattle.nq_io.specs.Whole.{IsAll, IsOver}
 use Rattle.nq_model.specs.Stepped.{Stepped as Answer, done, no_packet, out_of_skew, too_many_events, too_many_packets}
-use Rattle.nq_replay.proofs.Outcomes.{limit_unless, script_unless, skew_unless}
+use Rattle.nq_replay.proofs.Outcomes.{script_unless}
 use Rattle.nq_replay.specs.AsidesGoing.{Comes, StoppedAt}
 use Rattle.nq_replay.specs.AsidesPlaying.{Ended, ran, stopped}
-use Rattle.nq_replay.specs.AsidesRunning.{Ends, EndsPlayed, EndsText, Faulty, Passes, Runs, Stops}
+use Rattle.nq_played.specs.Running.{Ends, EndsPlayed, EndsText, Faulty, Passes, Runs, Stops}
 use Rattle.nq_replay.specs.Ending.{CountsSource, IsFault, IsUnlessFault, TellsOver}
 use Rattle.nq_replay.specs.Schedules.{TellsStop}
 use Rattle.nq_replay.specs.declared.play.played.Played.{Played}
-use Rattle.nq_replay.specs.declared.printing.Bound.{Bound}
+use Rattle.nq_replay.specs.declared.Bound.{Bound}
 use Rattle.nq_script.specs.declared.heads.Head.{Head}
 use Rattle.nq_world.specs.Answering.{told as answer_of}
-use Rattle.nq_world.specs.declared.stepped.Limit.{Limit}
-use Rattle.nq_world.specs.declared.stepped.Stepped.{Stepped}
+use Rattle.nq_world.specs.declared.Limit.{Limit}
+use Rattle.nq_world.specs.declared.Stepped.{Stepped}
+
+skew_unless : (end : Ending) (line : ℕ) (broken : SkewBroken) (held now : Option (List ℕ)) (w w' : ℕ)
+    → TellsStop end line (Stepped.SkewBroken broken) held now w w' → IsUnlessFault end Ending.Skew 0 0 w w'
+skew_unless Ending.Skew line broken held now w w' tells = inl refl
+skew_unless Ending.Memory line broken held now w w' tells = inr tt
+skew_unless other line broken held now w w' tells = absurd tells
+
+limit_unless : (end : Ending) (line : ℕ) (limit : Limit) (held now : Option (List ℕ)) (w w' : ℕ) → TellsStop end line (Stepped.Limit limit) held now w w'
+    → IsUnlessFault end Ending.Limit 0 0 w w'
+limit_unless Ending.Limit line limit held now w w' tells = inl refl
+limit_unless Ending.Memory line limit held now w w' tells = inr tt
+limit_unless other line limit held now w w' tells = absurd tells
 
 module _ {L S : Type 0} (spells : Head → L → List ℕ → Type 0) (bad : List ℕ → ℕ → Type 0) (play : Head → L → Ended S)
     (prints : Head → S → List ℕ → Type 0) where

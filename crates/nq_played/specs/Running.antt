@@ -16,7 +16,7 @@ use Rattle.nq_replay.specs.Ending.{IsUnlessFault}
 use Rattle.nq_replay.specs.Lines.{limit_line, script_line, skew_line}
 use Rattle.nq_replay.specs.Replay.{OfInput, PrintsLimit, TakesInput}
 use Rattle.nq_replay.specs.Schedules.{PrintsBytes, TellsStop}
-use Rattle.nq_replay.specs.declared.printing.Bound.{Bound}
+use Rattle.nq_replay.specs.declared.Bound.{Bound}
 use Rattle.nq_script.specs.declared.heads.Head.{Head}
 use Rattle.nq_world.specs.Answering.{told as answer_of}
 
