@@ -8,7 +8,7 @@
     wrong.py --over FOLDER  takes the libraries below from another checkout of the same text
 
 It takes the libraries that `rt ci` left in crates/*/out, so run that before. Edits of a crate that touch different functions are tried together,
-in a check of the modules that they touch; one that is still proved there is tried alone, in a check of the whole crate. For each edit it says
+in a check of these functions; one that is still proved there is tried alone, in a check of the whole crate. For each edit it says
 at which function and clauses the prover stopped, and `elsewhere` where these are other ones than wrong.edits says.
 It ends with status 1 where an edit is still proved, could not be tried, or was refused elsewhere.
 """
@@ -24,6 +24,7 @@ import tempfile
 TOP = os.path.abspath(os.path.join(os.path.dirname(os.path.abspath(__file__)), ".."))
 EDITS = os.path.join(TOP, "tools", "wrong.edits")
 FUNCTION = re.compile(r"^\s*(?:pub(?:\(crate\))?\s+)?fn\s+(\w+)", re.M)
+IMPL = re.compile(r"^impl(?:<.*?>)?\s+(?:(\w+)(?:<.*?>)?\s+for\s+)?(\w+)(?:<.*>)?\s*\{|^\}", re.M)
 
 
 def read_edits():
@@ -82,10 +83,17 @@ def misfit(edit):
     return made(edit, content_of(edit))[1]
 
 
+def named_function(edit):
+    """The function that an edit says to refuse it."""
+    return edit["refused by"].partition(",")[0].strip("`")
+
+
 def function_of(edit):
-    """The function that an edit touches."""
-    content = content_of(edit)
-    place = content.index(edit["pairs"][0][0])
+    """The function that an edit touches; the one that refuses it, where it touches a constant."""
+    content, old = content_of(edit), edit["pairs"][0][0]
+    if old.startswith("const "):
+        return named_function(edit)
+    place = content.index(old)
     names = [found.group(1) for found in FUNCTION.finditer(content) if found.start(1) <= place]
     return names[-1] if names else ""
 
@@ -94,6 +102,14 @@ def module_of(edit):
     """The module that an edit touches; empty for the root."""
     path = edit["file"][len("src/"):-len(".rt")]
     return "" if path in ("lib", "main") else path.replace("/", "::")
+
+
+def path_of(edit):
+    """The path below the crate of the function that an edit touches, as the prover names it."""
+    content, around = content_of(edit), ""
+    for found in IMPL.finditer(content, 0, content.index(edit["pairs"][0][0])):
+        around = f"{found.group(2)}{found.group(1) or ''}" if found.group(2) else ""
+    return "::".join(it for it in (module_of(edit), around, function_of(edit)) if it)
 
 
 def groups_of(edits):
@@ -139,8 +155,8 @@ def words_of(over, crate):
     return words + ["--antt-project", f"{kit}/rattle/logic/antt-project.json", "--logic-built", f"{kit}/logic_built"]
 
 
-def checked(over, crate, texts, modules):
-    """What the prover says of a crate with these texts in place of its own: of these modules, or of all of it where none are named."""
+def checked(over, crate, texts, paths):
+    """What the prover says of a crate with these texts in place of its own: of these functions and modules, or of all of it where none are named."""
     with tempfile.TemporaryDirectory(prefix="wrong-") as room:
         for part in ("src", "specs", "proofs"):
             folder = os.path.join(TOP, "crates", crate, part)
@@ -149,7 +165,7 @@ def checked(over, crate, texts, modules):
         for path, text in texts.items():
             with open(os.path.join(room, path), "w") as out:
                 out.write(text)
-        only = [word for module in modules for word in ("--only", module)]
+        only = [word for path in paths for word in ("--only", path)]
         ran = subprocess.run(words_of(over, crate) + only, cwd=room, stdin=subprocess.DEVNULL, capture_output=True, text=True, errors="replace")
     return ran.stdout + ran.stderr
 
@@ -182,8 +198,8 @@ def stopped_at(edit, said):
 
 def place_told(edit, goals):
     """How the place at which the prover stopped stands to the one that the edit tells."""
-    function, _, clause = edit["refused by"].partition(", ")
-    if function.strip("`") != function_of(edit):
+    clause = edit["refused by"].partition(", ")[2]
+    if named_function(edit) != function_of(edit):
         return "elsewhere"
     clauses = re.findall(r"-clause-([a-z_]+)", " ".join(goals))
     return "" if clause == "its contract" or not clauses or clause in clauses else "elsewhere"
@@ -213,7 +229,7 @@ def try_alone(over, edit):
 
 def try_group(over, crate, group, texts):
     """Tries the edits of a group together, and gives each with its verdict."""
-    said = checked(over, crate, texts, sorted({module_of(edit) for edit in group}))
+    said = checked(over, crate, texts, sorted({path_of(edit) for edit in group}))
     if not is_verdict(said):
         if len(group) == 1:
             return [(group[0], "not tried: " + " ".join(said.split())[:300], False)]

@@ -18,7 +18,8 @@ use Rattle.nq_server.specs.Holding.{Holding}
 -- ---- what is found as at a moment of the turns
 
 -- this is found as at a moment of a turn: before it, after its tick or after its datagram; a step that failed in it may have been kept
-abbrev pub IsLeftTaking : {K : Type 0} → (content : K → Option Kept) → (faults : K → ℕ) → LinkPolicy → Extension → (ended : Result Unit Halt) →
+abbrev pub IsLeftTaking : {K : Type 0} → (content : K → Option Kept) → (faults : K → ℕ) → (policy : LinkPolicy) → (extension : Extension) →
+    (ended : Result Unit Halt) →
     (at after : Standing K)
     → TakesTurn content faults policy extension ended at after → (found : Option Kept) → Type 0
 IsLeftTaking content faults policy extension ended at after taken found =
@@ -26,14 +27,16 @@ IsLeftTaking content faults policy extension ended at after taken found =
     taken.took found
 
 -- this is found as at a moment of one of so many turns
-abbrev pub IsLeftInGoes : {K : Type 0} → (content : K → Option Kept) → (faults : K → ℕ) → LinkPolicy → Extension → (count : ℕ) → (at after : Standing K)
+abbrev pub IsLeftInGoes : {K : Type 0} → (content : K → Option Kept) → (faults : K → ℕ) → (policy : LinkPolicy) → (extension : Extension) → (count : ℕ) →
+    (at after : Standing K)
     → Goes content faults policy extension count at after → (found : Option Kept) → Type 0
 IsLeftInGoes content faults policy extension zero at after goes found = ⊥
 IsLeftInGoes content faults policy extension (suc count) at after goes found =
     IsLeftInGoes content faults policy extension count at goes.0 goes.1 found ⊎ IsLeftTaking content faults policy extension (Ok tt) goes.0 after goes.2 found
 
 -- the same of turns up to the first that ended them
-abbrev pub IsLeftInTurns : {K : Type 0} → (content : K → Option Kept) → (faults : K → ℕ) → LinkPolicy → Extension → (turns : ℕ) → (ended : Result Unit Halt)
+abbrev pub IsLeftInTurns : {K : Type 0} → (content : K → Option Kept) → (faults : K → ℕ) → (policy : LinkPolicy) → (extension : Extension) → (turns : ℕ) →
+    (ended : Result Unit Halt)
     → (at after : Standing K) → TakesTurns content faults policy extension turns ended at after → (found : Option Kept) → Type 0
 IsLeftInTurns content faults policy extension turns (Ok done) at after taken found = IsLeftInGoes content faults policy extension turns at after taken found
 IsLeftInTurns content faults policy extension turns (Err why) at after taken found =
@@ -46,7 +49,8 @@ IsLeftByBoot longest kept found = (found ≡ Some kept) ⊎ (found ≡ Some (boo
 
 -- This is found so, or as at a moment of the turns. Each of these moments
 -- stands behind a prefix of the steps by which the server came to what it keeps: the boot, and each tick and each datagram of the turns before it
-abbrev pub IsLeftInRuns : {K : Type 0} → (content : K → Option Kept) → (faults : K → ℕ) → LinkPolicy → Extension → (follows : K → K → Type 0) →
+abbrev pub IsLeftInRuns : {K : Type 0} → (content : K → Option Kept) → (faults : K → ℕ) → (policy : LinkPolicy) → (extension : Extension) → (follows : K
+    → K → Type 0) →
     (longest turns time : ℕ)
     → (keeper : K) → (ended : Result Unit Halt) → (left : K) → (clock clock' : ClockTold) → (link link' : LinkTold)
     → Runs content faults policy extension follows
@@ -72,7 +76,8 @@ pub record IsBeforeEnd {K : Type 0} (content : K → Option Kept) (follows : K �
 
 -- At each moment between so many turns: a stop at that very moment leaves exactly what is kept then, and what else a stop from then until the end
 -- leaves is what is kept at a later moment, of the turns behind it or of what `Later` tells. So nothing that was kept at that moment is lost
-abbrev pub AreInOrder : {K : Type 0} → (content : K → Option Kept) → (faults : K → ℕ) → LinkPolicy → Extension → (follows : K → K → Type 0) → (leaves : K
+abbrev pub AreInOrder : {K : Type 0} → (content : K → Option Kept) → (faults : K → ℕ) → (policy : LinkPolicy) → (extension : Extension) → (follows : K → K
+    → Type 0) → (leaves : K
     → K → Option Kept
     → Type 0) → (last : K) → (Later : Option Kept → Type 0) → (count : ℕ) → (at after : Standing K) → Goes content faults policy extension count at after
     → Type 0
@@ -84,7 +89,8 @@ AreInOrder content faults policy extension follows leaves last Later (suc count)
     goes.0 goes.1
 
 -- the same of turns up to the first that ended them
-abbrev pub TurnsAreInOrder : {K : Type 0} → (content : K → Option Kept) → (faults : K → ℕ) → LinkPolicy → Extension → (follows : K → K → Type 0)
+abbrev pub TurnsAreInOrder : {K : Type 0} → (content : K → Option Kept) → (faults : K → ℕ) → (policy : LinkPolicy) → (extension : Extension) → (follows : K
+    → K → Type 0)
     → (leaves : K → K → Option Kept → Type 0) → (turns : ℕ) → (ended : Result Unit Halt) → (at after : Standing K)
     → TakesTurns content faults policy extension turns
     ended at after → Type 0
@@ -96,7 +102,8 @@ TurnsAreInOrder content faults policy extension follows leaves turns (Err why) a
     taken.count at taken.middle taken.before
 
 -- the same of the turns of a server that booted, if one did
-abbrev pub RunsAreInOrder : {K : Type 0} → (content : K → Option Kept) → (faults : K → ℕ) → LinkPolicy → Extension → (follows : K → K → Type 0) →
+abbrev pub RunsAreInOrder : {K : Type 0} → (content : K → Option Kept) → (faults : K → ℕ) → (policy : LinkPolicy) → (extension : Extension) → (follows : K
+    → K → Type 0) →
     (leaves : K → K → Option Kept
     → Type 0) → (longest turns time : ℕ) → (keeper : K) → (ended : Result Unit Halt) → (left : K) → (clock clock' : ClockTold)
     → (link link' : LinkTold) → Runs content faults policy extension follows longest turns time keeper ended left clock clock' link link' → Type 0

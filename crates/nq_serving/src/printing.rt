@@ -63,7 +63,7 @@ pub fn serve<K: Keeper, L: Link, C: Clock, S: Sink>(
         keeper,
         now,
         LinkPolicy::Stop,
-        u64::from(turns),
+        turns as u64,
         longest,
         link,
         clock,
