@@ -4,4 +4,5 @@ use Rattle.nq_check.proofs.along.call_near.Goals as goal
 
 pub returns-then-is_some : goal.returns-then-is_some
 returns-then-is_some c =
-    told_near c.args.by.now c.args.n c.args.whole.now c.args.place c.call_before-call.result c.requires.within c.call_before-call.ensures c.if-is_some.true
+    told_near c.args.by.now c.args.n c.args.whole.now c.args.place c.call_before-call.result c.requires.within c.call_before-call.ensures
+    (sym c.is_some.ensures ∙ c.if-is_some.true)
