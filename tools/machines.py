@@ -252,8 +252,8 @@ class Prompt:
                                             stdout=subprocess.PIPE, stderr=subprocess.DEVNULL, bufsize=0)
             time.sleep(0.02)
             if self.process.poll() is None and run == self.host.run:
-                self.reader = self.process.stdout
                 return run
+            self.process.kill()
             self.process.wait()
             time.sleep(0.1)
         return None
