@@ -1,5 +1,7 @@
 -- One line more of a book.
-use Rattle.std.proofs.Common.{◌≡◌, ◌≤◌, ◌+◌, ◌-◌, ◌^◌, ℕ, List, [], ◌∷◌, ◌++◌, Some, None, Option, Ok, Err, refl, sym, ap, ◌∙◌, subst, min, append-nil, arith}
+use Rattle.std.proofs.Common.{◌≡◌, ◌≤◌, ◌<◌, length, ◌+◌, ◌-◌, ◌^◌, ℕ, List, [], ◌∷◌, ◌++◌, Some, None, Option, Ok, Err}
+use Rattle.std.proofs.Common.{refl, sym, ap, ◌∙◌, subst, min, append-nil, arith}
+use Rattle.std.proofs.lemmas.List.{length-append}
 use Rattle.nq_book.specs.Lines.{TakesLine}
 use Rattle.nq_book.specs.Texts.{ReadsOn, StopsOn}
 use Rattle.nq_book.specs.declared.lines.Why.{Why}
@@ -13,6 +15,12 @@ use Rattle.nq_udp.specs.Book.{Listed}
 -- a text that is not cut lacks a line feed
 pub uncut : (rest : List ℕ) → None ≡ cut 10 rest → Lacks 10 rest
 uncut rest none = let P : Option (List ℕ × List ℕ) → Type 0 = IsCut 10 rest in subst P (sym none) (cut_found 10 rest)
+
+-- what stands behind a line is shorter than the line with it
+pub shorter : (rest line after : List ℕ) → Some (line, after) ≡ cut 10 rest → length after < length rest
+shorter rest line after cuts =
+    let split = cut-found 10 rest line after (sym cuts) in
+    omega (arith, ap length split.0, length-append line (10 ∷ after))
 
 -- what is read behind a line is read with it
 pub goes_on : (book between : Listed) (rest line after : List ℕ) → Some (line, after) ≡ cut 10 rest → TakesLine (Ok tt) line book between → (end : Listed)
