@@ -256,17 +256,16 @@ impl Hosting {
 
     /// Goes on with the list at work: takes the page that came, and asks for the next one where that is due. Whether it is over.
     fn list_on(&mut self) -> bool {
-        let who = self.desk.who();
         if let Some(page) = self.desk.take_listed() {
             let came = match &mut self.work {
-                Some(work) => work.take_page(who, &page),
+                Some(work) => work.take_page(self.desk.who(), &page),
                 None => Came::On,
             };
             self.came(came);
         }
         let (number, now) = (self.next_number(), self.desk.time());
         let asked = match &mut self.work {
-            Some(work) => work.asks_page(who, number, now),
+            Some(work) => work.asks_page(self.desk.who(), number, now),
             None => return true,
         };
         match asked {
@@ -304,13 +303,13 @@ impl Hosting {
             Some(work) => (work.place(), work.number(), work.is_listing()),
             None => return,
         };
-        let (who, now) = (self.desk.who(), self.desk.time());
+        let now = self.desk.time();
         if !is_listing {
             if let Some(page) = self.desk.take_listed() {
-                self.waiting.take(self.alloc, who, &page);
+                self.waiting.take(self.alloc, self.desk.who(), &page);
             }
             let next = self.next_number();
-            if let Ok(request) = self.waiting.asks(self.alloc, who, next, now) {
+            if let Ok(request) = self.waiting.asks(self.alloc, self.desk.who(), next, now) {
                 self.send_request(request);
             }
         }
