@@ -17,7 +17,7 @@ use crate::printing::print_loop;
 use crate::schedules::loop_head;
 use crate::state::LoopState;
 use crate::taking::take_turns;
-use crate::turns::LoopTurn;
+use crate::turns::Halt;
 use nq_base::ending::Ending;
 use nq_clock::Clock;
 use nq_io::Sink;
@@ -130,13 +130,13 @@ fn loop_over<P: Keeper, K: Sink, L: Link, C: Clock>(
     }
 }
 
-/// Prints a loop whose last turn was this, or at which limit it stopped; nothing where a link or the keeper failed.
+/// Prints a loop whose turns ended so, or at which limit it stopped; nothing where a link or the keeper failed.
 fn tell<P: Keeper, K: Sink>(
     alloc: Global,
     head: &Head,
     world: &World<P>,
     ran: &Schedule,
-    last: LoopTurn,
+    last: Result<(), Halt>,
     out: &mut K,
 ) -> Ending
     requires some { 1 ≤ head.now.hosts }
@@ -148,11 +148,10 @@ fn tell<P: Keeper, K: Sink>(
     ensures sink { CountsSink result (K.faults out.old) (K.faults out.new) }
 {
     match last {
-        LoopTurn::Took => print_loop(alloc, head, world, ran, out),
-        LoopTurn::Quiet => print_loop(alloc, head, world, ran, out),
-        LoopTurn::Limit(limit) => tell_limit(alloc, 0, limit, out),
-        LoopTurn::Link => Ending::LinkFault,
-        LoopTurn::Keep => Ending::KeepFault,
-        LoopTurn::Memory => Ending::Memory,
+        Ok(()) => print_loop(alloc, head, world, ran, out),
+        Err(Halt::Limit(limit)) => tell_limit(alloc, 0, limit, out),
+        Err(Halt::Link) => Ending::LinkFault,
+        Err(Halt::Keep) => Ending::KeepFault,
+        Err(Halt::Memory) => Ending::Memory,
     }
 }
