@@ -1,5 +1,5 @@
 -- Rows of a live host that are to go: each was to go at the first moment, or its holder is told, or waits until it may give it up, or has done so.
-use Rattle.std.proofs.Common.{◌≡◌, ◌≢◌, ◌≤◌, ◌<◌, ◌⊎◌, ℕ, ◌+◌, ◌-◌, ◌==◌, ◌++◌, ◌&&◌, not, Bool, true, false, zero, suc, List, [], ◌∷◌, Option, Some, None}
+use Rattle.std.proofs.Common.{◌≡◌, ◌≢◌, ◌≤◌, ◌<◌, ◌⊎◌, ℕ, ◌+◌, ◌-◌, ◌==◌, ◌&&◌, not, Bool, true, false, zero, suc, List, [], ◌∷◌, Option, Some, None}
 use Rattle.std.proofs.Common.{length, refl, sym, subst, ap, ◌∙◌, arith, inl, inr}
 use Rattle.std.specs.Prelude.{map, slice_get}
 use Rattle.std.proofs.lemmas.Bool.{and_parts, not-true}
@@ -16,11 +16,10 @@ use Rattle.nq_model.specs.Hear.{hear, cancels, evicted, goes_on}
 use Rattle.nq_model.specs.Kept.{host_row}
 use Rattle.nq_model.specs.Lines.{Play, play}
 use Rattle.nq_model.specs.Message.{Message, Packet, call, request, datagram_of}
-use Rattle.nq_model.specs.Profile.{most_hosts}
 use Rattle.nq_model.specs.Server.{Server, ServerStep, Phase, serving, recovering, to_host}
 use Rattle.nq_model.specs.ServerStep.{receive, tick}
 use Rattle.nq_model.specs.Skew.{is_tick_of, ticks_of}
-use Rattle.nq_model.specs.Table.{Table, find_row, tag_below, with_rows}
+use Rattle.nq_model.specs.Table.{find_row, tag_below, with_rows}
 use Rattle.nq_model.specs.World.{Head, World, from_host, after_client, after_server, at_client, sending_host, step, run}
 use Rattle.walk_steps.proofs.ClientMoves.{some-same, none-some}
 use Rattle.walk_steps.proofs.LeaseIntervals.{run-runs}
@@ -49,7 +48,7 @@ use Rattle.law_notices.proofs.Attached.{IsOn, on-event, notices-stay}
 use Rattle.law_timely.proofs.Covers.{Aged, aged-event, none-asks, none-told}
 use Rattle.law_timely.proofs.Moves.{is-at, mail-at, told-packet}
 use Rattle.law_timely.proofs.Parts.{During}
-use Rattle.law_timely.proofs.Stills.{quiet-client}
+use Rattle.law_rounds.proofs.Quiet.{quiet-client}
 use Rattle.law_notices.proofs.Told.{IsOldOrTold, was_to_go, told_now, marked-told}
 
 get-there : {A : Type 0} (xs : List A) (i : ℕ) → i < length xs → (x : A) × (slice_get xs i ≡ Some x)

@@ -1,5 +1,5 @@
 -- Whoever is told to give up a row has done so before a clock ticks.
-use Rattle.std.proofs.Common.{◌≡◌, ◌≤◌, ◌<◌, ◌⊎◌, ℕ, ◌+◌, ◌-◌, nat_lt, Bool, true, false, List, Some, None, refl, sym, subst, ap, ◌∙◌, arith, inl, inr}
+use Rattle.std.proofs.Common.{◌≡◌, ◌≤◌, ◌<◌, ◌⊎◌, ℕ, ◌+◌, ◌-◌, nat_lt, Bool, true, false, List, Some, refl, sym, subst, ◌∙◌, arith, inl, inr}
 use Rattle.nq_base.specs.declared.Event.{Event}
 use Rattle.nq_base.specs.declared.Row.{Row}
 use Rattle.nq_model.specs.Lines.{Play}
@@ -11,16 +11,15 @@ use Rattle.walk_steps.proofs.NoticeCounts.{HostedBelow}
 use Rattle.walk_steps.proofs.Tests.{is-below, is-not-below}
 use Rattle.law_rounds.specs.CalmRoundsAreLawful.{IsLawful}
 use Rattle.law_rounds.specs.DeliveryEnds.{calmed}
-use Rattle.law_rounds.specs.RoundsEndQuiet.{IsSmall}
 use Rattle.law_rounds.proofs.Flows.{Covered}
 use Rattle.law_rounds.proofs.HostsBelow.{run-local}
 use Rattle.law_notices.specs.RowsAreGivenUp.{IsToGo, RowsAreGivenUp}
-use Rattle.law_timely.specs.Timely.{is_dead, is_still, LeadsTo}
+use Rattle.law_timely.specs.Timely.{is_dead, is_still}
 use Rattle.law_timely.proofs.Covers.{Aged, none-asks}
 use Rattle.law_notices.proofs.GivenUp.{Goes, still-none, State, state-event}
 use Rattle.law_timely.proofs.Parts.{led, led-run, led-lawful, led-small}
 use Rattle.law_timely.proofs.Settled.{Settled, settles}
-use Rattle.law_timely.proofs.Stills.{quiet-client}
+use Rattle.law_rounds.proofs.Quiet.{quiet-client}
 
 -- a row is of a host that there is
 row-host : (head : Head) (events : List Event) (file host : ℕ) (row : Row) → find_row file host (run head events).server.table.rows ≡ Some row

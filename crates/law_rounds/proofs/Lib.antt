@@ -66,3 +66,6 @@ pub mod Sleeping
 pub mod LastRows
 pub mod Recovering
 pub mod RecoveryRounds
+pub mod TicketNumbers
+pub mod Calling
+pub mod ComesFrom

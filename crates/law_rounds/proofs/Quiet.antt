@@ -26,7 +26,7 @@ use Rattle.law_rounds.proofs.ClientSteps.{get-below}
 
 module _ (most : ℕ) (head : Head) where
   -- a client of a run that has no request under way is quiet
-  quiet-client : (p : Play) → IsLawful most head p → (host : ℕ) (c : Client) → slice_get p.world.clients host ≡ Some c → c.ticket ≡ None → IsQuiet c
+  pub quiet-client : (p : Play) → IsLawful most head p → (host : ℕ) (c : Client) → slice_get p.world.clients host ≡ Some c → c.ticket ≡ None → IsQuiet c
   quiet-client p l host c at none = record {
     attached = on c.attached refl;
     no_request = none;

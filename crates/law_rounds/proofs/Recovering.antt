@@ -68,7 +68,7 @@ by-receive U s sender next d early h = server-moves s sender next d (λ kept pha
     more a b u n e low high = omega arith
 
 -- where no delayed writes come they are not stored
-phase-same : (s : Server) (sender next : ℕ) (d : Datagram) → ((xid : ℕ) (who : Who) (seq file block first final : ℕ) (base : PushBase) (body : List ℕ)
+pub phase-same : (s : Server) (sender next : ℕ) (d : Datagram) → ((xid : ℕ) (who : Who) (seq file block first final : ℕ) (base : PushBase) (body : List ℕ)
     → d ≡ request xid (Request.Write who seq file block first final (Some base) body) → IsFresh s sender who seq → ⊥)
     → (receive s sender next d).server.phase ≡ s.phase
 unfolding quiet drops says attaches vacates tells_later serves leases decides creates writes_through stores wrote stores_recovering resizes
@@ -142,18 +142,13 @@ module _ (most : ℕ) (head : Head) (U : ℕ) where
     at-run : (host : ℕ) (c : Client) → slice_get p.world.clients host ≡ Some c → slice_get (run head p.events).clients host ≡ Some c
     at-run host c at = subst (λ (u : World). slice_get u.clients host ≡ Some c) l.is_run at
 
-    -- a client that sleeps has no push under way, so none is stored
-    none-stored : (k : ℕ) (q : Packet) → slice_get p.world.packets k ≡ Some q → q.to ≡ Party.Server → AllAsleep p.world → (xid : ℕ) (who : Who)
+    -- a client that sleeps has no push under way, so none of it is stored
+    pub none-stored : (k : ℕ) (q : Packet) → slice_get p.world.packets k ≡ Some q → q.to ≡ Party.Server → ((c : Client)
+        → slice_get p.world.clients (sending_host q.sender) ≡ Some c → Asleep c × (c.attached ≡ true)) → (xid : ℕ) (who : Who)
         (seq file block first final : ℕ) (base : PushBase) (body : List ℕ) → datagram_of q.message ≡ request xid (Request.Write who seq file block
         first final (Some base) body) → IsFresh p.world.server (sending_host q.sender) who seq → ⊥
-    none-stored k q sent to all xid who seq file block first final base body d fresh = by (slice_get p.world.clients host) refl
+    none-stored k q sent to sleeps xid who seq file block first final base body d fresh = by (slice_get p.world.clients (sending_host q.sender)) refl
       where
-        host : ℕ
-        host = sending_host q.sender
-
-        r : Request
-        r = Request.Write who seq file block first final (Some base) body
-
         sent-run : slice_get (run head p.events).packets k ≡ Some q
         sent-run = subst (λ (u : World). slice_get u.packets k ≡ Some q) l.is_run sent
 
@@ -182,7 +177,7 @@ module _ (most : ℕ) (head : Head) (U : ℕ) where
             knows = (run-runs most head p.events l.bounds l.within).known.clients (sending_host q.sender) c there
 
             line : (host_row (run head p.events).server.kept (sending_host q.sender)).inc ≡ c.who.inc
-            line = knows.lined.current (all (sending_host q.sender) c at).1
+            line = knows.lined.current (sleeps c at).1
 
             here : c.who.host ≡ sending_host q.sender
             here = ((run-holds head p.events).clients (sending_host q.sender) c there).here
@@ -198,7 +193,7 @@ module _ (most : ℕ) (head : Head) (U : ℕ) where
                 (Some base) body) who mine refl).same (kept ∙ line) u.0 u.1 u.2 in
                 let pushed = (chain-fits most head p.events (sending_host q.sender) c l.bounds l.within there).writes.pushed u.0 who seq file block
                 first final base body u.1 is in
-                none-some _ (sym (all (sending_host q.sender) c at).0.push ∙ pushed.under_way)
+                none-some _ (sym (sleeps c at).0.push ∙ pushed.under_way)
 
         by : (o : Option Client) → slice_get p.world.clients (sending_host q.sender) ≡ o → ⊥
         by None none = (run-draws head p.events).lone (sending_host q.sender) xid (Request.Write who seq file block first final (Some base) body)
@@ -226,7 +221,8 @@ module _ (most : ℕ) (head : Head) (U : ℕ) where
         by : Delivery p.world k (step p.world (Event.Deliver k)) → RecoversBy U (step p.world (Event.Deliver k)).server.phase
         by (no_packet none is) = subst (λ (w : World). RecoversBy U w.server.phase) (sym is) h
         by (at_server q sent to is) =
-            let same = phase-same p.world.server (sending_host q.sender) (length p.world.packets) (datagram_of q.message) (none-stored k q sent to all) in
+            let same = phase-same p.world.server (sending_host q.sender) (length p.world.packets) (datagram_of q.message)
+            (none-stored k q sent to (all (sending_host q.sender))) in
             subst (λ (w : World). RecoversBy U w.server.phase) (sym is) (subst (λ ph. RecoversBy U ph) (sym same) h)
         by (at_host host q c t sent to at hears is) = subst (λ (w : World). RecoversBy U w.server.phase) (sym is) h
         by (ignored host q c sent to at hears is) = subst (λ (w : World). RecoversBy U w.server.phase) (sym is) h
@@ -242,7 +238,7 @@ module _ (most : ℕ) (head : Head) (U : ℕ) where
       past-run : U ≤ (run head p.events).server.now
       past-run = subst (λ (u : World). U ≤ u.server.now) l.is_run past
 
-      grants-over : (host : ℕ) (c : Client) (k : ℕ) (q : Packet) → slice_get p.world.clients host ≡ Some c → slice_get p.world.packets k ≡ Some q
+      pub grants-over : (host : ℕ) (c : Client) (k : ℕ) (q : Packet) → slice_get p.world.clients host ≡ Some c → slice_get p.world.packets k ≡ Some q
           → q.to ≡ Party.Client host → (xid : ℕ) (r : Reply) (t : Ticket) → q.message ≡ reply xid r → c.ticket ≡ Some t → xid ≡ t.xid → inc_of r
           ≡ c.who.inc → reply_counts r t ≡ true → AllOver c.now t.first (grant_in r)
       grants-over host c k q at sent to xid r t is has number inc counts g grants writes = by (requested_file t.request) refl

@@ -61,7 +61,7 @@ dead-put now lease leases own d f l on writes = by (lease-after-put lease f leas
         ap (λ (x : Lease). x.expiry) p.1 in omega arith
     by (inr p) = d f l p.1 writes
 
-abbrev Rest : ClientStep → Type 0
+abbrev pub Rest : ClientStep → Type 0
 Rest t = Asleep t.client
 
 same : (t u : ClientStep) → u.client.now ≡ t.client.now → u.client.leases ≡ t.client.leases → u.client.dirty ≡ t.client.dirty → u.client.push
@@ -74,7 +74,7 @@ same t u now leases kept going h = record {
 
 -- ---- what needs no packet, and the next request
 
-settles : (t : ClientStep) → Rest t → Rest (settle t)
+pub settles : (t : ClientStep) → Rest t → Rest (settle t)
 unfolding answers reads_cached after_read after_write marks_written
 settles t h = settle-cases t Rest (record {
   idle = λ none. h;
@@ -121,7 +121,7 @@ gives-up : (t : ClientStep) (file : ℕ) (request : Request) → Rest t → Rest
 unfolding sends_request after_seq gives_up
 gives-up t file request h = record { dirty = h.dirty; push = h.push; dead = dead-dropped t.client.now file t.client.leases h.dead }
 
-sends : (in_tick : Bool) (t : ClientStep) → Rest t → Rest (send_next in_tick t)
+pub sends : (in_tick : Bool) (t : ClientStep) → Rest t → Rest (send_next in_tick t)
 unfolding after_seq after_number
 sends in_tick t h = send-cases in_tick t Rest (record {
   stays_asking = λ ticket asks. h;

@@ -1,14 +1,12 @@
 -- In a timely network the request of a live host's client, or the reply to it, is under way, once each request was sent again that was lost before.
-use Rattle.std.proofs.Common.{◌≡◌, ◌≢◌, ◌≤◌, ◌<◌, ◌⊎◌, ℕ, ◌+◌, ◌-◌, ◌==◌, ◌&&◌, not, Bool, true, false, List, [], ◌∷◌, Option, Some, None, refl, sym}
+use Rattle.std.proofs.Common.{◌≡◌, ◌≢◌, ◌≤◌, ◌⊎◌, ℕ, ◌+◌, ◌-◌, ◌==◌, ◌&&◌, not, Bool, true, false, List, [], ◌∷◌, Option, Some, None, refl, sym}
 use Rattle.std.proofs.Common.{subst, ap, ◌∙◌, arith, inl, inr}
 use Rattle.std.specs.Prelude.{map, slice_get, if◌then◌else◌}
 use Rattle.std.proofs.lemmas.Bool.{and_parts, not-true}
 use Rattle.nq_base.specs.declared.Call.{Call}
 use Rattle.nq_base.specs.declared.Event.{Event}
-use Rattle.nq_base.specs.declared.Reply.{Reply}
 use Rattle.nq_model.specs.Client.{Client, ClientStep, Ticket}
 use Rattle.nq_model.specs.ClientStep.{client_call, client_tick}
-use Rattle.nq_model.specs.Hear.{inc_of, reply_counts}
 use Rattle.nq_model.specs.Lines.{Play, play, delivered}
 use Rattle.nq_model.specs.Message.{Message, Packet, call, reply}
 use Rattle.nq_model.specs.Profile.{patience}
@@ -27,7 +25,7 @@ use Rattle.law_rounds.proofs.Flows.{Under, asking, told, Covered, small-before, 
 use Rattle.law_rounds.proofs.GoingOn.{calls-go-on}
 use Rattle.law_rounds.proofs.Lines.{run-lined}
 use Rattle.law_rounds.proofs.PacketsCome.{Comes}
-use Rattle.law_timely.specs.Timely.{is_dead, goes_on_live_link, is_still, is_timely_event}
+use Rattle.law_timely.specs.Timely.{is_dead, goes_on_live_link, is_still}
 use Rattle.law_timely.proofs.Parts.{During}
 
 -- ---- steps of clients in a world

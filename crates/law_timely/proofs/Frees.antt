@@ -1,5 +1,5 @@
 -- While the server serves nothing puts off the request of a call that needs no lease: no reply that is under way, and no verdict that is kept.
-use Rattle.std.proofs.Common.{◌≡◌, ◌≤◌, ◌<◌, ◌⊎◌, ℕ, ◌+◌, ◌==◌, ◌&&◌, ◌++◌, Bool, true, false, List, [], ◌∷◌, Option, Some, None, length, refl, sym, subst, ap}
+use Rattle.std.proofs.Common.{◌≡◌, ◌≤◌, ◌<◌, ◌⊎◌, ℕ, ◌+◌, ◌++◌, true, false, List, [], ◌∷◌, Option, Some, None, length, refl, sym, subst, ap}
 use Rattle.std.proofs.Common.{◌∙◌, arith, inl, inr, append-nil}
 use Rattle.std.specs.Prelude.{map, slice_get}
 use Rattle.std.proofs.lemmas.Bool.{and_from}
@@ -17,11 +17,11 @@ use Rattle.nq_model.specs.ClientStep.{client_call}
 use Rattle.nq_model.specs.Hear.{is_put_off}
 use Rattle.nq_model.specs.Kept.{host_row}
 use Rattle.nq_model.specs.Lines.{Play, play}
-use Rattle.nq_model.specs.Message.{Message, Packet, call, reply, Datagram, request, datagram_of, asker, sequence_of}
+use Rattle.nq_model.specs.Message.{Message, Packet, call, reply, request, datagram_of, asker, sequence_of}
 use Rattle.nq_model.specs.OneRequestPerSequence.{IsUnderWay}
 use Rattle.nq_model.specs.Profile.{most_hosts}
-use Rattle.nq_model.specs.Server.{Server, ServerStep, to_host}
-use Rattle.nq_model.specs.ServerStep.{receive, row_of_attach}
+use Rattle.nq_model.specs.Server.{Server, to_host}
+use Rattle.nq_model.specs.ServerStep.{receive}
 use Rattle.nq_model.specs.World.{Head, World, from_host, after_client, after_server, at_client, sending_host, step, run}
 use Rattle.walk_steps.proofs.ClientMoves.{some-same}
 use Rattle.walk_steps.proofs.Incarnations.{who-same}
@@ -37,7 +37,8 @@ use Rattle.law_rounds.proofs.LineSteps.{LineGoes, line_same, line_attached, line
 use Rattle.law_rounds.proofs.Lines.{Lined, run-lined}
 use Rattle.law_rounds.proofs.PacketsCome.{Comes}
 use Rattle.law_rounds.proofs.Requests.{message-of}
-use Rattle.law_timely.proofs.Links.{Link, all-linked, comes-from}
+use Rattle.law_rounds.proofs.ComesFrom.{comes-from}
+use Rattle.law_timely.proofs.Links.{all-linked}
 use Rattle.law_timely.proofs.Looks.{is_look}
 use Rattle.law_timely.proofs.Serves.{PutsNoneOff, puts-none-off}
 

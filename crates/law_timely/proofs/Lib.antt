@@ -1,5 +1,3 @@
-pub mod Calls
-pub mod Numbers
 pub mod Looks
 pub mod Parts
 pub mod Covers

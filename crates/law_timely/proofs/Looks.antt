@@ -21,7 +21,7 @@ use Rattle.walk_steps.proofs.Tests.{is-at-most, is-not-at-most}
 use Rattle.law_rounds.proofs.Busy.{asks-next}
 use Rattle.law_rounds.proofs.Meant.{replied-free}
 use Rattle.law_timely.specs.NobodyIsWaitedFor.{needs_no_lease}
-use Rattle.law_timely.proofs.Calls.{StillOpen, Keeps, settles, sends, hear-keeps}
+use Rattle.law_rounds.proofs.Calling.{StillOpen, settles, sends, hear-keeps, tick-keeps}
 
 -- whether a request is of such a call
 abbrev pub is_look : Request → Bool
@@ -80,7 +80,8 @@ settled t h = settle-cases t Asks (record {
         absurd (cc)
 
 -- a request of a call that is no such one
-no-look : (t v : ClientStep) (u : UnderWay) (op : Call) → t.client.call ≡ Some u → v.client.call ≡ t.client.call → u.call ≡ op → needs_no_lease op ≡ false → Asks v
+no-look : (t v : ClientStep) (u : UnderWay) (op : Call) → t.client.call ≡ Some u → v.client.call ≡ t.client.call → u.call ≡ op
+    → needs_no_lease op ≡ false → Asks v
 no-look t v u op called same is none = record {
   asks = λ w has look k asks.
       let one : u ≡ w = some-same u w (sym called ∙ sym same ∙ has) in
@@ -191,7 +192,9 @@ settles-not t u called look = settle-cases t (λ v. v ≡ t) (record {
 })
   where
     bad : (v : UnderWay) → needs_no_lease v.call ≡ false → t.client.call ≡ Some v → ⊥
-    bad v other is = let yes : needs_no_lease v.call ≡ true = ap (λ (x : UnderWay). needs_no_lease x.call) (sym (some-same u v (sym called ∙ is))) ∙ look in absurd (cc)
+    bad v other is =
+        let yes : needs_no_lease v.call ≡ true = ap (λ (x : UnderWay). needs_no_lease x.call) (sym (some-same u v (sym called ∙ is))) ∙ look in
+        absurd (cc)
 
     either : (op : Call) (file block : ℕ) → (op ≡ Call.Read file block) ⊎ (op ≡ Call.Fetch file block) → needs_no_lease op ≡ false
     either op file block (inl e) = ap needs_no_lease e
@@ -208,23 +211,6 @@ settles-not t u called look = settle-cases t (λ v. v ≡ t) (record {
 renews-not : (t : ClientStep) → is_asking (send_next false t) ≡ true → send_next true t ≡ send_next false t
 renews-not t e = rw e refl
 
--- a tick keeps the call and the pause
-pub tick-keeps : (c : Client) → Keeps ⊤ (at_time c (c.now + 1)) (client_tick c (c.now + 1))
-unfolding at_time sends_again
-tick-keeps c = tick-cases c (c.now + 1) (Keeps ⊤ (at_time c (c.now + 1))) (record {
-  again = λ ticket asks long. record { calls = λ v is. (v, is, refl, refl); now = refl; pause = λ yes. refl };
-  quiet = λ ticket asks short. start;
-  free = λ none. sends ⊤ (at_time c (c.now + 1)) true (settle (begun (at_time c (c.now + 1)))) (settles ⊤ (at_time c (c.now + 1))
-      (begun (at_time c (c.now + 1))) start);
-})
-  where
-    start : Keeps ⊤ (at_time c (c.now + 1)) (begun (at_time c (c.now + 1)))
-    start = record { calls = λ v is. (v, is, refl, refl); now = refl; pause = λ yes. refl }
-
-pub tick-opens : (c : Client) → StillOpen c.call (client_tick c (c.now + 1)).client.call
-unfolding at_time
-tick-opens c = (tick-keeps c).calls
-
 module _ (limit : ℕ) (c : Client) (alone : Alone c) (h : Looking limit c) where
   ticked-free : c.ticket ≡ None → Asks (send_next true (settle (begun (at_time c (c.now + 1)))))
   unfolding at_time
@@ -235,7 +221,8 @@ module _ (limit : ℕ) (c : Client) (alone : Alone c) (h : Looking limit c) wher
           (begun (at_time c (c.now + 1))) (record { calls = λ v is. (v, is, refl, refl); now = refl; pause = λ no. absurd no }))).calls
 
       by : (u : UnderWay) → (send_next true (settle (begun (at_time c (c.now + 1))))).client.call ≡ Some u → needs_no_lease u.call ≡ true → (v : UnderWay)
-          × (c.call ≡ Some v) × (u.call ≡ v.call) × (u.q ≡ v.q) → (k : Ticket) → (send_next true (settle (begun (at_time c (c.now + 1))))).client.ticket ≡ Some k → IsLook k
+          × (c.call ≡ Some v) × (u.call ≡ v.call) × (u.q ≡ v.q) → (k : Ticket)
+          → (send_next true (settle (begun (at_time c (c.now + 1))))).client.ticket ≡ Some k → IsLook k
       by u called look v k asks =
           let was : needs_no_lease v.0.call ≡ true = ap needs_no_lease (sym v.2) ∙ look in
           let same : settle (begun (at_time c (c.now + 1))) ≡ begun (at_time c (c.now + 1)) = settles-not (begun (at_time c (c.now + 1))) v.0 v.1 was in

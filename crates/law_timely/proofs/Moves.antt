@@ -1,17 +1,16 @@
 -- What an event of a timely part does to the client of one host.
-use Rattle.std.proofs.Common.{◌≡◌, ◌≢◌, ◌≤◌, ◌⊎◌, ℕ, ◌+◌, ◌==◌, ◌++◌, Bool, true, false, List, Option, Some, None, length, refl, sym, subst, ap, ◌∙◌, arith, inl, inr}
-use Rattle.std.specs.Prelude.{slice_get, ⊤}
+use Rattle.std.proofs.Common.{◌≡◌, ◌≢◌, ◌≤◌, ℕ, ◌+◌, ◌==◌, Bool, true, false, List, Some, length, refl, sym, subst, ap, ◌∙◌, arith}
+use Rattle.std.specs.Prelude.{slice_get}
 use Rattle.nq_base.specs.declared.Call.{Call}
-use Rattle.nq_base.specs.declared.Entry.{Entry}
 use Rattle.nq_base.specs.declared.Event.{Event}
 use Rattle.nq_base.specs.declared.Party.{Party}
 use Rattle.nq_base.specs.declared.Who.{Who}
 use Rattle.nq_model.proofs.Lists.{exists-right}
-use Rattle.nq_model.specs.Client.{Client, ClientStep, UnderWay, Ticket}
+use Rattle.nq_model.specs.Client.{Client, ClientStep, UnderWay}
 use Rattle.nq_model.specs.ClientStep.{begins_call, is_called, says_busy, client_call, client_tick, at_time}
 use Rattle.nq_model.specs.Hear.{hear}
 use Rattle.nq_model.specs.Journal.{Exists, IsCall}
-use Rattle.nq_model.specs.Lines.{Play, play}
+use Rattle.nq_model.specs.Lines.{Play}
 use Rattle.nq_model.specs.Message.{Packet, datagram_of}
 use Rattle.nq_model.specs.Send.{send_next}
 use Rattle.nq_model.specs.Server.{to_host}
@@ -20,19 +19,17 @@ use Rattle.nq_model.specs.ServerStep.{receive}
 use Rattle.nq_model.specs.World.{Head, World, after_client, after_server, at_client, sending_host, step, run}
 use Rattle.law_runs.proofs.RunCalls.{calls-known}
 use Rattle.walk_files.proofs.CallFacts.{called-below}
-use Rattle.walk_steps.proofs.ClientFacts.{Alone}
 use Rattle.walk_steps.proofs.ClientMoves.{some-same, none-some}
 use Rattle.walk_steps.proofs.Packets.{in-get, Told}
 use Rattle.walk_steps.proofs.Rows.{same-number, number-same}
 use Rattle.walk_steps.proofs.StepCases.{call-cases, unless-cached-cases}
-use Rattle.walk_steps.proofs.Steps.{Changes, nothing, by_client, by_server, step-changes}
+use Rattle.walk_steps.proofs.Steps.{Changes, nothing, by_client, by_server}
 use Rattle.walk_steps.proofs.Worlds.{IsAt, Holds, IsSent, by_host, get-set-other, set-there, run-holds, to-told}
 use Rattle.law_rounds.specs.CalmRoundsAreLawful.{IsLawful}
 use Rattle.law_rounds.proofs.Coming.{Delivery, no_packet, at_server, at_host, ignored, no_client, delivery}
-use Rattle.law_timely.proofs.Calls.{StillOpen, Keeps, settles, sends, hear-keeps}
+use Rattle.law_rounds.proofs.Calling.{StillOpen, Keeps, settles, sends, hear-keeps, tick-keeps}
 use Rattle.law_timely.proofs.Covers.{other-client, own-client}
-use Rattle.law_timely.proofs.Looks.{tick-keeps}
-use Rattle.law_timely.proofs.Numbers.{call-numbers, tick-numbers, hear-numbers}
+use Rattle.law_rounds.proofs.TicketNumbers.{call-numbers, tick-numbers, hear-numbers}
 use Rattle.law_timely.proofs.Parts.{During}
 
 -- ---- a call

@@ -1,5 +1,5 @@
 -- Event after event of a timely part: until the rows of the last table are over the recovery's end stays near, and then all live clients sleep.
-use Rattle.std.proofs.Common.{◌≡◌, ◌≤◌, ◌<◌, ◌⊎◌, ℕ, ◌+◌, ◌-◌, ◌&&◌, ◌++◌, max, nat_lt, Bool, true, false, List, [], ◌∷◌, Option, Some, None, refl, sym, subst}
+use Rattle.std.proofs.Common.{◌≡◌, ◌≤◌, ◌<◌, ◌⊎◌, ℕ, ◌+◌, ◌-◌, max, nat_lt, Bool, true, false, List, [], Option, Some, None, refl, sym, subst}
 use Rattle.std.proofs.Common.{length, ap, ◌∙◌, arith, inl, inr}
 use Rattle.std.specs.Prelude.{slice_get}
 use Rattle.std.proofs.lemmas.Bool.{and_parts}
@@ -31,19 +31,19 @@ use Rattle.law_rounds.proofs.Flows.{Covered, first-covers}
 use Rattle.law_rounds.proofs.LastRows.{same-until, not-serving, run-ends}
 use Rattle.law_rounds.proofs.QuietFlows.{delivered-phase}
 use Rattle.law_rounds.proofs.RecoveryRounds.{delivered-now}
-use Rattle.law_rounds.proofs.Recovering.{RecoversBy, by-tick, goes-on-after, early, quiet-sleeps}
+use Rattle.law_rounds.proofs.Quiet.{quiet-client}
+use Rattle.law_rounds.proofs.Recovering.{RecoversBy, by-tick, goes-on-after, early, quiet-sleeps, phase-same, none-stored, grants-over}
 use Rattle.law_rounds.proofs.RowEnds.{recoveries-end-soon}
 use Rattle.law_rounds.proofs.Sleeping.{Asleep, tick-sleeps, hear-sleeps}
 use Rattle.law_timely.specs.RecoveriesEndInTime.{RecoveriesEndInTime}
-use Rattle.law_timely.specs.Timely.{is_dead, goes_on_live_link, LeadsTo}
+use Rattle.law_timely.specs.Timely.{goes_on_live_link}
 use Rattle.law_rounds.specs.WholeRounds.{is_next}
 use Rattle.law_timely.proofs.Covers.{Aged, aged-event, none-asks}
 use Rattle.law_timely.proofs.Drowsy.{call-sleeps}
 use Rattle.law_timely.proofs.Moves.{Moves, stays, called, ticked, heard, moves, is-at, mail-at}
 use Rattle.law_timely.proofs.Parts.{During, led, led-lawful}
 use Rattle.law_timely.proofs.Settled.{server-append, host-append, ticks-twice, Since, since-event, now-is}
-use Rattle.law_timely.proofs.Stills.{quiet-client}
-use Rattle.law_timely.proofs.Stores.{LiveAsleep, phase-same, live-sender, none-stored, grants-over}
+use Rattle.law_timely.proofs.Stores.{LiveAsleep, live-sender}
 
 -- ---- the server
 
@@ -134,7 +134,7 @@ module _ (most : ℕ) (head : Head) (dead : List ℕ) (base : Play) (U : ℕ) wh
       by (ticked c e_is at new leads) = subst (λ (x : Client). Asleep x × (x.attached ≡ true)) (sym new)
           (tick-sleeps c (all host c live at).0, tick-stays c (is-at most head host p during.before c at).alone (all host c live at).1)
       by (heard c k z t e_is sent to at hears_it new leads) = subst (λ (x : Client). Asleep x × (x.attached ≡ true)) (sym new) (
-        hear-sleeps c k z.message t hears_it (grants-over most head dead U p during.before until hears last phase s.near s.past host c k z at sent to)
+        hear-sleeps c k z.message t hears_it (grants-over most head U p during.before until hears last phase s.near s.past host c k z at sent to)
             (all host c live at).0,
         hear-stays host c p.world.packets k z.message t (is-at most head host p during.before c at) (mail-at most head host p during.before k z sent
             to) (all host c live at).1 hears_it,
@@ -164,7 +164,7 @@ module _ (most : ℕ) (head : Head) (dead : List ℕ) (base : Play) (U : ℕ) wh
       by (at_server q sent to is) =
           let live = live-sender dead q ((holds-at p during.before).sent q (in-get p.world.packets k q sent)) to (link-of p k q during sent) in
           let same = phase-same p.world.server (sending_host q.sender) (length p.world.packets) (datagram_of q.message)
-          (none-stored most head dead U p during.before k q sent to live all) in
+          (none-stored most head U p during.before k q sent to (λ c at. all (sending_host q.sender) c live at)) in
           subst (λ (w : World). RecoversBy U w.server.phase) (sym is) (subst (λ ph. RecoversBy U ph) (sym same) near)
 
   goes-delivered : (p : Play) (k : ℕ) → GoesOn p.world.server.now p.world.server.phase

@@ -2,12 +2,11 @@
 use Rattle.std.proofs.Common.{◌≡◌, ◌≤◌, ◌<◌, ℕ, ◌+◌, ◌-◌, ◌++◌, nat_le, Bool, true, false, List, [], ◌∷◌, refl, subst, ap, ◌∙◌, arith}
 use Rattle.nq_base.specs.declared.Event.{Event}
 use Rattle.nq_model.specs.Lines.{Play, play}
-use Rattle.nq_model.specs.Skew.{is_server_tick, server_ticks, is_tick_of, ticks_of, IsWithinSkew}
+use Rattle.nq_model.specs.Skew.{server_ticks, ticks_of, IsWithinSkew}
 use Rattle.nq_model.specs.World.{Head, World, run}
 use Rattle.walk_steps.proofs.Tests.{is-at-most, is-not-at-most}
 use Rattle.walk_steps.proofs.WorldClocks.{run-clocked}
 use Rattle.law_rounds.specs.CalmRoundsAreLawful.{IsLawful}
-use Rattle.law_rounds.specs.DeliveryEnds.{calmed}
 use Rattle.law_rounds.specs.RoundsEndQuiet.{IsSmall}
 use Rattle.law_rounds.proofs.Flows.{Covered, first-covers}
 use Rattle.law_timely.specs.Timely.{ticks_to_settle, LeadsTo}

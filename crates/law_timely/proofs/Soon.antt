@@ -1,30 +1,29 @@
 -- In a timely network a call that needs no lease is answered soon, whatever others do.
-use Rattle.std.proofs.Common.{◌≡◌, ◌≤◌, ◌<◌, ◌⊎◌, ℕ, ◌+◌, ◌-◌, ◌++◌, nat_le, Bool, true, false, zero, suc, List, [], ◌∷◌, Option, Some, None, length, refl, sym}
+use Rattle.std.proofs.Common.{◌≡◌, ◌≤◌, ◌<◌, ◌⊎◌, ℕ, ◌+◌, ◌-◌, nat_le, Bool, true, false, zero, suc, List, [], ◌∷◌, Option, Some, None, length, refl, sym}
 use Rattle.std.proofs.Common.{subst, ap, ◌∙◌, arith, inl, inr}
 use Rattle.std.specs.Prelude.{slice_get}
 use Rattle.nq_base.specs.declared.Event.{Event}
 use Rattle.nq_base.specs.declared.Who.{Who}
-use Rattle.nq_model.specs.Client.{Client, Ticket, UnderWay}
+use Rattle.nq_model.specs.Client.{Client, UnderWay}
 use Rattle.nq_model.specs.Journal.{Exists, IsCall, IsOpen}
 use Rattle.nq_model.specs.Lines.{Play, play}
 use Rattle.nq_model.specs.Skew.{server_ticks, ticks_of}
 use Rattle.nq_model.specs.World.{Head, World, run}
 use Rattle.law_runs.proofs.RunCalls.{calls-known}
-use Rattle.walk_steps.proofs.ClientMoves.{some-same, none-some}
+use Rattle.walk_steps.proofs.ClientMoves.{some-same}
 use Rattle.walk_steps.proofs.LeaseIntervals.{run-runs}
 use Rattle.walk_steps.proofs.Tests.{is-at-most, is-not-at-most}
 use Rattle.law_rounds.specs.CalmRoundsAreLawful.{IsLawful}
 use Rattle.law_rounds.specs.DeliveryEnds.{calmed}
 use Rattle.law_rounds.specs.QuietDeliveries.{recovers}
-use Rattle.law_rounds.specs.RoundsEndQuiet.{IsSmall}
 use Rattle.law_rounds.proofs.ClientCount.{client-count}
-use Rattle.law_timely.specs.NobodyIsWaitedFor.{needs_no_lease, HasOpen, NobodyIsWaitedFor}
-use Rattle.law_timely.specs.Timely.{is_dead, LeadsTo}
+use Rattle.law_timely.specs.NobodyIsWaitedFor.{needs_no_lease, NobodyIsWaitedFor}
+use Rattle.law_timely.specs.Timely.{is_dead}
 use Rattle.law_timely.proofs.Covers.{Aged, none-asks}
 use Rattle.law_timely.proofs.Moves.{was-open}
 use Rattle.law_timely.proofs.Parts.{During, led, led-run, led-lawful, led-small}
 use Rattle.law_timely.proofs.Settled.{server-append, host-append, ticks-twice, Since, since-event, now-is, settles}
-use Rattle.law_timely.proofs.Waits.{Known, covered, known-event, Waits, Timed, timed}
+use Rattle.law_timely.proofs.Waits.{Known, covered, known-event, Waits, timed}
 use Rattle.law_timely.proofs.WaitsOn.{waits-event}
 
 -- ---- lists

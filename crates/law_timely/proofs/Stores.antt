@@ -1,96 +1,19 @@
--- A recovery ends in time: behind the rows of its last table no live client has delayed writes, so none is stored.
-use Rattle.std.proofs.Common.{◌≡◌, ◌≢◌, ◌≤◌, ◌<◌, ◌⊎◌, ℕ, ◌+◌, ◌-◌, ◌==◌, ◌&&◌, ◌++◌, max, not, nat_lt, Bool, true, false, List, [], ◌∷◌, Option, Some, None, length}
-use Rattle.std.proofs.Common.{refl, sym, subst, ap, ◌∙◌, arith, inl, inr}
+-- Live clients that sleep: they have no delayed writes, so a recovery behind the rows of its last table stores none of theirs.
+use Rattle.std.proofs.Common.{◌≡◌, ℕ, not, true, false, List, Some, sym, subst, ap, ◌∙◌}
 use Rattle.std.specs.Prelude.{slice_get}
 use Rattle.std.proofs.lemmas.Bool.{and_parts, not-true}
-use Rattle.nq_base.specs.declared.Event.{Event}
-use Rattle.nq_base.specs.declared.Grant.{Grant}
 use Rattle.nq_base.specs.declared.Party.{Party}
-use Rattle.nq_base.specs.declared.PushBase.{PushBase}
-use Rattle.nq_base.specs.declared.Reply.{Reply}
-use Rattle.nq_base.specs.declared.Request.{Request}
-use Rattle.nq_base.specs.declared.Who.{Who}
-use Rattle.nq_model.specs.Client.{Client, ClientStep, Ticket}
-use Rattle.nq_model.specs.Decide.{decides, creates, writes_through, stores, wrote, stores_recovering, resizes, removes, puts_off, commits}
-use Rattle.nq_model.specs.Hear.{inc_of, is_of_procedure, reply_counts}
-use Rattle.nq_model.specs.Kept.{host_row, with_files, with_new_file}
-use Rattle.nq_model.specs.LeaseInterval.{grant_in, requested_file}
-use Rattle.nq_model.specs.Lines.{Play, play}
-use Rattle.nq_model.specs.Message.{Packet, Datagram, call, reply, request, datagram_of}
-use Rattle.nq_model.specs.Profile.{skew, write_slack}
-use Rattle.nq_model.specs.Server.{Phase, serving, recovering, Server, ServerStep, quiet, drops, says, after_notices, keeping, keeping_with, with_table}
-use Rattle.nq_model.specs.ServerStep.{receive, tick, attaches, tells_later, serves, leases, vacates}
-use Rattle.nq_model.specs.Table.{Table}
-use Rattle.nq_model.specs.World.{Head, World, from_host, after_client, after_server, sending_host, step, run}
-use Rattle.law_runs.proofs.ChainWorlds.{chain-fits}
-use Rattle.walk_steps.proofs.ClientFacts.{IsTicket}
-use Rattle.walk_steps.proofs.ClientMoves.{none-some}
-use Rattle.walk_steps.proofs.ClientSteps.{KnowsOf}
-use Rattle.walk_steps.proofs.HostLine.{IsSettled}
-use Rattle.walk_steps.proofs.LeaseIntervals.{run-runs}
-use Rattle.walk_steps.proofs.Packets.{in-get, Asked, Told}
-use Rattle.walk_steps.proofs.ServerCases.{server-hears}
-use Rattle.walk_steps.proofs.ServerOutcomes.{IsFresh}
-use Rattle.walk_steps.proofs.WorldSequences.{run-draws}
-use Rattle.walk_steps.proofs.Worlds.{IsAt, Holds, IsSent, by_host, to-server, to-told, run-holds}
-use Rattle.law_rounds.specs.CalmRoundsAreLawful.{IsLawful}
-use Rattle.law_rounds.proofs.LastRows.{grant-over}
-use Rattle.law_rounds.proofs.Recovering.{RecoversBy}
-use Rattle.law_rounds.proofs.Sleeping.{Asleep, AllOver}
+use Rattle.nq_model.specs.Client.{Client}
+use Rattle.nq_model.specs.Message.{Packet}
+use Rattle.nq_model.specs.World.{World, sending_host}
+use Rattle.walk_steps.proofs.Worlds.{IsSent, by_host}
+use Rattle.law_rounds.proofs.Sleeping.{Asleep}
 use Rattle.law_timely.specs.Timely.{is_dead, lives, goes_on_live_link}
 
 -- all clients of live hosts are attached, have no delayed writes, and no running lease to write
 abbrev pub LiveAsleep : (dead : List ℕ) → World → Type 0
 LiveAsleep dead w =
     (host : ℕ) (c : Client) → is_dead dead host ≡ false → slice_get w.clients host ≡ Some c → Asleep c × (c.attached ≡ true)
-
--- where no delayed writes come they are not stored
-pub phase-same : (s : Server) (sender next : ℕ) (d : Datagram) → ((xid : ℕ) (who : Who) (seq file block first final : ℕ) (base : PushBase) (body : List ℕ)
-    → d ≡ request xid (Request.Write who seq file block first final (Some base) body) → IsFresh s sender who seq → ⊥)
-    → (receive s sender next d).server.phase ≡ s.phase
-unfolding quiet drops says attaches vacates tells_later serves leases decides creates writes_through stores wrote stores_recovering resizes
-    removes puts_off commits keeping keeping_with with_table after_notices with_files with_new_file
-phase-same s sender next d none = server-hears s sender next d (λ (t : ServerStep). t.server.phase ≡ s.phase) (record {
-  stays = refl;
-  dropping = λ reason. refl;
-  erring = λ m e. refl;
-  answers_null = λ x e. refl;
-  replying = λ x w r reply e by from plain. refl;
-  attaching = λ x w e from later. refl;
-  vacating = λ x w file tag e now. refl;
-  putting_off = λ x w r f clash e by file asking c. refl;
-  putting_off_waiting = λ x w r f clash want e by file wants asking c own room. refl;
-  putting_off_by_own = λ x w r f want row e by file wants asking c o evicting. refl;
-  reading = λ x w q block f body e asking there c. refl;
-  reading_full = λ x w q block want f body e asking there c own room. refl;
-  reading_granted = λ x w q block want f body row term e asking there c g. refl;
-  leasing_full = λ x w want f e asking c own room. refl;
-  leasing = λ x w want f row term e asking c g. refl;
-  declining = λ x w seq r v e by sq fresh declined. refl;
-  putting_off_change = λ x w seq r f clash e by sq file base changing c. refl;
-  creating = λ x w seq blocks name e fresh serves can. refl;
-  writing_through = λ x w seq block first last body f e changing below c. refl;
-  storing = λ x w seq block first last base body f row e changing below can. refl;
-  storing_recovering = λ x w seq block first final base body f until heard last e fresh recovers found below boot rev.
-      absurd (none x w seq f.id block first final base body e fresh);
-  resizing = λ x w seq q blocks f e changing can c. refl;
-  removing = λ x w seq q f e changing c. refl;
-})
-
--- a reply that brings a grant counts for a request that wants one
-read-file : (inc rev : ℕ) (body : List ℕ) (grant : Option Grant) (z : Request) → is_of_procedure (Reply.Read inc rev body grant) z ≡ true
-    → requested_file z ≡ None → ⊥
-read-file inc rev body grant (Request.Read who n file block want) e f = cc
-read-file inc rev body grant other e f = cc
-
-lease-file : (inc : ℕ) (grant : Option Grant) (z : Request) → is_of_procedure (Reply.GetLease inc grant) z ≡ true → requested_file z ≡ None → ⊥
-lease-file inc grant (Request.GetLease who file want) e f = cc
-lease-file inc grant other e f = cc
-
-no-grant : (a : Reply) (g : Grant) (t : Ticket) → grant_in a ≡ Some g → reply_counts a t ≡ true → requested_file t.request ≡ None → ⊥
-no-grant (Reply.Read inc rev body grant) g t e f none = read-file inc rev body grant t.request f none
-no-grant (Reply.GetLease inc grant) g t e f none = lease-file inc grant t.request f none
-no-grant other g t e f none = none-some g e
 
 -- who sent what goes to the server on a live link
 pub live-sender : (dead : List ℕ) (q : Packet) → IsSent q → q.to ≡ Party.Server → goes_on_live_link dead (Some q) ≡ true
@@ -100,97 +23,3 @@ live-sender dead q (by_host h x r w e asks) to link =
     let own : not (is_dead dead h) ≡ true = ap (λ (z : Packet). lives dead z.sender) (sym e) ∙ parts.0 in
     subst (λ n. is_dead dead n ≡ false) (ap (λ (z : Packet). sending_host z.sender) (sym e)) (not-true (is_dead dead h) own)
 live-sender dead q (IsSent.by_server h m e) to link = let two : Party.Client h ≡ Party.Server = ap (λ (z : Packet). z.to) (sym e) ∙ to in absurd (cc)
-
-module _ (most : ℕ) (head : Head) (dead : List ℕ) (U : ℕ) (p : Play) (l : IsLawful most head p) where
-  at-run : (host : ℕ) (c : Client) → slice_get p.world.clients host ≡ Some c → slice_get (run head p.events).clients host ≡ Some c
-  at-run host c at = subst (λ (u : World). slice_get u.clients host ≡ Some c) l.is_run at
-
-  -- a live client that sleeps has no push under way, so none of it is stored
-  pub none-stored : (k : ℕ) (q : Packet) → slice_get p.world.packets k ≡ Some q → q.to ≡ Party.Server → is_dead dead (sending_host q.sender) ≡ false → LiveAsleep dead p.world → (xid : ℕ) (who : Who)
-      (seq file block first final : ℕ) (base : PushBase) (body : List ℕ) → datagram_of q.message ≡ request xid (Request.Write who seq file block
-      first final (Some base) body) → IsFresh p.world.server (sending_host q.sender) who seq → ⊥
-  none-stored k q sent to live all xid who seq file block first final base body d fresh = by (slice_get p.world.clients (sending_host q.sender)) refl
-    where
-      sent-run : slice_get (run head p.events).packets k ≡ Some q
-      sent-run = subst (λ (u : World). slice_get u.packets k ≡ Some q) l.is_run sent
-
-      asked : Asked (run head p.events).packets (sending_host q.sender) xid (Request.Write who seq file block first final (Some base) body)
-      asked =
-          let i = in-get (run head p.events).packets k q sent-run in
-          (to-server (run head p.events).packets q ((run-holds head p.events).sent q i) to i xid (Request.Write who seq file block first final
-          (Some base) body) d).0
-
-      above : (host_row (run head p.events).server.kept (sending_host q.sender)).seq < seq
-      above = subst (λ (u : World). (host_row u.server.kept (sending_host q.sender)).seq < seq) l.is_run
-          (subst (λ n. (host_row p.world.server.kept n).seq < seq) fresh.current.from.host fresh.above)
-
-      kept : who.inc ≡ (host_row (run head p.events).server.kept (sending_host q.sender)).inc
-      kept = subst (λ (u : World). who.inc ≡ (host_row u.server.kept (sending_host q.sender)).inc) l.is_run
-          (subst (λ n. who.inc ≡ (host_row p.world.server.kept n).inc) fresh.current.from.host fresh.current.inc)
-
-      found : (c : Client) → slice_get p.world.clients (sending_host q.sender) ≡ Some c → ⊥
-      found c at = case (knows.lined.settled line xid (Request.Write who seq file block first final (Some base) body) who seq mine refl (kept ∙ line) refl)
-        where
-          there : slice_get (run head p.events).clients (sending_host q.sender) ≡ Some c
-          there = at-run (sending_host q.sender) c at
-
-          knows : KnowsOf (host_row (run head p.events).server.kept (sending_host q.sender)) (run head p.events).server p.events c
-              (run head p.events).packets
-          knows = (run-runs most head p.events l.bounds l.within).known.clients (sending_host q.sender) c there
-
-          line : (host_row (run head p.events).server.kept (sending_host q.sender)).inc ≡ c.who.inc
-          line = knows.lined.current (all (sending_host q.sender) c live at).1
-
-          here : c.who.host ≡ sending_host q.sender
-          here = ((run-holds head p.events).clients (sending_host q.sender) c there).here
-
-          mine : Asked (run head p.events).packets c.who.host xid (Request.Write who seq file block first final (Some base) body)
-          mine = subst (λ h. Asked (run head p.events).packets h xid (Request.Write who seq file block first final (Some base) body)) (sym here) asked
-
-          case : IsSettled c.ticket (host_row (run head p.events).server.kept (sending_host q.sender)).seq xid seq → ⊥
-          case (inl low) = let high = above in omega arith
-          case (inr u) =
-              let is : u.0.request ≡ Request.Write who seq file block first final (Some base) body =
-              (((run-holds head p.events).clients (sending_host q.sender) c there).mail.asked xid (Request.Write who seq file block first final
-              (Some base) body) who mine refl).same (kept ∙ line) u.0 u.1 u.2 in
-              let pushed = (chain-fits most head p.events (sending_host q.sender) c l.bounds l.within there).writes.pushed u.0 who seq file block
-              first final base body u.1 is in
-              none-some _ (sym (all (sending_host q.sender) c live at).0.push ∙ pushed.under_way)
-
-      by : (o : Option Client) → slice_get p.world.clients (sending_host q.sender) ≡ o → ⊥
-      by None none = (run-draws head p.events).lone (sending_host q.sender) xid (Request.Write who seq file block first final (Some base) body)
-          asked (subst (λ (u : World). slice_get u.clients (sending_host q.sender) ≡ None) l.is_run none)
-      by (Some c) at = found c at
-
-  module _ (until heard : ℕ) (last : Option Table) (phase : p.world.server.phase ≡ recovering until heard last)
-      (over : RecoversBy U p.world.server.phase) (past : U ≤ p.world.server.now) where
-    phase-run : (run head p.events).server.phase ≡ recovering until heard last
-    phase-run = subst (λ (u : World). u.server.phase ≡ recovering until heard last) l.is_run phase
-
-    past-run : U ≤ (run head p.events).server.now
-    past-run = subst (λ (u : World). U ≤ u.server.now) l.is_run past
-
-    pub grants-over : (host : ℕ) (c : Client) (k : ℕ) (q : Packet) → slice_get p.world.clients host ≡ Some c → slice_get p.world.packets k ≡ Some q
-        → q.to ≡ Party.Client host → (xid : ℕ) (r : Reply) (t : Ticket) → q.message ≡ reply xid r → c.ticket ≡ Some t → xid ≡ t.xid → inc_of r
-        ≡ c.who.inc → reply_counts r t ≡ true → AllOver c.now t.first (grant_in r)
-    grants-over host c k q at sent to xid r t is has number inc counts g grants writes = by (requested_file t.request) refl
-      where
-        there : slice_get (run head p.events).clients host ≡ Some c
-        there = at-run host c at
-
-        ticketed : IsTicket c.who c.now c.xid c.seq t
-        ticketed = ((run-holds head p.events).clients host c there).alone.asking.ticketed t has
-
-        mail : Told (run head p.events).packets c.who.host (reply xid r)
-        mail =
-            let a = (run-holds head p.events).clients host c there in
-            let i = in-get (run head p.events).packets k q (subst (λ (u : World). slice_get u.packets k ≡ Some q) l.is_run sent) in
-            subst (λ h. Told (run head p.events).packets h (reply xid r)) (sym a.here) (subst (λ m. Told (run head p.events).packets host m) is
-            (to-told (run head p.events).packets q host ((run-holds head p.events).sent q i) to i))
-
-        by : (o : Option ℕ) → requested_file t.request ≡ o → t.first + g.term ≤ c.now
-        by (Some file) on =
-            grant-over most head p.events l.bounds l.within until heard last phase-run U (over until heard last phase).1 past-run host c there file g t
-            (record { x = xid; a = r; told = mail; inc = inc; asked = has; number = sym number; on_file = on; gives = grants })
-            (let first = ticketed.sent in let late = ticketed.past in omega arith) writes
-        by None none = absurd (no-grant r g t grants counts none)

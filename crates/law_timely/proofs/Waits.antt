@@ -10,7 +10,7 @@ use Rattle.nq_model.specs.ClientStep.{client_call, client_tick}
 use Rattle.nq_model.specs.Journal.{Exists, IsCall}
 use Rattle.nq_model.specs.Lines.{Play, play}
 use Rattle.nq_model.specs.Profile.{patience}
-use Rattle.nq_model.specs.Server.{Server, recovering, quiet, keeping_with, with_table}
+use Rattle.nq_model.specs.Server.{Server, quiet, keeping_with, with_table}
 use Rattle.nq_model.specs.ServerStep.{tick, at_time as at_server_time, opens, ends_writing}
 use Rattle.nq_model.specs.Skew.{is_tick_of, ticks_of}
 use Rattle.nq_model.specs.World.{Head, World, after_client, after_server, at_client, step, run}

@@ -1,27 +1,24 @@
 -- A call that needs no lease goes on waiting: no event of a timely part prolongs its pause or puts its request off.
-use Rattle.std.proofs.Common.{◌≡◌, ◌≤◌, ◌<◌, ◌⊎◌, ℕ, ◌+◌, ◌&&◌, ◌++◌, nat_lt, Bool, true, false, List, Option, Some, None, refl, sym, subst, ap, ◌∙◌, arith}
+use Rattle.std.proofs.Common.{◌≡◌, ◌≤◌, ◌<◌, ◌⊎◌, ℕ, ◌+◌, nat_lt, Bool, true, false, List, Some, None, refl, sym, subst, ap, ◌∙◌, arith}
 use Rattle.std.proofs.Common.{inl, inr, ◌∷◌}
-use Rattle.std.specs.Prelude.{map, slice_get, ⊤}
+use Rattle.std.specs.Prelude.{map, slice_get}
 use Rattle.std.proofs.lemmas.Bool.{and_parts}
 use Rattle.nq_base.specs.declared.Call.{Call}
 use Rattle.nq_base.specs.declared.Event.{Event}
 use Rattle.nq_base.specs.declared.Party.{Party}
 use Rattle.nq_base.specs.declared.Refusal.{Refusal}
 use Rattle.nq_base.specs.declared.Reply.{Reply}
-use Rattle.nq_base.specs.declared.Verdict.{Verdict}
 use Rattle.nq_base.specs.declared.Who.{Who}
 use Rattle.nq_model.specs.Client.{Client, ClientStep, for_call, Ticket, UnderWay}
 use Rattle.nq_model.specs.ClientStep.{client_call, client_tick, at_time}
 use Rattle.nq_model.specs.Hear.{hear, is_put_off}
 use Rattle.nq_model.specs.Kept.{host_row}
 use Rattle.nq_model.specs.Lines.{Play, play}
-use Rattle.nq_model.specs.Message.{Message, Packet, reply, sequence_of}
-use Rattle.nq_model.specs.Profile.{patience}
-use Rattle.nq_model.specs.Server.{Server, to_host}
+use Rattle.nq_model.specs.Message.{Packet, reply, sequence_of}
+use Rattle.nq_model.specs.Server.{to_host}
 use Rattle.nq_model.specs.Skew.{ticks_of}
 use Rattle.nq_model.specs.World.{Head, World, from_host, after_client, step}
-use Rattle.walk_steps.proofs.ClientFacts.{Alone}
-use Rattle.walk_steps.proofs.ClientMoves.{some-same, none-some}
+use Rattle.walk_steps.proofs.ClientMoves.{none-some}
 use Rattle.walk_steps.proofs.Packets.{In, in-get, Told}
 use Rattle.walk_steps.proofs.Tests.{is-below, is-not-below}
 use Rattle.law_rounds.specs.CalmRoundsAreLawful.{IsLawful}
@@ -30,17 +27,17 @@ use Rattle.law_rounds.proofs.ClientTickets.{TicketIs, kept, resent, fresh, hear-
 use Rattle.law_rounds.proofs.Next.{next-among, next-in}
 use Rattle.law_rounds.proofs.PacketsCome.{Comes}
 use Rattle.law_timely.specs.NobodyIsWaitedFor.{needs_no_lease}
-use Rattle.law_timely.specs.Timely.{is_dead, goes_on_live_link, is_still}
+use Rattle.law_timely.specs.Timely.{is_dead, goes_on_live_link}
 use Rattle.law_rounds.specs.WholeRounds.{is_next}
-use Rattle.law_timely.proofs.Calls.{StillOpen, Keeps, hear-keeps}
+use Rattle.law_rounds.proofs.Calling.{hear-keeps, tick-keeps}
 use Rattle.law_timely.proofs.Covers.{drawn, none-asks, none-told}
 use Rattle.law_timely.proofs.Frees.{IsFree, own-packets, seq-above, free-delivered, free-called}
-use Rattle.law_timely.proofs.Links.{comes-from}
-use Rattle.law_timely.proofs.Looks.{IsLook, is_look, Looking, hear-looking, tick-looking, tick-keeps}
-use Rattle.law_timely.proofs.Moves.{Moves, stays, called, ticked, heard, moves, IsBeside, call-beside, number-below, is-at, mail-at, told-packet, was-open}
-use Rattle.law_timely.proofs.Numbers.{IsOldOrNew, hear-numbers}
+use Rattle.law_rounds.proofs.ComesFrom.{comes-from}
+use Rattle.law_timely.proofs.Looks.{IsLook, is_look, Looking, hear-looking, tick-looking}
+use Rattle.law_timely.proofs.Moves.{Moves, stays, called, ticked, heard, moves, call-beside, number-below, is-at, mail-at, told-packet, was-open}
+use Rattle.law_rounds.proofs.TicketNumbers.{IsOldOrNew, hear-numbers}
 use Rattle.law_timely.proofs.Parts.{During}
-use Rattle.law_timely.proofs.Waits.{Known, covered, Waits, Timed, timed}
+use Rattle.law_timely.proofs.Waits.{Known, covered, Waits, timed}
 
 -- the same request under another ticket
 free-as : (host : ℕ) (who : Who) (p : Play) (s t : Ticket) → s.xid ≡ t.xid → s.request ≡ t.request → IsFree host who p s → IsFree host who p t
@@ -56,8 +53,8 @@ module _ (most : ℕ) (head : Head) (dead : List ℕ) (host : ℕ) (live : is_de
   same-line p e u leads = ap (λ (w : World). host_row w.server.kept host) leads
 
   -- a request whose sequence was drawn now, and whose number is in no reply
-  new-free : (p : Play) (e : Event) (l : IsLawful most head p) (serves : recovers p.world.server.phase ≡ false) (c : Client) (at : slice_get p.world.clients host ≡ Some c)
-      (on : c.attached ≡ true) (u : ClientStep) → step p.world e ≡ after_client p.world host u → (t : Ticket)
+  new-free : (p : Play) (e : Event) (l : IsLawful most head p) (serves : recovers p.world.server.phase ≡ false) (c : Client)
+      (at : slice_get p.world.clients host ≡ Some c) (on : c.attached ≡ true) (u : ClientStep) → step p.world e ≡ after_client p.world host u → (t : Ticket)
       → ((n : ℕ) → sequence_of t.request ≡ Some n → c.seq ≤ n)
       → ((st : Refusal) → Comes p (to_host host (reply t.xid (Reply.Refused c.who.inc st))) → ⊥) → IsFree host c.who (play p e) t
   unfolding after_client
@@ -165,7 +162,8 @@ module _ (most : ℕ) (head : Head) (dead : List ℕ) (host : ℕ) (live : is_de
     idle = none-asks most head host dead live p during.before during.timely (covered most head dead host live who q old from p k) c at
 
     pub ticks-on : Looking (from + 2) (client_tick c (c.now + 1)).client
-    ticks-on = tick-looking (from + 2) c (is-at most head host p during.before c at).alone (looking p w c v at is number (λ s has. none-some s (sym idle ∙ has)))
+    ticks-on = tick-looking (from + 2) c (is-at most head host p during.before c at).alone
+        (looking p w c v at is number (λ s has. none-some s (sym idle ∙ has)))
 
     pub ticks-free : (s : Ticket) → (client_tick c (c.now + 1)).client.ticket ≡ Some s → IsFree host who (play p (Event.ClientTick host)) s
     ticks-free s has = subst (λ x. IsFree host x (play p (Event.ClientTick host)) s) (k.same c at)

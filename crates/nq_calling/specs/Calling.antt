@@ -1,5 +1,5 @@
 -- A call that is made behind a turn.
-use Rattle.std.specs.Prelude.{◌≡◌, ℕ, [], Option, Result}
+use Rattle.std.specs.Prelude.{◌≡◌, ℕ, [], Option, Some, None, Result, Err}
 use Rattle.nq_base.specs.Entries.{EntryList}
 use Rattle.nq_base.specs.declared.Answer.{Answer}
 use Rattle.nq_base.specs.declared.Call.{Call}
@@ -22,7 +22,24 @@ pub record Makes (call : Call) (answer : Answer) (client client' : Counted) (log
   pub sent : Sent
   pub posts : Posts sent out'.datagrams link link'
 
--- a turn was taken, which read the clock exactly once, and then a call was made
+-- nothing changed
+pub record Stands (client client' : Counted) (log log' : EntryList) (link link' : LinkTold) : Type 0 where
+  pub client : client' ≡ client
+  pub log : log' ≡ log
+  pub link : link' ≡ link
+
+-- the answer of a call behind a turn that could not take in what it read or heard
+abbrev pub refusal_of : Result (Option Answer) Halt → Option Answer
+refusal_of (Err Halt.Memory) = Some Answer.Memory
+refusal_of (Err Halt.Spent) = Some Answer.Spent
+refusal_of other = None
+
+-- a call that has its answer already is not made
+abbrev pub MakesUnless : (refusal : Option Answer) → Call → Answer → (client client' : Counted) → (log log' : EntryList) → (link link' : LinkTold) → Type 0
+MakesUnless (Some refusal) call answer client client' log log' link link' = (answer ≡ refusal) × Stands client client' log log' link link'
+MakesUnless None call answer client client' log log' link link' = Makes call answer client client' log log' link link'
+
+-- a turn was taken, which read the clock exactly once, and then a call was made, unless the turn could not take in what it read or heard
 pub record CallsNow (call : Call) (answer : Answer) (next next' : ℕ) (clock clock' : ClockTold) (link link' : LinkTold)
     (client client' : Counted) (log log' : EntryList) : Type 0 where
   pub turn : Result (Option Answer) Halt
@@ -30,4 +47,6 @@ pub record CallsNow (call : Call) (answer : Answer) (next next' : ℕ) (clock cl
   pub noted : EntryList
   pub heard : LinkTold
   pub turns : AttendsTurn turn next next' clock clock' link heard client between log noted
-  pub makes : Makes call answer between client' noted log' heard link'
+  pub refusal : Option Answer
+  pub refuses : refusal ≡ refusal_of turn
+  pub makes : MakesUnless refusal call answer between client' noted log' heard link'

@@ -1,10 +1,11 @@
 //! A call behind a turn.
 
 ghost use Rattle.std.specs.Prelude.{◌≡◌};
-ghost use Rattle.nq_calling.specs.Calling.{CallsNow, Makes};
+ghost use Rattle.nq_calling.specs.Calling.{CallsNow, Makes, MakesUnless, refusal_of};
 ghost use Rattle.nq_clock.specs.Clocks.{clock_told};
 ghost use Rattle.nq_link.specs.Links.{link_told};
 
+use nq_base::ending::Halt;
 use nq_base::{Answer, Call, Journal};
 use nq_client::Client;
 use nq_clock::Clock;
@@ -15,10 +16,11 @@ use std::alloc::Global;
 
 /// Takes a turn of a client, then makes a call and sends what it pushes. So the client has taken in one reading of the clock directly before the
 /// call, and whatever lease answers it runs by that reading. What came of the turn, and what the link refused, is not told: it is sent again later.
+/// Where the turn could not take that reading in, no call is made.
 ///
 /// # Errors
 ///
-/// Those of `Client::call`.
+/// Those of `Client::call`, and `Memory` and `Spent` where the turn stopped so.
 pub fn call_now<L: Link, C: Clock>(
     alloc: Global,
     client: &mut Client,
@@ -34,8 +36,39 @@ pub fn call_now<L: Link, C: Clock>(
         (link_told L.sent L.waiting L.faults L.receives link.new)
         client.old client.new log.old log.new }
 {
-    let _turn = client_turn(alloc, client, link, clock, next, log);
-    make(alloc, client, link, log, call)
+    let turn = client_turn(alloc, client, link, clock, next, log);
+    let refusal = refusal_of(&turn);
+    make_unless(refusal, alloc, client, link, log, call)
+}
+
+/// The answer behind a turn that could not take in what it read or heard.
+fn refusal_of(turn: &Result<Option<Answer>, Halt>) -> Option<Answer>
+    ensures { result ≡ refusal_of turn.now }
+{
+    match turn {
+        Err(Halt::Memory) => Some(Answer::Memory),
+        Err(Halt::Spent) => Some(Answer::Spent),
+        _ => None,
+    }
+}
+
+/// Makes a call, unless it has this answer already.
+fn make_unless<L: Link>(
+    refusal: Option<Answer>,
+    alloc: Global,
+    client: &mut Client,
+    link: &mut L,
+    log: &mut Journal,
+    call: &Call,
+) -> Answer
+    ensures { MakesUnless refusal call.now result client.old client.new log.old log.new
+        (link_told L.sent L.waiting L.faults L.receives link.old)
+        (link_told L.sent L.waiting L.faults L.receives link.new) }
+{
+    match refusal {
+        Some(answer) => answer,
+        None => make(alloc, client, link, log, call),
+    }
 }
 
 /// Makes a call, and sends what it pushes.

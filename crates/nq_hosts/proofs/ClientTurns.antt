@@ -1,5 +1,6 @@
 -- The stages of a client's turn.
-use Rattle.std.proofs.Common.{◌≡◌, ⊤, ℕ, Option, Some, None, Result, Ok, Err, refl, sym, subst}
+use Rattle.std.proofs.Common.{◌≡◌, ℕ, Option, Some, None, Result, Ok, Err, refl, sym, subst}
+use Rattle.std.specs.Prelude.{⊤}
 use Rattle.nq_base.specs.declared.Answer.{Answer}
 use Rattle.nq_client.specs.declared.Heard.{Heard}
 use Rattle.nq_hosts.specs.ClientTurn.{Given, GoesOn, Moment, Receives, Stages, Takes, TakesFrom, given_by, goes_on, tick_due}

@@ -32,7 +32,7 @@ use Rattle.walk_steps.proofs.Worlds.{get-set-other, set-there, run-holds}
 use Rattle.walk_steps.proofs.StepSends.{TickSends, rests, again, asks_now, tick-sends}
 use Rattle.walk_steps.proofs.ServerCases.{server-ticks}
 use Rattle.nq_laws.proofs.Hosts.{ticked}
-use Rattle.nq_laws.proofs.ComesFrom.{comes-from}
+use Rattle.law_rounds.proofs.ComesFrom.{comes-from}
 use Rattle.nq_laws.proofs.CallRequests.{run-asks}
 use Rattle.nq_laws.proofs.ClientHopes.{map-in}
 use Rattle.nq_laws.proofs.UnderWay.{Wants, NoneRenew, WantedNow, of_call, of_row, serves-is}

@@ -12,7 +12,7 @@ use Rattle.law_rounds.specs.WholeRounds.{play_order}
 use Rattle.law_rounds.proofs.Coming.{Delivery, no_packet, at_server, at_host, ignored, no_client, delivery}
 use Rattle.walk_steps.proofs.ClientMoves.{some-same, none-some}
 use Rattle.walk_steps.proofs.Worlds.{Holds, run-holds}
-use Rattle.nq_laws.proofs.Calling.{StillOpen, hear-keeps, tick-opens}
+use Rattle.law_rounds.proofs.Calling.{StillOpen, hear-keeps, tick-opens}
 pub use Rattle.nq_laws.specs.WholeCallsAnswered.{one_if_open, open_calls}
 
 pub one-set : (clients : List Client) (h : ℕ) (c d : Client) → slice_get clients h ≡ Some c
@@ -76,7 +76,7 @@ module _ (most : ℕ) (head : Head) where
 tick-less : (w : World) (h : ℕ) (o : Option Client) → slice_get w.clients h ≡ o → open_calls (at_client w h (λ c. client_tick c
     (c.now + 1)) o).clients ≤ open_calls w.clients
 tick-less w h None at = omega arith
-tick-less w h (Some c) at = stepped-less w h c (client_tick c (c.now + 1)) at (λ u is. let v = tick-opens c u is in (v.0, v.1, v.2))
+tick-less w h (Some c) at = stepped-less w h c (client_tick c (c.now + 1)) at (tick-opens c)
 
 hosts-less : (count h : ℕ) (p : Play) → open_calls (play_hosts count h p).world.clients ≤ open_calls p.world.clients
 hosts-less zero h p = omega arith

@@ -14,7 +14,7 @@ use Rattle.law_rounds.proofs.Orders.{whole-lawful, wholes-lawful}
 use Rattle.walk_steps.proofs.ClientMoves.{some-same, none-some}
 use Rattle.walk_steps.proofs.Worlds.{run-holds}
 use Rattle.walk_steps.proofs.Tests.{is-at-most, is-not-at-most}
-use Rattle.nq_laws.proofs.Calling.{tick-opens}
+use Rattle.law_rounds.proofs.Calling.{tick-opens}
 use Rattle.nq_laws.proofs.Counts.{open_calls, order-less, ticks-less, some-open}
 use Rattle.nq_laws.proofs.Frames.{NoWay, none-clear}
 use Rattle.nq_laws.proofs.Hope.{Hopeful, Clear}

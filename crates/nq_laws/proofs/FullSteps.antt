@@ -22,7 +22,8 @@ use Rattle.nq_base.specs.declared.Who.{Who}
 use Rattle.nq_model.specs.Client.{Client, ClientStep, Notice, Ticket, pushing, begun, is_push_of, notice_on, losses_of, add_losses, file_of_loss}
 use Rattle.nq_model.specs.Client.{span_of, is_clean_in}
 use Rattle.nq_model.specs.ClientStep.{begins_call, is_called, says_busy, client_call, at_time, sends_again, client_tick, starts, restart, fresh_client}
-use Rattle.nq_model.specs.Hear.{hear, spends, attached, vacates_lease, vacates_noticed, loses, loss_of, losses_in, all_dirty, all_dirty_in, other_push, reports, without_lease}
+use Rattle.nq_model.specs.Hear.{hear, spends, attached, vacates_lease, vacates_noticed, loses, loss_of, losses_in, all_dirty, all_dirty_in}
+use Rattle.nq_model.specs.Hear.{other_push, reports, without_lease}
 use Rattle.nq_model.specs.Hear.{push_refused, breaks_chain, if_broken, holds, takes_optional, answers_call, caches_block, then_caches, purges}
 use Rattle.nq_model.specs.Hear.{knows_revision, read_done, marks_through, lease_done, caches_write, write_done, ends_push, caches_push, push_done, answer_of}
 use Rattle.nq_model.specs.Hear.{pauses, replied, reply_counts, cancels, notes_notice, evicted}
@@ -137,7 +138,8 @@ any-some file [] any = absurd (cc)
 any-some file (p ∷ ps) any = case (is_push_of file p) any (λ e. any-some file ps e)
   where
     case : (b : Bool) → (b || list_any (is_push_of file) ps) ≡ true
-        → (list_any (is_push_of file) ps ≡ true → IsSome (filter (is_push_of file) ps)) → IsSome (if b then p ∷ filter (is_push_of file) ps else filter (is_push_of file) ps)
+        → (list_any (is_push_of file) ps ≡ true → IsSome (filter (is_push_of file) ps))
+        → IsSome (if b then p ∷ filter (is_push_of file) ps else filter (is_push_of file) ps)
     case true e rest = tt
     case false e rest = rest e
 
@@ -285,7 +287,8 @@ module _ (c : Client) where
   optional : (t : ClientStep) (file : ℕ) (g : Option Grant) (sending : ℕ) → K t → K (takes_optional t file g sending)
   optional t file g sending k =
       takes-optional-cases t file g sending K (λ none. k)
-      (λ given is. held (if_broken t file given) file given sending (if-broken-cases t file given K (λ whole. k) (λ l is below dirty. broken t file (dirty-some file t.client.dirty t.client.push dirty) k)))
+      (λ given is. held (if_broken t file given) file given sending (if-broken-cases t file given K (λ whole. k)
+      (λ l is below dirty. broken t file (dirty-some file t.client.dirty t.client.push dirty) k)))
 
   cached : (t : ClientStep) (file block : ℕ) (body : List ℕ) → K t → K (caches_block t file block body)
   unfolding caches_block
@@ -399,7 +402,8 @@ module _ (c : Client) where
       putting_off = λ inc status job is off. paused t0 spent;
       refusing = λ inc status job is counts off. call-answered t0 (answer_of status) None (λ q. refusal-well t0.client.who q status) spent;
       renewal_refused = λ inc status job is off. spent;
-      push_refused = λ who seq file block first last base body inc status job asks is off. refused t0 file (push-some who seq file block first last base body job asks) spent;
+      push_refused = λ who seq file block first last base body inc status job asks is off.
+          refused t0 file (push-some who seq file block first last base body job asks) spent;
     })
 
   cancelled : (file : ℕ) → K (cancels (begun c) file)

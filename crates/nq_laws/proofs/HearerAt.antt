@@ -21,7 +21,7 @@ use Rattle.walk_steps.proofs.Packets.{In, Told, reply-same}
 use Rattle.walk_steps.proofs.TagFacts.{used-from, dropped-from}
 use Rattle.walk_steps.proofs.Worlds.{IsAt}
 use Rattle.walk_steps.proofs.StepSends.{StepSends, only_gives, then_asks, HearSends, told as told_sends, noticed as noticed_sends, hear-sends}
-use Rattle.nq_laws.proofs.Calling.{Keeps, hear-keeps}
+use Rattle.law_rounds.proofs.Calling.{Keeps, hear-keeps}
 use Rattle.nq_laws.proofs.Hope.{PutsOff}
 use Rattle.nq_laws.proofs.ClientHopes.{TicketNow, same as same_ticket, new as new_ticket, Hearer}
 use Rattle.nq_laws.proofs.Leaving.{waits-leave, told-leaves}

@@ -14,7 +14,7 @@ use Rattle.walk_steps.proofs.Members.{in-filter}
 use Rattle.walk_steps.proofs.Packets.{In, in-append}
 use Rattle.walk_steps.proofs.Rows.{number-same}
 use Rattle.law_rounds.proofs.Next.{OneLink, IsNext, sent-later}
-use Rattle.nq_laws.proofs.ComesFrom.{from-least, still-fresh}
+use Rattle.law_rounds.proofs.ComesFrom.{from-least, still-fresh}
 
 -- ---- lists by place
 

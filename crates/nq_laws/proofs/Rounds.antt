@@ -25,7 +25,7 @@ use Rattle.walk_steps.proofs.Packets.{In, not-both}
 use Rattle.walk_steps.proofs.Worlds.{run-holds}
 use Rattle.walk_steps.proofs.Tests.{is-at-most, is-not-at-most}
 use Rattle.nq_laws.proofs.Hosts.{ticked}
-use Rattle.nq_laws.proofs.Calling.{tick-opens}
+use Rattle.law_rounds.proofs.Calling.{tick-opens}
 use Rattle.nq_laws.proofs.Begin.{round-tickets, round-wants, none-renew}
 use Rattle.nq_laws.proofs.Counts.{open_calls}
 use Rattle.nq_laws.proofs.Delivery.{State}

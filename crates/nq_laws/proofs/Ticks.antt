@@ -1,14 +1,13 @@
 -- The ticks of a round put no row in anybody's way, and open no call.
-use Rattle.std.proofs.Common.{◌≡◌, ℕ, ◌+◌, true, false, zero, suc, List, Option, Some, None, length, refl, sym, subst, ap, ◌∙◌, arith}
+use Rattle.std.proofs.Common.{◌≡◌, ℕ, ◌+◌, false, zero, suc, List, Option, Some, None, length, refl, sym, subst, ap, ◌∙◌, arith}
 use Rattle.std.specs.Prelude.{not, slice_get}
 use Rattle.nq_base.specs.declared.Event.{Event}
 use Rattle.nq_base.specs.declared.Row.{Row}
-use Rattle.nq_model.specs.Client.{Client, UnderWay, begun}
-use Rattle.nq_model.specs.ClientStep.{client_tick, sends_again, at_time as at_client_time}
+use Rattle.nq_model.specs.Client.{Client, UnderWay}
+use Rattle.nq_model.specs.ClientStep.{client_tick, at_time as at_client_time}
 use Rattle.nq_model.specs.Lines.{Play, play, play_hosts, play_rounds}
 use Rattle.nq_model.specs.Server.{serving, recovering, Server, ServerStep, quiet, keeping_with, with_table}
 use Rattle.nq_model.specs.ServerStep.{tick, at_time, opens, ends_writing, end_reading, is_over}
-use Rattle.nq_model.specs.Settle.{settle}
 use Rattle.nq_model.specs.Table.{find_row, is_row_of, with_rows}
 use Rattle.nq_model.specs.World.{Head, World, after_client, after_server, at_client, run}
 use Rattle.nq_model.specs.Skew.{IsWithinSkew}
@@ -18,11 +17,10 @@ use Rattle.law_rounds.specs.CalmRoundsAreLawful.{IsLawful}
 use Rattle.law_rounds.specs.QuietDeliveries.{recovers}
 use Rattle.law_rounds.proofs.CalmIsLawful.{round}
 use Rattle.walk_steps.proofs.LeaseIntervals.{run-runs}
-use Rattle.walk_steps.proofs.StepCases.{tick-cases}
 use Rattle.walk_steps.proofs.RowChanges.{HasUniqueKeys, found-kept, unique-filtered}
 use Rattle.walk_steps.proofs.ServerCases.{server-ticks}
 use Rattle.walk_steps.proofs.ServerTables.{StandingFits}
-use Rattle.nq_laws.proofs.Calling.{Keeps, settles, sends, tick-opens}
+use Rattle.law_rounds.proofs.Calling.{tick-keeps, tick-opens}
 use Rattle.nq_laws.proofs.Hosts.{ticked}
 use Rattle.nq_laws.proofs.UnderWay.{serves-is}
 use Rattle.nq_laws.proofs.Frames.{NoWay}
@@ -65,18 +63,6 @@ hosts-server (suc count) h p = hosts-server count (h + 1) (play p (Event.ClientT
     by (Some c) = refl
 
 -- ---- a client's tick
-
-tick-keeps : (c : Client) → Keeps (Unit {0}) (at_client_time c (c.now + 1)) (client_tick c (c.now + 1))
-unfolding at_client_time sends_again
-tick-keeps c = tick-cases c (c.now + 1) (Keeps (Unit {0}) (at_client_time c (c.now + 1))) (record {
-  again = λ ticket asks long. record { calls = λ v is. (v, is, refl); now = refl; pause = λ yes. refl };
-  quiet = λ ticket asks short. start;
-  free = λ none. sends (Unit {0}) (at_client_time c (c.now + 1)) true (settle (begun (at_client_time c (c.now + 1)))) (settles (Unit {0}) (at_client_time c
-      (c.now + 1)) (begun (at_client_time c (c.now + 1))) start);
-})
-  where
-    start : Keeps (Unit {0}) (at_client_time c (c.now + 1)) (begun (at_client_time c (c.now + 1)))
-    start = record { calls = λ v is. (v, is, refl); now = refl; pause = λ yes. refl }
 
 -- its clock is one further, and it pauses as before
 pub tick-pause : (c : Client) → ((client_tick c (c.now + 1)).client.now ≡ c.now + 1) × ((client_tick c (c.now + 1)).client.pause ≡ c.pause)

@@ -11,7 +11,8 @@ use Rattle.nq_loop.specs.Looped.{IsWhole}
 use Rattle.nq_loop.specs.Printed.{loop_text}
 use Rattle.nq_loop.specs.Whole.{loop_head}
 use Rattle.nq_replay.proofs.Lawfully.{played-runs-are-lawful}
-use Rattle.nq_replay.specs.Playing.{play, ran}
+use Rattle.nq_replay.specs.AsidesPlaying.{ran}
+use Rattle.nq_replay.specs.Playing.{play}
 use Rattle.nq_script.specs.Heads.{head_lines}
 use Rattle.nq_script.specs.Lines.{Allows, HasEvent, FitsEvent, TellsTimes, event_words, once}
 use Rattle.nq_script.specs.Schedule.{SpellsLines, SpellsSchedule}

@@ -2,7 +2,5 @@ mod Endings
 pub mod Inside
 pub mod Keeping
 pub mod Moments
-pub mod Onward
 pub mod Outcomes
 pub mod Printed
-pub mod Steps

@@ -1,22 +1,18 @@
 -- A world that comes from one moment to the next: what was found stays so, and each find is true.
-use Rattle.std.proofs.Common.{◌≡◌, ℕ, Bool, List, [], ◌∷◌, ◌++◌, length, Option, refl, sym, ap, subst, ◌∙◌, append_assoc}
+use Rattle.std.proofs.Common.{◌≡◌, ℕ, List, [], ◌∷◌, ◌++◌, length, Option, refl, sym, ap, subst, ◌∙◌, append_assoc}
 use Rattle.std.specs.List.{AllByRecursion}
+use Rattle.nq_directory.specs.declared.name_cache.found.Found.{Found}
 use Rattle.nq_model.specs.Kept.{Kept, find_name}
 use Rattle.nq_model.specs.World.{Head}
-use Rattle.nq_directory.specs.declared.name_cache.found.Found.{Found}
-use Rattle.nq_names.specs.Playing.{NamesOver}
-use Rattle.nq_name_server.specs.declared.run.event.NameEvent.{NameEvent}
 use Rattle.nq_name_server.specs.Outside.{found, outside_run}
 use Rattle.nq_name_server.specs.Theorem.{kept_as}
+use Rattle.nq_name_server.specs.declared.run.event.NameEvent.{NameEvent}
+use Rattle.nq_names.specs.Playing.{NamesOver, PlaysOutside, StepsOutside}
 use Rattle.nq_naming.proofs.Inside.{GoesOn, run-on}
-use Rattle.nq_replay.proofs.Keeping.{Ends}
-use Rattle.nq_naming.proofs.Keeping.{keeps-event, keeps-plain}
-use Rattle.nq_naming.specs.Finding.{FindsAreTrue, IsTrueFind, find_line, lines_of}
-use Rattle.nq_replay.specs.AsidesGoing.{Goes}
-use Rattle.nq_naming.specs.Going.{IsAt, IsAtEnd, IsAtMoment}
-use Rattle.nq_replay.specs.AsidesPlaying.{Played as Due, refused, took}
-use Rattle.nq_naming.specs.Playing.{Moment, Sought, play_event, play_plain, with_find, with_finds}
-use Rattle.nq_script.specs.declared.lines.Line.{Line}
+use Rattle.nq_naming.specs.Finding.{IsTrueFind, find_line, lines_of}
+use Rattle.nq_naming.specs.Going.{IsAtMoment}
+use Rattle.nq_naming.specs.Playing.{Moment, Sought, names_rules, with_find, with_more}
+use Rattle.nq_replay.specs.RulesGoing.{StepsBy}
 use Rattle.nq_world.specs.declared.stepped.Stepped.{Stepped}
 
 -- ---- more events
@@ -36,61 +32,38 @@ finds-on : (head : Head) (events es : List NameEvent) (finds : List Sought) → 
 finds-on head events es [] on all = tt
 finds-on head events es (s ∷ finds) on all = (true-on head events es s on all.0, finds-on head events es finds on all.1)
 
-module _ {K : Type 0} (head : Head) (m : Moment) (w : NamesOver K) (told : Option Kept) (flags : List Bool) (text : List ℕ) (said_so : text
-    ≡ lines_of head m.finds) (true_so : FindsAreTrue head m) where
-  -- events were played behind this moment
-  events-on : (said : Stepped) (due : Due (List NameEvent)) → Ends (GoesOn m.events) due → Goes said due (λ es. IsAt head es w told flags)
-      → Goes said (with_finds m.finds due) (λ n. IsAtMoment head n w told flags text)
-  events-on Stepped.Done (took es) on at = record { at = at; said = said_so; finds = finds-on head m.events es m.finds on true_so }
-  events-on Stepped.Done (refused answer) on at = absurd at
-  events-on Stepped.NoPacket (took es) on at = absurd at
-  events-on Stepped.NoPacket (refused answer) on at = at
-  events-on (Stepped.SkewBroken broken) (took es) on at = absurd at
-  events-on (Stepped.SkewBroken broken) (refused answer) on at = at
-  events-on (Stepped.Limit limit) (took es) on at = absurd at
-  events-on (Stepped.Limit limit) (refused answer) on at = at
-  events-on Stepped.Fault due on at = tt
-  events-on Stepped.Memory due on at = tt
+-- a step of a world that has come to a moment
+pub steps-by : {K W : Type 0} (plays : Head → Moment → W → Type 0) (head : Head) (m : Moment) (event : NameEvent) (said : Stepped) (w : W)
+    (new : NamesOver K) (told tells : Option Kept) → (PlaysOutside head (event ∷ m.events) new tells → plays head (with_more m event) w)
+    → StepsOutside head m.events event said new told tells → StepsBy names_rules plays head m event said w
+steps-by plays head m event Stepped.Done w new told tells on steps = (steps.0, on steps.1)
+steps-by plays head m event Stepped.NoPacket w new told tells on steps = steps.0
+steps-by plays head m event (Stepped.SkewBroken broken) w new told tells on steps = steps.0
+steps-by plays head m event (Stepped.Limit limit) w new told tells on steps = steps.0
+steps-by plays head m event Stepped.Fault w new told tells on steps = tt
+steps-by plays head m event Stepped.Memory w new told tells on steps = tt
 
 -- one event more
-more-on : (earlier : List NameEvent) (event : NameEvent) (events : List NameEvent) → GoesOn earlier events → GoesOn earlier (event ∷ events)
-more-on earlier event events on = (event ∷ on.0, ap (λ es. event ∷ es) on.1)
-
--- what a line of a schedule plays goes on from what was played
-pub plain-on : (head : Head) (most : ℕ) (line : Line) (events : List NameEvent) → Ends (GoesOn events) (play_plain head most line events)
-plain-on head most line events = keeps-plain (GoesOn events) head (more-on events) most line events ([], refl)
-
-pub event-on : (head : Head) (event : NameEvent) (events : List NameEvent) → Ends (GoesOn events) (play_event head event events)
-event-on head event events = keeps-event (GoesOn events) head (more-on events) event events ([], refl)
-
--- a line of a schedule
-pub plain-moment : {K : Type 0} (head : Head) (m : Moment) (old new : NamesOver K) (told tells : Option Kept) (flags flags' : List Bool)
-    (text : List ℕ) (said : Stepped) (most : ℕ) (line : Line) → IsAtMoment head m old told flags text
-    → Goes said (play_plain head most line m.events) (λ es. IsAt head es new tells flags')
-    → Goes said (with_finds m.finds (play_plain head most line m.events)) (λ n. IsAtMoment head n new tells flags' text)
-plain-moment head m old new told tells flags flags' text said most line is goes =
-    events-on head m new tells flags' text is.said is.finds said (play_plain head most line m.events) (plain-on head most line m.events) goes
-
--- a list
-pub list-moment : {K : Type 0} (head : Head) (m : Moment) (old new : NamesOver K) (told tells : Option Kept) (flags flags' : List Bool)
-    (text : List ℕ) (said : Stepped) (event : NameEvent) → IsAtMoment head m old told flags text
-    → Goes said (play_event head event m.events) (λ es. IsAt head es new tells flags')
-    → Goes said (with_finds m.finds (play_event head event m.events)) (λ n. IsAtMoment head n new tells flags' text)
-list-moment head m old new told tells flags flags' text said event is goes =
-    events-on head m new tells flags' text is.said is.finds said (play_event head event m.events) (event-on head event m.events) goes
+pub more-moment : {K : Type 0} (head : Head) (m : Moment) (event : NameEvent) (old new : NamesOver K) (told tells : Option Kept) (text : List ℕ)
+    → IsAtMoment head m old told text → PlaysOutside head (event ∷ m.events) new tells → IsAtMoment head (with_more m event) new tells text
+more-moment head m event old new told tells text is plays = record {
+  plays = plays;
+  said = is.said;
+  finds = finds-on head m.events (event ∷ m.events) m.finds (event ∷ [], refl) is.finds;
+}
 
 -- ---- a find
 
-pub find-moment : {K : Type 0} (head : Head) (m : Moment) (w : NamesOver K) (told : Option Kept) (flags : List Bool) (text text' : List ℕ) (host : ℕ)
-    (name : List ℕ) (events : ℕ) (known : Found) → IsAtMoment head m w told flags text
+pub find-moment : {K : Type 0} (head : Head) (m : Moment) (w : NamesOver K) (told : Option Kept) (text text' : List ℕ) (host : ℕ)
+    (name : List ℕ) (events : ℕ) (known : Found) → IsAtMoment head m w told text
     → known ≡ found (outside_run head m.events) host name → events ≡ length (outside_run head m.events).ran
     → text' ≡ text ++ find_line host name events known
-    → IsAtMoment head (with_find m host name) w told flags text'
-find-moment head m w told flags text text' host name events known is knows many put =
+    → IsAtMoment head (with_find m host name) w told text'
+find-moment head m w told text text' host name events known is knows many put =
     let o = outside_run head m.events in
-    let keeps = is.at.plays.reaches.keeps in
+    let keeps = is.plays.reaches.keeps in
     record {
-      at = is.at;
+      plays = is.plays;
       said = put ∙ ap (λ t. t ++ find_line host name events known) is.said
           ∙ ap (λ n. lines_of head m.finds ++ find_line host name n known) many
           ∙ ap (λ k. lines_of head m.finds ++ find_line host name (length o.ran) k) knows;
@@ -103,9 +76,3 @@ find-moment head m w told flags text text' host name events known is knows many 
         is.finds,
       );
     }
-
--- ---- the end
-
-pub at-end : {K : Type 0} (head : Head) (m : Moment) (w : NamesOver K) (told : Option Kept) (flags : List Bool) (text : List ℕ)
-    → IsAtMoment head m w told flags text → IsAtEnd head m w told text
-at-end head m w told flags text is = record { plays = is.at.plays; said = is.said; finds = is.finds }

@@ -14,7 +14,7 @@ use Rattle.nq_replay.proofs.Journals.{plain_text}
 use Rattle.nq_script.specs.Lines.{once}
 use Rattle.nq_script.specs.Schedule.{SpellsSchedule}
 use Rattle.nq_script.specs.declared.heads.Head.{Head}
-use Rattle.nq_naming.specs.Going.{IsAtEnd}
+use Rattle.nq_naming.specs.Going.{IsAtMoment}
 use Rattle.nq_naming.specs.Playing.{Moment}
 use Rattle.nq_naming.specs.Running.{IsPrinted, end_of}
 use Rattle.nq_name_server.specs.Outside.{outside_run}
@@ -29,7 +29,7 @@ lawful head events w told plays =
 
 -- the bytes that are printed of it
 pub is-printed : {K : Type 0} (head : Head) (m : Moment) (w : NamesOver K) (told : Option Kept) (ran : List Event) (entries : List Entry)
-    (text found : List ℕ) → IsAtEnd (beginning head) m w told found
+    (text found : List ℕ) → IsAtMoment (beginning head) m w told found
     → reverse ran ≡ (end_of head m).ran → map plain entries ≡ reverse (end_of head m).world.journal
     → SpellsSchedule head (map once ran) text
     → IsPrinted head m (text ++ (journal_text 2 entries ++ found))

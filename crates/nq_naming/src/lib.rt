@@ -5,8 +5,7 @@
 //! `specs/Running`.
 #![tactic(auto)]
 
-mod events;
-mod lines;
+mod playing;
 mod printing;
 mod running;
 pub mod script;

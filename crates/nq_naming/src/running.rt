@@ -15,7 +15,7 @@ ghost use Rattle.nq_replay.specs.declared.Bound.{Bound};
 ghost use Rattle.nq_script.specs.Heads.{FitsHead};
 ghost use Rattle.nq_script.specs.declared.heads.Head.{Head};
 ghost use Rattle.nq_replay.specs.AsidesGoing.{Comes};
-ghost use Rattle.nq_naming.specs.Going.{IsAtEnd};
+ghost use Rattle.nq_naming.specs.Going.{IsAtMoment};
 ghost use Rattle.nq_replay.specs.AsidesPlaying.{Ended};
 ghost use Rattle.nq_naming.specs.Playing.{Moment, play};
 ghost use Rattle.nq_naming.specs.Running.{EndsNames, EndsNamesPlayed, FaultyNames, IsTold, PassesNames, RunsNames, StopsNames, TellsText};
@@ -23,7 +23,7 @@ ghost use Rattle.nq_naming.specs.Text.{IsOfHost};
 ghost use Rattle.nq_world.specs.Beginning.{NeverFails};
 ghost use Rattle.nq_world.specs.Playing.{HasSettings};
 
-use crate::lines::play;
+use crate::playing::FindingWorld;
 use crate::script::Aside;
 use nq_base::NoMemory;
 use nq_base::ending::Ending;
@@ -31,7 +31,7 @@ use nq_io::{Sink, Source, Whole, read_all};
 use nq_keeper::{Keeper, ListKeeper};
 use nq_names::NameWorld;
 use nq_replay::asides::{MixedScript, read_script};
-use nq_replay::play::Played;
+use nq_replay::play::{Played, play};
 use nq_replay::{print_parts, schedule_text, tell_over, tell_script, tell_stop};
 use nq_script::{Head, ScriptFault};
 use nq_world::{MOST_EVENTS, NewFault, begin_surely};
@@ -128,14 +128,41 @@ fn run_over<L: Keeper + Drop, K: Sink>(
         (K.held out.old) (K.held out.new) (K.faults out.old) (K.faults out.new) }
     ensures sink { CountsSink result (K.faults out.old) (K.faults out.new) }
 {
-    let Ok(mut world) = begin_names(alloc, &script.script.head, keeper) else {
+    let Ok(names) = begin_names(alloc, &script.script.head, keeper) else {
         return Ending::Memory;
     };
-    let mut found = Vec::new(alloc);
-    let played = play(alloc, &mut world, &mut found, MOST_EVENTS + 1, script);
-    let ending = tell(alloc, &script.script.head, &world, &found, played, out);
-    let _keeper = world.into_keeper();
+    let found = Vec::new(alloc);
+    let mut world = FindingWorld { names, found };
+    let played = play_over(alloc, &mut world, script);
+    let FindingWorld { names, found } = world;
+    let ending = tell(alloc, &script.script.head, &names, &found, played, out);
+    let _keeper = names.into_keeper();
     ending
+}
+
+/// Plays a schedule with lists over a world in which nothing was played before, whose keeper never fails. A flow may have one delivery
+/// more than there may be events.
+fn play_over<L: Keeper>(
+    alloc: Global,
+    world: &mut FindingWorld<L>,
+    script: &MixedScript<Aside>,
+) -> Played
+    requires ready { IsReadyMixed IsOfHost script.now.script script.now.asides.items }
+    requires settings { HasSettings script.now.script.head.hosts script.now.script.head.longest script.now.script.head.term world.old.names.inner }
+    requires never { NeverFails L.faults L.follows world.old.names.inner.server.keeper }
+    requires none { world.old.found.items ≡ [] }
+    ensures comes { PlaysOutside (beginning script.now.script.head) [] world.old.names (L.content world.old.names.inner.server.keeper)
+        → Comes result (play script.now.script.head (mixed script.now.asides.items script.now.script.lines))
+        (λ m. IsAtMoment (beginning script.now.script.head) m world.new.names (L.content world.new.names.inner.server.keeper) world.new.found.items) }
+    ensures reason { HasReason result }
+{
+    play(
+        alloc,
+        world,
+        MOST_EVENTS + 1,
+        &script.script,
+        &script.asides,
+    )
 }
 
 /// The world with leased directories before the first event of a schedule with this head, over a keeper that keeps nothing yet and never fails.
@@ -175,7 +202,7 @@ fn tell<L: Keeper, K: Sink>(
     requires fits { FitsHead head.now }
     requires reason { HasReason played }
     requires told { played ≡ Played.All → IsTold head.now world.now (L.content world.now.inner.server.keeper) }
-    ensures ends { (due : Ended Moment) → Comes played due (λ m. IsAtEnd (beginning head.now) m world.now (L.content world.now.inner.server.keeper) found.now)
+    ensures ends { (due : Ended Moment) → Comes played due (λ m. IsAtMoment (beginning head.now) m world.now (L.content world.now.inner.server.keeper) found.now)
         → EndsNamesPlayed result head.now due (K.held out.old) (K.held out.new) (K.faults out.old) (K.faults out.new) }
     ensures sink { CountsSink result (K.faults out.old) (K.faults out.new) }
 {

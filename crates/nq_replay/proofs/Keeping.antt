@@ -1,5 +1,5 @@
 -- What playing keeps.
-use Rattle.std.proofs.Common.{◌≡◌, ℕ, List, ◌∷◌, Option, Some, None, zero, suc, refl}
+use Rattle.std.proofs.Common.{◌≡◌, ℕ, Option, Some, None, zero, suc, refl}
 use Rattle.nq_replay.specs.AsidesPlaying.{Played, and_then, answered, refused, repeated, took, with_packet}
 use Rattle.nq_model.specs.Stepped.{Stepped, done, no_packet, out_of_skew, too_many_events, too_many_packets}
 
@@ -21,13 +21,12 @@ keeps-repeated P zero play keeps reached here = here
 keeps-repeated P (suc times) play keeps reached here =
     ends-then P (play reached) (repeated times play) (keeps reached here) (keeps-repeated P times play keeps)
 
-pub ends-answered : {E : Type 0} (P : List E → Type 0) (earlier : List E) (event : E) (answer : Stepped) → (answer ≡ done → P (event ∷ earlier))
-    → Ends P (answered earlier event answer)
-ends-answered P earlier event done here = here refl
-ends-answered P earlier event no_packet here = tt
-ends-answered P earlier event (out_of_skew broken) here = tt
-ends-answered P earlier event too_many_events here = tt
-ends-answered P earlier event too_many_packets here = tt
+pub ends-answered : {S : Type 0} (P : S → Type 0) (next : S) (answer : Stepped) → (answer ≡ done → P next) → Ends P (answered next answer)
+ends-answered P next done here = here refl
+ends-answered P next no_packet here = tt
+ends-answered P next (out_of_skew broken) here = tt
+ends-answered P next too_many_events here = tt
+ends-answered P next too_many_packets here = tt
 
 pub ends-packet : {S : Type 0} (P : S → Type 0) (packet : Option ℕ) (reached : S) (next : ℕ → Played S) → P reached → ((k : ℕ) → Ends P (next k))
     → Ends P (with_packet packet reached next)

@@ -1,9 +1,9 @@
 mod Appending
+pub mod EachTaken
 pub mod Endings
 mod Joining
 pub mod AsidesOnward
 pub mod Dropping
-pub mod Ending
 pub mod FirstRuns
 pub mod Flags
 pub mod Grammar
@@ -15,12 +15,14 @@ pub mod Limits
 pub mod Lining
 pub mod Mixing
 pub mod Never
-pub mod Onward
 pub mod Outcomes
 pub mod Overs
 pub mod Printings
 pub mod Readied
 pub mod Reversing
+pub mod RulesKeeping
+pub mod RulesOnward
+pub mod RulesSteps
 pub mod Skewing
 pub mod Spelling
 pub mod Steps

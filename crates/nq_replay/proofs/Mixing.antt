@@ -64,3 +64,10 @@ pub line-plain : {A : Type 0} (asides : List (Option A)) (lines : List Line) (pl
     → aside_at asides place ≡ None → slice_get (mixed asides lines) place ≡ Some line → plain l ≡ line
 line-plain asides lines place l line there says here =
     same_Some (plain l) line (sym (mixed-at asides lines place l there ∙ ap (λ s. Some (line_as s l)) says) ∙ here)
+
+-- what holds of all asides, where each that it holds of has something else, too
+pub all-later : {A : Type 0} (P Q : A → Type 0) → ((aside : A) → P aside → Q aside) →
+    (asides : List (Option A)) → HoldsOfAsides P asides → HoldsOfAsides Q asides
+all-later P Q on [] all = tt
+all-later P Q on (None ∷ asides) all = (tt, all-later P Q on asides all.1)
+all-later P Q on (Some aside ∷ asides) all = (on aside all.0, all-later P Q on asides all.1)

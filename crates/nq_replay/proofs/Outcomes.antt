@@ -4,8 +4,9 @@ use Rattle.nq_base.specs.declared.Event.{Event}
 use Rattle.nq_base.specs.declared.SkewBroken.{SkewBroken}
 use Rattle.nq_base.specs.declared.ending.ending.Ending.{Ending}
 use Rattle.nq_model.specs.Stepped.{Stepped as Answer, done, no_packet, out_of_skew, too_many_events, too_many_packets}
-use Rattle.nq_replay.specs.Going.{Comes, StoppedAt}
-use Rattle.nq_replay.specs.Playing.{Ended, play, ran, stopped}
+use Rattle.nq_replay.specs.AsidesGoing.{Comes, StoppedAt}
+use Rattle.nq_replay.specs.AsidesPlaying.{Ended, ran, stopped}
+use Rattle.nq_replay.specs.Playing.{play}
 use Rattle.nq_replay.specs.declared.play.played.Played.{Played}
 use Rattle.nq_replay.specs.Ending.{EndsText, IsUnlessFault}
 use Rattle.nq_replay.specs.Replay.{FaultyLine, Passes, Runs, Stops}
@@ -25,7 +26,8 @@ use Rattle.nq_world.specs.declared.stepped.Stepped.{Stepped}
 text_of_run : (end : Ending) (head : Head) (events : List Event) (text : List ℕ) (held now : Option (List ℕ)) (w w' : ℕ) → Runs text head events
     → EndsPlayed end head (ran events) held now w w' → EndsText end text held now w w'
 text_of_run Ending.Done head events text held now w w' runs prints = record { head = head; events = events; runs = runs; printed = prints }
-text_of_run Ending.WriteFault head events text held now w w' runs prints = (record { head = head; events = events; runs = runs; printed = prints.0 }, prints.1)
+text_of_run Ending.WriteFault head events text held now w w' runs prints =
+    (record { head = head; events = events; runs = runs; printed = prints.0 }, prints.1)
 text_of_run Ending.Memory head events text held now w w' runs (inl same) = inl same
 text_of_run Ending.Memory head events text held now w w' runs (inr front) = inr (record { head = head; events = events; runs = runs; printed = front })
 text_of_run other head events text held now w w' runs prints = absurd prints
@@ -68,7 +70,7 @@ text_of_stop end head line too_many_events text held now w w' stops tells = text
 text_of_stop end head line too_many_packets text held now w w' stops tells = text_of_packets end line text held now w w' stops tells
 
 -- a schedule that was read
-text_of_due : (end : Ending) (head : Head) (lines : List Line) (due : Ended) (text : List ℕ) (held now : Option (List ℕ)) (w w' : ℕ)
+text_of_due : (end : Ending) (head : Head) (lines : List Line) (due : Ended (List Event)) (text : List ℕ) (held now : Option (List ℕ)) (w w' : ℕ)
     → SpellsSchedule head lines text → play head lines ≡ due → EndsPlayed end head due held now w w' → EndsText end text held now w w'
 text_of_due end head lines (ran events) text held now w w' spelled is ends = text_of_run end head events text held now w w'
     (record { lines = lines; spelled = spelled; played = is }) ends
@@ -120,12 +122,13 @@ done_unless Ending.WriteFault head events held now w w' prints = inr prints.1
 done_unless other head events held now w w' prints = absurd prints
 
 -- the schedule that was read is the one that is spelled
-pub is_due : (head h : Head) (lines ls : List Line) (due : Ended) → (head ≡ h) × (lines ≡ ls) → play h ls ≡ due → play head lines ≡ due
+pub is_due : (head h : Head) (lines ls : List Line) (due : Ended (List Event)) → (head ≡ h) × (lines ≡ ls) → play h ls ≡ due → play head lines ≡ due
 is_due head h lines ls due same is = rw (same.0, same.1) is
 
 pub ends_script : (end : Ending) (head : Head) (lines : List Line) (number : ℕ) (held now : Option (List ℕ)) (w w' : ℕ)
     → EndsPlayed end head (play head lines) held now w w' → play head lines ≡ stopped number no_packet → IsUnlessFault end Ending.Script 0 0 w w'
-ends_script end head lines number held now w w' ends is = script_unless end number held now w w' (subst (λ due. EndsPlayed end head due held now w w') is ends)
+ends_script end head lines number held now w w' ends is = script_unless end number held now w w'
+    (subst (λ due. EndsPlayed end head due held now w w') is ends)
 
 pub ends_skew : (end : Ending) (head : Head) (lines : List Line) (number : ℕ) (broken : SkewBroken) (held now : Option (List ℕ)) (w w' : ℕ)
     → EndsPlayed end head (play head lines) held now w w' → play head lines ≡ stopped number (out_of_skew broken) → IsUnlessFault end Ending.Skew 0 0 w w'
@@ -134,7 +137,8 @@ ends_skew end head lines number broken held now w w' ends is = skew_unless end n
 
 pub ends_passing : (end : Ending) (head : Head) (lines : List Line) (text : List ℕ) (number : ℕ) (bound : Bound) (held now : Option (List ℕ))
     (w w' : ℕ) → EndsPlayed end head (play head lines) held now w w'
-    → ((h : Head) (ls : List Line) → SpellsSchedule h ls text → (head ≡ h) × (lines ≡ ls)) → Passes text number bound → IsUnlessFault end Ending.Limit 0 0 w w'
+    → ((h : Head) (ls : List Line) → SpellsSchedule h ls text → (head ≡ h) ×
+    (lines ≡ ls)) → Passes text number bound → IsUnlessFault end Ending.Limit 0 0 w w'
 ends_passing end head lines text number Bound.Bytes held now w w' ends only passes = absurd passes
 ends_passing end head lines text number Bound.Events held now w w' ends only passes =
     limit_unless end number Limit.Events held now w w' (subst (λ due. EndsPlayed end head due held now w w') (is_due head passes.head lines
@@ -149,7 +153,8 @@ pub ends_faulty : (end : Ending) (head : Head) (lines : List Line) (text : List 
     → IsUnlessFault end Ending.Script 0 0 w w'
 ends_faulty end head lines text number held now w w' ends only bad (inl is) = absurd (bad is)
 ends_faulty end head lines text number held now w w' ends only bad (inr stops) =
-    ends_script end head lines number held now w w' ends (is_due head stops.head lines stops.lines _ (only stops.head stops.lines stops.spelled) stops.stopped)
+    ends_script end head lines number held now w w' ends (is_due head stops.head lines stops.lines _
+    (only stops.head stops.lines stops.spelled) stops.stopped)
 
 pub ends_done : (end : Ending) (head : Head) (lines : List Line) (h : Head) (ls : List Line) (events : List Event) (held now : Option (List ℕ))
     (w w' : ℕ) → EndsPlayed end head (play head lines) held now w w' → (head ≡ h) × (lines ≡ ls) → play h ls ≡ ran events
@@ -169,12 +174,13 @@ passes_none text number Bound.Packets none passes = none passes.head passes.line
 -- ---- what was played
 
 -- where memory was wanting before anything was printed
-pub memory_before : (head : Head) (due : Ended) (held : Option (List ℕ)) (w : ℕ) → EndsPlayed Ending.Memory head due held held w w
+pub memory_before : (head : Head) (due : Ended (List Event)) (held : Option (List ℕ)) (w : ℕ) → EndsPlayed Ending.Memory head due held held w w
 memory_before head (ran events) held w = inl refl
 memory_before head (stopped line answer) held w = refl
 
 -- where it stopped
-stop_memory : (end : Ending) (head : Head) (line : ℕ) (said : Stepped) (due : Ended) (held now : Option (List ℕ)) (w w' : ℕ) → (end ≡ Ending.Memory)
+stop_memory : (end : Ending) (head : Head) (line : ℕ) (said : Stepped) (due : Ended (List Event)) (held now : Option (List ℕ)) (w w' : ℕ) →
+    (end ≡ Ending.Memory)
     × (now ≡ held) → EndsPlayed end head due held now w w'
 stop_memory end head line said (ran events) held now w w' is = rw is.0 (inl is.1)
 stop_memory end head line said (stopped number answer) held now w w' is = rw is.0 is.1
@@ -205,13 +211,14 @@ silent Ending.Limit line (Stepped.Limit l) held now w w' (inl e) tells = absurd 
 silent Ending.Limit line (Stepped.Limit l) held now w w' (inr e) tells = absurd (cc)
 silent other line said held now w w' which tells = absurd tells
 
-stop_at : (end : Ending) (head : Head) (line : ℕ) (said : Stepped) (due : Ended) (held now : Option (List ℕ)) (w w' : ℕ) → StoppedAt due line said
+stop_at : (end : Ending) (head : Head) (line : ℕ) (said : Stepped) (due : Ended (List Event)) (held now : Option (List ℕ))
+    (w w' : ℕ) → StoppedAt due line said
     → TellsStop end line said held now w w' → EndsPlayed end head due held now w w'
 stop_at end head line said (ran events) held now w w' is tells = absurd is
 stop_at end head line said (stopped number answer) held now w w' is tells =
     subst (λ s. TellsStop end number s held now w w') (sym is.1) (subst (λ n. TellsStop end n said held now w w') is.0 tells)
 
-pub stop_ends : (end : Ending) (head : Head) (line : ℕ) (said : Stepped) (due : Ended) (P : List Event → Type 0) (held now : Option (List ℕ))
+pub stop_ends : (end : Ending) (head : Head) (line : ℕ) (said : Stepped) (due : Ended (List Event)) (P : List Event → Type 0) (held now : Option (List ℕ))
     (w w' : ℕ) → Comes (Played.Stopped line said) due P → TellsStop end line said held now w w' → EndsPlayed end head due held now w w'
 stop_ends end head line Stepped.Done due P held now w w' comes tells = absurd comes
 stop_ends end head line Stepped.NoPacket due P held now w w' comes tells = stop_at end head line Stepped.NoPacket due held now w w' comes tells
@@ -224,7 +231,8 @@ stop_ends end head line Stepped.Memory due P held now w w' comes tells = stop_me
     (silent end line Stepped.Memory held now w w' (inr refl) tells)
 
 -- where it was played to its end
-pub run_ends : (end : Ending) (head : Head) (due : Ended) (P : List Event → Type 0) (held now : Option (List ℕ)) (w w' : ℕ) → Comes Played.All due P
+pub run_ends : (end : Ending) (head : Head) (due : Ended (List Event)) (P : List Event → Type 0) (held now : Option (List ℕ))
+    (w w' : ℕ) → Comes Played.All due P
     → ((events : List Event) → P events → EndsPlayed end head (ran events) held now w w') → EndsPlayed end head due held now w w'
 run_ends end head (ran events) P held now w w' comes prints = prints events comes
 run_ends end head (stopped number answer) P held now w w' comes prints = absurd comes

@@ -4,8 +4,9 @@ use Rattle.nq_base.specs.declared.Entry.{Entry}
 use Rattle.nq_base.specs.declared.Event.{Event}
 use Rattle.nq_base.specs.declared.ending.ending.Ending.{Ending}
 use Rattle.nq_model.specs.Kept.{Kept}
-use Rattle.nq_replay.specs.Going.{Comes, RanTo}
-use Rattle.nq_replay.specs.Playing.{Ended, beginning, ran, stopped}
+use Rattle.nq_replay.specs.AsidesGoing.{Comes, RanTo}
+use Rattle.nq_replay.specs.AsidesPlaying.{Ended, ran, stopped}
+use Rattle.nq_replay.specs.Playing.{beginning}
 use Rattle.nq_replay.specs.declared.play.played.Played.{Played}
 use Rattle.nq_replay.proofs.Outcomes.{stop_ends}
 use Rattle.nq_replay.specs.Ending.{CountsKeeper}
@@ -16,7 +17,8 @@ use Rattle.nq_world.specs.declared.stepped.Stepped.{Stepped}
 
 -- ---- where it was played to its end
 
-pub keeps_run : {K : Type 0} (head : Head) (due : Ended) (w : WorldOver K) (told : Option Kept) → RanTo due (λ events. Plays (beginning head) events w
+pub keeps_run : {K : Type 0} (head : Head) (due : Ended (List Event)) (w : WorldOver K) (told : Option Kept) → RanTo due
+    (λ events. Plays (beginning head) events w
     told) → KeepsPlayed head due told
 keeps_run head (ran events) w told plays = plays.keeps
 keeps_run head (stopped line answer) w told plays = absurd plays
@@ -34,7 +36,7 @@ entries_count other version entries held now w w' before count prints same = abs
 pub not_last : (line : ℕ) (answer : Stepped) → (answer ≡ Stepped.Done → Played.Stopped line answer ≡ Played.All) → answer ≡ Stepped.Done → ⊥
 not_last line answer stops done = let whole : Played.Stopped line answer ≡ Played.All = stops done in absurd (cc)
 
-pub why_ends : (end : Ending) (head : Head) (line : ℕ) (answer : Stepped) (due : Ended) (P : List Event → Type 0) (held now : Option (List ℕ))
+pub why_ends : (end : Ending) (head : Head) (line : ℕ) (answer : Stepped) (due : Ended (List Event)) (P : List Event → Type 0) (held now : Option (List ℕ))
     (w w' : ℕ) → Comes (Played.Stopped line answer) due P → TellsWhy end line answer held now w w' → EndsOver end head due held now w w'
 why_ends end head line Stepped.Fault due P held now w w' comes tells = inr tells
 why_ends end head line Stepped.Done due P held now w w' comes tells = inl (stop_ends end head line Stepped.Done due P held now w w' comes tells)

@@ -17,15 +17,19 @@ use Rattle.nq_model.specs.Journal.{Each}
 use Rattle.nq_model.specs.Kept.{Kept}
 use Rattle.nq_model.specs.Stepped.{most_events, stepped}
 use Rattle.nq_model.specs.World.{run}
-use Rattle.nq_replay.proofs.Ending.{Ends, Keeps, ends-answered, keeps-flow, keeps-repeated, keeps-round}
+use Rattle.nq_replay.proofs.Keeping.{Keeps, ends-answered}
 use Rattle.nq_replay.proofs.Lawfully.{played-runs-are-lawful}
-use Rattle.nq_replay.specs.Going.{Comes, RanTo}
-use Rattle.nq_replay.specs.Playing.{Ended, Played as Due, at_line, beginning, play, play_event, play_line, play_lines, play_round, ran, refused, stopped, took}
+use Rattle.nq_replay.proofs.RulesKeeping.{keeps-lines}
+use Rattle.nq_replay.specs.AsidesGoing.{Comes, RanTo}
+use Rattle.nq_replay.specs.AsidesPlaying.{Ended, ran, stopped}
+use Rattle.nq_replay.specs.Playing.{beginning, plain_rules, play}
+use Rattle.nq_replay.specs.Rules.{play_event, play_plainly}
 use Rattle.nq_replay.specs.declared.play.played.Played.{Played}
 use Rattle.nq_replay.specs.Schedules.{IsReady}
 use Rattle.nq_script.specs.Calls.{HasCall}
-use Rattle.nq_script.specs.Lines.{HasEvent, SpellsLine}
-use Rattle.nq_script.specs.Schedule.{SpellsLines, SpellsSchedule}
+use Rattle.nq_replay.specs.Texts.{IsTellable}
+use Rattle.nq_script.specs.Lines.{HasEvent}
+use Rattle.nq_script.specs.Schedule.{SpellsSchedule}
 use Rattle.nq_script.specs.declared.heads.Head.{Head}
 use Rattle.nq_script.specs.declared.lines.Line.{Line}
 use Rattle.nq_script.specs.declared.scripts.Script.{Script}
@@ -60,39 +64,17 @@ of_first version Event.ServerTick is has = tt
 of_first version (Event.ClientTick host) is has = tt
 of_first version (Event.Restart host) is has = tt
 
-module _ (head : Head) (first : head.version ≡ 1) where
-  keeps_event : (event : Event) → IsOfFirst event → Keeps AreOfFirst (play_event (beginning head) event)
-  unfolding play_event
-  keeps_event event is events so = ends-answered AreOfFirst events event (stepped (beginning head) events event) (λ done. (is, so))
+keeps_event : (head : Head) → head.version ≡ 1 → (event : Event) → IsTellable head event → Keeps AreOfFirst (play_plainly plain_rules (beginning head) event)
+unfolding play_event
+keeps_event head first event told events so =
+    ends-answered AreOfFirst (event ∷ events) (stepped (beginning head) events event) (λ done. (of_first head.version event first told.1, so))
 
-  keeps_line : (most : ℕ) (line : Line) (text : List ℕ) → SpellsLine head line text → Keeps AreOfFirst (play_line (beginning head) most line)
-  keeps_line most (Line.Events event times) text spelled =
-      keeps-repeated AreOfFirst times (play_event (beginning head) event) (keeps_event event (of_first head.version event first spelled.1.0))
-  keeps_line most (Line.Round times) text spelled =
-      keeps-repeated AreOfFirst times (play_round (beginning head))
-      (keeps-round AreOfFirst (beginning head) (λ h. keeps_event (Event.ClientTick h) tt) (keeps_event Event.ServerTick tt))
-  keeps_line most Line.Flow text spelled = keeps-flow AreOfFirst (beginning head) most (λ k. keeps_event (Event.Deliver k) tt)
-  keeps_line most Line.End text spelled = λ events so. so
-
-  ran_on : (line : ℕ) (played : Due) (next : List Event → Ended) (events : List Event) → Ends AreOfFirst played → ((es : List Event) → AreOfFirst es
-      → next es ≡ ran events → AreOfFirst events) → at_line line played next ≡ ran events → AreOfFirst events
-  ran_on line (took es) next events so on is = on es so is
-  ran_on line (refused answer) next events so on is = absurd (cc)
-
-  lines_of_first : (most number : ℕ) (lines : List Line) (texts : List (List ℕ)) (earlier events : List Event) → SpellsLines head lines texts
-      → AreOfFirst earlier → play_lines (beginning head) most number lines earlier ≡ ran events → AreOfFirst events
-  lines_of_first most number [] texts earlier events spelled so is = let same : earlier ≡ events = cc in subst AreOfFirst same so
-  lines_of_first most number (line ∷ lines) [] earlier events spelled so is = absurd spelled
-  lines_of_first most number (line ∷ lines) (text ∷ texts) earlier events spelled so is =
-      ran_on number (play_line (beginning head) most line earlier) (play_lines (beginning head) most (number + 1) lines) events
-      (keeps_line most line text spelled.1 earlier so)
-      (λ es here on. lines_of_first most (number + 1) lines texts es events spelled.2 here on)
-      is
-
-  events_of_first : (lines : List Line) (text : List ℕ) (events : List Event) → SpellsSchedule head lines text → play head lines ≡ ran events
-      → AreOfFirst events
-  unfolding play
-  events_of_first lines text events spelled is = lines_of_first (most_events + 1) _ lines spelled.1.1.0 [] events spelled.1.1.1 tt is
+events_of_first : (head : Head) → head.version ≡ 1 → (lines : List Line) (text : List ℕ) (events : List Event) → SpellsSchedule head lines text
+    → play head lines ≡ ran events → AreOfFirst events
+unfolding play
+events_of_first head first lines text events spelled is =
+    keeps-lines plain_rules head AreOfFirst (keeps_event head first) (λ aside events so. so) (most_events + 1) _ [] lines spelled.1.1.0 [] events
+    spelled.1.1.1 tt is
 
 -- ---- the entries of its journal
 
@@ -135,7 +117,8 @@ all_plain : (version : ℕ) (entries : List Entry) → Each (Has version) (map p
 all_plain version [] each = All-nil (Has version)
 all_plain version (entry ∷ entries) each = All-cons (Has version) entry entries (plain_has version entry each.0) (all_plain version entries each.1)
 
-ran_has : {K : Type 0} (script : Script) (w : WorldOver K) (told : Option Kept) (due : Ended) → IsReady script → play script.head script.lines ≡ due
+ran_has : {K : Type 0} (script : Script) (w : WorldOver K) (told : Option Kept)
+    (due : Ended (List Event)) → IsReady script → play script.head script.lines ≡ due
     → RanTo due (λ events. Plays (beginning script.head) events w told) → All (Has script.head.version) w.entries
 ran_has script w told (ran events) ready is plays =
     let each = each-reverse (Has script.head.version) (run (beginning script.head) events).journal (run_has script.head script.lines ready.text events

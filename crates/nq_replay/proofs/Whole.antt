@@ -1,10 +1,12 @@
 -- What reading a schedule and replaying it come to together.
 use Rattle.std.proofs.Common.{◌≡◌, ◌<◌, ◌≤◌, ℕ, List, Option, Some, Err, inl, inr, refl, sym, subst, arith, length}
+use Rattle.nq_base.specs.declared.Event.{Event}
 use Rattle.nq_base.specs.declared.ending.ending.Ending.{Ending}
 use Rattle.nq_io.specs.Whole.{IsAll}
 use Rattle.nq_model.specs.Kept.{Kept}
 use Rattle.nq_replay.proofs.Lawfully.{played-runs-are-lawful}
-use Rattle.nq_replay.specs.Playing.{Ended, play, ran, stopped}
+use Rattle.nq_replay.specs.AsidesPlaying.{Ended, ran, stopped}
+use Rattle.nq_replay.specs.Playing.{play}
 use Rattle.nq_replay.proofs.Endings.{told_text}
 use Rattle.nq_replay.proofs.Never.{none_rose}
 use Rattle.nq_replay.proofs.Outcomes.{ends_done, ends_faulty, ends_passing, ends_skew, is_due, text_of_schedule}
@@ -107,7 +109,7 @@ pub over_ends : (end : Ending) (script : Script) (limit : ℕ) (left rest held n
 over_ends end script limit left rest held now r r' w w' input ends =
     ends_text end input.text limit left rest held now r r' w w' input.read (over_text end script input.text held now w w' input.so ends)
 
-within_due : (head : Head) (lines : List Line) (due : Ended) (text : List ℕ) (held now : Option (List ℕ)) (told : Option Kept) (w w' : ℕ)
+within_due : (head : Head) (lines : List Line) (due : Ended (List Event)) (text : List ℕ) (held now : Option (List ℕ)) (told : Option Kept) (w w' : ℕ)
     → SpellsSchedule head lines text → play head lines ≡ due
     → EndsOver Ending.Done head due held now w w' → KeepsPlayed head due told → PrintsWithin text held now told
 within_due head lines (ran events) text held now told w w' spelled is (inl printed) keeps = record {
@@ -145,7 +147,7 @@ raised_unless : (end wanted : Ending) (r r' w w' : ℕ) → IsUnlessFault end wa
 raised_unless end wanted r r' w w' (inl same) = inl same
 raised_unless end wanted r r' w w' (inr fault) = inr (raised end r r' w w' fault)
 
-over_unless : (end wanted : Ending) (head : Head) (due : Ended) (held now : Option (List ℕ)) (r r' w w' k k' : ℕ)
+over_unless : (end wanted : Ending) (head : Head) (due : Ended (List Event)) (held now : Option (List ℕ)) (r r' w w' k k' : ℕ)
     → (EndsPlayed end head due held now w w' → IsUnlessFault end wanted 0 0 w w')
     → CountsKeeper end k k' → EndsOver end head due held now w w' → IsUnlessFaultOver end wanted r r' w w' k k'
 over_unless end wanted head due held now r r' w w' k k' unless counts (inl ends) = inl (raised_unless end wanted r r' w w' (unless ends))

@@ -1,4 +1,4 @@
--- How the lines of a schedule with asides are played, one after another. Below, `S` is what playing comes to.
+-- How lines are played, one after another. Below, `S` is what playing comes to.
 use Rattle.std.specs.Prelude.{ℕ, ◌+◌, List, [], ◌∷◌, Option, Some, None, zero, suc}
 use Rattle.nq_model.specs.Stepped.{Stepped, done}
 
@@ -12,10 +12,10 @@ abbrev pub and_then : {S : Type 0} → Played S → (S → Played S) → Played 
 and_then (took reached) next = next reached
 and_then (refused answer) next = refused answer
 
--- an event behind these by its answer
-abbrev pub answered : {E : Type 0} → (earlier : List E) → E → Stepped → Played (List E)
-answered earlier event done = took (event ∷ earlier)
-answered earlier event other = refused other
+-- by the answer to an event that leads to this
+abbrev pub answered : {S : Type 0} → (next : S) → Stepped → Played S
+answered next done = took next
+answered next other = refused other
 
 -- something is played so many times, one after another
 abbrev pub repeated : {S : Type 0} → (times : ℕ) → (S → Played S) → S → Played S

@@ -1,15 +1,13 @@
 -- What playing over a world does, beside what it is to do by the protocol. Below, `told` is what the world's keeper tells of its
 -- content, and `flags` tells which packets were delivered.
 use Rattle.std.specs.List.{AllByRecursion}
-use Rattle.std.specs.Prelude.{◌≡◌, ◌<◌, ℕ, Bool, List, Option}
+use Rattle.std.specs.Prelude.{◌<◌, ℕ, Bool, List, Option}
 use Rattle.nq_base.specs.declared.Event.{Event}
 use Rattle.nq_model.specs.Kept.{Kept}
 use Rattle.nq_model.specs.World.{Head}
 use Rattle.nq_replay.specs.Delivering.{Marks}
-use Rattle.nq_replay.specs.Playing.{Ended, Played as Due, ran, refused, stopped, took}
 use Rattle.nq_replay.specs.declared.play.played.Played.{Played}
 use Rattle.nq_script.specs.declared.lines.Line.{Line}
-use Rattle.nq_world.specs.Answering.{told as answer_of}
 use Rattle.nq_world.specs.Playing.{CanCome, Plays, WorldOver}
 use Rattle.nq_world.specs.declared.stepped.Stepped.{Stepped}
 
@@ -30,42 +28,6 @@ IsForWorld hosts longest other = Unit {0}
 
 abbrev pub AreForWorld : (hosts longest : ℕ) → List Line → Type 0
 AreForWorld hosts longest lines = AllByRecursion (IsForWorld hosts longest) lines
-
--- all went well, and this holds of the events
-abbrev pub WentTo : Due → (List Event → Type 0) → Type 0
-WentTo (took events) P = P events
-WentTo (refused answer) P = ⊥
-
--- this is what was answered to the first event that was not taken
-abbrev pub WasRefused : Due → Stepped → Type 0
-WasRefused (took events) said = ⊥
-WasRefused (refused answer) said = answer_of answer ≡ said
-
--- what a world said is what it is to say; a fault of the keeper, or want of memory, may come in its place. Where all went well,
--- this holds of the events
-abbrev pub Goes : Stepped → Due → (List Event → Type 0) → Type 0
-Goes Stepped.Done due P = WentTo due P
-Goes Stepped.Fault due P = Unit {0}
-Goes Stepped.Memory due P = Unit {0}
-Goes said due P = WasRefused due said
-
--- a schedule was played to its end, and this holds of its events
-abbrev pub RanTo : Ended → (List Event → Type 0) → Type 0
-RanTo (ran events) P = P events
-RanTo (stopped line answer) P = ⊥
-
--- the first event that was not taken is of this line, and this was answered to it
-abbrev pub StoppedAt : Ended → (line : ℕ) → Stepped → Type 0
-StoppedAt (ran events) line said = ⊥
-StoppedAt (stopped number answer) line said = (line ≡ number) × (answer_of answer ≡ said)
-
--- the same of a whole schedule
-abbrev pub Comes : Played → Ended → (List Event → Type 0) → Type 0
-Comes Played.All due P = RanTo due P
-Comes (Played.Stopped line Stepped.Done) due P = ⊥
-Comes (Played.Stopped line Stepped.Fault) due P = Unit {0}
-Comes (Played.Stopped line Stepped.Memory) due P = Unit {0}
-Comes (Played.Stopped line said) due P = StoppedAt due line said
 
 -- what the world said last
 abbrev pub said : Played → Stepped

@@ -3,7 +3,8 @@ use Rattle.std.specs.Prelude.{◌≡◌, ℕ, List}
 use Rattle.nq_base.specs.declared.Event.{Event}
 use Rattle.nq_model.specs.Skew.{IsWithinSkew}
 use Rattle.nq_model.specs.World.{Head as Beginning}
-use Rattle.nq_replay.specs.Playing.{beginning, play, ran}
+use Rattle.nq_replay.specs.AsidesPlaying.{ran}
+use Rattle.nq_replay.specs.Playing.{beginning, play}
 use Rattle.nq_model.specs.Bounds.{KeepsBounds}
 use Rattle.nq_script.specs.Schedule.{SpellsSchedule}
 use Rattle.nq_script.specs.declared.heads.Head.{Head}

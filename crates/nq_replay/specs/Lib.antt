@@ -9,6 +9,9 @@ pub mod Playing
 pub mod Reaching
 pub mod Reading
 pub mod Replay
+pub mod Rules
+pub mod RulesGoing
+pub mod RulesLaws
 pub mod Schedules
 pub mod Text
 pub mod Texts

@@ -12,7 +12,8 @@ use Rattle.nq_model.specs.Kept.{Kept}
 use Rattle.nq_model.specs.Stepped.{Stepped, no_packet, out_of_skew, too_many_events, too_many_packets}
 use Rattle.nq_model.specs.World.{run}
 use Rattle.nq_replay.specs.Lawful.{IsLawful}
-use Rattle.nq_replay.specs.Playing.{beginning, play, ran, stopped}
+use Rattle.nq_replay.specs.AsidesPlaying.{ran, stopped}
+use Rattle.nq_replay.specs.Playing.{beginning, play}
 use Rattle.nq_replay.specs.Lines.{last_line, limit_line, script_line, skew_line}
 use Rattle.nq_replay.specs.declared.printing.Bound.{Bound}
 use Rattle.nq_script.specs.Schedule.{SpellsSchedule, FirstBadLine}

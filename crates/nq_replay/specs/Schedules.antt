@@ -1,14 +1,15 @@
 -- What running a schedule that was read prints. The names of what the sink holds and of its counts of faults are those of `Lines`.
 use Rattle.std.specs.Prelude.{◌≡◌, ◌⊎◌, ◌+◌, ◌<◌, ◌^◌, ℕ, List, Option, Some, length}
 use Rattle.nq_base.specs.declared.Entry.{Entry}
+use Rattle.nq_base.specs.declared.Event.{Event}
 use Rattle.nq_base.specs.declared.ending.ending.Ending.{Ending}
 use Rattle.nq_io.specs.Faults.{Rose}
 use Rattle.nq_io.specs.Sink.{AppendsFront, PrintsLine}
 use Rattle.nq_io.specs.Told.{with_end}
 use Rattle.nq_journal.specs.Text.{journal_text}
 use Rattle.nq_model.specs.Kept.{Kept}
-use Rattle.nq_replay.specs.Going.{RanTo}
-use Rattle.nq_replay.specs.Playing.{Ended, ran, stopped}
+use Rattle.nq_replay.specs.AsidesGoing.{RanTo}
+use Rattle.nq_replay.specs.AsidesPlaying.{Ended, ran, stopped}
 use Rattle.nq_replay.specs.declared.play.played.Played.{Played}
 use Rattle.nq_replay.specs.Lines.{limit_line, script_line, skew_line}
 use Rattle.nq_replay.specs.Replay.{journal_of, kept_of}
@@ -61,16 +62,16 @@ TellsWhy end line Stepped.Fault held now w w' = (end ≡ Ending.KeepFault) × (n
 TellsWhy end line answer held now w w' = TellsStop end line answer held now w w'
 
 -- what running a schedule printed, by what is due and the end
-abbrev pub EndsPlayed : Ending → Head → Ended → (held now : Option (List ℕ)) → (w w' : ℕ) → Type 0
+abbrev pub EndsPlayed : Ending → Head → Ended (List Event) → (held now : Option (List ℕ)) → (w w' : ℕ) → Type 0
 EndsPlayed end head (ran events) held now w w' = PrintsEntries end head.version (journal_of head events) held now w w'
 EndsPlayed end head (stopped line answer) held now w w' = TellsStop end line (answer_of answer) held now w w'
 
 -- the same over a keeper: where it failed nothing was printed
-abbrev pub EndsOver : Ending → Head → Ended → (held now : Option (List ℕ)) → (w w' : ℕ) → Type 0
+abbrev pub EndsOver : Ending → Head → Ended (List Event) → (held now : Option (List ℕ)) → (w w' : ℕ) → Type 0
 EndsOver end head due held now w w' = EndsPlayed end head due held now w w' ⊎ ((end ≡ Ending.KeepFault) × (now ≡ held))
 
 -- the schedule was played to its end, and what its run keeps is told
-abbrev pub KeepsPlayed : Head → Ended → (told : Option Kept) → Type 0
+abbrev pub KeepsPlayed : Head → Ended (List Event) → (told : Option Kept) → Type 0
 KeepsPlayed head due told = RanTo due (λ events. told ≡ Some (kept_of head events))
 
 -- an answer of a world over a keeper that never fails to an event that it did not take

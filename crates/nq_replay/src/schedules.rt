@@ -3,11 +3,14 @@
 ghost use Rattle.std.specs.Prelude.{◌≡◌, ℕ, List, [], Some, All, map};
 ghost use Rattle.nq_base.specs.Plain.{plain};
 ghost use Rattle.nq_base.specs.declared.Entry.{Entry};
+ghost use Rattle.nq_base.specs.declared.Event.{Event};
 ghost use Rattle.nq_base.specs.declared.ending.ending.Ending.{Ending};
 ghost use Rattle.nq_journal.specs.Text.{Has, IsVersion};
 ghost use Rattle.nq_keeper.specs.StoredKeeper.{empty_kept};
-ghost use Rattle.nq_replay.specs.Going.{Comes, said};
-ghost use Rattle.nq_replay.specs.Playing.{Ended, beginning, play};
+ghost use Rattle.nq_replay.specs.AsidesGoing.{Comes};
+ghost use Rattle.nq_replay.specs.AsidesPlaying.{Ended};
+ghost use Rattle.nq_replay.specs.Going.{said};
+ghost use Rattle.nq_replay.specs.Playing.{beginning, play};
 ghost use Rattle.nq_replay.specs.declared.play.played.Played.{Played};
 ghost use Rattle.nq_replay.specs.Ending.{CountsKeeper, CountsSink};
 ghost use Rattle.nq_replay.specs.Schedules.{EndsOver, IsReady, IsReason, KeepsPlayed, PrintsEntries, TellsStop, TellsWhy, bound_of};
@@ -105,15 +108,8 @@ fn play_over<L: Keeper>(alloc: Global, world: &mut World<L>, script: &Script) ->
     ensures counts { CountsFaults (said result) (L.faults world.old.server.keeper) (L.faults world.new.server.keeper) }
     ensures follows { L.follows world.old.server.keeper world.new.server.keeper }
 {
-    let most = MOST_EVENTS + 1;
-    play(
-        alloc,
-        world,
-        script.head.hosts,
-        most,
-        script.first,
-        &script.lines,
-    )
+    let asides = Vec::new(alloc);
+    play(alloc, world, MOST_EVENTS + 1, script, &asides)
 }
 
 /// Prints the journal of a world whose schedule was played to its end, or tells where it stopped.
@@ -127,10 +123,10 @@ fn tell<L: Keeper, K: Sink>(
     requires version { IsVersion version }
     requires has { played ≡ Played.All → All (Has version) world.now.entries }
     requires stops { said played ≡ Stepped.Done → played ≡ Played.All }
-    ensures ends { (head : Head) (due : Ended) → head.version ≡ version → Comes played due (λ events. Plays (beginning head) events world.now
+    ensures ends { (head : Head) (due : Ended (List Event)) → head.version ≡ version → Comes played due (λ events. Plays (beginning head) events world.now
         (L.content world.now.server.keeper))
         → EndsOver result head due (K.held out.old) (K.held out.new) (K.faults out.old) (K.faults out.new) }
-    ensures keeps { result ≡ Ending.Done → (head : Head) (due : Ended) → Comes played due (λ events. Plays (beginning head) events world.now
+    ensures keeps { result ≡ Ending.Done → (head : Head) (due : Ended (List Event)) → Comes played due (λ events. Plays (beginning head) events world.now
         (L.content world.now.server.keeper))
         → KeepsPlayed head due (L.content world.now.server.keeper) }
     ensures counts { (before count : ℕ) → CountsFaults (said played) before count → CountsKeeper result before count }

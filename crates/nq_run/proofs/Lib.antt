@@ -1,6 +1,7 @@
 pub mod Commands
 pub mod Faultless
 pub mod Finding
+pub mod FourFates
 pub mod Hiding
 pub mod Judgements
 pub mod LoopPromises
@@ -12,4 +13,3 @@ pub mod ReplayPromises
 pub mod Saying
 pub mod StagedPromises
 pub mod StormPromises
-pub mod Usage

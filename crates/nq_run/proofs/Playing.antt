@@ -2,11 +2,13 @@
 use Rattle.std.proofs.Common.{◌≡◌, ◌<◌, ◌≤◌, ℕ, List, Bool, true, false, Option, Some, Err, inl, inr, refl, subst, length}
 use Rattle.nq_service.specs.Emptying.{EmptiesNot}
 use Rattle.nq_run.specs.Running.{PlaysOn, ReplaysOn}
+use Rattle.nq_base.specs.declared.Event.{Event}
 use Rattle.nq_base.proofs.Ends.{one_end}
 use Rattle.nq_base.specs.Status.{status_of}
 use Rattle.nq_base.specs.declared.ending.ending.Ending.{Ending}
 use Rattle.nq_model.specs.Kept.{Kept}
-use Rattle.nq_replay.specs.Playing.{Ended, play, ran, stopped}
+use Rattle.nq_replay.specs.AsidesPlaying.{Ended, ran, stopped}
+use Rattle.nq_replay.specs.Playing.{play}
 use Rattle.nq_replay.proofs.Outcomes.{memory_before}
 use Rattle.nq_replay.specs.Ending.{CountsKeeper, CountsSink, CountsSource, IsFault}
 use Rattle.nq_replay.specs.Reading.{IsReadAs, RefusedUnlessFault, Refuses}
@@ -27,14 +29,14 @@ pub kept_while : (ended : Bool) (bytes : Option (List ℕ)) (kept : Kept) → co
 kept_while true bytes kept is = absurd (cc)
 kept_while false bytes kept is = is
 
-keeps-on : (head : Head) (due : Ended) (ended : Bool) (bytes : Option (List ℕ)) → KeepsPlayed head due (content_while ended bytes)
+keeps-on : (head : Head) (due : Ended (List Event)) (ended : Bool) (bytes : Option (List ℕ)) → KeepsPlayed head due (content_while ended bytes)
     → KeepsPlayed head due (kept_told bytes)
 keeps-on head (ran events) ended bytes keeps = kept_while ended bytes _ keeps
 keeps-on head (stopped line answer) ended bytes keeps = absurd keeps
 
 -- ---- where no empty store was made
 
-ends-not : (end : Ending) (head : Head) (due : Ended) (held : Option (List ℕ)) (w before count : ℕ) → EmptiesNot end before count
+ends-not : (end : Ending) (head : Head) (due : Ended (List Event)) (held : Option (List ℕ)) (w before count : ℕ) → EmptiesNot end before count
     → EndsOver end head due held held w w
 ends-not Ending.KeepFault head due held w before count fails = inr (refl, refl)
 ends-not Ending.Memory head due held w before count fails = inl (memory_before head due held w)
@@ -53,7 +55,7 @@ sinks-not Ending.KeepFault w before count fails = refl
 sinks-not Ending.Memory w before count fails = refl
 sinks-not other w before count fails = absurd fails
 
-pub plays_not : (end : Ending) (code : ℕ) (head : Head) (due : Ended) (held : Option (List ℕ)) (w before count : ℕ) (bytes : Option (List ℕ))
+pub plays_not : (end : Ending) (code : ℕ) (head : Head) (due : Ended (List Event)) (held : Option (List ℕ)) (w before count : ℕ) (bytes : Option (List ℕ))
     → code ≡ status_of end
     → EmptiesNot end before count → PlaysOn head due code held held w w before count bytes
 plays_not end code head due held w before count bytes status fails = record {
@@ -71,7 +73,8 @@ plays_not end code head due held w before count bytes status fails = record {
 -- ---- over a store
 
 module _ {D : Type 0} (told : D → Option (List ℕ)) (faults : D → ℕ) (follows : D → D → Type 0) where
-  pub plays_store : (end : Ending) (code : ℕ) (head : Head) (due : Ended) (held now : Option (List ℕ)) (w w' : ℕ) (disk : D) (store served : StoredStore D)
+  pub plays_store : (end : Ending) (code : ℕ) (head : Head) (due : Ended (List Event)) (held now : Option (List ℕ)) (w w' : ℕ) (disk : D)
+      (store served : StoredStore D)
       → code ≡ status_of end → ((first last : D) → follows first last → faults first ≤ faults last) → IsFresh store → faults store.disk ≡ faults disk
       → GoesOn faults follows store served → EndsOver end head due held now w w' → (end ≡ Ending.Done → KeepsPlayed head due (content_of told served))
       → CountsKeeper end (faults_of faults store) (faults_of faults served) → CountsSink end w w'
@@ -90,14 +93,14 @@ module _ {D : Type 0} (told : D → Option (List ℕ)) (faults : D → ℕ) (fol
 
 -- ---- with the reading
 
-never-unread : (head : Head) (due : Ended) (held now : Option (List ℕ)) (w w' : ℕ) → EndsOver Ending.ReadFault head due held now w w' → ⊥
+never-unread : (head : Head) (due : Ended (List Event)) (held now : Option (List ℕ)) (w w' : ℕ) → EndsOver Ending.ReadFault head due held now w w' → ⊥
 never-unread head (ran events) held now w w' (inl ends) = absurd ends
 never-unread head (ran events) held now w w' (inr failed) = let is = failed.0 in absurd (cc)
 never-unread head (stopped line answer) held now w w' (inl ends) = absurd ends
 never-unread head (stopped line answer) held now w w' (inr failed) = let is = failed.0 in absurd (cc)
 
 -- playing a schedule counts no fault of the source
-played-source : (end : Ending) (head : Head) (due : Ended) (held now : Option (List ℕ)) (r r' w w' : ℕ) → EndsOver end head due held now w w'
+played-source : (end : Ending) (head : Head) (due : Ended (List Event)) (held now : Option (List ℕ)) (r r' w w' : ℕ) → EndsOver end head due held now w w'
     → r' ≡ r → CountsSource end r r'
 played-source Ending.ReadFault head due held now r r' w w' ends same = absurd (never-unread head due held now w w' ends)
 played-source other head due held now r r' w w' ends same = same

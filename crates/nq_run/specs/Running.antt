@@ -2,11 +2,12 @@
 -- of faults before and after; all other names are those of `Replaying`, `Storming` and `Looping`.
 use Rattle.std.specs.Prelude.{◌≡◌, ◌⊎◌, ◌<◌, ◌≤◌, ◌-◌, ◌^◌, ℕ, List, Option, Some, length}
 use Rattle.nq_service.specs.Emptying.{EmptiesNot}
+use Rattle.nq_base.specs.declared.Event.{Event}
 use Rattle.nq_base.specs.Status.{status_of}
 use Rattle.nq_base.specs.declared.ending.ending.Ending.{Ending}
 use Rattle.nq_clock.specs.Clocks.{ClockTold}
 use Rattle.nq_link.specs.Links.{LinkTold}
-use Rattle.nq_replay.specs.Playing.{Ended}
+use Rattle.nq_replay.specs.AsidesPlaying.{Ended}
 use Rattle.nq_replay.specs.Ending.{CountsKeeper, CountsSink}
 use Rattle.nq_replay.specs.Schedules.{EndsOver, KeepsPlayed}
 use Rattle.nq_run.specs.Fates.{FateTold}
@@ -41,7 +42,8 @@ pub record StartsNot (code before count : ℕ) (held now : Option (List ℕ)) (w
 
 -- A schedule that was read was played over an empty store of a disk, or none was made; this is what it printed, and what the disk stands for
 -- where all was played
-pub record PlaysOn (head : Head) (due : Ended) (code : ℕ) (held now : Option (List ℕ)) (w w' before count : ℕ) (bytes : Option (List ℕ)) : Type 0 where
+pub record PlaysOn (head : Head) (due : Ended (List Event)) (code : ℕ) (held now : Option (List ℕ)) (w w' before count : ℕ)
+    (bytes : Option (List ℕ)) : Type 0 where
   pub end : Ending
   pub status : code ≡ status_of end
   pub ends : EndsOver end head due held now w w'

@@ -1,5 +1,4 @@
 pub mod Steps
-pub mod Onward
 pub mod Tellable
 pub mod Keeping
 pub mod Outcomes

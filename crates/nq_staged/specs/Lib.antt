@@ -1,7 +1,7 @@
 pub mod Text
 pub mod TextLaws
 pub mod Playing
-pub mod Going
+pub mod PlayingLaws
 pub mod Running
 pub mod Line
 pub mod Around

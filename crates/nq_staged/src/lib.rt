@@ -6,9 +6,8 @@
 #![tactic(auto)]
 
 pub mod commit;
-mod events;
-mod lines;
 mod offer;
+mod playing;
 mod printing;
 mod running;
 

@@ -24,7 +24,6 @@ ghost use Rattle.nq_stage.specs.declared.run.event.StagedEvent.{StagedEvent};
 ghost use Rattle.nq_world.specs.Playing.{HasSettings};
 
 use crate::commit::StagedWorld;
-use crate::lines::play;
 use crate::offer::Offer;
 use crate::printing::count_text;
 use nq_base::NoMemory;
@@ -32,7 +31,7 @@ use nq_base::ending::Ending;
 use nq_io::{Sink, Source, Whole, read_all};
 use nq_keeper::{Keeper, ListKeeper};
 use nq_replay::asides::{MixedScript, read_script};
-use nq_replay::play::Played;
+use nq_replay::play::{Played, play};
 use nq_replay::{print_parts, schedule_text, tell_over, tell_script, tell_stop};
 use nq_script::{Head, ScriptFault};
 use nq_world::{MOST_EVENTS, NewFault, begin_surely};
@@ -186,7 +185,13 @@ fn play_over<L: Keeper>(
         (λ events. PlaysOutside (beginning script.now.script.head) events world.new (L.content world.new.inner.server.keeper)) }
     ensures reason { HasReason result }
 {
-    play(alloc, world, MOST_EVENTS + 1, script)
+    play(
+        alloc,
+        world,
+        MOST_EVENTS + 1,
+        &script.script,
+        &script.asides,
+    )
 }
 
 /// Prints what a world made whose staged schedule was played to its end, or tells where it stopped.

@@ -2,7 +2,8 @@
 use Rattle.std.specs.Prelude.{◌≡◌, ℕ, List, map, reverse, Option}
 use Rattle.nq_base.specs.declared.Event.{Event}
 use Rattle.nq_replay.specs.Lawful.{IsLawful}
-use Rattle.nq_replay.specs.Playing.{beginning, play, ran}
+use Rattle.nq_replay.specs.AsidesPlaying.{ran}
+use Rattle.nq_replay.specs.Playing.{beginning, play}
 use Rattle.nq_script.specs.Lines.{once}
 use Rattle.nq_script.specs.Schedule.{SpellsSchedule}
 use Rattle.nq_script.specs.declared.heads.Head.{Head}

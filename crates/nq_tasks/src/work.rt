@@ -82,6 +82,8 @@ pub struct Reply {
     pub bytes: Vec<u8>,
     /// The name under which a store was refused.
     pub refused: Option<Name>,
+    /// Whether a file was removed, perhaps one that told where the bytes of a whole file are.
+    pub is_removal: bool,
 }
 
 /// An ask at work. Contracts see who asked, and the number of the ask.
@@ -280,6 +282,11 @@ impl Work {
         }
     }
 
+    /// Whether an answer of this kind says that a file was removed.
+    fn is_removal(&self, kind: Kind) -> bool {
+        matches!(&self.task, Task::Call(Call::Remove { .. })) && matches!(kind, Kind::Done)
+    }
+
     /// It is over, with this answer and no bytes.
     fn ends(&self, kind: Kind, text: Vec<u8>) -> Came
         ensures { Answers self.now result }
@@ -291,6 +298,7 @@ impl Work {
             text,
             bytes: Vec::new(self.alloc),
             refused: self.refused(kind),
+            is_removal: self.is_removal(kind),
         })
     }
 
@@ -474,6 +482,7 @@ impl Work {
             text,
             bytes,
             refused: None,
+            is_removal: false,
         })
     }
 }

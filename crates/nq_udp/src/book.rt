@@ -1,7 +1,7 @@
 //! An address book.
 
-ghost use Rattle.std.specs.Prelude.{◌≡◌, ◌<◌, ◌≤◌, ◌↔◌, IfSome, IsTrue, None, Some, All, length, nat_lt, slice_get};
-ghost use Rattle.nq_udp.specs.Book.{HasAddressIn, IsAtIn, IsPlaceOf, Lists, empty_book, entry_at, party_of, place_of};
+ghost use Rattle.std.specs.Prelude.{◌≡◌, ◌<◌, ◌↔◌, IfSome, IsTrue, None, Some, length};
+ghost use Rattle.nq_udp.specs.Book.{HasAddressIn, IsAtIn, IsPlaceOf, Lists, empty_book, entry_at, place_of};
 
 use crate::local::{address_of, party_at};
 use nq_base::{Host, Party};

@@ -1,6 +1,6 @@
 //! Words from the left.
 
-ghost use Rattle.std.specs.Prelude.{◌≡◌, ◌∷◌, Some, None, IfOk, IfErr, OnErr, map, string_bytes, codes};
+ghost use Rattle.std.specs.Prelude.{◌≡◌, ◌∷◌, [], Some, None, IsNone, IfOk, IfErr, OnErr, map, string_bytes, codes};
 ghost use Rattle.nq_script.specs.WordsReading.{Takes, word_at};
 ghost use Rattle.nq_words.specs.Args.{Reads, Says, begins_option, number_at, number_wrong, ranged_of, sort_of, value_at};
 ghost use Rattle.nq_words.specs.Wrongs.{no_number, no_value, wrong_words};
@@ -119,7 +119,8 @@ impl<'a> Args<'a> {
 
     /// Takes the next word, whatever it is.
     pub fn word(&mut self) -> Option<&'a str>
-        ensures { Takes (λ word. word.now) result self.new (word_at self.old) }
+        ensures step { Takes (λ word. word.now) result self.new (word_at self.old) }
+        ensures none { IsNone result → (self.old ≡ []) × (self.new ≡ []) }
     {
         let (word, left) = self.left.split_first()?;
         self.left = left;

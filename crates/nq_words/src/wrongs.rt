@@ -37,6 +37,8 @@ impl<'a> fmt::Display for Wrong<'a> {
             Wrong::NoValue(word) => write!(f, "{word}: the word behind it is missing"),
             Wrong::Missing(word) => write!(f, "{word} is missing"),
             Wrong::NoNumber { word, least, most } => {
+                let least = *least;
+                let most = *most;
                 write!(f, "{word}: no number from {least} to {most}")
             }
         }

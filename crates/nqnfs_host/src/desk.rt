@@ -2,10 +2,11 @@
 
 use crate::link::HostLink;
 use nq_base::ending::Halt;
-use nq_base::{Answer, Call, FileId, Journal, Party, Who};
+use nq_base::{Answer, Call, Entry, FileId, Journal, Party, Who};
 use nq_calling::{call_now, lost_text};
 use nq_client::Client;
 use nq_clock::{Clock, StdClock};
+use nq_diary::Diary;
 use nq_hosts::node::client_turn;
 use nq_link::{Link, send_all};
 use nq_wire::Outbox;
@@ -30,13 +31,16 @@ fn begin(
     who: Who,
     link: &mut HostLink,
     clock: &mut StdClock<HostRuntime>,
+    diary: &mut Diary,
 ) -> Option<Client> {
     let now = clock.now();
     let mut out = Outbox::new(alloc, 0).unwrap();
     let Ok(client) = Client::start(alloc, who.host, who.inc, TERM, now, &mut out) else {
         return None;
     };
+    let _noted = diary.note_one(Entry::B { who });
     let _sent = send_all(link, &out);
+    link.let_go();
     Some(client)
 }
 
@@ -48,6 +52,7 @@ pub(crate) struct HostDesk {
     /// Its socket.
     pub(crate) link: HostLink,
     clock: StdClock<HostRuntime>,
+    diary: Diary,
     /// Why no more can be asked, if that is so.
     pub(crate) halt: Option<Halt>,
     answer: Option<Answer>,
@@ -61,16 +66,19 @@ impl HostDesk {
         who: Who,
         link: HostLink,
         clock: StdClock<HostRuntime>,
+        diary: Diary,
     ) -> Option<HostDesk> {
         let mut link = link;
         let mut clock = clock;
-        let client = begin(alloc, who, &mut link, &mut clock)?;
+        let mut diary = diary;
+        let client = begin(alloc, who, &mut link, &mut clock, &mut diary)?;
         Some(HostDesk {
             alloc,
             client,
             next: 0,
             link,
             clock,
+            diary,
             halt: None,
             answer: None,
             lost: Vec::new(alloc),
@@ -108,12 +116,19 @@ impl HostDesk {
             &mut self.next,
             &mut log,
         );
-        self.note(&log);
+        self.keep(&log);
         match turn {
             Ok(None) | Err(Halt::Link) => {}
             Ok(Some(answer)) => self.answer = Some(answer),
             Err(why) => self.halt = Some(why),
         }
+    }
+
+    /// Notes what was done, lets go what came of it, and keeps the losses in words.
+    fn keep(&mut self, log: &Journal) {
+        let _noted = self.diary.note(log);
+        self.link.let_go();
+        self.note(log);
     }
 
     /// Keeps the losses that a journal tells, in words.
@@ -155,7 +170,7 @@ impl HostDesk {
             &mut log,
             call,
         );
-        self.note(&log);
+        self.keep(&log);
         match answer {
             Answer::Pending | Answer::Busy => None,
             Answer::Memory => {
@@ -173,6 +188,7 @@ impl HostDesk {
     /// Sends a request for a page of a list.
     pub(crate) fn send(&mut self, request: &[u8]) {
         let _sent = self.link.send(Party::Server, request);
+        self.link.let_go();
     }
 
     /// The page of a list that came last, until it is taken.
@@ -205,7 +221,13 @@ impl HostDesk {
 
     /// Begins an incarnation more: as the server attaches it, it ends the leases of those before. Whether there was memory for it.
     pub(crate) fn begin_again(&mut self, who: Who) -> bool {
-        let Some(client) = begin(self.alloc, who, &mut self.link, &mut self.clock) else {
+        let Some(client) = begin(
+            self.alloc,
+            who,
+            &mut self.link,
+            &mut self.clock,
+            &mut self.diary,
+        ) else {
             return false;
         };
         mem::replace(&mut self.client, client).stop();
@@ -221,6 +243,7 @@ impl HostDesk {
             next: _,
             link: _link,
             clock: _clock,
+            diary: _diary,
             halt: _,
             answer: _answer,
             lost: _lost,

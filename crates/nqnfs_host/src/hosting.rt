@@ -431,13 +431,9 @@ impl Hosting {
         match came {
             Came::On => {}
             Came::Later => self.waiting.hear(Listed::Later),
-            Came::Tidied(Some(made)) => {
+            Came::Tidied(made) => {
                 self.work = None;
-                let _noted = self.ledger.keep(&made);
-            }
-            Came::Tidied(None) => {
-                self.work = None;
-                let _noted = self.ledger.put_down();
+                let _noted = self.ledger.looked_after(made);
             }
             Came::Over(reply) => {
                 self.work = None;
@@ -448,9 +444,13 @@ impl Hosting {
                     text,
                     bytes,
                     refused,
+                    is_removal,
                 } = reply;
                 if let Some(name) = refused {
                     let _noted = self.ledger.doubt(&name);
+                }
+                if is_removal {
+                    let _noted = self.ledger.doubt_all();
                 }
                 self.reply(place, number, kind, &text, &bytes);
             }

@@ -113,13 +113,31 @@ impl Ledger {
         true
     }
 
+    /// Has all of them looked after. Whether there was memory for it.
+    pub(crate) fn doubt_all(&mut self) -> bool {
+        if self.left.extend_from_slice(&self.kept).is_err() {
+            return false;
+        }
+        self.kept.clear();
+        true
+    }
+
+    /// One was looked after: it is kept again, if it is told. Once none is left the list is written down. Whether that went well.
+    pub(crate) fn looked_after(&mut self, made: Option<Made>) -> bool {
+        let kept = match &made {
+            Some(made) => push_made(&mut self.kept, made).is_ok(),
+            None => true,
+        };
+        kept && (!self.left.is_empty() || self.put_down())
+    }
+
     /// Keeps one, and writes the list down. Whether that went well.
-    pub(crate) fn keep(&mut self, made: &Made) -> bool {
+    fn keep(&mut self, made: &Made) -> bool {
         push_made(&mut self.kept, made).is_ok() && self.put_down()
     }
 
     /// Writes the list down. Whether that went well.
-    pub(crate) fn put_down(&self) -> bool {
+    fn put_down(&self) -> bool {
         let folder = self.folder.as_str();
         let Ok(path) = format!(in self.alloc; "{folder}/made") else {
             return false;

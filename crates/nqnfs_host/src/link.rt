@@ -5,28 +5,25 @@ ghost use Rattle.nq_io.specs.Faults.{Rose, count_up};
 ghost use Rattle.nq_link.specs.Link.{Comes, CountsReceive, CountsSend, Sends};
 
 use mio::net::UdpSocket;
-use nq_base::Host;
 use nq_link::{Came, Link, Party, Sent};
 use std::alloc::Global;
 use std::io::{self, ErrorKind};
 use std::marker::Model;
-use std::net::{IpAddr, Ipv4Addr, Net, SocketAddr};
+use std::net::SocketAddr;
 
-/// The port of the server.
-const SERVER_PORT: u16 = 20560;
-
-/// The port of host 0; host h has the port that is h further on.
-const FIRST_HOST_PORT: u16 = 20561;
-
-/// A host's UDP socket on 127.0.0.1, whose receives do not wait. A datagram that another party than the server sent is taken and counts as
+/// A host's UDP socket, whose receives do not wait. A datagram that another party than the server sent is taken and counts as
 /// nothing, and so does a page of a list, which is set aside. Each error of the socket is a fault. Contracts see its counts.
 #[derive(Drop)]
 pub(crate) struct HostLink {
     alloc: Global,
     /// The socket.
     pub(crate) socket: UdpSocket,
+    server: SocketAddr,
     is_dry: bool,
     listed: Option<Vec<u8>>,
+    /// What waits to be sent, where it is held back.
+    held: Vec<Vec<u8>>,
+    holds: bool,
     faults: u64,
     receives: u64,
 }
@@ -42,19 +39,6 @@ impl Model for HostLink {
 /// The second word of a reply.
 const REPLY: [u8; 4] = [0, 0, 0, 1];
 
-/// An address on this machine.
-fn local(port: u16) -> SocketAddr {
-    SocketAddr::new(IpAddr::V4(Ipv4Addr::new(127, 0, 0, 1)), port)
-}
-
-/// Whether an address is the server's.
-fn is_server(address: SocketAddr) -> bool {
-    match address.ip() {
-        IpAddr::V4(v4) => v4.octets() == [127, 0, 0, 1] && address.port() == SERVER_PORT,
-        IpAddr::V6(_) => false,
-    }
-}
-
 /// Whether an error says only that nothing is there.
 fn is_silence(error: &io::Error) -> bool {
     matches!(error.kind(), ErrorKind::WouldBlock | ErrorKind::Interrupted)
@@ -69,17 +53,43 @@ fn is_page(datagram: &[u8]) -> bool {
 }
 
 impl HostLink {
-    /// The link of a host below 64, if its port can be bound.
-    pub(crate) fn bind(alloc: Global, net: &impl Net, host: Host) -> io::Result<HostLink> {
-        let port = FIRST_HOST_PORT.saturating_add(host.0.min(63) as u16);
+    /// The link of a host between these two addresses, if its own can be bound. Where it `holds`, what is sent waits until it is let go.
+    pub(crate) fn bind(
+        rt: &HostRuntime,
+        home: SocketAddr,
+        server: SocketAddr,
+        holds: bool,
+    ) -> io::Result<HostLink> {
         Ok(HostLink {
-            alloc,
-            socket: UdpSocket::bind(net, local(port))?,
+            alloc: rt.alloc(),
+            socket: UdpSocket::bind(rt, home)?,
+            server,
             is_dry: true,
             listed: None,
+            held: Vec::new(rt.alloc()),
+            holds,
             faults: 0,
             receives: 0,
         })
+    }
+
+    /// Sends what was held back. What the machine refuses is lost, as a datagram may be.
+    pub(crate) fn let_go(&mut self) {
+        for datagram in self.held.iter() {
+            let _sent = self.socket.send_to(datagram, self.server);
+        }
+        self.held.clear();
+    }
+
+    /// Sends a datagram to the server, or holds it back. How many bytes of it went.
+    fn post(&mut self, bytes: &[u8]) -> io::Result<usize>
+        ensures { self.new ≡ self.old }
+    {
+        if !self.holds {
+            return self.socket.send_to(bytes, self.server);
+        }
+        self.held.push(bytes.to_vec(self.alloc)?)?;
+        Ok(bytes.len())
     }
 
     /// Whether the last receive found nothing.
@@ -128,7 +138,7 @@ impl Link for HostLink {
 
     fn send(&mut self, to: Party, bytes: &[u8]) -> Sent {
         let sent = match to {
-            Party::Server => self.socket.send_to(bytes, local(SERVER_PORT)),
+            Party::Server => self.post(bytes),
             Party::Client(_) => Err(io::Error::from(ErrorKind::InvalidInput)),
         };
         match sent {
@@ -144,7 +154,7 @@ impl Link for HostLink {
         self.count_receive();
         self.is_dry = false;
         match self.socket.recv_from(into) {
-            Ok((length, address)) if is_server(address) => {
+            Ok((length, address)) if address == self.server => {
                 let datagram = &into[..length];
                 if is_page(datagram) {
                     self.set_aside(datagram);

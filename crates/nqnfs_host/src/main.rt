@@ -14,14 +14,18 @@ use crate::hosting::Hosting;
 use crate::ledger::Ledger;
 use crate::link::HostLink;
 use crate::starts::{NoStart, let_second_pass, next_inc, pause};
-use crate::words::{Order, order_of};
+use crate::words::{Files, Order, order_of};
 use mio::net::UnixListener;
 use nq_base::ending::{Ending, Halt};
-use nq_base::{Host, Who};
+use nq_base::{Host, Party, Who};
+use nq_book::book_in;
 use nq_clock::StdClock;
+use nq_diary::Diary;
+use nq_udp::Book;
 use nq_words::{Unread, args_of};
 use std::fs::{self, DirBuilder, Permissions};
 use std::io::{self, ErrorKind};
+use std::net::SocketAddr;
 use std::os::unix::fs::{DirBuilderExt, PermissionsExt};
 use std::process::ExitCode;
 
@@ -29,15 +33,17 @@ use std::process::ExitCode;
 const VERSION: &str = "nqnfs_host 1";
 
 // Which words there are.
-const USAGE: &str = "nqnfs_host HOST";
+const USAGE: &str = "nqnfs_host HOST [--hosts FILE] [--journal FILE]";
 
-const HELP: &str = "nqnfs_host HOST
+const HELP: &str = "nqnfs_host HOST [--hosts FILE] [--journal FILE]
 
-Is host HOST, 0 to 63, of the server on this machine, until `nqnfs_user HOST end` or a signal ends it.
+Is host HOST, 0 to 63, of the server on this machine, or of that in FILE, until `nqnfs_user HOST end` or a signal ends it.
 The folder nqnfs-HOST, which it makes in this one, has its socket and its incarnation. Only this user may ask it.
 
---help       prints this
---version    prints the version
+--hosts FILE    where the parties are: lines `server ADDRESS:PORT` and `HOST ADDRESS:PORT`
+--journal FILE  appends what each turn did, and when, to FILE
+--help          prints this
+--version       prints the version
 ";
 
 /// How often it is looked at most whether the leases are given back.
@@ -59,7 +65,7 @@ fn obey(rt: &HostRuntime) -> Ending {
         ),
     };
     match order_of(words.as_slice()) {
-        Ok(Order::Be(host)) => be_host(rt, host),
+        Ok(Order::Be { host, files }) => be_host(rt, host, files),
         Ok(Order::Help) => {
             let _told = print!(rt; "{HELP}");
             Ending::Done
@@ -76,14 +82,72 @@ fn obey(rt: &HostRuntime) -> Ending {
 }
 
 /// Is this host.
-fn be_host(rt: &HostRuntime, host: Host) -> Ending {
+fn be_host(rt: &HostRuntime, host: Host, files: Files<'_>) -> Ending {
+    match line_of(rt, host, files) {
+        Ok((link, diary)) => begin_host(rt, host, link, diary),
+        Err(ending) => ending,
+    }
+}
+
+/// The link of a host and its diary, or how the program ends without them, which was said.
+fn line_of(rt: &HostRuntime, host: Host, files: Files<'_>) -> Result<(HostLink, Diary), Ending> {
+    let (home, server) = ends_of(rt, host, files.hosts)?;
+    let Ok(diary) = Diary::open(rt, files.journal) else {
+        return Err(told(
+            rt,
+            Ending::Usage,
+            "the file of the journal cannot be opened",
+        ));
+    };
+    match HostLink::bind(rt, home, server, files.journal.is_some()) {
+        Ok(link) => Ok((link, diary)),
+        Err(error) => Err(told_port(rt, host.0, &error)),
+    }
+}
+
+/// The addresses of a host and of the server, or how the program ends without them, which was said.
+fn ends_of(
+    rt: &HostRuntime,
+    host: Host,
+    hosts: Option<&str>,
+) -> Result<(SocketAddr, SocketAddr), Ending> {
+    let book = match hosts {
+        Some(path) => book_at(rt, path)?,
+        None => Book::local(),
+    };
+    match (
+        book.address(Party::Client(host)),
+        book.address(Party::Server),
+    ) {
+        (Some(home), Some(server)) => Ok((home, server)),
+        _ => Err(told(
+            rt,
+            Ending::Usage,
+            "the book has to list the host and the server",
+        )),
+    }
+}
+
+/// The book in a file, or how the program ends without it, which was said.
+fn book_at(rt: &HostRuntime, path: &str) -> Result<Book, Ending> {
+    let Ok(text) = fs::read(rt, path) else {
+        return Err(told(rt, Ending::Usage, "the address book cannot be read"));
+    };
+    match book_in(&text) {
+        Ok(book) => Ok(book),
+        Err(bad) => {
+            let (number, why) = (bad.number, bad.why.words());
+            let _told = eprintln!(rt; "nqnfs_host: {path}: line {number}: {why}");
+            Err(Ending::Usage)
+        }
+    }
+}
+
+/// Begins as this host over its link.
+fn begin_host(rt: &HostRuntime, host: Host, link: HostLink, diary: Diary) -> Ending {
     let number = host.0;
     let Ok(folder) = format!(in rt.alloc(); "nqnfs-{number}") else {
         return Ending::Memory;
-    };
-    let link = match HostLink::bind(rt.alloc(), rt, host) {
-        Ok(link) => link,
-        Err(error) => return told_port(rt, number, &error),
     };
     if make_folder(rt, folder.as_str()).is_err() {
         let _told = eprintln!(rt; "nqnfs_host: the folder {folder} cannot be made");
@@ -95,7 +159,7 @@ fn be_host(rt: &HostRuntime, host: Host) -> Ending {
         Err(why) => return told_start(rt, folder.as_str(), why),
     };
     match open_door(rt, folder.as_str()) {
-        Ok(door) => live(rt, folder.as_str(), Who { host, inc }, link, door),
+        Ok(door) => live(rt, folder.as_str(), Who { host, inc }, link, diary, door),
         Err(_) => {
             let _told = eprintln!(rt; "nqnfs_host: the socket {folder}/asks cannot be made");
             Ending::LinkFault
@@ -155,12 +219,19 @@ fn open_door(rt: &HostRuntime, folder: &str) -> io::Result<UnixListener> {
 }
 
 /// Lives until it is told to end.
-fn live(rt: &HostRuntime, folder: &str, who: Who, link: HostLink, door: UnixListener) -> Ending {
+fn live(
+    rt: &HostRuntime,
+    folder: &str,
+    who: Who,
+    link: HostLink,
+    diary: Diary,
+    door: UnixListener,
+) -> Ending {
     let (number, inc) = (who.host.0, who.inc.0);
     let Ok(watch) = rt.clone() else {
         return told_memory(rt);
     };
-    let Some(desk) = HostDesk::open(rt.alloc(), who, link, StdClock::new(watch)) else {
+    let Some(desk) = HostDesk::open(rt.alloc(), who, link, StdClock::new(watch), diary) else {
         return told_memory(rt);
     };
     let Some(ledger) = Ledger::open(rt, folder) else {

@@ -20,6 +20,16 @@ const NO_MEMORY: &str = "memory: memory was wanting";
 // What is said where a path is no text.
 const NO_TEXT: &str = "the path is no text: its bytes are no UTF-8";
 
+// What is said of a word too many.
+const MANY: &str =
+    "there is a word too many; help tells what stands where, with one blank between two words";
+
+// What is said of a prefix that no name has.
+const LONG: &str = "no name begins so: it has at most 64 bytes";
+
+/// The most bytes of a prefix.
+const MOST_PREFIX: usize = 64;
+
 const HELP: &str =
     "create NAME BLOCKS   make a file            lookup NAME         the number of a file
 attr F               how long a file is     resize F BLOCKS     another length
@@ -76,8 +86,10 @@ pub(crate) fn serve_lines(rt: &HostRuntime, asking: &mut Asking<'_>) -> Ending {
 
 /// Does what a line says.
 pub(crate) fn serve_line(rt: &HostRuntime, asking: &mut Asking<'_>, text: &[u8]) -> Did {
-    if is_list(text) {
-        return serve_list(rt, asking, text);
+    match list_of(text) {
+        Some(Ok(())) => return serve_list(rt, asking, text),
+        Some(Err(why)) => return tell_wrong(rt, why),
+        None => {}
     }
     match line_of(rt.alloc(), text) {
         Line::Empty => Did::Done,
@@ -86,7 +98,7 @@ pub(crate) fn serve_line(rt: &HostRuntime, asking: &mut Asking<'_>, text: &[u8])
             let _told = print!(rt; "{HELP}");
             Did::Done
         }
-        Line::Unknown => tell_wrong(rt, text),
+        Line::Unknown => tell_wrong(rt, why_not(text)),
         Line::Call(_) | Line::End => serve_call(rt, asking, text),
         Line::Store { path, name } => match str::from_utf8(path) {
             Ok(path) => serve_store(rt, asking, path, name),
@@ -99,14 +111,20 @@ pub(crate) fn serve_line(rt: &HostRuntime, asking: &mut Asking<'_>, text: &[u8])
     }
 }
 
-/// Whether a line asks for names: `ls`, or `ls PREFIX`.
-fn is_list(text: &[u8]) -> bool {
+/// What a line says that asks for names, `ls` or `ls PREFIX`: whether it may be asked so, or what is wrong. None where it asks for none.
+fn list_of(text: &[u8]) -> Option<Result<(), &'static str>> {
     let mut words = Words::new(text);
-    match (words.next(), words.next()) {
-        (Some(verb), None) => is(verb, b"ls"),
-        (Some(verb), Some(prefix)) => is(verb, b"ls") && prefix.len() <= 64 && words.is_empty(),
-        _ => false,
+    if !is(words.next()?, b"ls") {
+        return None;
     }
+    let prefix = words.next().unwrap_or(b"");
+    if !words.is_empty() {
+        return Some(Err(MANY));
+    }
+    if prefix.len() > MOST_PREFIX {
+        return Some(Err(LONG));
+    }
+    Some(Ok(()))
 }
 
 /// Lists names, each with the number of its file.
@@ -135,19 +153,22 @@ fn refuse(rt: &HostRuntime, words: &str) -> Did {
     Did::Refused
 }
 
-/// Tells what is wrong with a line.
-fn tell_wrong(rt: &HostRuntime, text: &[u8]) -> Did {
-    let why = match wrong_of(text) {
+/// What is wrong with a line.
+fn why_not(text: &[u8]) -> &'static str {
+    match wrong_of(text) {
         None | Some(Wrong::Verb) => "no line begins so; help tells what there is, and quit ends",
         Some(Wrong::Few) =>
             "a word is missing; help tells what stands where, with one blank between two words",
-        Some(Wrong::Many) =>
-            "there is a word too many; help tells what stands where, with one blank between two words",
+        Some(Wrong::Many) => MANY,
         Some(Wrong::Name) =>
             "that is no name: it has 1 to 64 printable bytes of ASCII, without blanks and without /",
         Some(Wrong::Number) =>
             "that is no number: it is 0 to 4294967295, without a sign and without zeros in front",
-    };
+    }
+}
+
+/// Tells what is wrong with a line.
+fn tell_wrong(rt: &HostRuntime, why: &str) -> Did {
     let _told = println!(rt; "{why}");
     Did::Wrong
 }

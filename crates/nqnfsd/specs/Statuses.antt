@@ -1,7 +1,7 @@
 -- How the program ends. Below, `told` is what a disk tells of its bytes, `faults` is its count of faults, `may_leave` is what a stop at a moment may
 -- leave of its bytes, `follows` says that a disk is another one after some of its calls, and `leaves` is what a stop between two moments may leave. An
 -- `extension` stands beside the server.
-use Rattle.std.specs.Prelude.{◌≡◌, ◌⊎◌, ◌≤◌, ◌^◌, ◌-◌, ℕ, List, Option, Result, Ok, Err, false}
+use Rattle.std.specs.Prelude.{◌≡◌, ◌≢◌, ◌⊎◌, ◌≤◌, ◌^◌, ◌-◌, ℕ, List, None, Option, Result, Ok, Err, false}
 use Rattle.nq_base.specs.declared.ending.ending.Ending.{Ending}
 use Rattle.nq_base.specs.declared.ending.halt.Halt.{Halt}
 use Rattle.nq_clock.specs.Clocks.{ClockTold}
@@ -14,6 +14,8 @@ use Rattle.nq_serving.specs.Serving.{end_of}
 use Rattle.nq_store.specs.Opening.{back_of}
 use Rattle.nq_store.specs.declared.fault.OpenFault.{OpenFault}
 use Rattle.nq_store.specs.declared.fault.OpenFault.TheVariants as opening
+use Rattle.nq_words.specs.declared.Wrong.{Wrong}
+use Rattle.nqnfsd.specs.declared.words.Options.{Options}
 use Rattle.nqnfsd.specs.declared.words.Order.{Order}
 use Rattle.nqnfsd.specs.declared.words.Order.TheVariants as order
 
@@ -88,10 +90,18 @@ EndsOver path end = IsWithoutParts end ⊎ ServedFile path end
 abbrev pub IsSaid : Ending → Type 0
 IsSaid end = (end ≡ Ending.Done) ⊎ (end ≡ Ending.WriteFault)
 
+-- the options name a file beside the image
+abbrev pub NamesFiles : Options → Type 0
+NamesFiles options = (options.hosts ≢ None) ⊎ (options.journal ≢ None)
+
+-- how the program ends that serves by these options: over their image, or with a fault of the words where a file that they name cannot be used
+abbrev pub EndsAt : Options → Ending → Type 0
+EndsAt options end = ((path : List ℕ) × EndsOver path end) ⊎ (NamesFiles options × (end ≡ Ending.Usage))
+
 -- How the program ends that was told to do this. It ends with 0 only where it said what it was asked for, or took all its turns while its disk did
 -- not fail
-abbrev pub EndsOrder : Order → Ending → Type 0
-EndsOrder order.Usage end = end ≡ Ending.Usage
-EndsOrder order.Help end = IsSaid end
-EndsOrder order.Version end = IsSaid end
-EndsOrder (order.Serve options) end = (path : List ℕ) × EndsOver path end
+abbrev pub EndsOrder : Result Order Wrong → Ending → Type 0
+EndsOrder (Err wrong) end = end ≡ Ending.Usage
+EndsOrder (Ok order.Help) end = IsSaid end
+EndsOrder (Ok order.Version) end = IsSaid end
+EndsOrder (Ok (order.Serve options)) end = EndsAt options end

@@ -9,8 +9,9 @@ ghost use Rattle.nqnfsd.specs.Statuses.{EndsSo, IsWithoutParts, end_of_turns, en
 ghost use Rattle.std.specs.Prelude.{◌≡◌, ◌≤◌, IfErr, IfOk};
 
 use nq_base::ending::{Ending, Halt};
-use nq_base::{Host, Journal, Party, Ticks};
+use nq_base::{Entry, Host, Journal, Party, Ticks};
 use nq_clock::{Clock, StdClock};
+use nq_diary::Diary;
 use nq_disk::{Disk, FileDisk};
 use nq_keeper::{KeepFault, Keeper};
 use nq_link::{Came, Link};
@@ -20,12 +21,10 @@ use nq_service::mount::{Greeter, Survey, serve_image};
 use nq_serving::traffic::CountedLink;
 use nq_serving::{Ended, Extension, MOST_TURNS, Watcher};
 use nq_store::OpenFault;
-use nq_udp::UdpLink;
+use nq_udp::{Book, UdpLink};
 use nq_wire::Outbox;
 use std::alloc::Global;
-
-// The port of the server.
-const PORT: u16 = 20560;
+use std::net::SocketAddr;
 
 // By how many seconds a recovery is longer than the longest term of the boot before it: the skew and the write slack.
 const BEYOND: u32 = 8;
@@ -35,18 +34,33 @@ const BEYOND: u32 = 8;
 pub(crate) struct Teller<'a, R> {
     pub(crate) rt: &'a HostRuntime,
     pub(crate) image: &'a str,
+    pub(crate) address: SocketAddr,
+    pub(crate) longest: u32,
+    pub(crate) diary: Diary,
     pub(crate) report: R,
 }
 
 impl<R> Greeter for Teller<'_, R> {
     fn opened(&mut self, survey: &Survey) {
-        tell_start(self.rt, self.image, survey);
+        tell_start(self.rt, self.image, self.address, survey);
+        let heads = survey.heads;
+        let longest = if heads.opened == 0 {
+            self.longest
+        } else {
+            heads.longest
+        };
+        let _noted = self.diary.note_one(Entry::X {
+            boot: heads.boot.saturating_add(1),
+            now: Ticks(0),
+            longest,
+        });
     }
 }
 
 impl<L, R: Watcher<L>> Watcher<L> for Teller<'_, R> {
     fn entered(&mut self, log: &Journal) {
-        self.report.entered(log);
+        let _noted = self.diary.note(log);
+        <R as Watcher<L>>::entered(&mut self.report, log);
     }
 
     fn turned(&mut self, link: &L, now: Ticks, rows: usize, log: &Journal) {
@@ -81,18 +95,30 @@ pub(crate) struct Parts {
     pub(crate) disk: FileDisk,
     pub(crate) link: CountedLink<UdpLink<HostRuntime>>,
     pub(crate) clock: StdClock<HostRuntime>,
+    pub(crate) address: SocketAddr,
 }
 
 /// The file of an image as a disk, the server's link, which is bound, and the clock; or how the program ends without them.
-pub(crate) fn parts_of(rt: &HostRuntime, image: &str) -> Result<Parts, Ending>
+pub(crate) fn parts_of(
+    rt: &HostRuntime,
+    image: &str,
+    book: Book,
+    home: Option<SocketAddr>,
+) -> Result<Parts, Ending>
     ensures file { IfOk result (λ parts. parts.disk ≡ file_at image.now) }
     ensures without { IfErr result IsWithoutParts }
 {
     let Ok(net) = rt.clone() else {
         return Err(Ending::Memory);
     };
-    let mut link = UdpLink::new(net, Party::Server);
-    if !is_bound(rt, &mut link) {
+    let Some(address) = address_of(&book, home) else {
+        let _told = eprintln!(rt;
+            "nqnfsd: the book has no line of the server, and --listen is not said"
+        );
+        return Err(Ending::LinkFault);
+    };
+    let mut link = UdpLink::with_book(net, Party::Server, book, home);
+    if !is_bound(rt, address, &mut link) {
         return Err(Ending::LinkFault);
     }
     let Ok(watch) = rt.clone() else {
@@ -106,6 +132,7 @@ pub(crate) fn parts_of(rt: &HostRuntime, image: &str) -> Result<Parts, Ending>
             disk,
             link: CountedLink::new(link),
             clock: StdClock::new(watch),
+            address,
         }),
         Err(_) => Err(Ending::Memory),
     }
@@ -137,14 +164,22 @@ pub(crate) fn serve_disk<D: Disk + Drop, L: Link, C: Clock, W: Watcher<L> + Gree
     }
 }
 
+/// The address at which the server listens: the one that is told, or else its own by the book.
+fn address_of(book: &Book, home: Option<SocketAddr>) -> Option<SocketAddr> {
+    match home {
+        Some(address) => Some(address),
+        None => book.address(Party::Server),
+    }
+}
+
 /// Binds the server's socket, and says why not where it cannot. A datagram that comes at that very moment is lost.
-fn is_bound(rt: &HostRuntime, link: &mut UdpLink<HostRuntime>) -> bool {
+fn is_bound(rt: &HostRuntime, address: SocketAddr, link: &mut UdpLink<HostRuntime>) -> bool {
     match link.receive(&mut [0]) {
         Came::Datagram { .. } | Came::Nothing => true,
         Came::Failed => {
             let _told = match link.taken_port() {
                 Some(port) => eprintln!(rt; "nqnfsd: the port {port} is taken"),
-                None => eprintln!(rt; "nqnfsd: the port {PORT} of 127.0.0.1 cannot be bound"),
+                None => eprintln!(rt; "nqnfsd: the address {address} cannot be bound"),
             };
             false
         }
@@ -195,15 +230,16 @@ fn tell_fault<D>(rt: &HostRuntime, image: &str, fault: OpenFault<D>) -> Ended<En
 }
 
 /// Says what the server begins with.
-fn tell_start(rt: &HostRuntime, image: &str, found: &Survey) {
+fn tell_start(rt: &HostRuntime, image: &str, address: SocketAddr, found: &Survey) {
     let boot = found.heads.boot.saturating_add(1);
     let (files, blocks) = (found.space.files, found.space.blocks);
     let recovers = match found.heads.opened {
         0 => 0,
         _ => found.heads.longest.saturating_add(BEYOND),
     };
+    let (ip, port) = (address.ip(), address.port());
     let _told = println!(rt;
-        "nqnfsd 1: image {image}, boot {boot}, {files} files with {blocks} blocks, 127.0.0.1 port {PORT}, recovers for {recovers} seconds"
+        "nqnfsd 1: image {image}, boot {boot}, {files} files with {blocks} blocks, {ip} port {port}, recovers for {recovers} seconds"
     );
 }
 

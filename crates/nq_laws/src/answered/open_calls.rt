@@ -21,7 +21,8 @@ pub fn open_calls_are_met()
     ensures { OpenCallsAreMet }
 {}
 
-/// In every run, whatever is under way: no client has delayed writes after as many whole rounds more as the longest term of all boots has ticks, and one, or after more.
+/// In every run, whatever is under way: no client has delayed writes after as many whole rounds more as the longest term of all boots has ticks, and
+/// one, or after more.
 pub fn whole_stored()
     ensures { WholeStored }
 {}

@@ -23,7 +23,7 @@ pub trait AsideLine: Copy + Drop {
 }
 
 /// What the line at a place says, if it is an aside.
-pub fn aside_at<A: AsideLine>(asides: &[Option<A>], place: usize) -> Option<A>
+pub fn aside_at<A: Copy + Drop>(asides: &[Option<A>], place: usize) -> Option<A>
     ensures { result ≡ aside_at asides.now place }
 {
     match asides.get(place) {

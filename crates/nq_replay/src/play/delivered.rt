@@ -1,10 +1,12 @@
 //! Which packets were delivered.
 
-ghost use Rattle.std.specs.Prelude.{◌≡◌, ◌≤◌, ◌<◌, ℕ, List, [], ◌∷◌, length, IfSome, OnOk, true, false, slice_index_or};
+ghost use Rattle.std.specs.Prelude.{◌≡◌, ◌≤◌, ◌<◌, ℕ, List, [], ◌∷◌, length, IfSome, OnOk, Some, true, false, slice_index_or};
 ghost use Rattle.nq_base.specs.declared.Event.{Event};
 ghost use Rattle.nq_replay.specs.Delivering.{Marks, least_undelivered};
+ghost use Rattle.nq_replay.specs.Going.{HasFlag};
+ghost use Rattle.nq_replay.specs.Rules.{packet_of};
 
-use nq_base::NoMemory;
+use nq_base::{Event, NoMemory};
 use std::alloc::Global;
 use std::marker::Model;
 
@@ -88,4 +90,32 @@ fn first_unflagged(flags: &[bool], from: usize) -> usize
         packet += 1;
     }
     packet
+}
+
+/// The packet that an event of a schedule delivers, if it is a delivery.
+pub fn packet_in(event: &Event) -> Option<u64>
+    ensures { result ≡ packet_of (Some event.now) }
+{
+    match event {
+        Event::Deliver(packet) => Some(*packet),
+        Event::Call { .. } => None,
+        Event::ServerTick => None,
+        Event::ClientTick(_) => None,
+        Event::Restart(_) => None,
+        Event::Crash { .. } => None,
+    }
+}
+
+/// Notes an event that was taken, if it is the delivery of a packet with a flag.
+pub fn note(delivered: &mut Delivered, event: &Event)
+    ensures { HasFlag (length delivered.old) event.now → (events : List Event) → Marks delivered.old events → Marks delivered.new (event.now ∷ events) }
+{
+    match event {
+        Event::Deliver(packet) => delivered.mark(*packet as usize),
+        Event::Call { .. } => {}
+        Event::ServerTick => {}
+        Event::ClientTick(_) => {}
+        Event::Restart(_) => {}
+        Event::Crash { .. } => {}
+    }
 }

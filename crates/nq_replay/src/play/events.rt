@@ -1,80 +1,83 @@
 //! Events, one after another.
 
-ghost use Rattle.std.specs.Prelude.{◌≡◌, ◌≤◌, ℕ, List, ◌∷◌, length};
+ghost use Rattle.std.specs.Prelude.{◌≡◌, ◌≤◌, length};
 ghost use Rattle.nq_base.specs.declared.Event.{Event};
 ghost use Rattle.nq_model.specs.World.{Head};
+ghost use Rattle.nq_replay.specs.AsidesGoing.{Goes};
+ghost use Rattle.nq_replay.specs.AsidesPlaying.{repeated};
 ghost use Rattle.nq_replay.specs.Delivering.{Marks};
-ghost use Rattle.nq_replay.specs.Going.{Goes, HasFlag, IsAt};
-ghost use Rattle.nq_replay.specs.Playing.{play_event, play_flow, play_round, play_ticks, repeated};
-ghost use Rattle.nq_world.specs.Playing.{CanCome, GoesOn};
+ghost use Rattle.nq_replay.specs.Rules.{packet_of, play_event, play_flow, play_plainly, play_round, play_ticks};
+ghost use Rattle.nq_replay.specs.RulesGoing.{IsAt, IsFlagged};
+ghost use Rattle.nq_world.specs.Playing.{CanCome};
 
 use crate::play::delivered::Delivered;
+use crate::play::world::OuterWorld;
 use nq_base::{Event, Host};
-use nq_keeper::Keeper;
-use nq_world::{Limit, Stepped, World};
+use nq_world::{Limit, Stepped};
 
 /// Notes an event that was taken, if it is the delivery of a packet with a flag.
-pub fn note(delivered: &mut Delivered, event: &Event)
-    ensures { HasFlag (length delivered.old) event.now → (events : List Event) → Marks delivered.old events → Marks delivered.new (event.now ∷ events) }
+fn note_of<W: OuterWorld>(delivered: &mut Delivered, event: &W::Event)
+    ensures { IsFlagged (length delivered.old) (packet_of (W.rules.in_schedule event.now))
+        → (moment : W.Moment) → Marks delivered.old (W.rules.scheduled moment) → Marks delivered.new (W.rules.scheduled (W.rules.more moment event.now)) }
 {
-    match event {
-        Event::Deliver(packet) => delivered.mark(*packet as usize),
-        Event::Call { .. } => {}
-        Event::ServerTick => {}
-        Event::ClientTick(_) => {}
-        Event::Restart(_) => {}
-        Event::Crash { .. } => {}
+    match W::packet_of(event) {
+        Some(packet) => delivered.mark(packet as usize),
+        None => {}
     }
 }
 
 /// Gives an event to a world, and notes which packet was delivered.
-pub(crate) fn take<K: Keeper>(
-    world: &mut World<K>,
+pub(crate) fn take<W: OuterWorld>(
+    world: &mut W,
     delivered: &mut Delivered,
-    event: &Event,
+    event: &W::Event,
 ) -> Stepped
-    requires { CanCome (length world.old.clients) world.old.skew.window event.now }
-    ensures goes { (head : Head) (events : List Event) → IsAt head events world.old (K.content world.old.server.keeper) delivered.old
-        → Goes result (play_event head event.now events) (λ es. IsAt head es world.new (K.content world.new.server.keeper) delivered.new) }
-    ensures keeps { GoesOn K.faults K.follows result world.old world.new }
+    requires { W.can_come world.old event.now }
+    ensures goes { (head : Head) (moment : W.Moment) → IsAt W.rules W.plays head moment world.old delivered.old
+        → Goes result (play_event W.rules head event.now moment) (λ next. IsAt W.rules W.plays head next world.new delivered.new) }
+    ensures keeps { W.goes_on result world.old world.new }
 {
-    let Ok(()) = delivered.reach(world.packets().len() as usize) else {
+    let Ok(sent) = world.sent() else {
+        return Stepped::Memory;
+    };
+    let Ok(()) = delivered.reach(sent as usize) else {
         return Stepped::Memory;
     };
     match world.step(event) {
         Stepped::Done => {
-            note(delivered, event);
+            note_of::<W>(delivered, event);
             Stepped::Done
         }
         other => other,
     }
 }
 
-/// Gives the delivery of a packet to a world.
-pub(crate) fn deliver<K: Keeper>(
-    world: &mut World<K>,
+/// Gives an event of a schedule to a world.
+pub(crate) fn take_plainly<W: OuterWorld>(
+    world: &mut W,
     delivered: &mut Delivered,
-    packet: u64,
+    event: Event,
 ) -> Stepped
-    ensures goes { (head : Head) (events : List Event) → IsAt head events world.old (K.content world.old.server.keeper) delivered.old
-        → Goes result (play_event head (Event.Deliver packet) events) (λ es. IsAt head es world.new (K.content world.new.server.keeper) delivered.new) }
-    ensures keeps { GoesOn K.faults K.follows result world.old world.new }
+    requires { CanCome (W.hosts world.old) (W.longest world.old) event }
+    ensures goes { (head : Head) (moment : W.Moment) → IsAt W.rules W.plays head moment world.old delivered.old
+        → Goes result (play_plainly W.rules head event moment) (λ next. IsAt W.rules W.plays head next world.new delivered.new) }
+    ensures keeps { W.goes_on result world.old world.new }
 {
-    let event = Event::Deliver(packet);
+    let event = W::of_schedule(event);
     take(world, delivered, &event)
 }
 
 /// Gives an event so many times.
-pub(crate) fn take_times<K: Keeper>(
-    world: &mut World<K>,
+pub(crate) fn take_times<W: OuterWorld>(
+    world: &mut W,
     delivered: &mut Delivered,
-    event: &Event,
+    event: &W::Event,
     times: u32,
 ) -> Stepped
-    requires { CanCome (length world.old.clients) world.old.skew.window event.now }
-    ensures goes { (head : Head) (events : List Event) → IsAt head events world.old (K.content world.old.server.keeper) delivered.old
-        → Goes result (repeated times (play_event head event.now) events) (λ es. IsAt head es world.new (K.content world.new.server.keeper) delivered.new) }
-    ensures keeps { GoesOn K.faults K.follows result world.old world.new }
+    requires { W.can_come world.old event.now }
+    ensures goes { (head : Head) (moment : W.Moment) → IsAt W.rules W.plays head moment world.old delivered.old
+        → Goes result (repeated times (play_event W.rules head event.now) moment) (λ next. IsAt W.rules W.plays head next world.new delivered.new) }
+    ensures keeps { W.goes_on result world.old world.new }
 {
     for turn in 0..times {
         match take(world, delivered, event) {
@@ -86,15 +89,14 @@ pub(crate) fn take_times<K: Keeper>(
 }
 
 /// The clocks of so many hosts tick.
-fn tick_hosts<K: Keeper>(world: &mut World<K>, delivered: &mut Delivered, hosts: u32) -> Stepped
-    requires { hosts ≤ length world.old.clients }
-    ensures goes { (head : Head) (events : List Event) → IsAt head events world.old (K.content world.old.server.keeper) delivered.old
-        → Goes result (play_ticks head 0 hosts events) (λ es. IsAt head es world.new (K.content world.new.server.keeper) delivered.new) }
-    ensures keeps { GoesOn K.faults K.follows result world.old world.new }
+fn tick_hosts<W: OuterWorld>(world: &mut W, delivered: &mut Delivered, hosts: u32) -> Stepped
+    requires { hosts ≤ W.hosts world.old }
+    ensures goes { (head : Head) (moment : W.Moment) → IsAt W.rules W.plays head moment world.old delivered.old
+        → Goes result (play_ticks W.rules head 0 hosts moment) (λ next. IsAt W.rules W.plays head next world.new delivered.new) }
+    ensures keeps { W.goes_on result world.old world.new }
 {
     for host in 0..hosts {
-        let event = Event::ClientTick(Host(host));
-        match take(world, delivered, &event) {
+        match take_plainly(world, delivered, Event::ClientTick(Host(host))) {
             Stepped::Done => {}
             other => return other,
         }
@@ -103,29 +105,29 @@ fn tick_hosts<K: Keeper>(world: &mut World<K>, delivered: &mut Delivered, hosts:
 }
 
 /// The clock of each host ticks, then the server's.
-fn round<K: Keeper>(world: &mut World<K>, delivered: &mut Delivered, hosts: u32) -> Stepped
-    requires { hosts ≤ length world.old.clients }
-    ensures goes { (head : Head) (events : List Event) → head.hosts ≡ hosts → IsAt head events world.old (K.content world.old.server.keeper) delivered.old
-        → Goes result (play_round head events) (λ es. IsAt head es world.new (K.content world.new.server.keeper) delivered.new) }
-    ensures keeps { GoesOn K.faults K.follows result world.old world.new }
+fn round<W: OuterWorld>(world: &mut W, delivered: &mut Delivered, hosts: u32) -> Stepped
+    requires { hosts ≤ W.hosts world.old }
+    ensures goes { (head : Head) (moment : W.Moment) → head.hosts ≡ hosts → IsAt W.rules W.plays head moment world.old delivered.old
+        → Goes result (play_round W.rules head moment) (λ next. IsAt W.rules W.plays head next world.new delivered.new) }
+    ensures keeps { W.goes_on result world.old world.new }
 {
     match tick_hosts(world, delivered, hosts) {
-        Stepped::Done => take(world, delivered, &Event::ServerTick),
+        Stepped::Done => take_plainly(world, delivered, Event::ServerTick),
         other => other,
     }
 }
 
 /// So many rounds.
-pub(crate) fn rounds<K: Keeper>(
-    world: &mut World<K>,
+pub(crate) fn rounds<W: OuterWorld>(
+    world: &mut W,
     delivered: &mut Delivered,
     hosts: u32,
     times: u32,
 ) -> Stepped
-    requires { hosts ≤ length world.old.clients }
-    ensures goes { (head : Head) (events : List Event) → head.hosts ≡ hosts → IsAt head events world.old (K.content world.old.server.keeper) delivered.old
-        → Goes result (repeated times (play_round head) events) (λ es. IsAt head es world.new (K.content world.new.server.keeper) delivered.new) }
-    ensures keeps { GoesOn K.faults K.follows result world.old world.new }
+    requires { hosts ≤ W.hosts world.old }
+    ensures goes { (head : Head) (moment : W.Moment) → head.hosts ≡ hosts → IsAt W.rules W.plays head moment world.old delivered.old
+        → Goes result (repeated times (play_round W.rules head) moment) (λ next. IsAt W.rules W.plays head next world.new delivered.new) }
+    ensures keeps { W.goes_on result world.old world.new }
 {
     for turn in 0..times {
         match round(world, delivered, hosts) {
@@ -138,15 +140,18 @@ pub(crate) fn rounds<K: Keeper>(
 
 /// The least packet that was never delivered is delivered, again and again, until each packet was; so many deliveries are too
 /// many events.
-pub(crate) fn flow<K: Keeper>(world: &mut World<K>, delivered: &mut Delivered, most: u32) -> Stepped
-    ensures goes { (head : Head) (events : List Event) → IsAt head events world.old (K.content world.old.server.keeper) delivered.old
-        → Goes result (play_flow head most events) (λ es. IsAt head es world.new (K.content world.new.server.keeper) delivered.new) }
-    ensures keeps { GoesOn K.faults K.follows result world.old world.new }
+pub(crate) fn flow<W: OuterWorld>(world: &mut W, delivered: &mut Delivered, most: u32) -> Stepped
+    ensures goes { (head : Head) (moment : W.Moment) → IsAt W.rules W.plays head moment world.old delivered.old
+        → Goes result (play_flow W.rules head most moment) (λ next. IsAt W.rules W.plays head next world.new delivered.new) }
+    ensures keeps { W.goes_on result world.old world.new }
 {
     for turn in 0..most {
-        match delivered.next(world.packets().len() as usize) {
+        let Ok(sent) = world.sent() else {
+            return Stepped::Memory;
+        };
+        match delivered.next(sent as usize) {
             None => return Stepped::Done,
-            Some(packet) => match deliver(world, delivered, packet as u64) {
+            Some(packet) => match take_plainly(world, delivered, Event::Deliver(packet as u64)) {
                 Stepped::Done => {}
                 other => return other,
             },

@@ -10,5 +10,7 @@ returns g c =
       noted = c.client_turn-turn.new.log;
       heard = link_of c.client_turn-turn.new.link;
       turns = c.client_turn-turn.ensures.turn;
-      makes = c.make.ensures;
+      refusal = c.refusal_of-refusal.result;
+      refuses = c.refusal_of-refusal.ensures;
+      makes = c.make_unless.ensures;
     }

@@ -7,7 +7,7 @@ use Rattle.nq_script.specs.Lines.{once}
 use Rattle.nq_script.specs.Schedule.{SpellsSchedule}
 use Rattle.nq_naming.proofs.Outcomes.{memory_before, run_ends, stop_ends}
 use Rattle.nq_naming.proofs.Printed.{is-printed}
-use Rattle.nq_naming.specs.Going.{IsAtEnd}
+use Rattle.nq_naming.specs.Going.{IsAtMoment}
 use Rattle.nq_naming.specs.Playing.{Moment}
 use Rattle.nq_naming.proofs.running.tell.Goals as goal
 
@@ -22,7 +22,7 @@ returns-in_default-clause-ends g c = λ due comes. memory_before c.args.head.now
 
 pub returns-in-Ok-clause-ends : goal.returns-in-Ok-clause-ends
 returns-in-Ok-clause-ends g c = λ due comes.
-    let P : Moment → Type 0 = λ m. IsAtEnd (beginning c.args.head.now) m c.args.world.now (g.L.Keeper.content c.args.world.now.inner.server.keeper)
+    let P : Moment → Type 0 = λ m. IsAtMoment (beginning c.args.head.now) m c.args.world.now (g.L.Keeper.content c.args.world.now.inner.server.keeper)
     c.args.found.now in
     let spelled = subst (SpellsSchedule c.args.head.now (map once c.ran.result.now)) (sym c.deref.ensures.value) c.in-Ok.ensures in
     run_ends c.print_parts.result c.args.head.now due P _ _ _ _ (rw c.in-All.is at comes)
@@ -35,6 +35,6 @@ returns-in-Ok-clause-ends g c = λ due comes.
 
 pub returns-in-Stopped-clause-ends : goal.returns-in-Stopped-clause-ends
 returns-in-Stopped-clause-ends g c = λ due comes.
-    let P : Moment → Type 0 = λ m. IsAtEnd (beginning c.args.head.now) m c.args.world.now (g.L.Keeper.content c.args.world.now.inner.server.keeper)
+    let P : Moment → Type 0 = λ m. IsAtMoment (beginning c.args.head.now) m c.args.world.now (g.L.Keeper.content c.args.world.now.inner.server.keeper)
     c.args.found.now in
     stop_ends c.tell_stop.result c.args.head.now c.in-Stopped.line c.in-Stopped.answer due P _ _ _ _ (rw c.in-Stopped.is at comes) c.tell_stop.ensures.tells

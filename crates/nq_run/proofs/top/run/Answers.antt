@@ -1,7 +1,7 @@
 use Rattle.nq_command.proofs.Ranges.{command_ranged}
 use Rattle.nq_command.specs.Commands.{command_of}
 use Rattle.nq_run.proofs.Commands.{left_so, says_check, says_format, says_names, says_replay, says_staged}
-use Rattle.nq_run.proofs.Usage.{said-none}
+use Rattle.nq_run.proofs.FourFates.{said-none}
 use Rattle.nq_run.specs.Frames.{reads_clock, reads_input, uses_disk, uses_fates, uses_link, uses_links}
 use Rattle.nq_run.proofs.top.run.Goals as goal
 

@@ -1,13 +1,14 @@
 use Rattle.nq_clock.specs.Clocks.{clock_told}
 use Rattle.nq_link.specs.Links.{link_told}
 use Rattle.nq_hosts.proofs.UserCauses.{stops}
-use Rattle.nq_hosts.specs.UserTurning.{Attends, Between, between}
-use Rattle.std.proofs.Common.{Ok, Err, subst}
-use Rattle.nq_hosts.proofs.user.turning.take_turn.Goals.{in-Ok, in-Err}
+use Rattle.nq_hosts.specs.UserTurning.{Between, between}
 use Rattle.nq_hosts.proofs.user.turning.take_turn.Goals as goal
 
-pub returns : goal.returns
-returns g c =
+pub returns-in-Ok : goal.returns-in-Ok
+returns-in-Ok g c = record { answer = c.in-Ok._answer; took = c.in-Ok.ensures.turn; so = c.is_reached.ensures }
+
+pub returns-in-Err : goal.returns-in-Err
+returns-in-Err g c =
     let clock_of = clock_told g.C.Clock.floor g.C.Clock.readings g.C.Clock.reads in
     let link_of = link_told g.L.Link.sent g.L.Link.waiting g.L.Link.faults g.L.Link.receives in
     let at : Between = between c.args.session.now (clock_of c.args.clock.now) (link_of c.args.link.now) in
@@ -18,8 +19,4 @@ returns g c =
       clock = clock_of c.client_turn.new.clock;
       link = link_of c.client_turn.new.link;
     } in
-    let took : Attends c.client_turn.result at after = c.client_turn.ensures.turn in
-    elim c.match-client_turn.branch [
-      | in-Ok w ↦ rw w.result-is (record { answer = w.in-Ok._answer; took = subst (λ t. Attends t at after) w.in-Ok.is took; so = w.is_reached.ensures })
-      | in-Err w ↦ rw w.result-is (stops w.in-Err.why at after (subst (λ t. Attends t at after) w.in-Err.is took))
-    ]
+    stops c.in-Err.why at after c.in-Err.ensures.turn

@@ -1,17 +1,16 @@
-use Rattle.std.proofs.Common.{◌-◌, List}
-use Rattle.nq_base.specs.declared.Event.{Event}
+use Rattle.std.proofs.Common.{◌-◌}
 use Rattle.nq_model.specs.World.{Head}
-use Rattle.nq_replay.proofs.Onward.{IsOn}
-use Rattle.nq_replay.specs.Going.{IsAt}
-use Rattle.nq_replay.specs.Playing.{play_event, repeated}
-use Rattle.nq_world.specs.Playing.{GoesOn}
+use Rattle.nq_replay.proofs.AsidesOnward.{IsOn}
+use Rattle.nq_replay.specs.RulesGoing.{IsAt}
+use Rattle.nq_replay.specs.AsidesPlaying.{repeated}
+use Rattle.nq_replay.specs.Rules.{play_event}
 use Rattle.nq_world.specs.declared.stepped.Stepped.{Stepped}
 use Rattle.nq_replay.proofs.play.events.take_times.Given as goal
 
 abbrev pub invariant-loop-turn : goal.invariant-loop-turn
 invariant-loop-turn g l = record {
-  on : (head : Head) (events : List Event) → IsAt head events l.fn.world (g.K.Keeper.content l.fn.world.server.keeper) l.fn.delivered
-      → IsOn (λ es. IsAt head es l.world (g.K.Keeper.content l.world.server.keeper) l.delivered) (repeated (l.times - l.turn)
-      (play_event head l.event)) (repeated l.times (play_event head l.event) events);
-  keeps : GoesOn g.K.Keeper.faults g.K.Keeper.follows Stepped.Done l.fn.world l.world;
+  on : (head : Head) (moment : g.W.OuterWorld.Moment) → IsAt g.W.OuterWorld.rules g.W.OuterWorld.plays head moment l.fn.world l.fn.delivered
+      → IsOn (λ next. IsAt g.W.OuterWorld.rules g.W.OuterWorld.plays head next l.world l.delivered) (repeated (l.times - l.turn)
+      (play_event g.W.OuterWorld.rules head l.event)) (repeated l.times (play_event g.W.OuterWorld.rules head l.event) moment);
+  keeps : g.W.OuterWorld.goes_on Stepped.Done l.fn.world l.world;
 }
