@@ -33,6 +33,9 @@ use Rattle.nq_world.specs.declared.Stepped.{Stepped}
 
 -- ---- what is told
 
+pub ended-so : (last : Result Unit Halt) (field why : Halt) → last ≡ Err field → field ≡ why → last ≡ Err why
+ended-so last field why is same = subst (λ (h : Halt). last ≡ Err h) same is
+
 pub limited-tells : {K : Type 0} (end : Ending) (limit : Limit) (head : Head) (world : WorldOver K) (kept : Option Kept) (ran : List Event)
     (held now : Option (List ℕ)) (w w' : ℕ) → TellsStop end 0 (Stepped.Limit limit) held now w w'
     → TellsEnd end (Err (Halt.Limit limit)) head world kept ran held now w w'

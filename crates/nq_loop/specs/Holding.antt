@@ -95,7 +95,7 @@ Stopped head other l = IsLooping head l
 
 -- how a loop stands behind some of its steps
 abbrev pub Stands : {K X : Type 0} → Head → Result X Halt → Loop K → Type 0
-Stands head (Ok done) l = IsLooping head l
+Stands head (Ok any) l = IsLooping head l
 Stands head (Err why) l = Stopped head why l
 
 -- an event was given to a loop, and that ended so
@@ -110,7 +110,7 @@ pub record Loops {K : Type 0} (head : Head) (steps : List Step) (ended : Result 
 
 -- the keeper's count of faults rose where it failed, and nowhere else
 abbrev pub CountsKeep : {X : Type 0} → Result X Halt → (before now : ℕ) → Type 0
-CountsKeep (Ok done) before now = now ≡ before
+CountsKeep (Ok any) before now = now ≡ before
 CountsKeep (Err Halt.Keep) before now = Rose before now
 CountsKeep (Err other) before now = now ≡ before
 
