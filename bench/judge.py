@@ -1,5 +1,5 @@
 #!/usr/bin/env python3
-"""Times `nqnfs check` on sound journals that cost more than their length.
+"""Times `nqnfs check` on sound journals that no run gives, or that may cost more than their length.
 
     bench/judge.py [--program FILE] LINES..
 

@@ -252,8 +252,8 @@ class Prompt:
                                             stdout=subprocess.PIPE, stderr=subprocess.DEVNULL, bufsize=0)
             time.sleep(0.02)
             if self.process.poll() is None and run == self.host.run:
-                self.reader = self.process.stdout
                 return run
+            self.process.kill()
             self.process.wait()
             time.sleep(0.1)
         return None
@@ -333,12 +333,12 @@ class Trial:
 
     def kills_one(self):
         part = self.chance.random()
-        if part < 0.25:
+        if part < 0.1:
             self.kills["server"] += 1
             self.server.dies()
             time.sleep(self.chance.uniform(0, 1))
             self.server.starts()
-        elif part < 0.7:
+        elif part < 0.6:
             self.kills["hosts"] += 1
             host = self.chance.choice(self.hosts)
             host.dies()
@@ -425,17 +425,17 @@ def told_faults(told, diaries):
                     begun, call = calls.pop((words[2], words[3]))
                     text = "lost" if words[4] == "lost" else " ".join(words[4:6])
                     answered[host, call, text].append((begun, moment))
-    faults, used = [], collections.Counter()
+    faults, used = [], collections.defaultdict(set)
     for one in sorted((one for one in told if one.answer), key=lambda one: one.ended):
         key = (one.host, one.words, said(one.answer))
         places = answered[key]
-        place = used[key]
-        while place < len(places) and places[place][0] < one.begun:
+        place = bisect.bisect_left(places, (one.begun, 0))
+        while place in used[key]:
             place += 1
-        if place == len(places) or places[place][1] > one.ended:
-            faults.append(f"host {one.host}: `{one.words}` was answered `{one.answer}`, and its diary has no such A in that time")
+        if place < len(places) and places[place][1] <= one.ended:
+            used[key].add(place)
         else:
-            used[key] = place + 1
+            faults.append(f"host {one.host}: `{one.words}` was answered `{one.answer}`, and its diary has no such A in that time")
     return faults
 
 
@@ -516,8 +516,9 @@ def spoiled(journal, told, lost, chance):
         place = chance.choice(reads)
         words = lines[place].split()
         yield "another value is read", changed(place, " ".join([*words[:6], str(int(words[6]) + 1), *words[7:]])), None
-    puts = {tuple(line.split()[1:4]) for line in lines if " put " in line}
-    through = at(lambda words: words[0] == "W" and words[7] == "through")
+    puts = {tuple(line.split()[1:4]): tuple(line.split()[1:3] + line.split()[5:]) for line in lines if " put " in line}
+    done = {puts.get(tuple(line.split()[1:4])) for line in lines if line.startswith("A ") and line.endswith(" ok")}
+    through = at(lambda words: words[0] == "W" and words[7] == "through" and (*words[1:5], words[6]) in done)
     if through:
         yield "a write through is missing", changed(chance.choice(through), None), None
     stores = at(lambda words: words[0] == "S")

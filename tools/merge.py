@@ -80,7 +80,7 @@ class Kept:
     def step_with(self, file, block, value, tick):
         """The entry that a client had under way which leaves this value in a block, if there is one."""
         for (host, inc), (_, name, *rest) in self.calls.items():
-            if name == "put" and rest == [file, block, value]:
+            if name in ("put", "write") and rest == [file, block, value]:
                 return ["W", host, inc, file, block, str(self.numbers.get((host, inc), 0) + 1), value, "through"]
         for place, writes in self.writes.items():
             if place[2:] != (file, block):

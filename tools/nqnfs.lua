@@ -130,10 +130,11 @@ function Reader:opaque()
     return range
 end
 
--- A name: 1 to 64 bytes, each from 33 to 126, and none of them a slash.
-function Reader:text(field)
+-- A name: 1 to 64 bytes, each from 33 to 126, and none of them a slash. A prefix may have none.
+function Reader:text(field, is_prefix)
     local range = self:opaque()
-    self:wants(range and range:len() <= 64)
+    self:wants(is_prefix or range)
+    self:wants(not range or range:len() <= 64)
     if range then
         self.tree:add(field, range)
         for at = 0, range:len() - 1 do
@@ -269,7 +270,7 @@ arguments[8] = function(r)
 end
 arguments[9] = arguments[8]
 arguments[13] = function(r)
-    local prefix, after = r:text(f.prefix), r:uint(f.after)
+    local prefix, after = r:text(f.prefix, true), r:uint(f.after)
     r:uint(f.term)
     return "directory /" .. prefix .. " behind " .. after
 end
@@ -333,8 +334,11 @@ local function call(r, pinfo, xid)
     authentication(r, "Credential")
     authentication(r, "Verifier")
     local key = key_of(pinfo.src_port, pinfo.dst_port, xid)
-    if not pinfo.visited and not calls[key] then
-        calls[key] = { frame = pinfo.number, procedure = number, time = pinfo.abs_ts }
+    -- A host that begins again begins its numbers again.
+    local inc = r.buffer:len() >= r.at + 8 and r.buffer(r.at + 4, 4):uint()
+    if not pinfo.visited and not (calls[key] and calls[key].inc == inc) then
+        calls[key] = { frame = pinfo.number, procedure = number, time = pinfo.abs_ts, inc = inc }
+        replies[key] = nil
     end
     if replies[key] then
         r.tree:add(f.reply_in, replies[key]):set_generated()

@@ -8,9 +8,10 @@ What host 0 reads next has to be what host 1 wrote, and what it writes next has 
 begins again in another folder. The file that it makes there has to be another one. `shared`: two hosts write and read one file in turn, without
 waiting for leases to run out. `words`: each line that cannot be done is answered with what is wrong. `end`: host 0 is told to end behind a
 write, which has to be stored. `lost`: host 0 is stopped behind a write until host 1 could write. Whoever asks host 0 next has to be told of
-the loss. `many`: for N seconds (60) four askers store and get whole files of two names at two hosts, while askers, hosts and the server are
-killed. Each file that is got has to be one that was stored and that no later one had replaced. Each scene (all, where none is named) has a
-server of its own and says what came. The status is 1 where something else came than has to. Build the three programs before.
+the loss. `names`: names are listed, and of one that is removed nothing stays. `waits`: whoever waits is told why. `many`: for N seconds (60)
+four askers store and get whole files of two names at two hosts, while askers, hosts and the server are killed. Each file that is got has to be
+one that was stored and that no later one had replaced. Each scene (all, where none is named) has a server of its own and says what
+came. The status is 1 where something else came than has to. Build the three programs before.
 """
 
 import argparse
@@ -151,6 +152,53 @@ def lost(programs, folder, _seconds):
         other.ends()
 
 
+def names(programs, folder, _seconds):
+    """Whether names are listed by their prefix, and of a name that is removed no bytes stay behind."""
+    one = Host(programs, 0, folder / "one")
+    (folder / "one" / "copy").write_bytes(b"x" * 5000)
+    try:
+        went = [one.asks("ls", "ok, no file"), one.asks("create paper 1", "ok, file 1"), one.asks("store copy pages", "ok, 5000 bytes stored"),
+                one.asks("ls pap", "paper 1"), one.asks("ls pag", "pages 3"), one.asks("ls q", "ok, no file"), one.asks("remove 3", "ok")]
+        time.sleep(2)
+        went += [one.asks("ls ~", "ok, no file"), one.asks("ls", "paper 1"),
+                 one.asks("ls " + "p" * 65, "no name begins so: it has at most 64 bytes")]
+        return all(went)
+    finally:
+        one.ends()
+
+
+def waits(programs, folder, _seconds):
+    """Whether somebody who waits is told why: no server answers, it recovers, another host may have a lease."""
+    one, other = Host(programs, 0, folder), Host(programs, 1, folder)
+
+    def told(host, words, why):
+        """Whether these words are answered with status 0, and before it is told why that takes long."""
+        asked = subprocess.run([programs.user, str(host), *words], cwd=folder, capture_output=True, text=True, timeout=PATIENCE)
+        if asked.returncode or why not in asked.stderr:
+            print(f"host {host}: {words}: {asked.returncode} {asked.stdout} {asked.stderr}; wanted: {why}", flush=True)
+        return asked.returncode == 0 and why in asked.stderr
+
+    try:
+        went = [one.asks("create paper 1", "ok, file 1"), one.asks("write 1 0 5", "ok")]
+        one.process.send_signal(signal.SIGSTOP)
+        went += [told(1, ["read", "1", "0"], "waiting: another host may have a lease on the file")]
+        one.process.send_signal(signal.SIGCONT)
+        programs.started.kill()
+        programs.started.wait()
+        later = threading.Timer(6, lambda: setattr(programs, "started", begun(programs.server, folder, 5)))
+        later.start()
+        went += [told(1, ["fetch", "1", "0"], "waiting: no server answers")]
+        later.join()
+        programs.started.kill()
+        programs.started.wait()
+        programs.started = begun(programs.server, folder, 5)
+        return all([*went, told(1, ["ls"], "waiting: the server recovers")])
+    finally:
+        one.process.send_signal(signal.SIGCONT)
+        one.ends()
+        other.ends()
+
+
 class Store:
     """A file that somebody stored under a name, or tried to. Its content is its number, over and over."""
 
@@ -272,7 +320,7 @@ def many(programs, folder, seconds):
     return not tries.faults and tries.did["stored"] > 0 and tries.did["got"] > 0
 
 
-SCENES = {"idle": idle, "folder": folder, "shared": shared, "words": words, "end": end, "lost": lost, "many": many}
+SCENES = {"idle": idle, "folder": folder, "shared": shared, "words": words, "end": end, "lost": lost, "names": names, "waits": waits, "many": many}
 
 
 def begun(server, folder, longest):

@@ -37,18 +37,23 @@ async function unpacked(letters) {
   }
 }
 
-// The address of a schedule and an event: by its name where it has one.
-async function addressOf(schedule, event) {
-  const known = [...STARTS, ...EXAMPLES].find((start) => start.schedule === schedule);
-  return `#${known ? known.name : `~${await packed(schedule)}`}/${event}`;
+const startNamed = (name) => [...STARTS, ...EXAMPLES].find((start) => start.name === name);
+
+// The name of the schedule of an entry: the one with which the reader began, or that of a stored schedule which is the same.
+function nameOf({ name, run }) {
+  return name ?? [...EXAMPLES, ...STARTS].find(({ schedule }) => schedule === run.schedule)?.name;
 }
 
-// The schedule and the event that an address names, or null.
+// The address of an entry: by its name where it has one.
+async function addressOf(entry) {
+  return `#${nameOf(entry) ?? `~${await packed(entry.run.schedule)}`}/${entry.event}`;
+}
+
+// The schedule and the event that an address names, with the name if it is one; or null.
 async function named(hash) {
   const [name, event] = hash.slice(1).split("/");
-  const known = [...STARTS, ...EXAMPLES].find((start) => start.name === name);
-  const schedule = name.startsWith("~") ? await unpacked(name.slice(1)) : known && known.schedule;
-  return schedule ? { schedule, event: Number(event) || 0 } : null;
+  const schedule = name.startsWith("~") ? await unpacked(name.slice(1)) : startNamed(name)?.schedule;
+  return schedule ? { schedule, event: Number(event) || 0, name: startNamed(name)?.name } : null;
 }
 
 // Gives a schedule as a file.

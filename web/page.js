@@ -49,27 +49,26 @@ function hear() {
 async function open() {
   if (current() && location.hash === current().address) return;
   const asked = location.hash.length > 1 ? await named(location.hash) : null;
-  await beginWith(asked?.schedule ?? STARTS[0].schedule, asked?.event ?? null);
+  await beginWith(asked?.schedule ?? STARTS[0].schedule, asked?.event ?? null, asked?.name);
 }
 
 async function begins(name) {
-  await beginWith([...STARTS, ...EXAMPLES].find((start) => start.name === name).schedule, null);
+  await beginWith(startNamed(name).schedule, null, name);
 }
 
-// Begins with a schedule: there is no run before it.
-async function beginWith(schedule, event) {
+// Begins with a schedule, which may have a name: there is no run before it.
+async function beginWith(schedule, event, name) {
   const run = await runOf(schedule);
-  if (!run) return beginWith(STARTS[0].schedule, null);
-  if (run.status !== 0 && !current() && schedule !== STARTS[0].schedule) await beginWith(STARTS[0].schedule, null);
+  if (!run) return begins(STARTS[0].name);
+  if (run.status !== 0 && !current() && schedule !== STARTS[0].schedule) await begins(STARTS[0].name);
   if (run.status !== 0) {
-    showSchedule(schedule);
+    if (run.status !== null) showSchedule(schedule);
     return refuse(run);
   }
-  keep({ run, before: null, words: "", event: Math.min(event ?? 0, run.events.length - 1), exercise: exerciseOf(schedule) });
+  const exercise = EXERCISES.find((other) => other.name === name) ?? null;
+  keep({ run, before: null, words: "", event: Math.min(event ?? 0, run.events.length - 1), name, exercise });
   show();
 }
-
-const exerciseOf = (schedule) => EXERCISES.find(({ name }) => STARTS.find((start) => start.name === name)?.schedule === schedule) ?? null;
 
 // Shows the entry of the history that is current.
 function show() {
@@ -79,7 +78,7 @@ function show() {
   shown.open = new Set();
   shown.chosen = null;
   showSchedule(run.schedule);
-  place("start").value = [...STARTS, ...EXAMPLES].find(({ schedule }) => schedule === run.schedule)?.name ?? "";
+  place("start").value = nameOf(entry) ?? "";
   place("undo").disabled = past.now === 0;
   place("redo").disabled = past.now === past.entries.length - 1;
   place("verdict").className = run.verdict === "yes" ? "" : "bad";
@@ -211,7 +210,7 @@ function thenChanged() {
 
 // Keeps the schedule and the event in the address.
 async function keepAddress(entry) {
-  const address = await addressOf(entry.run.schedule, entry.event);
+  const address = await addressOf(entry);
   if (entry !== current()) return;
   entry.address = address;
   history.replaceState(null, "", address);

@@ -25,6 +25,11 @@ function rowOf(events, kind) {
   return { kind, events, first: events[0].number, last: events.at(-1).number };
 }
 
+function addTo(row, event) {
+  row.events.push(event);
+  row.last = event.number;
+}
+
 // The packets that never arrive and were sent before, to the letter.
 function resendsOf(packets) {
   const known = new Set();
@@ -49,7 +54,7 @@ function folded(events, again, open) {
   for (const event of events) {
     const last = rows.at(-1);
     if (event.sends.length > 0) rows.push(rowOf([event], "event"));
-    else if (last && last.kind === "ticks") rows[rows.length - 1] = rowOf([...last.events, event], "ticks");
+    else if (last && last.kind === "ticks") addTo(last, event);
     else rows.push(rowOf([event], "ticks"));
   }
   if (resends.length > 1) rows[0].folds = events[0].number;

@@ -1,14 +1,15 @@
 -- The text of an address book.
-use Rattle.std.specs.Prelude.{◌≡◌, ◌+◌, ◌-◌, ◌^◌, ℕ, List, [], ◌∷◌, ◌++◌, Result, Ok, Err, flat_map, length, min}
+use Rattle.std.specs.Prelude.{◌≡◌, ◌+◌, ◌-◌, ◌^◌, ℕ, List, [], ◌∷◌, ◌++◌, Result, Ok, Err, length, min}
 use Rattle.std.specs.List.{AllByRecursion}
 use Rattle.nq_book.specs.Lines.{TakesLine}
 use Rattle.nq_book.specs.declared.texts.BadLine.{BadLine}
 use Rattle.nq_script.specs.Text.{Lacks}
 use Rattle.nq_udp.specs.Book.{Listed, empty_book}
 
--- a line with its end
-abbrev pub ended : List ℕ → List ℕ
-ended line = line ++ 10 ∷ []
+-- lines, each with its end, and what stands behind them
+abbrev pub lines_then : (lines : List (List ℕ)) → (behind : List ℕ) → List ℕ
+lines_then [] behind = behind
+lines_then (line ∷ lines) behind = line ++ 10 ∷ lines_then lines behind
 
 -- lines were taken in, one behind another
 abbrev pub Follows : List (List ℕ) → (book book' : Listed) → Type 0
@@ -20,7 +21,7 @@ pub record ReadsOn (text : List ℕ) (book book' : Listed) : Type 0 where
   pub lines : List (List ℕ)
   pub last : List ℕ
   pub between : Listed
-  pub whole : text ≡ flat_map ended lines ++ last
+  pub whole : text ≡ lines_then lines last
   pub unbroken : AllByRecursion (Lacks 10) lines × Lacks 10 last
   pub follows : Follows lines book between
   pub ends : TakesLine (Ok tt) last between book'
@@ -32,7 +33,7 @@ pub record StopsOn (text : List ℕ) (book : Listed) (number : ℕ) (bad : BadLi
   pub behind : List ℕ
   pub between : Listed
   pub left : Listed
-  pub whole : text ≡ flat_map ended lines ++ (line ++ behind)
+  pub whole : text ≡ lines_then lines (line ++ behind)
   pub unbroken : AllByRecursion (Lacks 10) lines × Lacks 10 line
   pub follows : Follows lines book between
   pub wrong : TakesLine (Err bad.why) line between left

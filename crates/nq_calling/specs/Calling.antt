@@ -24,9 +24,9 @@ pub record Makes (call : Call) (answer : Answer) (client client' : Counted) (log
 
 -- nothing changed
 pub record Stands (client client' : Counted) (log log' : EntryList) (link link' : LinkTold) : Type 0 where
-  pub client : client' ≡ client
-  pub log : log' ≡ log
-  pub link : link' ≡ link
+  pub same_client : client' ≡ client
+  pub same_log : log' ≡ log
+  pub same_link : link' ≡ link
 
 -- the answer of a call behind a turn that could not take in what it read or heard
 abbrev pub refusal_of : Result (Option Answer) Halt → Option Answer

@@ -8,7 +8,7 @@ use Rattle.nq_base.specs.declared.Entry.{Entry}
 use Rattle.nq_base.specs.declared.Entry.TheVariants.{R}
 use Rattle.nq_base.specs.declared.Who.{Who}
 use Rattle.nq_rules.specs.declared.keys.Kind.{Kind}
-use Rattle.nq_rules.specs.declared.keys.Kind.TheVariants.{Calls}
+use Rattle.nq_rules.specs.declared.keys.Kind.TheVariants.{Reads}
 use Rattle.nq_check.specs.Links.{IsFree, is_link}
 use Rattle.nq_rules.specs.Marks.{Spot, spot}
 use Rattle.nq_check.proofs.Climbs.{climb, link_call}
@@ -22,14 +22,14 @@ false_of true b f h = absurd (let t = f refl in cc)
 false_of false b f h = refl
 
 counted_linked_at : (whole : List Entry) (who : Who) (q : ℕ) (entry : Entry) → is_counted_by whole who q entry ≡ true
-    → is_link Calls (spot who q 0) entry ≡ true
+    → is_link Reads (spot who q 0) entry ≡ true
 counted_linked_at whole who q (R by n f b v served) h =
     link_call by who n q (and_parts (same_who by who && nat_eq n q) (is_counted whole (R by n f b v served)) h).0
 counted_linked_at whole who q other h = absurd (cc)
 
 counted_linked : (key : Spot) (whole : List Entry) (who : Who) (q : ℕ) → key ≡ spot who q 0 → (entry : Entry) → is_counted_by whole who q entry ≡ true
-    → is_link Calls key entry ≡ true
-counted_linked key whole who q e entry h = subst (λ k. is_link Calls k entry ≡ true) (sym e) (counted_linked_at whole who q entry h)
+    → is_link Reads key entry ≡ true
+counted_linked key whole who q e entry h = subst (λ k. is_link Reads k entry ≡ true) (sym e) (counted_linked_at whole who q entry h)
 
 with_linked_at : (whole : List Entry) (who : Who) (q value : ℕ) (entry : Entry) → is_counted_with whole who q value entry ≡ true
     → is_counted_by whole who q entry ≡ true
@@ -37,7 +37,7 @@ with_linked_at whole who q value (R by n f b v served) h = (and_parts (nat_eq v 
 with_linked_at whole who q value other h = absurd (cc)
 
 pub valued_linked : (key : Spot) (whole : List Entry) (who : Who) (q value : ℕ) → key ≡ spot who q 0 → (entry : Entry)
-    → is_counted_with whole who q value entry ≡ true → is_link Calls key entry ≡ true
+    → is_counted_with whole who q value entry ≡ true → is_link Reads key entry ≡ true
 valued_linked key whole who q value e entry h = counted_linked key whole who q e entry (with_linked_at whole who q value entry h)
 
 skip_number : (test : Entry → Bool) (kind : Kind) (key : Spot) (whole : List Entry) (from to : ℕ)

@@ -1,15 +1,18 @@
 -- What following links shows.
-use Rattle.std.proofs.Common.{◌≡◌, ◌<◌, ◌≤◌, ℕ, ◌+◌, ◌-◌, List, ◌∷◌, length, take, reverse, Some, true, ◌∙◌, ap, subst, arith}
+use Rattle.std.proofs.Common.{◌≡◌, ◌<◌, ◌≤◌, ℕ, ◌+◌, ◌-◌, List, ◌∷◌, length, take, reverse, Option, Some, None, true, sym, ◌∙◌, ap, subst, arith}
+use Rattle.std.specs.Prelude.{is_some}
 use Rattle.std.specs.List.{slice_get}
 use Rattle.std.specs.Option.{option_or}
+use Rattle.std.proofs.Math.Seq.{take-length}
 use Rattle.nq_base.specs.declared.Entry.{Entry}
+use Rattle.nq_base.specs.declared.Told.{Told}
 use Rattle.nq_base.specs.declared.Who.{Who}
 use Rattle.nq_rules.specs.declared.keys.Kind.{Kind}
 use Rattle.nq_rules.specs.declared.keys.Kind.TheVariants.{Calls}
 use Rattle.nq_check.specs.Links.{IsFree, IsLinked}
 use Rattle.nq_rules.specs.Keys.{spot_of}
 use Rattle.nq_rules.specs.Marks.{Spot, same_spot, spot}
-use Rattle.nq_check.proofs.Climbs.{skip_told}
+use Rattle.nq_check.proofs.Climbs.{climb, skip_told}
 use Rattle.nq_check.proofs.Spots.{same_is}
 use Rattle.nq_rules.proofs.Places.{taken_here}
 use Rattle.nq_model.specs.Journal.{call_of, told_by}
@@ -39,3 +42,18 @@ told_last key who q whole next k x e up within low there free =
 pub free_within : (kind : Kind) (key : Spot) (whole : List Entry) (from to upto : ℕ) → upto ≤ to → IsFree kind key whole from to
     → IsFree kind key whole from upto
 free_within kind key whole from to upto low free p x a b h = free p x a (omega arith) h
+
+or_some : {X : Type 0} (o p r : Option X) → is_some r ≡ true → o ≡ r → option_or o p ≡ r
+or_some (Some x) p r some e = e
+or_some None p (Some y) some e = absurd (cc)
+or_some None p None some e = absurd (cc)
+
+-- what a call asks is told by its first C, however many entries stand behind that
+pub told_near : (who : Who) (q : ℕ) (whole : List Entry) (place : ℕ) (call : Option Told) → place ≤ length whole
+    → call ≡ call_of (reverse (take place whole)) who q → is_some call ≡ true → call ≡ call_of (reverse whole) who q
+told_near who q whole place call up e some =
+    let all : length whole ≤ length whole = omega arith in
+    sym
+    (ap (λ l. call_of (reverse l) who q) (sym (take-length whole))
+    ∙ climb (λ l. call_of l who q ≡ call) whole place (length whole) up all (sym e)
+    (λ next entry before a b there h. or_some (call_of before who q) (told_by entry who q) call some h))

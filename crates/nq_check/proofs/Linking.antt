@@ -6,7 +6,7 @@ use Rattle.std.specs.List.{slice_get}
 use Rattle.std.proofs.lemmas.Bool.{cases_lt, cases_Bool}
 use Rattle.nq_base.specs.declared.Entry.{Entry}
 use Rattle.nq_rules.specs.declared.keys.Kind.{Kind}
-use Rattle.nq_check.specs.Links.{IsFree, IsLinked, IsLinkedNext, is_link}
+use Rattle.nq_check.specs.Links.{IsFree, IsHeadNext, IsLinked, IsLinkedNext, is_link}
 use Rattle.nq_rules.specs.Keys.{is_member, spot_of}
 use Rattle.nq_rules.specs.Marks.{IsMarked, Spot, mark_at, same_spot}
 
@@ -22,21 +22,29 @@ if_none false b n m e = refl
 if_none true b n m e = absurd (cc)
 
 -- the heads move to an entry that links lead to
-pub member_marked : (kind : Kind) (place : ℕ) (entry : Entry) (old new : List (Spot × ℕ)) (before after : List ℕ) → is_member kind entry ≡ true
-    → IsMarked (spot_of kind entry) (place + 1) old new → after ≡ before ++ mark_at old (spot_of kind entry) ∷ []
-    → IsLinkedNext kind place entry old new before after
-member_marked kind place entry old new before after m h p = record {
-  pushed = p;
+pub member_headed : (kind : Kind) (place : ℕ) (entry : Entry) (old new : List (Spot × ℕ)) (link : ℕ) → is_member kind entry ≡ true
+    → IsMarked (spot_of kind entry) (place + 1) old new → link ≡ mark_at old (spot_of kind entry) → IsHeadNext kind place entry old new link
+member_headed kind place entry old new link m h l = record {
+  known = inl l;
   marked = λ key. h key ∙ if_both (is_member kind entry) (same_spot (spot_of kind entry) key) (place + 1) (mark_at old key) m;
 }
 
 -- and stay where links do not lead to it
-pub other_marked : (kind : Kind) (place : ℕ) (entry : Entry) (old : List (Spot × ℕ)) (before after : List ℕ) → is_member kind entry ≡ false
-    → after ≡ before ++ mark_at old (spot_of kind entry) ∷ [] → IsLinkedNext kind place entry old old before after
-other_marked kind place entry old before after m p = record {
-  pushed = p;
-  marked = λ key. if_none (is_member kind entry) (same_spot (spot_of kind entry) key) (place + 1) (mark_at old key) m;
-}
+stays : (kind : Kind) (place : ℕ) (entry : Entry) (old : List (Spot × ℕ)) → is_member kind entry ≡ false → (key : Spot)
+    → mark_at old key ≡ (if is_link kind key entry then place + 1 else mark_at old key)
+stays kind place entry old m key = if_none (is_member kind entry) (same_spot (spot_of kind entry) key) (place + 1) (mark_at old key) m
+
+pub asked_headed : (kind : Kind) (place : ℕ) (entry : Entry) (old : List (Spot × ℕ)) (link : ℕ) → is_member kind entry ≡ false
+    → link ≡ mark_at old (spot_of kind entry) → IsHeadNext kind place entry old old link
+asked_headed kind place entry old link m l = record { known = inl l; marked = stays kind place entry old m }
+
+pub unasked_headed : (kind : Kind) (place : ℕ) (entry : Entry) (old : List (Spot × ℕ)) → is_member kind entry ≡ false
+    → IsHeadNext kind place entry old old place
+unasked_headed kind place entry old m = record { known = inr refl; marked = stays kind place entry old m }
+
+pub head_linked : (kind : Kind) (place : ℕ) (entry : Entry) (old new : List (Spot × ℕ)) (before after : List ℕ) (link : ℕ)
+    → IsHeadNext kind place entry old new link → after ≡ before ++ link ∷ [] → IsLinkedNext kind place entry old new before after
+head_linked kind place entry old new before after link h p = record { link = link; pushed = p; head = h }
 
 get_pushed : (xs : List ℕ) (e y i : ℕ) → slice_get (xs ++ e ∷ []) i ≡ Some y → (slice_get xs i ≡ Some y) ⊎ ((i ≡ length xs) × (y ≡ e))
 get_pushed [] e y zero h = inr (refl, sym (some_one e y h))
@@ -84,11 +92,20 @@ newest_next kind whole place entry old new there marked free key =
           subst (λ m. IsFree kind key whole m (place + 1)) (sym here) (free_here kind key whole place entry there n (mark_at old key) (free key))
     ]
 
-back_next : (kind : Kind) (whole : List Entry) (place : ℕ) (entry : Entry) (old : List (Spot × ℕ)) (earlier : List ℕ)
-    → slice_get whole place ≡ Some entry → IsLinked kind whole place old earlier → (p : ℕ) (x : Entry) (e : ℕ) → slice_get whole p ≡ Some x
-    → slice_get (earlier ++ mark_at old (spot_of kind entry) ∷ []) p ≡ Some e → IsFree kind (spot_of kind x) whole e p
-back_next kind whole place entry old earlier there h p x e at link =
-    elim (get_pushed earlier (mark_at old (spot_of kind entry)) e p link) [
+back_here : (kind : Kind) (whole : List Entry) (place : ℕ) (entry : Entry) (old : List (Spot × ℕ)) (link : ℕ)
+    → ((key : Spot) → IsFree kind key whole (mark_at old key) place) → (link ≡ mark_at old (spot_of kind entry)) ⊎ (link ≡ place)
+    → IsFree kind (spot_of kind entry) whole link place
+back_here kind whole place entry old link newest known =
+    elim known [
+      | inl l ↦ subst (λ n. IsFree kind (spot_of kind entry) whole n place) (sym l) (newest (spot_of kind entry))
+      | inr l ↦ λ p x a b h. absurd (omega arith)
+    ]
+
+back_next : (kind : Kind) (whole : List Entry) (place : ℕ) (entry : Entry) (old : List (Spot × ℕ)) (earlier : List ℕ) (link : ℕ)
+    → slice_get whole place ≡ Some entry → IsLinked kind whole place old earlier → (link ≡ mark_at old (spot_of kind entry)) ⊎ (link ≡ place)
+    → (p : ℕ) (x : Entry) (e : ℕ) → slice_get whole p ≡ Some x → slice_get (earlier ++ link ∷ []) p ≡ Some e → IsFree kind (spot_of kind x) whole e p
+back_next kind whole place entry old earlier link there h known p x e at pushed =
+    elim (get_pushed earlier link e p pushed) [
       | inl l ↦ h.back p x e at l
       | inr r ↦
           let same : p ≡ place = r.0 ∙ h.long in
@@ -96,7 +113,7 @@ back_next kind whole place entry old earlier there h p x e at link =
           let is : entry ≡ x = some_one entry x (sym there ∙ at_place) in
           subst (λ i. IsFree kind (spot_of kind x) whole e i) (sym same)
           (subst (λ n. IsFree kind (spot_of kind x) whole n place) (sym r.1)
-          (subst (λ y. IsFree kind (spot_of kind y) whole (mark_at old (spot_of kind entry)) place) is (h.newest (spot_of kind entry))))
+          (subst (λ y. IsFree kind (spot_of kind y) whole link place) is (back_here kind whole place entry old link h.newest known)))
     ]
 
 pub linked_next : (kind : Kind) (whole : List Entry) (place : ℕ) (entry : Entry) (old new : List (Spot × ℕ)) (before after : List ℕ)
@@ -104,9 +121,9 @@ pub linked_next : (kind : Kind) (whole : List Entry) (place : ℕ) (entry : Entr
     → IsLinked kind whole (place + 1) new after
 linked_next kind whole place entry old new before after there h n =
     subst (λ l. IsLinked kind whole (place + 1) new l) (sym n.pushed) (record {
-      long = long_pushed before (mark_at old (spot_of kind entry)) ∙ ap (λ k. k + 1) h.long;
-      newest = newest_next kind whole place entry old new there n.marked h.newest;
-      back = back_next kind whole place entry old before there h;
+      long = long_pushed before n.link ∙ ap (λ k. k + 1) h.long;
+      newest = newest_next kind whole place entry old new there n.head.marked h.newest;
+      back = back_next kind whole place entry old before n.link there h n.head.known;
     })
 
 none_at_start : (kind : Kind) (whole : List Entry) → IsLinked kind whole 0 [] []

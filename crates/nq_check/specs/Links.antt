@@ -1,5 +1,5 @@
 -- Links from each entry of a journal back to the last one before it that has the same key.
-use Rattle.std.specs.Prelude.{◌≡◌, ◌<◌, ◌≤◌, ◌+◌, ◌++◌, ℕ, List, [], ◌∷◌, Some, Bool, false, ◌&&◌, if◌then◌else◌, length}
+use Rattle.std.specs.Prelude.{◌≡◌, ◌<◌, ◌≤◌, ◌+◌, ◌++◌, ◌⊎◌, ℕ, List, [], ◌∷◌, Some, Bool, false, ◌&&◌, if◌then◌else◌, length}
 use Rattle.std.specs.List.{slice_get}
 use Rattle.nq_base.specs.declared.Entry.{Entry}
 use Rattle.nq_rules.specs.declared.keys.Kind.{Kind}
@@ -14,10 +14,16 @@ is_link kind key entry = is_member kind entry && same_spot (spot_of kind entry) 
 abbrev pub IsFree : Kind → (key : Spot) → (whole : List Entry) → (from to : ℕ) → Type 0
 IsFree kind key whole from to = (place : ℕ) (entry : Entry) → from ≤ place → place < to → slice_get whole place ≡ Some entry → is_link kind key entry ≡ false
 
--- what heads and links are once one more entry is linked
-pub record IsLinkedNext (kind : Kind) (place : ℕ) (entry : Entry) (old new : List (Spot × ℕ)) (before after : List ℕ) : Type 0 where
-  pub pushed : after ≡ before ++ mark_at old (spot_of kind entry) ∷ []
+-- what heads are once one more entry is linked, and its link: the last entry that its key leads to, or its own place, which tells nothing
+pub record IsHeadNext (kind : Kind) (place : ℕ) (entry : Entry) (old new : List (Spot × ℕ)) (link : ℕ) : Type 0 where
+  pub known : (link ≡ mark_at old (spot_of kind entry)) ⊎ (link ≡ place)
   pub marked : (key : Spot) → mark_at new key ≡ (if is_link kind key entry then place + 1 else mark_at old key)
+
+-- the same, where its link stands behind the others
+pub record IsLinkedNext (kind : Kind) (place : ℕ) (entry : Entry) (old new : List (Spot × ℕ)) (before after : List ℕ) : Type 0 where
+  pub link : ℕ
+  pub pushed : after ≡ before ++ link ∷ []
+  pub head : IsHeadNext kind place entry old new link
 
 -- the entries before a place are linked: no link, and no head, passes over an entry that its key leads to
 pub record IsLinked (kind : Kind) (whole : List Entry) (linked : ℕ) (heads : List (Spot × ℕ)) (earlier : List ℕ) : Type 0 where

@@ -112,17 +112,74 @@ pub(crate) fn is_there(entries: &[Entry], at: usize, sought: Sought) -> bool
     }
 }
 
-/// What a call asks, as its first C tells it.
-pub(crate) fn call_along(links: &Links, whole: &[Entry], by: &Who, n: u64) -> Option<Told>
+/// Whether what is looked for stands before a place. The entry that stands `near`, if it is before the place, is looked at first.
+pub(crate) fn is_before_near(
+    links: &Links,
+    whole: &[Entry],
+    place: usize,
+    near: usize,
+    sought: Sought,
+) -> bool
+    requires linked { IsLinked (kind_sought sought) whole.now (length whole.now) links.now.heads.entries links.now.earlier.items }
+    requires within { place ≤ length whole.now }
+    ensures { result ≡ exists (passes sought.entry) (reverse (take place whole.now)) }
+{
+    if is_there(&whole[..place], near, sought) {
+        return true;
+    }
+    is_before(links, whole, place, sought)
+}
+
+/// Whether what is looked for stands in the journal. The entry that stands `near`, if there is one, is looked at first.
+pub(crate) fn is_somewhere_near(links: &Links, whole: &[Entry], near: usize, sought: Sought) -> bool
+    requires linked { IsLinked (kind_sought sought) whole.now (length whole.now) links.now.heads.entries links.now.earlier.items }
+    ensures { result ≡ exists (passes sought.entry) (reverse whole.now) }
+{
+    if is_there(whole, near, sought) {
+        return true;
+    }
+    is_somewhere(links, whole, sought)
+}
+
+/// What a call asks, as its first C before a place tells it.
+fn call_before(links: &Links, whole: &[Entry], place: usize, by: &Who, n: u64) -> Option<Told>
     requires linked { IsLinked Calls whole.now (length whole.now) links.now.heads.entries links.now.earlier.items }
-    ensures { result ≡ call_of (reverse whole.now) by.now n }
+    requires within { place ≤ length whole.now }
+    ensures { result ≡ call_of (reverse (take place whole.now)) by.now n }
 {
     let key = call_key(by, n);
     let mut call = None;
-    let mut at = back_from(links, Kind::Calls, key, whole, whole.len(), whole.len());
+    let mut at = back_from(links, Kind::Calls, key, whole, whole.len(), place);
     while at > 0 {
         call = told_by(&whole[at - 1], by, n).or(call);
         at = back_from(links, Kind::Calls, key, whole, whole.len(), at - 1);
     }
     call
+}
+
+/// What a call asks, as its first C tells it.
+pub(crate) fn call_along(links: &Links, whole: &[Entry], by: &Who, n: u64) -> Option<Told>
+    requires linked { IsLinked Calls whole.now (length whole.now) links.now.heads.entries links.now.earlier.items }
+    ensures { result ≡ call_of (reverse whole.now) by.now n }
+{
+    call_before(links, whole, whole.len(), by, n)
+}
+
+/// What a call asks, as its first C tells it. The entries before a place are looked at first.
+pub(crate) fn call_near(
+    links: &Links,
+    whole: &[Entry],
+    place: usize,
+    by: &Who,
+    n: u64,
+) -> Option<Told>
+    requires linked { IsLinked Calls whole.now (length whole.now) links.now.heads.entries links.now.earlier.items }
+    requires within { place ≤ length whole.now }
+    ensures { result ≡ call_of (reverse whole.now) by.now n }
+{
+    let call = call_before(links, whole, place, by, n);
+    if call.is_some() {
+        return call;
+    }
+    call_along(links, whole, by, n)
 }

@@ -18,11 +18,17 @@ pub(crate) fn number_key(who: &Who, number: Number) -> Key {
     ((who.host.0, who.inc.0), (number.0, 0))
 }
 
-/// The places of the writes, each at its incarnation and its number.
+/// The places of the delayed writes, each at its incarnation and its number.
 pub(crate) fn places_of_writes(alloc: Global, whole: &[Entry]) -> Result<Heads, NoMemory> {
     let mut places = HashMap::new(alloc);
     for (place, entry) in whole.iter().enumerate() {
-        if let Entry::W { who, number, .. } = entry {
+        if let Entry::W {
+            who,
+            number,
+            through: false,
+            ..
+        } = entry
+        {
             set_head(&mut places, number_key(who, *number), place)?;
         }
     }

@@ -6,6 +6,7 @@ ghost use Rattle.nq_rules.specs.Grants.{given};
 ghost use Rattle.nq_check.specs.Leases.{AreLinked, HasEndBetween, IsStorePast};
 ghost use Rattle.nq_check.specs.Links.{IsFree, IsLinked};
 ghost use Rattle.nq_check.specs.Losses.{PassBetween, is_ended};
+ghost use Rattle.nq_check.specs.Rising.{Rises};
 ghost use Rattle.nq_check.specs.Tables.{AreTables};
 ghost use Rattle.nq_model.specs.CutOff.{last_grant};
 ghost use Rattle.nq_model.specs.CutOffTest.{has_passed, is_cut_off, is_store_over};
@@ -268,6 +269,41 @@ fn take_end(ends: &mut Ends, place: usize, entry: &Entry) -> Result<(), NoMemory
     Ok(())
 }
 
+/// Whether an L is cut off.
+pub(crate) fn is_cut_off(tables: &Tables, whole: &[Entry], place: usize, entry: &Entry) -> bool
+    requires tables { AreTables whole.now tables.now }
+    requires within { place < length whole.now }
+    ensures { result ≡ is_cut_off (drop (place + 1) whole.now) entry.now (reverse (take place whole.now)) }
+{
+    match entry {
+        Entry::L { who, file, .. } => {
+            ends_first(&whole[..place], entry, who, *file)
+                && !covers_behind(&tables.leases.own, whole, place, entry)
+        }
+        _ => true,
+    }
+}
+
+/// Whether the entry at a place is no L, or is cut off. Where the times of stores rise, the last ends of its lease are looked at first.
+fn is_ended(
+    ends: &Ends,
+    tables: &Tables,
+    whole: &[Entry],
+    rising: usize,
+    place: usize,
+    entry: &Entry,
+) -> bool
+    requires tables { AreTables whole.now tables.now }
+    requires rises { Rises whole.now rising }
+    requires there { (place < length whole.now) × (slice_get whole.now place ≡ Some entry.now) }
+    ensures { IsTrue result → is_ended whole.now place entry.now ≡ true }
+{
+    if place < rising && is_ended_at(ends, tables, whole, place, entry) {
+        return true;
+    }
+    is_cut_off(tables, whole, place, entry)
+}
+
 /// A place below which a lease ended before each L and behind each write that it covers.
 pub(crate) fn endings_front(
     alloc: Global,
@@ -285,25 +321,10 @@ pub(crate) fn endings_front(
         booted: 0,
     };
     for (place, entry) in whole.iter().enumerate() {
-        if place >= rising || !is_ended_at(&ends, tables, whole, place, entry) {
+        if !is_ended(&ends, tables, whole, rising, place, entry) {
             return Ok(place);
         }
         take_end(&mut ends, place, entry)?;
     }
     Ok(whole.len())
-}
-
-/// Whether an L is cut off.
-pub(crate) fn is_cut_off(tables: &Tables, whole: &[Entry], place: usize, entry: &Entry) -> bool
-    requires tables { AreTables whole.now tables.now }
-    requires within { place < length whole.now }
-    ensures { result ≡ is_cut_off (drop (place + 1) whole.now) entry.now (reverse (take place whole.now)) }
-{
-    match entry {
-        Entry::L { who, file, .. } => {
-            ends_first(&whole[..place], entry, who, *file)
-                && !covers_behind(&tables.leases.own, whole, place, entry)
-        }
-        _ => true,
-    }
 }

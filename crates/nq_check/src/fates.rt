@@ -9,7 +9,7 @@ use crate::along::is_there;
 use crate::covering::{accounted_front, number_key, places_of_writes};
 use crate::links::{Heads, head_at};
 use crate::tables::Tables;
-use nq_base::{Entry, NoMemory, Number};
+use nq_base::{Entry, NoMemory, Number, Who};
 use nq_rules::entries::covers;
 use nq_rules::sought::Sought;
 use std::alloc::Global;
@@ -53,8 +53,23 @@ fn is_before(entry: &Entry, first: Number) -> bool {
     }
 }
 
-/// The place, counted from 1, of the last write that an S or L covers, whose number is told; of the last write of its block before
-/// it where that is not known.
+/// The place, counted from 1, of the write with a number, if an entry covers it.
+fn covered_at(
+    places: &Heads,
+    whole: &[Entry],
+    who: &Who,
+    number: Number,
+    entry: &Entry,
+) -> Option<usize> {
+    let place = head_at(places, number_key(who, number));
+    if place < whole.len() && is_there(whole, place, Sought::Covered(entry)) {
+        return Some(place + 1);
+    }
+    None
+}
+
+/// The place, counted from 1, of the last write that an S or L covers, whose number is told; of the first one where that is not
+/// known, and of the last write of its block before it where neither is.
 fn last_covered(
     tables: &Tables,
     places: &Heads,
@@ -63,12 +78,25 @@ fn last_covered(
     entry: &Entry,
 ) -> usize {
     match entry {
-        Entry::S { who, last, .. } | Entry::L { who, last, .. } => {
-            let numbered = head_at(places, number_key(who, *last));
-            if numbered < whole.len() && is_there(whole, numbered, Sought::Covered(entry)) {
-                return numbered + 1;
+        Entry::S {
+            who,
+            first,
+            last,
+            ..
+        }
+        | Entry::L {
+            who,
+            first,
+            last,
+            ..
+        } => {
+            if let Some(at) = covered_at(places, whole, who, *last, entry) {
+                return at;
             }
-            place_in(&tables.leases.own.earlier, place)
+            covered_at(places, whole, who, *first, entry).unwrap_or(place_in(
+                &tables.leases.own.earlier,
+                place,
+            ))
         }
         _ => 0,
     }

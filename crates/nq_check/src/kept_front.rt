@@ -9,7 +9,7 @@ ghost use Rattle.nq_check.specs.Tables.{AreTables};
 ghost use Rattle.nq_check.specs.declared.rules.Rule.{Rule};
 ghost use Rattle.nq_model.specs.JournalTest.{is_answer};
 
-use crate::along::call_along;
+use crate::along::call_near;
 use crate::fates::Fates;
 use crate::puts::is_put_kept;
 use crate::syncs::{Asked, is_resize_kept, is_sync_kept};
@@ -41,6 +41,7 @@ fn is_seen_kept(
         Told::WriteSync { .. } => {
             is_put_kept(
                 tables,
+                fates,
                 &trail.hints,
                 whole,
                 place,
@@ -79,7 +80,7 @@ fn is_kept_at(
             let asked = Asked {
                 who,
                 q: *q,
-                call: call_along(&tables.calls, whole, who, *q),
+                call: call_near(&tables.calls, whole, place, who, *q),
             };
             is_seen_kept(tables, fates, trail, whole, place, entry, &asked)
                 || is_kept(whole, &whole[..place], who, *q, &asked.call)

@@ -11,9 +11,11 @@ ghost use Rattle.nq_model.specs.JournalTest.{is_counted, is_lost, is_stored};
 ghost use Rattle.nq_model.specs.LegalTest.{is_counted_by, is_counted_with, is_legal_read, is_reading};
 ghost use Rattle.nq_model.specs.StandsTest.{standing_value, stands};
 
-use crate::along::{back_from, call_along, is_before, is_between, is_somewhere, is_there};
+use crate::along::{
+    back_from, call_near, is_before_near, is_between, is_somewhere, is_somewhere_near, is_there,
+};
 use crate::fates::{Fates, fate_at};
-use crate::tables::Tables;
+use crate::tables::{Tables, answer_near};
 use nq_base::{BlockNo, Entry, FileId, Said, Who};
 use nq_rules::calls::is_reading;
 use nq_rules::entries::{is_read_by, is_through, is_write_by, is_write_on, value_written};
@@ -30,17 +32,18 @@ struct Reading<'a> {
     value: u32,
 }
 
-/// Whether an entry is a counted read.
-pub(crate) fn is_counted(tables: &Tables, whole: &[Entry], entry: &Entry) -> bool
+/// Whether an entry, which stands at a place, is a counted read.
+pub(crate) fn is_counted(tables: &Tables, whole: &[Entry], place: usize, entry: &Entry) -> bool
     requires tables { AreTables whole.now tables.now }
     ensures { result ≡ is_counted (reverse whole.now) entry.now }
 {
     match entry {
         Entry::R { who, q, served, .. } => match served {
             None => true,
-            Some(packet) => is_somewhere(
+            Some(packet) => is_somewhere_near(
                 &tables.calls,
                 whole,
+                answer_near(tables, place),
                 Sought::AnswerBy {
                     who,
                     q: *q,
@@ -83,10 +86,13 @@ fn is_lost(
     requires within { place < length whole.now }
     ensures { result ≡ is_lost (reverse (take place whole.now)) write.now }
 {
-    if is_there(&whole[..place], fate_at(fates, at), Sought::Loss(write)) {
-        return true;
-    }
-    is_before(&tables.covers, whole, place, Sought::Loss(write))
+    is_before_near(
+        &tables.covers,
+        whole,
+        place,
+        fate_at(fates, at),
+        Sought::Loss(write),
+    )
 }
 
 /// Whether the write at a place stands for the read at another.
@@ -189,10 +195,11 @@ fn is_legal_read(
         read.now.value }
 {
     read.value == standing_value(tables, fates, whole, place, read)
-        && is_reading(call_along(&tables.calls, whole, read.who, read.q))
-        && is_somewhere(
+        && is_reading(call_near(&tables.calls, whole, place, read.who, read.q))
+        && is_somewhere_near(
             &tables.calls,
             whole,
+            answer_near(tables, place),
             Sought::AnswerWith {
                 who: read.who,
                 q: read.q,
@@ -201,18 +208,26 @@ fn is_legal_read(
         )
 }
 
-/// Whether an entry is a counted read by a call.
-fn is_counted_by(tables: &Tables, whole: &[Entry], by: &Who, n: u64, entry: &Entry) -> bool
+/// Whether an entry, which stands at a place, is a counted read by a call.
+fn is_counted_by(
+    tables: &Tables,
+    whole: &[Entry],
+    place: usize,
+    by: &Who,
+    n: u64,
+    entry: &Entry,
+) -> bool
     requires tables { AreTables whole.now tables.now }
     ensures { result ≡ is_counted_by (reverse whole.now) by.now n entry.now }
 {
-    is_read_by(entry, by, n) && is_counted(tables, whole, entry)
+    is_read_by(entry, by, n) && is_counted(tables, whole, place, entry)
 }
 
-/// Whether an entry is a counted read by a call, of a value.
+/// Whether an entry, which stands at a place, is a counted read by a call, of a value.
 fn is_counted_with(
     tables: &Tables,
     whole: &[Entry],
+    place: usize,
     by: &Who,
     n: u64,
     v: u32,
@@ -222,7 +237,7 @@ fn is_counted_with(
     ensures { result ≡ is_counted_with (reverse whole.now) by.now n v entry.now }
 {
     match entry {
-        Entry::R { value, .. } => *value == v && is_counted_by(tables, whole, by, n, entry),
+        Entry::R { value, .. } => *value == v && is_counted_by(tables, whole, place, by, n, entry),
         _ => false,
     }
 }
@@ -244,27 +259,29 @@ fn is_legal_answer(tables: &Tables, whole: &[Entry], by: &Who, n: u64, v: u32) -
     let key = call_key(by, n);
     let mut number: usize = 0;
     let mut at = back_from(
-        &tables.calls,
-        Kind::Calls,
+        &tables.reads,
+        Kind::Reads,
         key,
         whole,
         whole.len(),
         whole.len(),
     );
     while at > 0 {
-        let counts = is_counted_with(tables, whole, by, n, v, &whole[at - 1]);
+        let counts = is_counted_with(tables, whole, at - 1, by, n, v, &whole[at - 1]);
         number = counted(number, counts);
-        at = back_from(&tables.calls, Kind::Calls, key, whole, whole.len(), at - 1);
+        at = back_from(&tables.reads, Kind::Reads, key, whole, whole.len(), at - 1);
     }
     number == 1
 }
 
-/// Whether an answer is legal.
-fn answers_legally(tables: &Tables, whole: &[Entry], by: &Who, n: u64, v: u32) -> bool
+/// Whether the answer at a place is legal.
+fn answers_legally(tables: &Tables, whole: &[Entry], place: usize, by: &Who, n: u64, v: u32) -> bool
     requires tables { AreTables whole.now tables.now }
+    requires within { place < length whole.now }
     ensures { result ≡ (not (is_reading (call_of (reverse whole.now) by.now n)) || is_legal_answer (reverse whole.now) by.now n v) }
 {
-    !is_reading(call_along(&tables.calls, whole, by, n)) || is_legal_answer(tables, whole, by, n, v)
+    !is_reading(call_near(&tables.calls, whole, place, by, n))
+        || is_legal_answer(tables, whole, by, n, v)
 }
 
 /// Whether the entry at a place is legal, as the links show.
@@ -289,7 +306,7 @@ pub(crate) fn is_legal(
             value,
             ..
         } => {
-            !is_counted(tables, whole, entry)
+            !is_counted(tables, whole, place, entry)
                 || is_legal_read(
                     tables,
                     fates,
@@ -308,12 +325,12 @@ pub(crate) fn is_legal(
             who,
             q,
             said: Said::OkValue(value),
-        } => answers_legally(tables, whole, who, *q, *value),
+        } => answers_legally(tables, whole, place, who, *q, *value),
         Entry::A {
             who,
             q,
             said: Said::OkBy { value, .. },
-        } => answers_legally(tables, whole, who, *q, *value),
+        } => answers_legally(tables, whole, place, who, *q, *value),
         _ => true,
     }
 }

@@ -1,7 +1,10 @@
 //! Links from each entry of a journal back to the last one before it that has the same key.
 
-ghost use Rattle.std.specs.Prelude.{◌≡◌, ◌<◌, IfOk, OnOk, length};
-ghost use Rattle.nq_check.specs.Links.{IsLinked, IsLinkedNext};
+ghost use Rattle.std.specs.Prelude.{◌≡◌, ◌<◌, ◌+◌, [], List, IfOk, OnOk, Some, length};
+ghost use Rattle.std.specs.List.{slice_get};
+ghost use Rattle.nq_base.specs.declared.Entry.{Entry};
+ghost use Rattle.nq_rules.specs.declared.keys.Kind.{Kind};
+ghost use Rattle.nq_check.specs.Links.{IsHeadNext, IsLinked, IsLinkedNext};
 ghost use Rattle.nq_rules.specs.Marks.{IsMarked, mark_at};
 
 use nq_base::{Entry, NoMemory};
@@ -36,7 +39,42 @@ pub(crate) fn set_head(heads: &mut Heads, at: Key, place: usize) -> Result<(), N
     Ok(())
 }
 
-#[tactic(auto, using(crate::proofs::Linking::member_marked, crate::proofs::Linking::other_marked))]
+/// Sets the place of the last entry of a key; the place that it had before.
+fn swap_head(heads: &mut Heads, at: Key, place: usize) -> Result<usize, NoMemory>
+    ensures before { IfOk result (λ before. before ≡ mark_at heads.old.entries at) }
+    ensures marked { OnOk result (IsMarked at place heads.old.entries heads.new.entries) }
+{
+    let before = heads.insert(at, place)?;
+    Ok(before.unwrap_or(0))
+}
+
+/// Whether links are followed back from an entry to which they do not lead.
+fn asks(kind: Kind, entry: &Entry) -> bool {
+    match kind {
+        Kind::Grants | Kind::Stores => matches!(entry, Entry::L { .. }),
+        Kind::Own => matches!(entry, Entry::S { .. } | Entry::L { .. }),
+        Kind::Calls | Kind::Covers | Kind::Writes | Kind::Cuts => matches!(entry, Entry::R { .. }),
+        Kind::Reads | Kind::Delays => false,
+    }
+}
+
+#[tactic(auto, using(crate::proofs::Linking::member_headed, crate::proofs::Linking::asked_headed, crate::proofs::Linking::unasked_headed))]
+/// Takes in the entry at a place; its link, which is its own place where nobody follows it.
+fn link_head(heads: &mut Heads, kind: Kind, place: usize, entry: &Entry) -> Result<usize, NoMemory>
+    requires { place < 18446744073709551615 }
+    ensures { IfOk result (IsHeadNext kind place entry.now heads.old.entries heads.new.entries) }
+{
+    if is_member(kind, entry) {
+        let before = swap_head(heads, key_of(kind, entry), place + 1)?;
+        return Ok(before);
+    }
+    if asks(kind, entry) {
+        return Ok(head_at(heads, key_of(kind, entry)));
+    }
+    Ok(place)
+}
+
+#[tactic(auto, using(crate::proofs::Linking::head_linked))]
 /// Links one more entry.
 pub(crate) fn link_entry(
     links: &mut Links,
@@ -47,25 +85,34 @@ pub(crate) fn link_entry(
     requires { place < 18446744073709551615 }
     ensures { OnOk result (IsLinkedNext kind place entry.now links.old.heads.entries links.new.heads.entries links.old.earlier.items links.new.earlier.items) }
 {
-    let at = key_of(kind, entry);
-    let earlier = head_at(&links.heads, at);
+    let earlier = link_head(&mut links.heads, kind, place, entry)?;
     links.earlier.push(earlier)?;
-    if !is_member(kind, entry) {
-        return Ok(());
-    }
-    set_head(&mut links.heads, at, place + 1)
+    Ok(())
 }
 
-/// Links the entries of a journal, the oldest first.
-pub(crate) fn link(alloc: Global, kind: Kind, whole: &[Entry]) -> Result<Links, NoMemory>
-    ensures { IfOk result (λ links. IsLinked kind whole.now (length whole.now) links.heads.entries links.earlier.items) }
+#[tactic(auto, using(crate::proofs::Linking::linked_next))]
+/// Links the entry at a place of a journal.
+pub(crate) fn link_at(
+    links: &mut Links,
+    kind: Kind,
+    whole: &[Entry],
+    place: usize,
+    entry: &Entry,
+) -> Result<(), NoMemory>
+    requires there { (place < length whole.now) × (slice_get whole.now place ≡ Some entry.now) }
+    requires linked { IsLinked kind whole.now place links.old.heads.entries links.old.earlier.items }
+    ensures { OnOk result (IsLinked kind whole.now (place + 1) links.new.heads.entries links.new.earlier.items) }
 {
-    let mut links = Links {
+    link_entry(links, kind, place, entry)
+}
+
+/// No links.
+pub(crate) fn no_links(alloc: Global) -> Links
+    ensures empty { (result.heads.entries ≡ []) × (result.earlier.items ≡ []) }
+    ensures linked { (kind : Kind) (whole : List Entry) → IsLinked kind whole 0 result.heads.entries result.earlier.items }
+{
+    Links {
         heads: HashMap::new(alloc),
         earlier: Vec::new(alloc),
-    };
-    for (place, entry) in whole.iter().enumerate() {
-        link_entry(&mut links, kind, place, entry)?;
     }
-    Ok(links)
 }

@@ -111,7 +111,7 @@ fn stands(
             set_next(lines, who, next)
         }
         Entry::R { who, q, .. } => {
-            if !is_counted(tables, whole, entry) {
+            if !is_counted(tables, whole, place, entry) {
                 return Ok(true);
             }
             let next = after_read(&line_at(lines, who), *q);

@@ -8,7 +8,8 @@ ghost use Rattle.nq_check.specs.Tables.{AreTables};
 ghost use Rattle.nq_check.specs.declared.rules.Rule.TheVariants.{Ordered};
 ghost use Rattle.nq_model.specs.JournalTest.{is_answer, is_stored, is_through, somewhere};
 
-use crate::along::{back_from, is_before};
+use crate::along::{back_from, is_before_near};
+use crate::fates::{Fates, fate_at};
 use crate::links::head_at;
 use crate::tables::Tables;
 use crate::trail::Hints;
@@ -17,19 +18,34 @@ use nq_rules::entries::{is_call, is_through, is_write_by};
 use nq_rules::keys::{Kind, call_key};
 use nq_rules::sought::Sought;
 
-/// Whether a write is through, or an S before a place covers it.
-fn is_through_or_stored(tables: &Tables, whole: &[Entry], place: usize, write: &Entry) -> bool
+/// Whether a write is through, or an S before a place covers it. The entry that is its fate is looked at first.
+fn is_through_or_stored(
+    tables: &Tables,
+    fates: &Fates,
+    whole: &[Entry],
+    place: usize,
+    at: usize,
+    write: &Entry,
+) -> bool
     requires tables { AreTables whole.now tables.now }
     requires within { place < length whole.now }
     ensures { result ≡ (is_through write.now || is_stored (reverse (take place whole.now)) write.now) }
 {
-    is_through(write) || is_before(&tables.covers, whole, place, Sought::Store(write))
+    is_through(write)
+        || is_before_near(
+            &tables.covers,
+            whole,
+            place,
+            fate_at(fates, at),
+            Sought::Store(write),
+        )
 }
 
 /// Whether the last write of an incarnation before the A of its `put` is the write of that call, and is through or stored
 /// before the A.
 pub(crate) fn is_put_kept(
     tables: &Tables,
+    fates: &Fates,
     hints: &Hints,
     whole: &[Entry],
     place: usize,
@@ -53,5 +69,5 @@ pub(crate) fn is_put_kept(
     if !is_call(&whole[call - 1], by, n) || !is_write_by(written, by) {
         return false;
     }
-    is_through_or_stored(tables, whole, place, written)
+    is_through_or_stored(tables, fates, whole, place, write, written)
 }

@@ -1,9 +1,11 @@
 //! The links of a journal in each kind.
 
-ghost use Rattle.std.specs.Prelude.{IfOk};
-ghost use Rattle.nq_check.specs.Tables.{AreLeases, AreTables};
+ghost use Rattle.std.specs.Prelude.{◌≡◌, ◌+◌, ◌<◌, List, IfOk, OnOk, Some, length};
+ghost use Rattle.std.specs.List.{slice_get};
+ghost use Rattle.nq_base.specs.declared.Entry.{Entry};
+ghost use Rattle.nq_check.specs.Tables.{AreLeasesTo, AreTables, AreTablesTo};
 
-use crate::links::{Links, link};
+use crate::links::{Links, link_at, no_links};
 use nq_base::{Entry, NoMemory};
 use nq_rules::keys::Kind;
 use std::alloc::Global;
@@ -20,40 +22,100 @@ pub(crate) struct Leases {
 #[derive(Drop)]
 pub(crate) struct Tables {
     pub(crate) calls: Links,
+    pub(crate) reads: Links,
     pub(crate) writes: Links,
     pub(crate) covers: Links,
     pub(crate) cuts: Links,
     pub(crate) leases: Leases,
+    /// For each C the place of the first entry behind it to which the links of its call lead: a hint.
+    pub(crate) later: Vec<usize>,
 }
 
-/// Links the grants, stores and writes of a journal.
-fn link_leases(alloc: Global, whole: &[Entry]) -> Result<Leases, NoMemory>
-    ensures { IfOk result (AreLeases whole.now) }
+/// No links of any kind.
+fn no_tables(alloc: Global) -> Tables
+    ensures { (whole : List Entry) → AreTablesTo whole 0 result }
 {
-    let grants = link(alloc, Kind::Grants, whole)?;
-    let stores = link(alloc, Kind::Stores, whole)?;
-    let own = link(alloc, Kind::Own, whole)?;
-    Ok(Leases {
-        grants,
-        stores,
-        own,
-    })
+    Tables {
+        calls: no_links(alloc),
+        reads: no_links(alloc),
+        writes: no_links(alloc),
+        covers: no_links(alloc),
+        cuts: no_links(alloc),
+        leases: Leases {
+            grants: no_links(alloc),
+            stores: no_links(alloc),
+            own: no_links(alloc),
+        },
+        later: Vec::new(alloc),
+    }
+}
+
+/// Links the grant, store or write at a place.
+fn link_lease(
+    leases: &mut Leases,
+    whole: &[Entry],
+    place: usize,
+    entry: &Entry,
+) -> Result<(), NoMemory>
+    requires there { (place < length whole.now) × (slice_get whole.now place ≡ Some entry.now) }
+    requires linked { AreLeasesTo whole.now place leases.old }
+    ensures { OnOk result (AreLeasesTo whole.now (place + 1) leases.new) }
+{
+    link_at(&mut leases.grants, Kind::Grants, whole, place, entry)?;
+    link_at(&mut leases.stores, Kind::Stores, whole, place, entry)?;
+    link_at(&mut leases.own, Kind::Own, whole, place, entry)
+}
+
+/// Links the entry at a place in each kind.
+fn link_next(
+    tables: &mut Tables,
+    whole: &[Entry],
+    place: usize,
+    entry: &Entry,
+) -> Result<(), NoMemory>
+    requires there { (place < length whole.now) × (slice_get whole.now place ≡ Some entry.now) }
+    requires linked { AreTablesTo whole.now place tables.old }
+    ensures { OnOk result (AreTablesTo whole.now (place + 1) tables.new) }
+{
+    link_at(&mut tables.calls, Kind::Calls, whole, place, entry)?;
+    link_at(&mut tables.reads, Kind::Reads, whole, place, entry)?;
+    link_at(&mut tables.writes, Kind::Writes, whole, place, entry)?;
+    link_at(&mut tables.covers, Kind::Covers, whole, place, entry)?;
+    link_at(&mut tables.cuts, Kind::Cuts, whole, place, entry)?;
+    link_lease(&mut tables.leases, whole, place, entry)
+}
+
+/// The place that is kept at another.
+fn place_in(places: &Vec<usize>, at: usize) -> usize {
+    places.get(at).copied().unwrap_or(0)
+}
+
+/// Takes in the entry at a place, whose link leads to another, which is counted from 1.
+fn keep_later(later: &mut Vec<usize>, place: usize, earlier: usize) -> Result<(), NoMemory> {
+    if 0 < earlier && earlier <= later.len() {
+        later[earlier - 1] = place;
+    }
+    later.push(0)?;
+    Ok(())
 }
 
 /// Links the entries of a journal in each kind.
 pub(crate) fn make_tables(alloc: Global, whole: &[Entry]) -> Result<Tables, NoMemory>
     ensures { IfOk result (AreTables whole.now) }
 {
-    let calls = link(alloc, Kind::Calls, whole)?;
-    let writes = link(alloc, Kind::Writes, whole)?;
-    let covers = link(alloc, Kind::Covers, whole)?;
-    let cuts = link(alloc, Kind::Cuts, whole)?;
-    let leases = link_leases(alloc, whole)?;
-    Ok(Tables {
-        calls,
-        writes,
-        covers,
-        cuts,
-        leases,
-    })
+    let mut tables = no_tables(alloc);
+    for (place, entry) in whole.iter().enumerate() {
+        link_next(&mut tables, whole, place, entry)?;
+        let earlier = place_in(&tables.calls.earlier, place);
+        keep_later(&mut tables.later, place, earlier)?;
+    }
+    Ok(tables)
+}
+
+/// Where the call of the read at a place is perhaps answered: whoever takes it looks at the entry.
+pub(crate) fn answer_near(tables: &Tables, place: usize) -> usize {
+    place_in(
+        &tables.later,
+        place_in(&tables.calls.earlier, place).saturating_sub(1),
+    )
 }

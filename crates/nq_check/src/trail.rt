@@ -5,8 +5,8 @@ ghost use Rattle.nq_check.specs.Links.{IsLinkedNext};
 ghost use Rattle.nq_check.specs.Tables.{AreTables};
 ghost use Rattle.nq_rules.specs.declared.keys.Kind.TheVariants.{Delays};
 
-use crate::along::call_along;
-use crate::links::{Heads, Links, link_entry, set_head};
+use crate::along::call_near;
+use crate::links::{Heads, Links, link_entry, no_links, set_head};
 use crate::tables::Tables;
 use nq_base::{Entry, NoMemory, Said, Told};
 use nq_rules::keys::{Kind, call_key, file_key};
@@ -40,6 +40,7 @@ fn keep(
     entry: &Entry,
 ) -> Result<(), NoMemory>
     requires tables { AreTables whole.now tables.now }
+    requires within { place < length whole.now }
 {
     match entry {
         Entry::W { who, .. } => set_head(&mut hints.written, call_key(who, 0), place),
@@ -48,7 +49,7 @@ fn keep(
             q,
             said: Said::Ok,
         } => {
-            let Some(told) = call_along(&tables.calls, whole, who, *q) else {
+            let Some(told) = call_near(&tables.calls, whole, place, who, *q) else {
                 return Ok(());
             };
             match told {
@@ -85,10 +86,7 @@ pub(crate) fn no_trail(alloc: Global) -> Trail
     ensures { (result.delays.heads.entries ≡ []) × (result.delays.earlier.items ≡ []) }
 {
     Trail {
-        delays: Links {
-            heads: HashMap::new(alloc),
-            earlier: Vec::new(alloc),
-        },
+        delays: no_links(alloc),
         hints: Hints {
             written: HashMap::new(alloc),
             synced: HashMap::new(alloc),

@@ -37,7 +37,7 @@ impl Diary {
     ///
     /// That of the machine where the file cannot be opened.
     pub fn open(rt: &HostRuntime, path: Option<&str>) -> io::Result<Diary>
-        ensures { IfOk result (λ diary. diary ≡ is_some path) }
+        ensures { IfOk result (λ diary. diary ≡ is_some path.entry) }
     {
         let file = match path {
             Some(path) => Some(StdSink::new(open_at_end(rt, path)?)),

@@ -1,4 +1,3 @@
-mod Endings
 pub mod Inside
 pub mod Keeping
 pub mod Moments

@@ -12,6 +12,9 @@ use Rattle.nq_naming.proofs.Inside.{GoesOn, run-on}
 use Rattle.nq_naming.specs.Finding.{IsTrueFind, find_line, lines_of}
 use Rattle.nq_naming.specs.Going.{IsAtMoment}
 use Rattle.nq_naming.specs.Playing.{Moment, Sought, names_rules, with_find, with_more}
+use Rattle.nq_replay.proofs.RulesSteps.{steps-go}
+use Rattle.nq_replay.specs.AsidesGoing.{Goes}
+use Rattle.nq_replay.specs.Rules.{play_event}
 use Rattle.nq_replay.specs.RulesGoing.{StepsBy}
 use Rattle.nq_world.specs.declared.stepped.Stepped.{Stepped}
 
@@ -42,6 +45,14 @@ steps-by plays head m event (Stepped.SkewBroken broken) w new told tells on step
 steps-by plays head m event (Stepped.Limit limit) w new told tells on steps = steps.0
 steps-by plays head m event Stepped.Fault w new told tells on steps = tt
 steps-by plays head m event Stepped.Memory w new told tells on steps = tt
+
+-- an event that is given to a world by an aside
+pub step-goes : {K : Type 0} (P : Moment → Type 0) (head : Head) (m : Moment) (event : NameEvent) (said : Stepped) (new : NamesOver K)
+    (told tells : Option Kept) → (PlaysOutside head (event ∷ m.events) new tells → P (with_more m event))
+    → StepsOutside head m.events event said new told tells → Goes said (play_event names_rules head event m) P
+step-goes P head m event said new told tells on steps =
+    let plays : Head → Moment → Unit {0} → Type 0 = λ h n u. P n in
+    steps-go names_rules plays head m event said tt (steps-by plays head m event said tt new told tells on steps)
 
 -- one event more
 pub more-moment : {K : Type 0} (head : Head) (m : Moment) (event : NameEvent) (old new : NamesOver K) (told tells : Option Kept) (text : List ℕ)

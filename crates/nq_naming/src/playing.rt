@@ -86,7 +86,7 @@ impl<K: Keeper> OuterWorld for FindingWorld<K> {
         match aside {
             Aside::List(host, prefix) => {
                 let event = NameEvent::List(host, prefix);
-                self.step(&event)
+                self.names.step(&event)
             }
             Aside::Find(host, name) => match find(&self.names, &mut self.found, host, &name) {
                 Ok(()) => Stepped::Done,

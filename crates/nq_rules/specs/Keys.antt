@@ -3,7 +3,7 @@ use Rattle.std.specs.Prelude.{ℕ, Bool, true, false}
 use Rattle.nq_base.specs.declared.Entry.{Entry}
 use Rattle.nq_base.specs.declared.Entry.TheVariants.{C, W, R, S, L, G, Z, A}
 use Rattle.nq_rules.specs.declared.keys.Kind.{Kind}
-use Rattle.nq_rules.specs.declared.keys.Kind.TheVariants.{Grants, Stores, Own, Calls, Writes, Covers, Cuts, Delays}
+use Rattle.nq_rules.specs.declared.keys.Kind.TheVariants.{Grants, Stores, Own, Calls, Reads, Writes, Covers, Cuts, Delays}
 use Rattle.nq_rules.specs.Marks.{Spot, spot}
 
 -- a block, whoever asks for it
@@ -26,6 +26,14 @@ own_spot (S who file block first last now) = spot who file block
 own_spot (L who file block first last) = spot who file block
 own_spot other = block_spot 0 0
 
+-- the call of which it tells
+abbrev pub call_spot : Entry → Spot
+call_spot (C who q told) = spot who q 0
+call_spot (R who q file block value served) = spot who q 0
+call_spot (Z who q file from to) = spot who q 0
+call_spot (A who q said) = spot who q 0
+call_spot other = block_spot 0 0
+
 -- the key of an entry
 abbrev pub spot_of : Kind → Entry → Spot
 spot_of Grants entry = file_spot entry
@@ -33,10 +41,8 @@ spot_of Stores entry = file_spot entry
 spot_of Delays entry = file_spot entry
 spot_of Own entry = own_spot entry
 spot_of Covers entry = own_spot entry
-spot_of Calls (C who q told) = spot who q 0
-spot_of Calls (R who q file block value served) = spot who q 0
-spot_of Calls (Z who q file from to) = spot who q 0
-spot_of Calls (A who q said) = spot who q 0
+spot_of Calls entry = call_spot entry
+spot_of Reads entry = call_spot entry
 spot_of Writes (W who file block number value through) = block_spot file block
 spot_of Writes (R who q file block value served) = block_spot file block
 spot_of Cuts (Z who q file from to) = block_spot file 0
@@ -49,9 +55,9 @@ is_member Grants (G who file mode tag term now) = true
 is_member Stores (S who file block first last now) = true
 is_member Own (W who file block number value through) = true
 is_member Calls (C who q told) = true
-is_member Calls (R who q file block value served) = true
 is_member Calls (Z who q file from to) = true
 is_member Calls (A who q said) = true
+is_member Reads (R who q file block value served) = true
 is_member Writes (W who file block number value through) = true
 is_member Covers (S who file block first last now) = true
 is_member Covers (L who file block first last) = true

@@ -1,9 +1,9 @@
 //! The keys by which the entries of a journal are found.
 
 ghost use Rattle.std.specs.Prelude.{◌≡◌};
-ghost use Rattle.nq_rules.specs.Keys.{file_spot, is_member, own_spot, spot_of};
+ghost use Rattle.nq_rules.specs.Keys.{call_spot, file_spot, is_member, own_spot, spot_of};
 ghost use Rattle.nq_rules.specs.Marks.{same_spot};
-ghost use Rattle.nq_rules.specs.declared.keys.Kind.TheVariants.{Calls, Writes, Cuts};
+ghost use Rattle.nq_rules.specs.declared.keys.Kind.TheVariants.{Writes, Cuts};
 
 use nq_base::{BlockNo, Entry, FileId, Who};
 
@@ -19,8 +19,10 @@ pub enum Kind {
     Stores,
     /// The writes of an incarnation to a block.
     Own,
-    /// The entries of a call.
+    /// The entries of a call but its reads.
     Calls,
+    /// The reads of a call.
+    Reads,
     /// The writes of a block.
     Writes,
     /// The S and L of an incarnation on a block.
@@ -117,7 +119,7 @@ pub(crate) fn own_key_of(entry: &Entry) -> Key
 
 /// The key of an entry of a call.
 fn call_key_of(entry: &Entry) -> Key
-    ensures { result ≡ spot_of Calls entry.now }
+    ensures { result ≡ call_spot entry.now }
 {
     match entry {
         Entry::C { who, q, .. }
@@ -155,7 +157,7 @@ pub fn key_of(kind: Kind, entry: &Entry) -> Key
     match kind {
         Kind::Grants | Kind::Stores | Kind::Delays => file_key_of(entry),
         Kind::Own | Kind::Covers => own_key_of(entry),
-        Kind::Calls => call_key_of(entry),
+        Kind::Calls | Kind::Reads => call_key_of(entry),
         Kind::Writes => block_key_of(entry),
         Kind::Cuts => cut_key(entry),
     }
@@ -169,10 +171,8 @@ pub fn is_member(kind: Kind, entry: &Entry) -> bool
         Kind::Grants => matches!(entry, Entry::G { .. }),
         Kind::Stores => matches!(entry, Entry::S { .. }),
         Kind::Own => matches!(entry, Entry::W { .. }),
-        Kind::Calls => matches!(
-            entry,
-            Entry::C { .. } | Entry::R { .. } | Entry::Z { .. } | Entry::A { .. }
-        ),
+        Kind::Calls => matches!(entry, Entry::C { .. } | Entry::Z { .. } | Entry::A { .. }),
+        Kind::Reads => matches!(entry, Entry::R { .. }),
         Kind::Writes => matches!(entry, Entry::W { .. }),
         Kind::Covers => matches!(entry, Entry::S { .. } | Entry::L { .. }),
         Kind::Cuts => matches!(entry, Entry::Z { .. }),

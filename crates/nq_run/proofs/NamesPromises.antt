@@ -7,23 +7,23 @@ use Rattle.nq_replay.specs.Ending.{CountsSink, CountsSource}
 use Rattle.nq_replay.specs.Playing.{beginning}
 use Rattle.nq_replay.specs.Replay.{OfInput}
 use Rattle.nq_run.proofs.Promises.{faultless, holds_throughout}
-use Rattle.nq_run.specs.Naming.{EndsByInput, NamesFor, NamesLawfully}
-use Rattle.nq_naming.specs.Running.{EndsNames, PrintsNames, end_of}
+use Rattle.nq_run.specs.Naming.{NamesFor, NamesLawfully}
+use Rattle.nq_naming.specs.Running.{EndsNames, EndsNamesByInput, PrintsNames, end_of}
 use Rattle.nq_name_server.proofs.Inner.{runs-inside}
 
 names_lawfully : (text : List ℕ) (held now : Option (List ℕ)) → PrintsNames text held now → NamesLawfully text held now
 names_lawfully text held now p =
-    let ran = (end_of p.head p.moment).ran in
+    let ran = (end_of p.head p.reached).ran in
     let holds = holds_throughout p.head ran p.are.lawful in
     record {
       head = p.head;
-      moment = p.moment;
+      moment = p.reached;
       runs = p.runs;
       bytes = p.bytes;
       are = p.are;
       printed = p.printed;
       finds = p.are.finds;
-      inner = runs-inside (beginning p.head) p.moment.events;
+      inner = runs-inside (beginning p.head) p.reached.events;
       holds = holds;
       judged = faultless p.head ran holds;
     }
@@ -35,7 +35,7 @@ input_names limit left rest held now p = record { text = p.text; read = p.read; 
 
 -- a run with lists by its end
 pub names_for : (end : Ending) (limit code : ℕ) (left rest held now : Option (List ℕ)) (r r' w w' : ℕ) → code ≡ status_of end
-    → EndsNames end limit left rest held now r r' w w' → EndsByInput end limit left r r' w w' → CountsSource end r r' → CountsSink end w w'
+    → EndsNames end limit left rest held now r r' w w' → EndsNamesByInput end limit left r r' w w' → CountsSource end r r' → CountsSink end w w'
     → NamesFor limit code left rest held now r r' w w'
 names_for end limit code left rest held now r r' w w' status ends by_input source sink = record {
   end = end;

@@ -10,8 +10,8 @@ use Rattle.nq_replay.specs.Ending.{CountsSink, CountsSource}
 use Rattle.nq_replay.specs.Playing.{beginning}
 use Rattle.nq_replay.specs.Replay.{OfInput}
 use Rattle.nq_run.proofs.Promises.{faultless, holds_throughout}
-use Rattle.nq_run.specs.Staging.{EndsByInput, StagesFor, StagesLawfully}
-use Rattle.nq_staged.specs.Running.{EndsStaged, PrintsStaged, end_of}
+use Rattle.nq_run.specs.Staging.{StagesFor, StagesLawfully}
+use Rattle.nq_staged.specs.Running.{EndsStaged, EndsStagedByInput, PrintsStaged, end_of}
 use Rattle.nq_stage.proofs.Inner.{runs-inside}
 use Rattle.nq_stage.proofs.Rebuilt.{rebuilds-what-was-meant}
 use Rattle.nq_stage.specs.Outside.{outside_run}
@@ -40,16 +40,16 @@ rebuilt-behind head later earlier s = rebuilds-what-was-meant head earlier (reco
 
 stages_lawfully : (text : List ℕ) (held now : Option (List ℕ)) → PrintsStaged text held now → StagesLawfully text held now
 stages_lawfully text held now p =
-    let ran = (end_of p.head p.events).ran in
+    let ran = (end_of p.head p.reached).ran in
     let holds = holds_throughout p.head ran p.are.lawful in
     record {
       head = p.head;
-      events = p.events;
+      events = p.reached;
       runs = p.runs;
       bytes = p.bytes;
       are = p.are;
       printed = p.printed;
-      inner = runs-inside (beginning p.head) p.events;
+      inner = runs-inside (beginning p.head) p.reached;
       rebuilt = λ later earlier is. rebuilt-behind (beginning p.head) later earlier (subst (λ es. IsStagedSchedule (beginning p.head) es) is p.are.schedule);
       holds = holds;
       judged = faultless p.head ran holds;
@@ -62,7 +62,8 @@ input_staged limit left rest held now p = record { text = p.text; read = p.read;
 
 -- a staged run by its end
 pub stages_for : (end : Ending) (limit code : ℕ) (left rest held now : Option (List ℕ)) (r r' w w' : ℕ) → code ≡ status_of end → EndsStaged end limit
-    left rest held now r r' w w' → EndsByInput end limit left r r' w w' → CountsSource end r r' → CountsSink end w w' → StagesFor limit code left rest held now r r' w w'
+    left rest held now r r' w w' → EndsStagedByInput end limit left r r' w w' → CountsSource end r r' → CountsSink end w w'
+    → StagesFor limit code left rest held now r r' w w'
 stages_for end limit code left rest held now r r' w w' status ends by_input source sink = record {
   end = end;
   status = status;

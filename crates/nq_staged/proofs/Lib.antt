@@ -1,8 +1,6 @@
 pub mod Steps
 pub mod Tellable
 pub mod Keeping
-pub mod Outcomes
-mod Endings
 pub mod Printed
 pub mod Travelling
 pub mod Sending

@@ -28,7 +28,7 @@ Answers asked other = Unit {0}
 
 -- the name under which words store a file
 abbrev pub stored_word : (verb : List ℕ) → (words : List (List ℕ)) → Option (List ℕ)
-stored_word verb words = if bytes_eq verb (codes "store") then word_at words >>= λ word. name_of word.0 else None
+stored_word verb words = if bytes_eq verb (codes "store") then (word_at words >>= λ word. name_of word.0) else None
 
 -- the name under which an ask stores a file
 unfoldable pub stored_name : (text : List ℕ) → Option (List ℕ)

@@ -4,7 +4,7 @@ ghost use Rattle.std.specs.Prelude.{◌≡◌, IfSome};
 ghost use Rattle.nq_tasks.specs.Work.{own_name, stored_name};
 
 use nq_base::{Name, Who};
-use nq_script::words::{Words, is};
+use nq_script::words::{Words, is, name};
 use std::alloc::Global;
 
 /// What somebody asks: the words of a line and, where they say that a whole file is stored, its bytes.
@@ -34,11 +34,11 @@ pub fn name_stored(text: &[u8]) -> Option<Name>
 {
     let mut words = Words::new(text);
     let verb = words.next()?;
-    if is(verb, b"store") {
-        words.name()
-    } else {
-        None
+    if !is(verb, b"store") {
+        return None;
     }
+    let word = words.next()?;
+    name(word)
 }
 
 /// A name for a file with the bytes of a whole one: no host takes it a second time, since an incarnation is taken once. None where memory is

@@ -12,6 +12,7 @@ use nq_directory::{FileName, Prefix};
 use nq_script::words::{push_bytes, push_digits};
 use std::alloc::Global;
 use std::marker::Model;
+use std::mem;
 
 /// After how many ticks a page is asked for again.
 const AGAIN: u64 = 2;
@@ -83,25 +84,25 @@ fn push_line(lines: &mut Vec<u8>, prefix: &Prefix, entry: &FileName) -> Result<(
     Ok(())
 }
 
-/// Adds the lines of files.
-fn push_lines(lines: &mut Vec<u8>, prefix: &Prefix, names: &[FileName]) -> Result<(), NoMemory>
-    ensures { OnOk result (lines.new.items ≡ lines.old.items ++ lines_of prefix.now names.now) }
+/// The lines of files.
+fn lines_of(alloc: Global, prefix: &Prefix, names: &[FileName]) -> Result<Vec<u8>, NoMemory>
+    ensures { IfOk result (λ text. text.items ≡ lines_of prefix.now names.now) }
 {
+    let mut text = Vec::new(alloc);
     for entry in names {
-        push_line(lines, prefix, entry)?;
+        push_line(&mut text, prefix, entry)?;
     }
-    Ok(())
+    Ok(text)
 }
 
 /// The file behind which the list goes on.
 fn last_id(after: FileId, names: &[FileName]) -> FileId
     ensures { result ≡ last_id after names.now }
 {
-    let mut last = after;
-    for entry in names {
-        last = entry.file;
+    match names.last() {
+        Some(entry) => entry.file,
+        None => after,
     }
-    last
 }
 
 impl Listing {
@@ -179,27 +180,28 @@ impl Listing {
             return Ok(Listed::Goes);
         };
         match read_told(alloc, asked.number, who.inc.0, datagram)? {
-            Some(told) => self.hear(&told),
+            Some(told) => self.hear(alloc, &told),
             None => Ok(Listed::Goes),
         }
     }
 
     /// Takes the answer to the request.
-    fn hear(&mut self, told: &Told) -> Result<Listed, NoMemory>
+    fn hear(&mut self, alloc: Global, told: &Told) -> Result<Listed, NoMemory>
         ensures { IfOk result (λ said. heard (answer_of told.now) self.old ≡ record { said = said; lists = self.new }) }
     {
         match told {
-            Told::Page(page) => self.turn(page),
+            Told::Page(page) => self.turn(alloc, page),
             Told::Later => Ok(Listed::Later),
         }
     }
 
     /// Takes a page: the next one is due, if there is one.
-    fn turn(&mut self, page: &Page) -> Result<Listed, NoMemory>
+    fn turn(&mut self, alloc: Global, page: &Page) -> Result<Listed, NoMemory>
         ensures { IfOk result (λ said. turned page.now.names.items page.now.more self.old ≡ record { said = said; lists = self.new }) }
     {
         let names = page.names.as_slice();
-        push_lines(&mut self.lines, &self.prefix, names)?;
+        let lines = lines_of(alloc, &self.prefix, names)?;
+        push_bytes(&mut self.lines, &lines)?;
         self.after = last_id(self.after, names);
         self.asked = None;
         if page.more && !names.is_empty() {
@@ -209,11 +211,10 @@ impl Listing {
         }
     }
 
-    /// The lines: each has a name and the number of its file.
-    pub fn into_lines(self) -> Vec<u8>
-        ensures { result.items ≡ self.lines }
+    /// Takes the lines out: each has a name and the number of its file.
+    pub fn take_lines(&mut self, alloc: Global) -> Vec<u8>
+        ensures { result.items ≡ self.old.lines }
     {
-        let Listing { lines, .. } = self;
-        lines
+        mem::replace(&mut self.lines, Vec::new(alloc))
     }
 }

@@ -35,8 +35,8 @@ enum Task {
     Get(Getting),
     /// Tidying up behind a store that was cut off.
     Tidy(Tidying),
-    /// Listing names. It makes no call.
-    List(Listing),
+    /// Listing names, by a list that stands beside it. It makes no call.
+    List,
 }
 
 /// What a task says of an answer.
@@ -93,6 +93,7 @@ pub struct Work {
     place: usize,
     number: u32,
     task: Task,
+    listing: Option<Listing>,
     /// Why it was refused, once that is known.
     why: Vec<u8>,
     anew: u32,
@@ -123,17 +124,23 @@ fn due_page(
     }
 }
 
-/// The task that an ask names, beside a store; None where it names none.
+/// The list of names that an ask wants; None where it wants none.
+fn listing_of(alloc: Global, text: &[u8]) -> Option<Listing> {
+    let mut words = Words::new(text);
+    if !is(words.next()?, b"ls") {
+        return None;
+    }
+    let prefix = Prefix::new(words.next().unwrap_or(b""))?;
+    Some(Listing::new(alloc, prefix))
+}
+
+/// The task that an ask names, beside a store and a list; None where it names none.
 fn task_of(alloc: Global, text: &[u8]) -> Option<Task> {
     let mut words = Words::new(text);
     let verb = words.next()?;
     if is(verb, b"get") {
         let name = words.name()?;
         return Some(Task::Get(Getting::new(alloc, name)));
-    }
-    if is(verb, b"ls") {
-        let prefix = Prefix::new(words.next().unwrap_or(b""))?;
-        return Some(Task::List(Listing::new(alloc, prefix)));
     }
     match parse_call(alloc, text, 2) {
         Ok(call) => Some(Task::Call(call)),
@@ -151,6 +158,7 @@ impl Work {
             place,
             number,
             task,
+            listing: None,
             why: Vec::new(alloc),
             anew: 0,
             made: None,
@@ -161,8 +169,20 @@ impl Work {
     pub fn new(alloc: Global, place: usize, ask: &Ask) -> Option<Work>
         ensures { IfSome result (λ work. work ≡ record { place = place; number = ask.now.number }) }
     {
+        if let Some(listing) = listing_of(alloc, &ask.text) {
+            return Some(Work::list(alloc, place, ask.number, listing));
+        }
         let task = task_of(alloc, &ask.text)?;
         Some(Work::of(alloc, place, ask.number, task))
+    }
+
+    /// The work of a list.
+    fn list(alloc: Global, place: usize, number: u32, listing: Listing) -> Work
+        ensures { result ≡ record { place = place; number = number } }
+    {
+        let mut work = Work::of(alloc, place, number, Task::List);
+        work.listing = Some(listing);
+        work
     }
 
     /// The work of storing the bytes of an ask, of which there are not too many.
@@ -226,13 +246,13 @@ impl Work {
             Task::Store(storing) => storing.asks(self.alloc),
             Task::Get(getting) => Ok(getting.asks()),
             Task::Tidy(tidying) => Ok(tidying.asks()),
-            Task::List(_) => Err(NoMemory::Memory),
+            Task::List => Err(NoMemory::Memory),
         }
     }
 
     /// Whether it lists names. Then it makes no call.
     pub fn is_listing(&self) -> bool {
-        matches!(&self.task, Task::List(_))
+        self.listing.is_some()
     }
 
     /// The request of this number for the next page of its list, where that is due at this time.
@@ -248,9 +268,9 @@ impl Work {
     ) -> Result<Option<Vec<u8>>, NoMemory>
         ensures { self.new ≡ self.old }
     {
-        match &mut self.task {
-            Task::List(listing) => due_page(self.alloc, listing, who, number, now),
-            _ => Ok(None),
+        match &mut self.listing {
+            Some(listing) => due_page(self.alloc, listing, who, number, now),
+            None => Ok(None),
         }
     }
 
@@ -259,9 +279,9 @@ impl Work {
         ensures same { self.new ≡ self.old }
         ensures own { Answers self.old result }
     {
-        let listed = match &mut self.task {
-            Task::List(listing) => listing.take(self.alloc, who, datagram),
-            _ => Ok(Listed::Goes),
+        let listed = match &mut self.listing {
+            Some(listing) => listing.take(self.alloc, who, datagram),
+            None => Ok(Listed::Goes),
         };
         match listed {
             Ok(Listed::Goes) => Came::On,
@@ -362,7 +382,7 @@ impl Work {
             Task::Store(storing) => Stepped::Stored(storing.take(answer)),
             Task::Get(getting) => Stepped::Got(getting.take(answer)),
             Task::Tidy(tidying) => Stepped::Tidied(tidying.take(answer)),
-            Task::List(_) => Stepped::Listing,
+            Task::List => Stepped::Listing,
         }
     }
 
@@ -459,16 +479,25 @@ impl Work {
         }
     }
 
+    /// The bytes that it got. No call is made behind it.
+    fn take_bytes(&mut self) -> Vec<u8>
+        ensures { self.new ≡ self.old }
+    {
+        let nothing = Task::Call(Call::Sync { file: FileId(0) });
+        match mem::replace(&mut self.task, nothing) {
+            Task::Get(getting) => getting.into_bytes(),
+            _ => Vec::new(self.alloc),
+        }
+    }
+
     /// All bytes are there. No call is made behind it.
     fn gives(&mut self) -> Came
         ensures same { self.new ≡ self.old }
         ensures own { Answers self.old result }
     {
-        let nothing = Task::Call(Call::Sync { file: FileId(0) });
-        let bytes = match mem::replace(&mut self.task, nothing) {
-            Task::Get(getting) => getting.into_bytes(),
-            Task::List(listing) => listing.into_lines(),
-            _ => Vec::new(self.alloc),
+        let bytes = match &mut self.listing {
+            Some(listing) => listing.take_lines(self.alloc),
+            None => self.take_bytes(),
         };
         let size = bytes.len();
         let text = match format!(in self.alloc; "{size}") {

@@ -1,8 +1,9 @@
 -- What stands at the places of a book.
-use Rattle.std.proofs.Common.{◌≡◌, ◌≢◌, ◌<◌, ℕ, List, [], ◌∷◌, Option, Some, None, length, slice_get, All, arith}
+use Rattle.std.proofs.Common.{◌≡◌, ◌≢◌, ◌<◌, ℕ, zero, suc, List, [], ◌∷◌, Option, Some, None, length, slice_get, All, sym, arith}
 use Rattle.std.proofs.lemmas.Option.{none-some}
 use Rattle.std.specs.declared.net.socket_addr.SocketAddr.{SocketAddr}
-use Rattle.nq_udp.specs.Book.{Places, entry_at}
+use Rattle.nq_base.specs.declared.Party.{Party}
+use Rattle.nq_udp.specs.Book.{HasAddressIn, IsAddressIn, Listed, Places, entry_at}
 
 -- an address that stands nowhere stands at no place
 pub nobody : (address : SocketAddr) (places : Places) (place : ℕ) → All (λ entry. entry ≢ Some address) places → entry_at places place ≡ Some address
@@ -11,3 +12,8 @@ nobody address [] place none found = none-some address found
 nobody address (entry ∷ places) zero none found = none 0 entry (omega arith) found
 nobody address (entry ∷ places) (suc place) none found =
     nobody address places place (λ k d below. none (suc k) d (omega (arith, below))) found
+
+-- what was found as a party's address is its address
+pub known : (book : Listed) (party : Party) (address : SocketAddr) → HasAddressIn book party (Some address) → IsAddressIn book party address
+known None party address has = has
+known (Some places) party address has = sym has

@@ -102,6 +102,7 @@ impl Book {
     ///
     /// `Host` where there is no such host, `Party` where the party has an address, and `Address` where a party has this one, as each
     /// party in the book of one machine has. The book is as before then.
+    #[tactic(auto, using(crate::proofs::Places::known))]
     pub fn list(&mut self, party: Party, address: SocketAddr) -> Result<(), Clash>
         ensures { Lists result party address self.old self.new }
     {
@@ -109,10 +110,10 @@ impl Book {
         if place >= PLACES {
             return Err(Clash::Host);
         }
-        if self.address(party).is_some() {
+        if let Some(_known) = self.address(party) {
             return Err(Clash::Party);
         }
-        if self.party(&address).is_some() {
+        if let Some(_other) = self.party(&address) {
             return Err(Clash::Address);
         }
         if let Some(places) = &mut self.listed {
@@ -156,6 +157,7 @@ fn place_with(places: &[Option<SocketAddr>], address: &SocketAddr) -> Option<usi
 }
 
 /// The party for which a book lists an address, if there is one.
+#[tactic(auto, using(crate::proofs::Places::nobody))]
 fn party_among(places: &[Option<SocketAddr>; PLACES], address: &SocketAddr) -> Option<Party>
     ensures { IsAtIn (Some places.now) address.now result }
 {

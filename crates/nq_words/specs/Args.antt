@@ -58,7 +58,7 @@ number_at least most words = do
 -- what is wrong where the value behind an option, if there is one, is no such number
 abbrev pub value_wrong : (flag : List ℕ) → (least most : ℕ) → Option (List ℕ × List (List ℕ)) → List ℕ
 value_wrong flag least most None = no_value flag
-value_wrong flag least most (Some value) = no_number value.0 least most
+value_wrong flag least most (Some value) = no_number value.0 (record { least = least; most = most })
 
 -- what is wrong where no such number is in front
 abbrev pub number_wrong : (flag : List ℕ) → (least most : ℕ) → List (List ℕ) → List ℕ

@@ -6,7 +6,7 @@ ghost use Rattle.nq_words.specs.Args.{Reads, Says, begins_option, number_at, num
 ghost use Rattle.nq_words.specs.Wrongs.{no_number, no_value, wrong_words};
 ghost use Rattle.nq_words.specs.declared.args.Sort.{Sort};
 
-use crate::wrongs::Wrong;
+use crate::wrongs::{Bounds, Wrong};
 use nq_script::words::{is, number};
 use std::marker::Model;
 
@@ -87,11 +87,14 @@ fn next_of(word: &str) -> Next<'_>
 pub fn number_in(word: &str, least: u32, most: u32) -> Result<u32, Wrong<'_>>
     ensures ok { IfOk result (λ n. ranged_of least most word.now ≡ Some n) }
     ensures none { OnErr result (ranged_of least most word.now ≡ None) }
-    ensures wrong { IfErr result (λ wrong. wrong_words wrong ≡ no_number word.now least most) }
+    ensures wrong { IfErr result (λ wrong. wrong_words wrong ≡ no_number word.now (record { least = least; most = most })) }
 {
     match number(word.as_bytes(), u64::from(most)) {
         Some(value) if value >= u64::from(least) => Ok(value as u32),
-        _ => Err(Wrong::NoNumber { word, least, most }),
+        _ => Err(Wrong::NoNumber {
+            word,
+            bounds: Bounds { least, most },
+        }),
     }
 }
 

@@ -8,4 +8,4 @@ mod wrongs;
 
 pub use args::{Args, Next, number_in};
 pub use machine::{Unread, args_of};
-pub use wrongs::Wrong;
+pub use wrongs::{Bounds, Wrong};

@@ -1,7 +1,7 @@
 //! What is wrong with the words behind a program's name.
 
 ghost use Rattle.std.specs.Prelude.{Some};
-ghost use Rattle.nq_words.specs.Wrongs.{wrong_words};
+ghost use Rattle.nq_words.specs.Wrongs.{bounds_words, wrong_words};
 
 use std::fmt;
 
@@ -18,12 +18,27 @@ pub enum Wrong<'a> {
     NoValue(&'a str),
     /// A word is missing that stands for this.
     Missing(&'a str),
-    /// A word is no number from a least to a greatest one.
-    NoNumber {
-        word: &'a str,
-        least: u32,
-        most: u32,
-    },
+    /// A word is no number within these bounds.
+    NoNumber { word: &'a str, bounds: Bounds },
+}
+
+/// A least and a greatest number.
+#[derive(Clone, Copy)]
+pub struct Bounds {
+    /// The least one.
+    pub least: u32,
+    /// The greatest one.
+    pub most: u32,
+}
+
+impl fmt::Display for Bounds {
+    ghost output = { λ bounds. Some (bounds_words bounds) };
+
+    fn fmt<W: fmt::Write>(&self, f: &mut fmt::Formatter<W>) -> fmt::Result {
+        let least = self.least;
+        let most = self.most;
+        write!(f, "from {least} to {most}")
+    }
 }
 
 impl<'a> fmt::Display for Wrong<'a> {
@@ -36,11 +51,7 @@ impl<'a> fmt::Display for Wrong<'a> {
             Wrong::Word(word) => write!(f, "{word}: no such word"),
             Wrong::NoValue(word) => write!(f, "{word}: the word behind it is missing"),
             Wrong::Missing(word) => write!(f, "{word} is missing"),
-            Wrong::NoNumber { word, least, most } => {
-                let least = *least;
-                let most = *most;
-                write!(f, "{word}: no number from {least} to {most}")
-            }
+            Wrong::NoNumber { word, bounds } => { write!(f, "{word}: a number {bounds} is wanted") }
         }
     }
 }

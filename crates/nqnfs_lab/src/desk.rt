@@ -22,7 +22,7 @@ const MOST_BYTES: usize = 1_048_576;
 pub(crate) struct Desk<'a> {
     rt: &'a HostRuntime,
     port: u16,
-    web: String,
+    web: &'a str,
 }
 
 /// What is answered.
@@ -33,9 +33,9 @@ struct Answer {
     body: Vec<u8>,
 }
 
-impl Desk<'_> {
+impl<'a> Desk<'a> {
     /// A desk for the page in a folder, at a port.
-    pub(crate) fn new(rt: &HostRuntime, port: u16, web: String) -> Desk<'_> {
+    pub(crate) fn new(rt: &'a HostRuntime, port: u16, web: &'a str) -> Desk<'a> {
         Desk { rt, port, web }
     }
 
@@ -78,7 +78,7 @@ impl Desk<'_> {
 
     /// A file of the page.
     fn file(&self, path: &str) -> Result<Answer, AllocError> {
-        match file_of(self.rt, self.web.as_str(), path) {
+        match file_of(self.rt, self.web, path) {
             Some(body) => Ok(Answer {
                 status: 200,
                 kind: Kind::of(path),

@@ -12,12 +12,16 @@ mod watch;
 mod words;
 
 use crate::desk::Desk;
+use crate::files::file_of;
 use crate::peers::{serve_all, serve_once};
-use crate::words::{Asked, Options, read_words};
+use crate::words::{Asked, Options, asked_of};
 use nq_base::ending::Ending;
-use std::env;
+use nq_words::{Unread, args_of};
 use std::net::TcpListener;
 use std::process::ExitCode;
+
+// Which words there are.
+const USAGE: &str = "nqnfs_lab [--port N] [--web FOLDER]";
 
 const HELP: &str = "nqnfs_lab [--port N] [--web FOLDER]
 
@@ -35,10 +39,15 @@ fn main(rt: HostRuntime) -> ExitCode {
 
 /// Does what the words behind the program's name say; how that ends.
 fn obey(rt: &HostRuntime) -> Ending {
-    let Ok(args) = env::args(rt) else {
-        return Ending::Memory;
+    let words = match args_of(rt) {
+        Ok(words) => words,
+        Err(Unread::Memory) => return Ending::Memory,
+        Err(Unread::NoText) => {
+            let _told = eprintln!(rt; "nqnfs_lab: a word is no text; usage: {USAGE}");
+            return Ending::Usage;
+        }
     };
-    match read_words(rt.alloc(), args) {
+    match asked_of(words.as_slice()) {
         Ok(Asked::Serve(options)) => serve(rt, options),
         Ok(Asked::Once(options)) => once(rt, options),
         Ok(Asked::Help) => {
@@ -49,17 +58,22 @@ fn obey(rt: &HostRuntime) -> Ending {
             let _told = println!(rt; "nqnfs_lab 1");
             Ending::Done
         }
-        Err(Some(wrong)) => {
-            let _told = eprintln!(rt; "nqnfs_lab: {wrong}; --help tells the words");
+        Err(wrong) => {
+            let _told = eprintln!(rt; "nqnfs_lab: {wrong}; usage: {USAGE}");
             Ending::Usage
         }
-        Err(None) => Ending::Memory,
     }
 }
 
 /// Serves the page until the process is stopped.
-fn serve(rt: &HostRuntime, options: Options) -> Ending {
+fn serve(rt: &HostRuntime, options: Options<'_>) -> Ending {
     let Options { port, web } = options;
+    if file_of(rt, web, "/").is_none() {
+        let _told = eprintln!(rt;
+            "nqnfs_lab: {web}/index.html cannot be read; --web says where the files of the page are"
+        );
+        return Ending::ReadFault;
+    }
     let Ok(listener) = TcpListener::bind(rt, ("127.0.0.1", port)) else {
         let _told = eprintln!(rt; "nqnfs_lab: port {port} is taken or cannot be bound");
         return Ending::LinkFault;
@@ -73,7 +87,7 @@ fn serve(rt: &HostRuntime, options: Options) -> Ending {
 }
 
 /// Answers the requests on the standard input; how that ends.
-fn once(rt: &HostRuntime, options: Options) -> Ending {
+fn once(rt: &HostRuntime, options: Options<'_>) -> Ending {
     let Options { port, web } = options;
     let mut desk = Desk::new(rt, port, web);
     match serve_once(rt, &mut desk) {

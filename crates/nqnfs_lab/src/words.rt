@@ -1,85 +1,61 @@
-//! The words of the command line.
+//! What the words behind the program's name say.
 
-use std::alloc::Global;
-use std::env::Args;
+use nq_words::{Args, Next, Wrong};
 
-/// What the words ask for.
-#[derive(Drop)]
-pub(crate) enum Asked {
-    /// To serve the page.
-    Serve(Options),
-    /// To answer the requests that come on the standard input.
-    Once(Options),
-    /// To tell the words.
+/// What is to be done.
+#[derive(Clone, Copy)]
+pub(crate) enum Asked<'a> {
+    /// Serve the page.
+    Serve(Options<'a>),
+    /// Answer the requests that come on the standard input.
+    Once(Options<'a>),
+    /// Say what words there are.
     Help,
-    /// To tell the version.
+    /// Say which version this is.
     Version,
 }
 
 /// How the page is served.
-#[derive(Drop)]
-pub(crate) struct Options {
+#[derive(Clone, Copy)]
+pub(crate) struct Options<'a> {
     /// The port on 127.0.0.1.
     pub(crate) port: u16,
     /// The folder in which the files of the page are.
-    pub(crate) web: String,
+    pub(crate) web: &'a str,
 }
 
-/// What the words behind the program's name ask for.
+/// What these words say.
 ///
 /// # Errors
 ///
-/// What is wrong, with the word; None for want of memory.
-pub(crate) fn read_words(alloc: Global, args: Args) -> Result<Asked, Option<String>> {
+/// What is wrong with them.
+pub(crate) fn asked_of(words: &[String]) -> Result<Asked<'_>, Wrong<'_>> {
+    let mut args = Args::new(words);
     let mut port = 8059u16;
-    let mut web = copied(alloc, "web")?;
-    let mut name = copied(alloc, "")?;
+    let mut web = "web";
     let mut once = false;
-    for word in args.skip(1) {
-        match (name.as_str(), word.as_str()) {
-            ("", "--help") => return Ok(Asked::Help),
-            ("", "--version") => return Ok(Asked::Version),
-            ("", "--once") => once = true,
-            ("", "--port") | ("", "--web") => name = word,
-            ("--port", digits) => {
-                port = port_of(alloc, digits)?;
-                name = copied(alloc, "")?;
-            }
-            ("--web", _) => {
-                web = word;
-                name = copied(alloc, "")?;
-            }
-            (_, wrong) => return Err(said(alloc, "no such word: ", wrong)),
+    for _word in 0..words.len() {
+        match args.next() {
+            Next::End => break,
+            Next::Help => return Ok(Asked::Help),
+            Next::Version => return Ok(Asked::Version),
+            Next::Flag("--once") => once = true,
+            Next::Flag("--port") => match args.number("--port", 1, 65_535) {
+                Ok(number) => port = number as u16,
+                Err(wrong) => return Err(wrong),
+            },
+            Next::Flag("--web") => match args.value("--web") {
+                Ok(folder) => web = folder,
+                Err(wrong) => return Err(wrong),
+            },
+            Next::Flag(word) => return Err(Wrong::Flag(word)),
+            Next::Plain(word) => return Err(Wrong::Extra(word)),
         }
     }
-    if !name.is_empty() {
-        return Err(said(alloc, "a word is missing behind ", name.as_str()));
-    }
     let options = Options { port, web };
-    if once {
-        Ok(Asked::Once(options))
+    Ok(if once {
+        Asked::Once(options)
     } else {
-        Ok(Asked::Serve(options))
-    }
-}
-
-/// The port that a word writes.
-fn port_of(alloc: Global, word: &str) -> Result<u16, Option<String>> {
-    match nq_script::words::number(word.as_bytes(), 65_535) {
-        Some(port) if port > 0 => Ok(port as u16),
-        _ => Err(said(alloc, "no port: ", word)),
-    }
-}
-
-/// What is wrong with a word; None for want of memory.
-fn said(alloc: Global, what: &str, word: &str) -> Option<String> {
-    format!(in alloc; "{what}{word}").ok()
-}
-
-/// A text of its own.
-fn copied(alloc: Global, text: &str) -> Result<String, Option<String>> {
-    match String::from_str(alloc, text) {
-        Ok(text) => Ok(text),
-        Err(_) => Err(None),
-    }
+        Asked::Serve(options)
+    })
 }

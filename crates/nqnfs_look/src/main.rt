@@ -8,17 +8,29 @@ mod words;
 
 ghost use Rattle.std.specs.Prelude.{◌<◌, ◌^◌, length};
 
-use crate::words::view_of;
-use nq_base::NoMemory;
+use crate::words::{Asked, asked_of};
 use nq_base::ending::Ending;
 use nq_io::streams::{StdSink, StdSource};
 use nq_io::{MemSink, MemSource, Put, Sink, Source, Whole, read_all};
 use nq_keeper::ListKeeper;
 use nq_observe::{Endless, Shown, Unseen, View, look};
 use nq_replay::{read_script, replay};
-use std::io::ErrorKind;
+use nq_words::{Unread, args_of};
+use std::io;
 use std::process::ExitCode;
-use std::{env, io};
+
+// Which words there are.
+const USAGE: &str = "nqnfs_look picture [--from N] [--to N] | tell | why LINE";
+
+const HELP: &str = "nqnfs_look picture [--from N] [--to N] | tell | why LINE
+
+Shows the run of the schedule on the standard input.
+  picture      draws it in SVG, from event N to event N
+  tell         tells it, a line for each event
+  why LINE     tells the events that led to a line of its journal, newest first
+  --help       prints this
+  --version    prints the version
+";
 
 // The most bytes of a schedule that are read.
 const MOST_BYTES: usize = 16_777_216;
@@ -27,17 +39,27 @@ const MOST_BYTES: usize = 16_777_216;
 const FAULT_LINE: usize = 128;
 
 fn main(rt: HostRuntime) -> ExitCode {
-    ExitCode::from(shown(&rt).status())
+    ExitCode::from(obey(&rt).status())
 }
 
-/// Shows what the words say; how that ends.
-fn shown(rt: &HostRuntime) -> Ending {
-    match words_of(rt) {
-        Ok(words) => match view_of(words.as_slice()) {
-            Some(view) => show(rt, view),
-            None => put(rt, b"usage\n", Ending::Usage),
-        },
-        Err(NoMemory::Memory) => Ending::Memory,
+/// Does what the words behind the program's name say; how that ends.
+fn obey(rt: &HostRuntime) -> Ending {
+    let words = match args_of(rt) {
+        Ok(words) => words,
+        Err(Unread::Memory) => return Ending::Memory,
+        Err(Unread::NoText) => {
+            let _told = eprintln!(rt; "nqnfs_look: a word is no text; usage: {USAGE}");
+            return Ending::Usage;
+        }
+    };
+    match asked_of(words.as_slice()) {
+        Ok(Asked::Show(view)) => show(rt, view),
+        Ok(Asked::Help) => put(rt, HELP.as_bytes(), Ending::Done),
+        Ok(Asked::Version) => put(rt, b"nqnfs_look 1\n", Ending::Done),
+        Err(wrong) => {
+            let _told = eprintln!(rt; "nqnfs_look: {wrong}; usage: {USAGE}");
+            Ending::Usage
+        }
     }
 }
 
@@ -101,20 +123,5 @@ fn put(rt: &HostRuntime, bytes: &[u8], end: Ending) -> Ending {
     match out.put(bytes) {
         Put::All => end,
         Put::Failed => Ending::WriteFault,
-    }
-}
-
-/// The words behind the program's name; none where they cannot be told.
-fn words_of(rt: &HostRuntime) -> Result<Vec<String>, NoMemory> {
-    let mut words = Vec::new(rt.alloc());
-    match env::args(rt) {
-        Ok(args) => {
-            for word in args.skip(1) {
-                words.push(word)?;
-            }
-            Ok(words)
-        }
-        Err(error) if error.kind() == ErrorKind::OutOfMemory => Err(NoMemory::Memory),
-        Err(_) => Ok(words),
     }
 }

@@ -1,58 +1,83 @@
-//! What the words say.
+//! What the words behind the program's name say.
 
 use nq_observe::View;
+use nq_words::{Args, Next, Wrong, number_in};
 
-/// How a run is shown, if the words say it: `picture`, with `--from N` and `--to N` behind it where only some events are to be
-/// shown, `tell`, or `why LINE`.
-pub(crate) fn view_of(words: &[String]) -> Option<View> {
-    let first = words.first()?;
-    let more = words.get(1..)?;
-    match first.as_str() {
-        "picture" => picture_of(more),
-        "tell" => match more.len() {
-            0 => Some(View::Tell),
-            _ => None,
-        },
-        "why" => why_of(more),
-        _ => None,
+/// The greatest number of an event or a line.
+const MOST: u32 = 1_000_000_000;
+
+/// What is to be done.
+#[derive(Clone, Copy)]
+pub(crate) enum Asked {
+    /// Show a run.
+    Show(View),
+    /// Say what words there are.
+    Help,
+    /// Say which version this is.
+    Version,
+}
+
+/// What these words say.
+///
+/// # Errors
+///
+/// What is wrong with them.
+pub(crate) fn asked_of(words: &[String]) -> Result<Asked, Wrong<'_>> {
+    let mut args = Args::new(words);
+    match args.next() {
+        Next::End => Err(Wrong::Missing("picture, tell or why")),
+        Next::Help => Ok(Asked::Help),
+        Next::Version => Ok(Asked::Version),
+        Next::Flag(word) => Err(Wrong::Flag(word)),
+        Next::Plain("picture") => picture_of(&mut args, words.len()),
+        Next::Plain("tell") => alone(&mut args, View::Tell),
+        Next::Plain("why") => why_of(&mut args),
+        Next::Plain(word) => Err(Wrong::Word(word)),
+    }
+}
+
+/// A view behind which no word stands.
+fn alone<'a>(args: &mut Args<'a>, view: View) -> Result<Asked, Wrong<'a>> {
+    match args.word() {
+        Some(word) => Err(Wrong::Extra(word)),
+        None => Ok(Asked::Show(view)),
     }
 }
 
 /// What stands behind `why`.
-fn why_of(words: &[String]) -> Option<View> {
-    match words.len() {
-        1 => {
-            let word = words.first()?;
-            let line = number_of(word.as_str())?;
-            Some(View::Why { line })
+fn why_of<'a>(args: &mut Args<'a>) -> Result<Asked, Wrong<'a>> {
+    let Some(word) = args.word() else {
+        return Err(Wrong::Missing("LINE"));
+    };
+    match number_in(word, 0, MOST) {
+        Ok(line) => {
+            let line = line as usize;
+            alone(args, View::Why { line })
         }
-        _ => None,
+        Err(wrong) => Err(wrong),
     }
 }
 
-/// What stands behind `picture`.
-fn picture_of(words: &[String]) -> Option<View> {
+/// What stands behind `picture`, among so many words.
+fn picture_of<'a>(args: &mut Args<'a>, count: usize) -> Result<Asked, Wrong<'a>> {
     let mut from = 0usize;
     let mut to = usize::MAX;
-    let mut place = 0usize;
-    for _ in 0..words.len() {
-        let Some(name) = words.get(place) else {
-            return Some(View::Picture { from, to });
-        };
-        let word = words.get(place.saturating_add(1))?;
-        let number = number_of(word.as_str())?;
-        match name.as_str() {
-            "--from" => from = number,
-            "--to" => to = number,
-            _ => return None,
+    for _word in 0..count {
+        match args.next() {
+            Next::End => break,
+            Next::Help => return Ok(Asked::Help),
+            Next::Version => return Ok(Asked::Version),
+            Next::Flag("--from") => match args.number("--from", 0, MOST) {
+                Ok(number) => from = number as usize,
+                Err(wrong) => return Err(wrong),
+            },
+            Next::Flag("--to") => match args.number("--to", 0, MOST) {
+                Ok(number) => to = number as usize,
+                Err(wrong) => return Err(wrong),
+            },
+            Next::Flag(word) => return Err(Wrong::Flag(word)),
+            Next::Plain(word) => return Err(Wrong::Extra(word)),
         }
-        place = place.saturating_add(2);
     }
-    Some(View::Picture { from, to })
-}
-
-/// The number that a word writes.
-fn number_of(word: &str) -> Option<usize> {
-    let number = nq_script::words::number(word.as_bytes(), 1_000_000_000)?;
-    Some(number as usize)
+    Ok(Asked::Show(View::Picture { from, to }))
 }

@@ -1,45 +1,7 @@
-use Rattle.std.proofs.Common.{◌≡◌, length, refl, reverse, take, sym, ◌∙◌, ap, arith, ◌≤◌, ◌<◌, ◌-◌}
+use Rattle.std.proofs.Common.{reverse, ◌∙◌, ap}
 use Rattle.std.proofs.Math.Seq.{take-length}
-use Rattle.std.proofs.lemmas.Option.{slice_get_read}
-use Rattle.std.specs.Option.{option_or}
-use Rattle.nq_model.specs.Journal.{call_of, told_by}
-use Rattle.nq_check.proofs.Climbs.{or_none, skip_told, told_more}
-use Rattle.nq_check.proofs.Followed.{told_last}
+use Rattle.nq_model.specs.Journal.{call_of}
 use Rattle.nq_check.proofs.along.call_along.Goals as goal
 
-pub loop-at-init : goal.loop-at-init
-loop-at-init c =
-    let whole = c.args.whole.now in
-    let who = c.args.by.now in
-    let q = c.args.n in
-    let from = c.back_from-at.result in
-    let up : length whole ≤ length whole = omega arith in
-    let all : call_of (reverse (take (length whole) whole)) who q ≡ call_of (reverse whole) who q = ap (λ l. call_of (reverse l) who q)
-    (take-length whole) in (
-      c.back_from-at.ensures.low,
-      sym all ∙ skip_told c.call_key-key.result who q whole from (length whole) c.call_key-key.ensures c.back_from-at.ensures.low up
-          c.back_from-at.ensures.free
-          ∙ sym (or_none (call_of (reverse (take from whole)) who q)),
-    )
-
-pub loop-at-preserved : goal.loop-at-preserved
-loop-at-preserved c =
-    let whole = c.args.whole.now in
-    let who = c.args.by.now in
-    let q = c.args.n in
-    let at = c.loop-at.at in
-    let up : 0 < at = c.loop-at-test.true in
-    let within : at ≤ length whole = c.loop-at.invariant.0 in
-    let low : c.back_from-at-in-loop-at.result ≤ at - 1 = c.back_from-at-in-loop-at.ensures.low in
-    let there = slice_get_read whole (length whole) (at - 1) c.index-whole-at.result refl (omega arith) c.index-whole-at.is in
-    let next = c.back_from-at-in-loop-at.result in
-    let told = told_by c.index-whole-at.result who q in (
-      omega arith,
-      c.loop-at.invariant.1
-          ∙ ap (λ o. option_or o c.loop-at.call)
-          (told_last c.call_key-key.result who q whole next at c.index-whole-at.result c.call_key-key.ensures up within low there
-          c.back_from-at-in-loop-at.ensures.free)
-          ∙ told_more (call_of (reverse (take next whole)) who q) told c.loop-at.call
-          ∙ ap (λ o. option_or (call_of (reverse (take next whole)) who q) o)
-          (ap (λ t. option_or t c.loop-at.call) (sym c.told_by.ensures) ∙ sym c.or-call.ensures),
-    )
+pub returns : goal.returns
+returns c = c.call_before.ensures ∙ ap (λ l. call_of (reverse l) c.args.by.now c.args.n) (take-length c.args.whole.now)

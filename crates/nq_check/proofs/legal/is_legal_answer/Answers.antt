@@ -1,6 +1,6 @@
 use Rattle.std.proofs.Common.{length, refl, reverse, sym, ◌∙◌, ◌<◌, ◌≤◌, ◌+◌, ◌-◌, ap, take, arith}
 use Rattle.std.proofs.lemmas.Option.{slice_get_read}
-use Rattle.nq_rules.specs.declared.keys.Kind.TheVariants.{Calls}
+use Rattle.nq_rules.specs.declared.keys.Kind.TheVariants.{Reads}
 use Rattle.nq_check.proofs.Counts.{valued_linked, counts_within, number_first, number_last}
 use Rattle.nq_model.specs.JournalTest.{number_of}
 use Rattle.nq_model.specs.LegalTest.{is_counted_with}
@@ -15,7 +15,7 @@ loop-at-init c =
     let from = c.back_from-at.result in
     let low : from ≤ length whole = c.back_from-at.ensures.low in (
       omega arith,
-      number_first (is_counted_with (reverse whole) who q c.args.v) Calls key whole from
+      number_first (is_counted_with (reverse whole) who q c.args.v) Reads key whole from
           (valued_linked key (reverse whole) who q c.args.v c.call_key-key.ensures) low c.back_from-at.ensures.free,
     )
 
@@ -37,7 +37,7 @@ loop-at-preserved c =
     let there = slice_get_read whole (length whole) (at - 1) x refl (omega arith) c.index-whole-at.is in
     let counts = c.is_counted_with-counts.result in (
       counts_within counts number next at (length whole) c.counted-number.result c.counted-number.ensures low up bound,
-      c.loop-at.invariant.1 ∙ number_last (is_counted_with (reverse whole) who q v) Calls key whole next at x counts number
+      c.loop-at.invariant.1 ∙ number_last (is_counted_with (reverse whole) who q v) Reads key whole next at x counts number
           (valued_linked key (reverse whole) who q v c.call_key-key.ensures) up within low there c.is_counted_with-counts.ensures
           c.back_from-at-in-loop-at.ensures.free
           ∙ ap (λ n. number_of (is_counted_with (reverse whole) who q v) (reverse (take next whole)) + n) (sym c.counted-number.ensures),

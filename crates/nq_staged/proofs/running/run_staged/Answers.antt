@@ -1,21 +1,23 @@
 use Rattle.std.proofs.Common.{◌∙◌, sym, subst}
 use Rattle.nq_replay.specs.Ending.{TellsOver}
 use Rattle.nq_model.specs.Stepped.{out_of_skew}
-use Rattle.nq_staged.specs.Running.{FaultyStaged, PassesStaged, RunsStaged, StopsStaged}
+use Rattle.nq_staged.specs.Running.{FaultyStaged, IsPrinted, PassesStaged, RunsStaged, StopsStaged}
 use Rattle.nq_io.specs.Whole.{IsAll}
-use Rattle.nq_replay.proofs.Endings.{over_counts}
-use Rattle.nq_staged.proofs.Endings.{ends_over, ends_text, over_unless, still_counts, still_unless, told_text}
+use Rattle.nq_played.proofs.Outcomes.{ends_over, ends_text, still_counts, still_unless}
+use Rattle.nq_replay.proofs.Endings.{over_counts, over_unless, told_text}
+use Rattle.nq_staged.specs.Playing.{play}
+use Rattle.nq_staged.specs.Text.{FirstBadStaged, SpellsStaged}
 use Rattle.nq_staged.proofs.running.run_staged.Goals as goal
 
 pub returns-in-All-clause-ends : goal.returns-in-All-clause-ends
 returns-in-All-clause-ends g c =
-    ends_text c.run_text.result c.deref.result.now c.args.limit _ _ _ _ _ _ _ _
+    ends_text SpellsStaged FirstBadStaged play IsPrinted c.run_text.result c.deref.result.now c.args.limit _ _ _ _ _ _ _ _
     (subst (λ t. IsAll t c.args.limit (g.S.Source.left c.args.input.now) (g.S.Source.left c.read_all.new.source)) (sym c.deref.ensures.value)
     c.in-All.ensures.reads) c.run_text.ensures.ends
 
 pub returns-in-Over-clause-ends : goal.returns-in-Over-clause-ends
 returns-in-Over-clause-ends g c =
-    ends_over c.tell_over.result c.in-Over.front.items c.args.limit _ _ _ _ _ _ _ _ c.in-Over.ensures.reads
+    ends_over SpellsStaged FirstBadStaged play IsPrinted c.tell_over.result c.in-Over.front.items c.args.limit _ _ _ _ _ _ _ _ c.in-Over.ensures.reads
     (subst (λ t. TellsOver c.tell_over.result t (g.K.Sink.held c.args.out.now) (g.K.Sink.held c.tell_over.new.out) (g.K.Sink.faults c.args.out.now)
     (g.K.Sink.faults c.tell_over.new.out)) c.deref-in-Over.ensures.value c.tell_over.ensures.tells)
 
@@ -25,29 +27,30 @@ returns-in-Over-clause-limit g c = λ text told longer. over_unless c.tell_over.
 pub returns-in-All-clause-script : goal.returns-in-All-clause-script
 returns-in-All-clause-script g c = λ text told within number faulty.
     let here = c.deref.ensures.value ∙ told_text _ _ _ _ text c.in-All.ensures.reads told in
-    still_unless _ _ _ _ _ _ _ _ _ c.run_text.ensures.ends
+    still_unless SpellsStaged FirstBadStaged play IsPrinted _ _ _ _ _ _ _ _ _ c.run_text.ensures.ends
     (c.run_text.ensures.script number (subst (λ t. FaultyStaged t number) (sym here) faulty))
 
 pub returns-in-All-clause-skew : goal.returns-in-All-clause-skew
 returns-in-All-clause-skew g c = λ text told within number broken breaks.
     let here = c.deref.ensures.value ∙ told_text _ _ _ _ text c.in-All.ensures.reads told in
-    still_unless _ _ _ _ _ _ _ _ _ c.run_text.ensures.ends
+    still_unless SpellsStaged FirstBadStaged play IsPrinted _ _ _ _ _ _ _ _ _ c.run_text.ensures.ends
     (c.run_text.ensures.skew number broken (subst (λ t. StopsStaged t number (out_of_skew broken)) (sym here) breaks))
 
 pub returns-in-All-clause-passes : goal.returns-in-All-clause-passes
 returns-in-All-clause-passes g c = λ text told within number bound passes.
     let here = c.deref.ensures.value ∙ told_text _ _ _ _ text c.in-All.ensures.reads told in
-    still_unless _ _ _ _ _ _ _ _ _ c.run_text.ensures.ends
+    still_unless SpellsStaged FirstBadStaged play IsPrinted _ _ _ _ _ _ _ _ _ c.run_text.ensures.ends
     (c.run_text.ensures.passes number bound (subst (λ t. PassesStaged t number bound) (sym here) passes))
 
 pub returns-in-All-clause-done : goal.returns-in-All-clause-done
 returns-in-All-clause-done g c = λ text told within head events runs.
     let here = c.deref.ensures.value ∙ told_text _ _ _ _ text c.in-All.ensures.reads told in
-    still_unless _ _ _ _ _ _ _ _ _ c.run_text.ensures.ends
+    still_unless SpellsStaged FirstBadStaged play IsPrinted _ _ _ _ _ _ _ _ _ c.run_text.ensures.ends
     (c.run_text.ensures.done head events (subst (λ t. RunsStaged t head events) (sym here) runs))
 
 pub returns-in-All-clause-source : goal.returns-in-All-clause-source
-returns-in-All-clause-source g c = still_counts c.run_text.result c.deref.result.now _ _ _ _ _ _ c.run_text.ensures.ends c.in-All.ensures.cause
+returns-in-All-clause-source g c =
+    still_counts SpellsStaged FirstBadStaged play IsPrinted c.run_text.result c.deref.result.now _ _ _ _ _ _ c.run_text.ensures.ends c.in-All.ensures.cause
 
 pub returns-in-Over-clause-source : goal.returns-in-Over-clause-source
 returns-in-Over-clause-source g c = over_counts c.tell_over.result _ _ _ _ _ _ _ c.tell_over.ensures.tells c.in-Over.ensures.cause

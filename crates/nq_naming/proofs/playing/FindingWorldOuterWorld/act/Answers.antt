@@ -1,8 +1,7 @@
 use Rattle.std.proofs.Common.{length, subst}
 use Rattle.nq_name_server.specs.declared.run.event.NameEvent.{NameEvent}
-use Rattle.nq_naming.specs.Playing.{names_rules}
+use Rattle.nq_naming.proofs.Moments.{more-moment, step-goes}
 use Rattle.nq_naming.specs.Text.{IsOfHost}
-use Rattle.nq_replay.proofs.RulesSteps.{steps-go}
 use Rattle.nq_replay.specs.Rules.{play_event}
 use Rattle.nq_replay.specs.RulesLaws.{goes-nowhere}
 use Rattle.nq_naming.proofs.playing.FindingWorldOuterWorld.act.Goals as goal
@@ -13,8 +12,14 @@ step-requires g c = (subst (IsOfHost (length c.args.self.now.names.inner.clients
 pub returns-in-List-clause-goes : goal.returns-in-List-clause-goes
 unfolding play_event
 returns-in-List-clause-goes g c = λ head m at.
+    let event = NameEvent.List c.in-List.host c.in-List.prefix in
     rw c.in-List.is
-    (steps-go names_rules _ head m (NameEvent.List c.in-List.host c.in-List.prefix) c.step.result _ (c.step.ensures.steps head m at))
+    (step-goes _ head m event c.step.result c.step.new.self _ _
+    (λ plays. more-moment head m event c.args.self.now.names c.step.new.self _ _ c.args.self.now.found.items at plays)
+    (c.step.ensures.steps head m.events at.plays))
+
+pub returns-in-List-clause-keeps : goal.returns-in-List-clause-keeps
+returns-in-List-clause-keeps g c = record { counts = c.step.ensures.faults; keeper = c.step.ensures.follows; settings = c.step.ensures.settings }
 
 pub find-requires : goal.find-requires
 find-requires g c = subst (IsOfHost (length c.args.self.now.names.inner.clients)) c.in-Find.is c.requires

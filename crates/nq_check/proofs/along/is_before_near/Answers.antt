@@ -1,6 +1,6 @@
 use Rattle.std.proofs.Common.{rules, sym}
 use Rattle.std.specs.Prelude.{IsTrue}
-use Rattle.nq_check.proofs.legal.is_lost.Goals as goal
+use Rattle.nq_check.proofs.along.is_before_near.Goals as goal
 
 pub returns-then-is_there : goal.returns-then-is_there
 returns-then-is_there c =

@@ -1,0 +1,32 @@
+-- A read that is answered at once is answered under a lease that runs at the client's time directly behind the turn in which the clock was read.
+use Rattle.std.specs.Prelude.{◌≡◌, ◌<◌, ℕ, Bool, true, List, Option, Some, None}
+use Rattle.nq_base.specs.Entries.{EntryList}
+use Rattle.nq_base.specs.declared.Answer.{Answer}
+use Rattle.nq_base.specs.declared.Call.{Call}
+use Rattle.nq_base.specs.declared.Value.{Value}
+use Rattle.nq_calling.specs.Calling.{CallsNow}
+use Rattle.nq_client.specs.Counted.{Counted}
+use Rattle.nq_clock.specs.Clocks.{ClockTold}
+use Rattle.nq_link.specs.Links.{LinkTold}
+use Rattle.nq_model.specs.Client.{Client, Lease, lease_on}
+use Rattle.nq_model.specs.Table.{caches}
+
+-- the file that a call reads
+abbrev pub file_read : Call → Option ℕ
+file_read (Call.Read file block) = Some file
+file_read (Call.Fetch file block) = Some file
+file_read other = None
+
+-- a client has a lease on a file, which lets it cache and runs at its time
+pub record HoldsLease (c : Client) (file : ℕ) : Type 0 where
+  pub lease : Lease
+  pub held : lease_on file c.leases ≡ Some lease
+  pub caches : caches lease.mode ≡ true
+  pub runs : c.now < lease.expiry
+
+-- a read of a file that is answered with a block, at once behind a turn
+abbrev pub ReadsRun : Type 0
+ReadsRun = (call : Call) (file : ℕ) (body : List ℕ) (next next' : ℕ) (clock clock' : ClockTold) (link link' : LinkTold) (client client' : Counted)
+    (log log' : EntryList) → file_read call ≡ Some file
+    → (now : CallsNow call (Answer.Ok (Value.Body body)) next next' clock clock' link link' client client' log log')
+    → HoldsLease now.between.client file

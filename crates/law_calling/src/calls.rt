@@ -1,0 +1,9 @@
+//! Reads that are answered at once.
+
+ghost use Rattle.law_calling.specs.ReadsRun.{ReadsRun};
+
+/// A read that `nq_calling::call_now` answers at once with a block is answered under a lease that runs at the client's time directly behind its turn,
+/// in which the clock was read.
+pub fn reads_run()
+    ensures { ReadsRun }
+{}
