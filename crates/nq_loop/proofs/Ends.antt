@@ -10,7 +10,7 @@ use Rattle.nq_loop.proofs.Playing.{plays-taken}
 use Rattle.nq_loop.proofs.Takings.{now_at}
 use Rattle.nq_loop.specs.Counting.{Counts}
 use Rattle.nq_loop.specs.Holding.{CountsKeep, IsLooped, IsLooping, Loop, Stands}
-use Rattle.nq_loop.specs.Looped.{HasEnded, IsWhole, KeepsLoop, LoopEnds, MayLack, PrintsLoop, StopsSilently, TellsEnd, between}
+use Rattle.nq_loop.specs.Looped.{HasEnded, IsWhole, KeepsLoop, LoopEnds, MayLack, PrintsLoop, StopsSilently, TellsEnd, TellsStopped, between}
 use Rattle.nq_loop.specs.Printed.{PrintsRan, PrintsSpelled, loop_text}
 use Rattle.nq_loop.specs.Turning.{Between, Ran, Stops, TakesTurns}
 use Rattle.nq_loop.specs.Whole.{loop_head}
@@ -33,16 +33,11 @@ use Rattle.nq_world.specs.declared.Stepped.{Stepped}
 
 -- ---- what is told
 
-pub ended-so : (last : Result Unit Halt) (field why : Halt) → last ≡ Err field → field ≡ why → last ≡ Err why
-ended-so last field why is same = subst (λ (h : Halt). last ≡ Err h) same is
-
-pub limited-tells : {K : Type 0} (end : Ending) (limit : Limit) (head : Head) (world : WorldOver K) (kept : Option Kept) (ran : List Event)
-    (held now : Option (List ℕ)) (w w' : ℕ) → TellsStop end 0 (Stepped.Limit limit) held now w w'
-    → TellsEnd end (Err (Halt.Limit limit)) head world kept ran held now w w'
-limited-tells Ending.Limit limit head world kept ran held now w w' tells =
-    inr (inr (inr (inl (refl, record { limit = limit; reached = refl; printed = tells }))))
-limited-tells Ending.Memory limit head world kept ran held now w w' tells = inr (inr (inr (inr (refl, tt, tells))))
-limited-tells other limit head world kept ran held now w w' tells = absurd tells
+pub limited-tells : (end : Ending) (limit : Limit) (held now : Option (List ℕ)) (w w' : ℕ) → TellsStop end 0 (Stepped.Limit limit) held now w w'
+    → TellsStopped end (Err (Halt.Limit limit)) held now w w'
+limited-tells Ending.Limit limit held now w w' tells = inr (inr (inl (refl, record { limit = limit; reached = refl; printed = tells })))
+limited-tells Ending.Memory limit held now w w' tells = inr (inr (inr (refl, tt, tells)))
+limited-tells other limit held now w w' tells = absurd tells
 
 -- ---- the loop as a whole
 

@@ -1,12 +1,12 @@
 //! Running a loop.
 
 ghost use Rattle.std.specs.List.{AllByRecursion};
-ghost use Rattle.std.specs.Prelude.{◌≡◌, ◌≤◌, ◌+◌, [], ℕ, Option, Some, length, map, reverse};
+ghost use Rattle.std.specs.Prelude.{◌≡◌, ◌≤◌, ◌+◌, [], ℕ, Err, Option, Some, length, map, reverse};
 ghost use Rattle.nq_clock.specs.Clocks.{clock_told};
 ghost use Rattle.nq_base.specs.declared.ending.ending.Ending.{Ending};
 ghost use Rattle.nq_keeper.specs.StoredKeeper.{empty_kept};
 ghost use Rattle.nq_loop.specs.Holding.{IsLooped};
-ghost use Rattle.nq_loop.specs.Looped.{KeepsLoop, LoopEnds, TellsEnd};
+ghost use Rattle.nq_loop.specs.Looped.{KeepsLoop, LoopEnds, TellsEnd, TellsStopped};
 ghost use Rattle.nq_loop.specs.Sending.{told_of};
 ghost use Rattle.nq_loop.specs.Whole.{loop_head};
 ghost use Rattle.nq_replay.specs.Playing.{beginning};
@@ -149,9 +149,19 @@ fn tell<P: Keeper, K: Sink>(
 {
     match last {
         Ok(()) => print_loop(alloc, head, world, ran, out),
-        Err(Halt::Limit(limit)) => tell_limit(alloc, 0, limit, out),
-        Err(Halt::Link) => Ending::LinkFault,
-        Err(Halt::Keep) => Ending::KeepFault,
-        Err(Halt::Memory) => Ending::Memory,
+        Err(why) => tell_stop(alloc, why, out),
+    }
+}
+
+/// Prints at which limit turns stopped, or nothing where they did so for another reason.
+fn tell_stop<K: Sink>(alloc: Global, why: Halt, out: &mut K) -> Ending
+    ensures tells { TellsStopped result (Err why) (K.held out.old) (K.held out.new) (K.faults out.old) (K.faults out.new) }
+    ensures sink { CountsSink result (K.faults out.old) (K.faults out.new) }
+{
+    match why {
+        Halt::Limit(limit) => tell_limit(alloc, 0, limit, out),
+        Halt::Link => Ending::LinkFault,
+        Halt::Keep => Ending::KeepFault,
+        Halt::Memory => Ending::Memory,
     }
 }
