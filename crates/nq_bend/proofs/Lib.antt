@@ -1,4 +1,5 @@
 pub mod Coming
 pub mod Events
 pub mod Going
+pub mod Playing
 pub mod Told

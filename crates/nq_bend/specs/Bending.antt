@@ -1,10 +1,14 @@
 -- What becomes of a run that is bent. The oldest events stand first.
-use Rattle.std.specs.Prelude.{◌≡◌, ◌<◌, ◌≤◌, ◌⊎◌, ◌++◌, ℕ, List, [], ◌∷◌, Option, Some, None, false, length, take, slice_get}
+use Rattle.std.specs.Prelude.{◌≡◌, ◌<◌, ◌≤◌, ◌⊎◌, ◌++◌, ℕ, List, [], ◌∷◌, Option, Some, None, Bool, true, false, length, reverse, take, slice_get}
 use Rattle.std.specs.List.{AllByRecursion}
 use Rattle.nq_base.specs.declared.Event.{Event}
 use Rattle.nq_bend.specs.declared.bends.Bend.{Bend}
 use Rattle.nq_bend.specs.declared.bends.Bent.{Bent}
 use Rattle.nq_bend.specs.declared.bends.LeftOut.{LeftOut}
+use Rattle.nq_model.specs.Stepped.{done, stepped}
+use Rattle.nq_model.specs.World.{Head as Beginning}
+use Rattle.nq_script.specs.declared.heads.Head.{Head}
+use Rattle.nq_world.specs.Beginning.{beginning}
 
 -- the events that are no deliveries of packets
 abbrev pub acts : List Event → List Event
@@ -47,6 +51,21 @@ pub record Follows (bent : Bent) : Type 0 where
   pub told : TellsAll count bent.origins.items bent.left.items
   pub leaves : AllByRecursion (IsLeftOut bent.old) bent.left.items
   pub all : bent.is_over ≡ false → count ≡ length bent.old
+
+-- all these events are taken, one after another, where the newest stands first
+abbrev pub AreTaken : Beginning → List Event → Type 0
+AreTaken head [] = Unit {0}
+AreTaken head (event ∷ earlier) = AreTaken head earlier × (stepped head earlier event ≡ done)
+
+-- all these events are taken, or, where the run is over, all but the newest one, which is refused
+abbrev pub RunsTo : (is_over : Bool) → Beginning → List Event → Type 0
+RunsTo false head events = AreTaken head events
+RunsTo true head [] = ⊥
+RunsTo true head (last ∷ earlier) = AreTaken head earlier × (stepped head earlier last ≡ done → ⊥)
+
+-- the events of a bent run are all taken; where it is over, the last one is refused, and no other
+abbrev pub EndsSo : Head → (is_over : Bool) → (ran : List Event) → Type 0
+EndsSo head is_over ran = RunsTo is_over (beginning head) (reverse ran)
 
 -- a change loses this packet of the old run
 abbrev pub IsLost : List Bend → (packet : ℕ) → Type 0

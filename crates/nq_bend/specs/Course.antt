@@ -1,15 +1,18 @@
 -- The new run, as far as it has come.
-use Rattle.std.specs.Prelude.{◌≡◌, ◌≤◌, ◌++◌, ◌∷◌, [], ℕ, List, Option, Bool, false, length}
+use Rattle.std.specs.Prelude.{◌≡◌, ◌≤◌, ◌++◌, ◌∷◌, [], ℕ, List, Option, Bool, true, false, length, reverse}
 use Rattle.std.specs.List.{AllByRecursion}
 use Rattle.nq_base.specs.declared.Event.{Event}
-use Rattle.nq_bend.specs.Bending.{IsLeftOut, IsSpared, KeepsActs, TellsAll}
+use Rattle.nq_bend.specs.Bending.{EndsSo, IsLeftOut, IsSpared, KeepsActs, TellsAll}
 use Rattle.nq_bend.specs.declared.bends.Bend.{Bend}
 use Rattle.nq_bend.specs.declared.bends.LeftOut.{LeftOut}
 use Rattle.nq_bend.specs.declared.course.Course.{Course}
 use Rattle.nq_bend.specs.declared.plan.Plan.{Plan}
+use Rattle.nq_model.specs.Kept.{Kept}
 use Rattle.nq_replay.specs.Texts.{IsTellable}
 use Rattle.nq_script.specs.declared.heads.Head.{Head}
-use Rattle.nq_world.specs.Playing.{HasSettings, WorldOver}
+use Rattle.nq_world.specs.Beginning.{beginning}
+use Rattle.nq_world.specs.Playing.{HasSettings, Plays, WorldOver}
+use Rattle.nq_world.specs.declared.stepped.Stepped.{Stepped}
 
 -- so many events of the old run are kept or left out, or fewer where the run is over
 pub record Keeps (old : List Event) (count : ℕ) (is_over : Bool) (c : Course) : Type 0 where
@@ -64,3 +67,30 @@ pub record IsWith (event : Event) (origin : Option ℕ) (old new : Course) : Typ
   pub over : new.is_over ≡ old.is_over
   pub sent : new.lanes.olds.items ≡ old.lanes.olds.items
   pub leaves : new.left.items ≡ old.left.items
+
+-- no event was kept or refused
+pub record IsStill (old new : Course) : Type 0 where
+  pub ran : new.ran ≡ old.ran
+  pub over : new.is_over ≡ old.is_over
+
+-- whether an event was kept: it was not where the run is over
+abbrev pub IsEntered : (is_in : Bool) → Event → (origin : Option ℕ) → (old new : Course) → Type 0
+IsEntered true event origin old new = (old.is_over ≡ false) × IsWith event origin old new
+IsEntered false event origin old new = (old.is_over ≡ true) × IsStill old new
+
+-- the new run behind the answer of a world to its last event: it is over where the event was refused
+abbrev pub IsClosed : Stepped → (old new : Course) → Type 0
+IsClosed Stepped.Done old new = IsStill old new
+IsClosed Stepped.Fault old new = ⊥
+IsClosed Stepped.Memory old new = ⊥
+IsClosed refused old new = (new.ran ≡ old.ran) × (new.is_over ≡ true)
+
+-- a world, of which the keeper tells this, plays the new run; where that is over, the world refused its last event
+pub record IsPlayed {K : Type 0} (head : Head) (w : WorldOver K) (told : Option Kept) (c : Course) : Type 0 where
+  pub ends : EndsSo head c.is_over c.ran
+  pub plays : c.is_over ≡ false → Plays (beginning head) (reverse c.ran) w told
+
+-- a world whose keeper tells its content so plays the new run on
+abbrev pub PlaysOn : {K : Type 0} → (content : K → Option Kept) → Plan → (old new : WorldOver K) → (c d : Course) → Type 0
+PlaysOn content plan old new c d =
+    IsPlayed plan.head.now old (content old.server.keeper) c → IsPlayed plan.head.now new (content new.server.keeper) d

@@ -1,17 +1,19 @@
 //! Bending a schedule.
 
 ghost use Rattle.std.specs.List.{AllByRecursion};
-ghost use Rattle.std.specs.Prelude.{◌≡◌, ◌≤◌, ◌<◌, ◌+◌, ℕ, List, IfOk, IfSome, None, OnOk, Option, Some, length, map, slice_get};
+ghost use Rattle.std.specs.Prelude.{◌≡◌, ◌≤◌, ◌<◌, ◌+◌, ℕ, List, [], IfOk, IfSome, None, OnOk, Option, Some, length, map, slice_get};
 ghost use Rattle.nq_base.specs.declared.Event.{Event};
-ghost use Rattle.nq_bend.specs.Bending.{Follows, IsSpared};
+ghost use Rattle.nq_bend.specs.Bending.{EndsSo, Follows, IsSpared};
 ghost use Rattle.nq_bend.specs.declared.bends.Bend.{Bend};
-ghost use Rattle.nq_bend.specs.Course.{HasHead, IsCourse, IsOn};
+ghost use Rattle.nq_bend.specs.Course.{HasHead, IsCourse, IsOn, PlaysOn};
 ghost use Rattle.nq_observe.specs.Told.{TellsEvent};
 ghost use Rattle.nq_replay.specs.Schedules.{IsReady};
 ghost use Rattle.nq_replay.specs.Texts.{IsTellable};
 ghost use Rattle.nq_script.specs.Heads.{FitsHead};
 ghost use Rattle.nq_script.specs.Lines.{once};
 ghost use Rattle.nq_script.specs.Schedule.{SpellsSchedule};
+ghost use Rattle.nq_world.specs.Beginning.{beginning};
+ghost use Rattle.nq_world.specs.Playing.{Plays};
 
 use crate::bends::{Bend, BendFault, Bent, Then};
 use crate::course::{Course, come, drain, happen};
@@ -43,6 +45,7 @@ pub fn bend<P: Patience>(
     requires { IsReady script.now }
     ensures spells { IfOk result (λ bent. SpellsSchedule script.now.head (map once bent.ran) bent.text.items) }
     ensures follows { IfOk result Follows }
+    ensures ends { IfOk result (λ bent. EndsSo script.now.head bent.is_over bent.ran) }
     ensures spares { IfOk result (λ bent. AllByRecursion (IsSpared bends.now bent.matches.items) bent.ran) }
 {
     let old = run_of(alloc, script, patience)?;
@@ -94,7 +97,8 @@ fn run_bent<P: Patience>(
 ) -> Result<Course, BendFault>
     requires fits { FitsHead head.now }
     requires told { AllByRecursion (IsTellable head.now) old.now.events }
-    ensures { IfOk result (IsCourse head.now old.now.events bends.now (length old.now.events)) }
+    ensures goes { IfOk result (IsCourse head.now old.now.events bends.now (length old.now.events)) }
+    ensures ends { IfOk result (λ c. EndsSo head.now c.is_over c.ran) }
 {
     let plan = Plan {
         head,
@@ -126,7 +130,9 @@ fn play<K: Keeper, P: Patience>(
     requires fits { FitsHead plan.now.head.now }
     requires told { AllByRecursion (IsTellable plan.now.head.now) plan.now.old.now.events }
     requires settings { HasHead plan.now world.old }
-    ensures { IfOk result (IsOn plan.now (length plan.now.old.now.events)) }
+    requires begins { Plays (beginning plan.now.head.now) [] world.old (K.content world.old.server.keeper) }
+    ensures goes { IfOk result (IsOn plan.now (length plan.now.old.now.events)) }
+    ensures ends { IfOk result (λ c. EndsSo plan.now.head.now c.is_over c.ran) }
 {
     let mut course = Course::new(alloc, plan.head.hosts, plan.old)?;
     for place in 0..plan.old.events.len() {
@@ -148,6 +154,7 @@ fn finish<K: Keeper, P: Patience>(
     requires fits { FitsHead plan.now.head.now }
     requires settings { HasHead plan.now world.old }
     ensures goes { (count : ℕ) → IsOn plan.now count course.old → OnOk result (IsOn plan.now count course.new) }
+    ensures plays { OnOk result (PlaysOn K.content plan.now world.old world.new course.old course.new) }
 {
     let end = plan.old.events.len();
     change(alloc, world, course, plan, end, patience)?;
@@ -174,6 +181,7 @@ fn change<K: Keeper, P: Patience>(
     requires settings { HasHead plan.now world.old }
     ensures settings { HasHead plan.now world.new }
     ensures goes { (count : ℕ) → IsOn plan.now count course.old → OnOk result (IsOn plan.now count course.new) }
+    ensures plays { OnOk result (PlaysOn K.content plan.now world.old world.new course.old course.new) }
 {
     settle(world, course, plan, place, patience)?;
     for number in 0..plan.bends.len() {
@@ -193,6 +201,7 @@ fn settle<K: Keeper, P: Patience>(
     requires settings { HasHead plan.now world.old }
     ensures settings { HasHead plan.now world.new }
     ensures goes { (count : ℕ) → IsOn plan.now count course.old → OnOk result (IsOn plan.now count course.new) }
+    ensures plays { OnOk result (PlaysOn K.content plan.now world.old world.new course.old course.new) }
 {
     if plan.old.is_behind_flow(place) {
         return drain(world, course, plan, None, patience);
@@ -216,6 +225,7 @@ fn make<K: Keeper>(
     requires settings { HasHead plan.now world.old }
     ensures settings { HasHead plan.now world.new }
     ensures goes { (count : ℕ) → IsOn plan.now count course.old → OnOk result (IsOn plan.now count course.new) }
+    ensures plays { OnOk result (PlaysOn K.content plan.now world.old world.new course.old course.new) }
 {
     let Some(bend) = plan.bends.get(number) else {
         return Ok(());
@@ -246,6 +256,7 @@ fn put<K: Keeper>(
     requires settings { HasHead plan.now world.old }
     ensures settings { HasHead plan.now world.new }
     ensures goes { (count : ℕ) → IsOn plan.now count course.old → OnOk result (IsOn plan.now count course.new) }
+    ensures plays { OnOk result (PlaysOn K.content plan.now world.old world.new course.old course.new) }
 {
     for place in 0..lines.len() {
         put_line(world, course, plan, lines, place)?;
@@ -266,6 +277,7 @@ fn put_line<K: Keeper>(
     requires settings { HasHead plan.now world.old }
     ensures settings { HasHead plan.now world.new }
     ensures goes { (count : ℕ) → IsOn plan.now count course.old → OnOk result (IsOn plan.now count course.new) }
+    ensures plays { OnOk result (PlaysOn K.content plan.now world.old world.new course.old course.new) }
 {
     match lines.get(place) {
         Some(Line::Events { event, times }) => repeat(world, course, plan, &event, times),
@@ -285,6 +297,7 @@ fn repeat<K: Keeper>(
     requires settings { HasHead plan.now world.old }
     ensures settings { HasHead plan.now world.new }
     ensures goes { (count : ℕ) → IsOn plan.now count course.old → OnOk result (IsOn plan.now count course.new) }
+    ensures plays { OnOk result (PlaysOn K.content plan.now world.old world.new course.old course.new) }
 {
     for turn in 0..times {
         come(world, course, plan, event)?;
@@ -302,6 +315,7 @@ fn deliver<K: Keeper>(
     requires settings { HasHead plan.now world.old }
     ensures settings { HasHead plan.now world.new }
     ensures goes { (count : ℕ) → IsOn plan.now count course.old → OnOk result (IsOn plan.now count course.new) }
+    ensures plays { OnOk result (PlaysOn K.content plan.now world.old world.new course.old course.new) }
 {
     let Some(new) = course.lanes.new_of(packet) else {
         return Ok(());
@@ -325,6 +339,7 @@ fn keep<K: Keeper>(
     requires settings { HasHead plan.now world.old }
     ensures settings { HasHead plan.now world.new }
     ensures goes { IsOn plan.now place course.old → OnOk result (IsOn plan.now (place + 1) course.new) }
+    ensures plays { OnOk result (PlaysOn K.content plan.now world.old world.new course.old course.new) }
 {
     let Some(event) = plan.old.events.get(place) else {
         return Ok(());
@@ -362,6 +377,7 @@ fn keep_delivery<K: Keeper>(
     requires settings { HasHead plan.now world.old }
     ensures settings { HasHead plan.now world.new }
     ensures goes { IsOn plan.now place course.old → OnOk result (IsOn plan.now (place + 1) course.new) }
+    ensures plays { OnOk result (PlaysOn K.content plan.now world.old world.new course.old course.new) }
 {
     match course.fate_of(plan, packet, place) {
         Ok(new) => {
@@ -386,6 +402,7 @@ fn double<K: Keeper>(
     requires settings { HasHead plan.now world.old }
     ensures settings { HasHead plan.now world.new }
     ensures goes { (count : ℕ) → IsOn plan.now count course.old → OnOk result (IsOn plan.now count course.new) }
+    ensures plays { OnOk result (PlaysOn K.content plan.now world.old world.new course.old course.new) }
 {
     if plan.is_doubled(packet) && plan.old.arrives_first(packet, place) {
         return come(world, course, plan, event);

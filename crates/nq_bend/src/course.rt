@@ -1,9 +1,9 @@
 //! The new run, as far as it has come.
 
-ghost use Rattle.std.specs.Prelude.{◌≡◌, ◌+◌, ℕ, List, Option, Some, None, IfOk, IsTrue, OnOk, slice_get};
+ghost use Rattle.std.specs.Prelude.{◌≡◌, ◌+◌, ℕ, List, [], Option, Some, None, true, false, IfOk, IsTrue, OnOk, slice_get};
 ghost use Rattle.nq_base.specs.declared.Event.{Event};
 ghost use Rattle.nq_bend.specs.Bending.{IsSpared};
-ghost use Rattle.nq_bend.specs.Course.{HasHead, IsCourse, IsOn, IsWith, IsWithout, StandsFor};
+ghost use Rattle.nq_bend.specs.Course.{HasHead, IsClosed, IsCourse, IsEntered, IsOn, IsStill, IsWith, IsWithout, PlaysOn, StandsFor};
 ghost use Rattle.nq_bend.specs.declared.bends.Bend.{Bend};
 ghost use Rattle.nq_replay.specs.Texts.{IsTellable};
 ghost use Rattle.nq_script.specs.Lines.{IsFilledEvent};
@@ -49,7 +49,8 @@ pub(crate) struct Course {
 impl Course {
     /// Nothing has happened.
     pub(crate) fn new(alloc: Global, hosts: u32, old: &Old) -> Result<Course, NoMemory>
-        ensures { (head : Head) (bends : List Bend) → IfOk result (IsCourse head old.now.events bends 0) }
+        ensures goes { (head : Head) (bends : List Bend) → IfOk result (IsCourse head old.now.events bends 0) }
+        ensures none { IfOk result (λ c. (c.ran ≡ []) × (c.is_over ≡ false)) }
     {
         Ok(Course {
             ran: Schedule::new(alloc)?,
@@ -67,8 +68,9 @@ impl Course {
 
     /// Leaves the delivery of a packet out.
     pub(crate) fn leave(&mut self, event: usize, packet: u64, why: Why) -> Result<(), NoMemory>
-        ensures { (head : Head) (old : List Event) (bends : List Bend) → slice_get old event ≡ Some (Event.Deliver packet)
+        ensures goes { (head : Head) (old : List Event) (bends : List Bend) → slice_get old event ≡ Some (Event.Deliver packet)
             → IsCourse head old bends event self.old → OnOk result (IsCourse head old bends (event + 1) self.new) }
+        ensures still { OnOk result (IsStill self.old self.new) }
     {
         self.leave_out(LeftOut { event, packet, why })?;
         Ok(())
@@ -99,8 +101,9 @@ impl Course {
 
     /// Cuts a host off, or joins it again.
     pub(crate) fn set_cut(&mut self, host: Host, is_cut: bool)
-        ensures { (head : Head) (old : List Event) (bends : List Bend) (count : ℕ) → IsCourse head old bends count self.old
+        ensures goes { (head : Head) (old : List Event) (bends : List Bend) (count : ℕ) → IsCourse head old bends count self.old
             → IsCourse head old bends count self.new }
+        ensures still { IsStill self.old self.new }
     {
         if let Some(cut) = self.cut.get_mut(host.0 as usize) {
             *cut = is_cut;
@@ -218,6 +221,7 @@ impl Course {
         ensures along { (head : Head) (old : List Event) (bends : List Bend) (count : ℕ) (was : Event) → IsTellable head event.now
             → IsSpared bends self.old.lanes.olds.items event.now → origin ≡ Some count → slice_get old count ≡ Some was → StandsFor was event.now
             → IsCourse head old bends count self.old → OnOk result (IsCourse head old bends (count + 1) self.new) }
+        ensures enters { IfOk result (λ is_in. IsEntered is_in event.now origin self.old self.new) }
     {
         if self.is_over {
             return Ok(false);
@@ -244,7 +248,8 @@ impl Course {
         event: &Event,
         stepped: Stepped,
     ) -> Result<(), NoMemory>
-        ensures { (count : ℕ) → IsOn plan.now count self.old → OnOk result (IsOn plan.now count self.new) }
+        ensures goes { (count : ℕ) → IsOn plan.now count self.old → OnOk result (IsOn plan.now count self.new) }
+        ensures closes { OnOk result (IsClosed stepped self.old self.new) }
     {
         match stepped {
             Stepped::Done => self.see(world, event, plan),
@@ -258,8 +263,9 @@ impl Course {
 
     /// The run is over.
     fn end(&mut self)
-        ensures { (head : Head) (old : List Event) (bends : List Bend) (count : ℕ) → IsCourse head old bends count self.old
+        ensures goes { (head : Head) (old : List Event) (bends : List Bend) (count : ℕ) → IsCourse head old bends count self.old
             → IsCourse head old bends count self.new }
+        ensures ends { (self.new.ran ≡ self.old.ran) × (self.new.is_over ≡ true) }
     {
         self.is_over = true;
     }
@@ -271,7 +277,8 @@ impl Course {
         event: &Event,
         plan: &Plan<'_>,
     ) -> Result<(), NoMemory>
-        ensures { (count : ℕ) → IsOn plan.now count self.old → OnOk result (IsOn plan.now count self.new) }
+        ensures goes { (count : ℕ) → IsOn plan.now count self.old → OnOk result (IsOn plan.now count self.new) }
+        ensures still { OnOk result (IsStill self.old self.new) }
     {
         self.take_in(world, event)?;
         for number in self.lanes.sent()..self.post.sent().len() {
@@ -282,8 +289,9 @@ impl Course {
 
     /// Notes the packets behind an event that a world took in. One that arrives is not under way any more.
     fn take_in<K: Keeper>(&mut self, world: &World<K>, event: &Event) -> Result<(), NoMemory>
-        ensures { (head : Head) (old : List Event) (bends : List Bend) (count : ℕ) → IsCourse head old bends count self.old
+        ensures goes { (head : Head) (old : List Event) (bends : List Bend) (count : ℕ) → IsCourse head old bends count self.old
             → OnOk result (IsCourse head old bends count self.new) }
+        ensures still { OnOk result (IsStill self.old self.new) }
     {
         self.post.see(world.packets(), event)?;
         let Event::Deliver(packet) = event else {
@@ -298,7 +306,8 @@ impl Course {
 
     /// Notes a packet that was sent. It is under way, if it is not barred.
     fn note_sent(&mut self, plan: &Plan<'_>, number: usize) -> Result<(), NoMemory>
-        ensures { (count : ℕ) → IsOn plan.now count self.old → OnOk result (IsOn plan.now count self.new) }
+        ensures goes { (count : ℕ) → IsOn plan.now count self.old → OnOk result (IsOn plan.now count self.new) }
+        ensures still { OnOk result (IsStill self.old self.new) }
     {
         let Some(sent) = self.post.sent().get(number) else {
             return Ok(());
@@ -310,8 +319,9 @@ impl Course {
 
     /// Notes that the next packet gets under way, if it is not barred, and whether it may be late.
     fn set_out(&mut self, is_barred: bool, may_be_late: bool) -> Result<(), NoMemory>
-        ensures { (head : Head) (old : List Event) (bends : List Bend) (count : ℕ) → IsCourse head old bends count self.old
+        ensures goes { (head : Head) (old : List Event) (bends : List Bend) (count : ℕ) → IsCourse head old bends count self.old
             → OnOk result (IsCourse head old bends count self.new) }
+        ensures still { OnOk result (IsStill self.old self.new) }
     {
         let number = self.waiting.len() as u64;
         self.waiting.push(!is_barred)?;
@@ -357,6 +367,7 @@ pub(crate) fn happen<K: Keeper>(
     ensures along { (count : ℕ) (was : Event) → origin ≡ Some count → slice_get plan.now.old.now.events count ≡ Some was → StandsFor was event.now
         → IsOn plan.now count course.old
         → OnOk result (IsOn plan.now (count + 1) course.new) }
+    ensures plays { OnOk result (PlaysOn K.content plan.now world.old world.new course.old course.new) }
 {
     if !course.enter(event, origin)? {
         return Ok(());
@@ -376,6 +387,7 @@ pub(crate) fn come<K: Keeper>(
     requires told { IsTellable plan.now.head.now event.now }
     ensures settings { HasHead plan.now world.new }
     ensures goes { (count : ℕ) → IsOn plan.now count course.old → OnOk result (IsOn plan.now count course.new) }
+    ensures plays { OnOk result (PlaysOn K.content plan.now world.old world.new course.old course.new) }
 {
     if !course.spares(plan, event) {
         return Ok(());
@@ -395,6 +407,7 @@ pub(crate) fn drain<K: Keeper, P: Patience>(
     ensures settings { HasHead plan.now world.new }
     ensures goes { (count : ℕ) → IsOn plan.now count course.old
         → OnOk result (IsOn plan.now count course.new) }
+    ensures plays { OnOk result (PlaysOn K.content plan.now world.old world.new course.old course.new) }
 {
     for turn in 0..MOST_EVENTS {
         if course.is_over {

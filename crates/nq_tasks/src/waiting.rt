@@ -91,7 +91,11 @@ impl Waiting {
     ) -> Result<Option<Vec<u8>>, NoMemory>
         ensures { self.new ≡ self.old }
     {
-        if self.is_told || now.saturating_sub(self.since) < ASKS || !self.probe.is_due(now) {
+        let is_known = !matches!(self.known, Known::Nothing);
+        if is_known || self.is_told || now.saturating_sub(self.since) < ASKS {
+            return Ok(None);
+        }
+        if !self.probe.is_due(now) {
             return Ok(None);
         }
         let request = self.probe.ask(alloc, who, number, now)?;
