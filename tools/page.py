@@ -76,7 +76,7 @@ BENDS = """(async () => {
 
 ADDRESS = """(async () => {
   await bendPacket({ kind: "lose", packet: 0 });
-  await keepAddress(current());
+  await writeAddress(current());
   return [location.href, current().run.schedule];
 })()"""
 
