@@ -12,8 +12,8 @@ risen last number above = by_test (nat_lt last number) refl
     by_test false e = absurd (grind (arith, nat_tests))
 
 -- and it never falls
-pub not-lower : (last number : ℕ) → last ≤ last_behind last number
-not-lower last number = by_test (nat_lt last number) refl
+pub not_lower : (last number : ℕ) → last ≤ last_behind last number
+not_lower last number = by_test (nat_lt last number) refl
   where
     by_test : (test : Bool) → nat_lt last number ≡ test → last ≤ (if test then number else last)
     by_test true e = grind (arith, nat_tests)

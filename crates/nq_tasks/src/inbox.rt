@@ -119,7 +119,7 @@ impl Inbox {
     }
 
     /// Lets an ask pass whose number is above all before it.
-    #[tactic(auto, using(crate::proofs::Numbering::risen, crate::proofs::Numbering::not-lower))]
+    #[tactic(auto, using(crate::proofs::Numbering::risen, crate::proofs::Numbering::not_lower))]
     fn admit(&mut self, ask: Ask) -> Taken
         ensures { TakesOut result self.old self.new }
     {
