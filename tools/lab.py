@@ -3,9 +3,9 @@
 
   tools/lab.py [--lab FILE] [--nqnfs FILE] [--look FILE] [--port N]
 
-Each answer has to be a run, of which the parts are what `nqnfs replay`, `nqnfs check` and `nqnfs_look tell` print for the same text. The events that are kept and those that are left out are together the old ones, in their order, and a
-packet that is lost is never delivered. It also tries requests that are to be refused, and peers that send nothing. The program is
-started on the port and ended by this script.
+Each answer has to be a run, of which the parts are what `nqnfs replay`, `nqnfs check` and `nqnfs_look tell` print for the same text. The events
+that are kept and those that are left out are together the old ones, in their order, and a packet that is lost is never delivered. It also tries
+requests that are to be refused, and peers that send nothing. The program is started on the port and ended by this script.
 """
 
 import argparse

@@ -1,19 +1,26 @@
 #!/usr/bin/env python3
 """Runs a server and hosts on machines of their own, over a network that loses, repeats, delays and reorders, and judges what they did.
 
-  tools/machines.py [--hosts N] [--seconds N] [--loss P] [--kills S] [--cuts S] [--seed S] [--longest N] [--server FILE] [--host FILE]
-                    [--user FILE] [--judge FILE] [--keep FOLDER] [--capture] [--spoil]
+  tools/machines.py [--hosts N] [--seconds N] [--loss P] [--kills S] [--cuts S] [--seed S] [--longest N] [--calls N] [--reads P]
+                    [--files N] [--own P] [--server FILE] [--host FILE]
+                    [--slow FILE] [--user FILE] [--judge FILE] [--keep FOLDER] [--capture]
+                    [--spoil]
 
 Each machine is a network namespace with an address of its own: the server, and 3 to 8 hosts, of which every second one has IPv6. A cable joins
 each to a relay, which hands datagrams on. Of a hundred it loses P (0 to 20), repeats P / 2 and holds back as many for up to 0.2 seconds, by a
 seed. With `--cuts S` a host is cut off for 1 to 12 seconds some S seconds behind the last time. With `--kills S` a host, a prompt or the
-server is killed and begun again some S seconds behind the last kill. Two prompts at each host (`nqnfs_user`) read and write the same few files
-with values that are unique. This needs the right to make namespaces, and the four programs.
+server is killed and begun again some S seconds behind the last kill. Two prompts at each host (`nqnfs_user`) read (`--reads`, 0.6 of the calls) and
+write the same few files (`--files`) with values that are unique, for N seconds or until there were so many calls; `--own P` of the calls are of a
+file that belongs to the host. This needs the right to make namespaces, and the four programs.
 
-At the end three things are looked at. `tools/merge.py` merges what server and hosts noted of their turns (`--journal`), and `nqnfs check` has
-to say yes. Each answer that a prompt was told has to be an A of its host's diary, behind a C of the same words, between the asking and the
-telling. And by the machine's clock alone, of what prompts were told: a read gives no value that nobody wrote or that a write replaced which
-stands, and none that was begun behind it. A write stands that was put, or that a later `sync` at its host stored, unless it was named as lost.
+The programs are static, so no shim bends their clocks. `--slow FILE` is a host that was built with a clock that runs slower (`seconds_between` of
+`nq_clock`), and every second host is that one.
+
+First the server is given books that it has to refuse. At the end three things are looked at. `tools/merge.py` merges what server and hosts noted
+of their turns (`--journal`), and `nqnfs check` has to say yes. Each answer that a prompt was told has to be an A of its host's diary, behind a C
+of the same words, between the asking and the telling. And by the machine's clock alone, of what prompts were told: a read gives no value that
+nobody wrote or that a write replaced which stands, and none that was begun behind it. A write stands that was put, or that a later `sync` at its host stored, unless it was named as lost. Where
+nothing is lost on the way and nobody is cut off, no write may be lost.
 
 With `--spoil` the record of the run is then spoiled in several ways, each of which has to be refused. With `--capture` the server's cable is
 captured, and `tshark` reads it by `tools/nqnfs.lua`. The status is 1 where something is at fault.
@@ -24,7 +31,6 @@ import bisect
 import collections
 import ctypes
 import heapq
-import json
 import multiprocessing
 import os
 import pathlib
@@ -44,7 +50,7 @@ import merge
 
 ROOT = pathlib.Path(__file__).resolve().parent.parent
 SERVER_PORT, HOST_PORT = 20560, 20561
-FILES, BLOCKS, PROMPTS = 2, 3, 2
+BLOCKS, PROMPTS = 3, 2
 # How long an answer, and the end, are waited for, in seconds.
 PATIENCE = 150
 NEW_NETWORK = 0x40000000
@@ -113,11 +119,11 @@ class Machines:
 class Relay:
     """Hands datagrams on between the server and the hosts, in a process of its own."""
 
-    def __init__(self, machines, loss, seed, cuts):
+    def __init__(self, machines, loss, seed):
         self.machines, self.loss, self.chance = machines, loss / 100, random.Random(f"relay {seed}")
         self.cut = multiprocessing.Array("d", machines.count)
         self.counts = multiprocessing.Array("q", 4)
-        self.cuts, self.stops = cuts, multiprocessing.Event()
+        self.stops = multiprocessing.Event()
         self.waiting, self.number = [], 0
 
     def starts(self):
@@ -223,7 +229,8 @@ class Host:
         self.diary, self.run, self.process = folder / f"host-{number}.diary", 0, None
 
     def starts(self):
-        words = [self.given.host, str(self.number), "--hosts", str(self.book), "--journal", str(self.diary)]
+        program = self.given.slow if self.given.slow and self.number % 2 else self.given.host
+        words = [program, str(self.number), "--hosts", str(self.book), "--journal", str(self.diary)]
         self.process = self.machines.starts(self.number + 1, words, cwd=self.folder, stdout=subprocess.PIPE, stderr=subprocess.DEVNULL)
         self.process.stdout.readline()
         self.run += 1
@@ -280,16 +287,19 @@ class Prompt:
         return bool(answer)
 
     def next_words(self):
-        file, block = self.chance.randint(1, FILES), self.chance.randrange(BLOCKS)
-        part = self.chance.random()
-        if part < self.trial.given.reads:
+        files = self.trial.given.files
+        is_own = self.chance.random() < self.trial.given.own
+        file = self.host.number % files + 1 if is_own else self.chance.randint(1, files)
+        block = self.chance.randrange(BLOCKS)
+        if self.chance.random() < self.trial.given.reads:
             return f"read {file} {block}"
-        if part < self.trial.given.reads + 0.02:
-            return f"fetch {file} {block}"
-        if part < 0.9:
+        part = self.chance.random()
+        if part < 0.7:
             return f"write {file} {block} {self.trial.value()}"
-        if part < 0.95:
+        if part < 0.8:
             return f"sync {file}"
+        if part < 0.9:
+            return f"fetch {file} {block}"
         return f"put {file} {block} {self.trial.value()}"
 
     def works(self):
@@ -310,7 +320,7 @@ class Trial:
         self.given, self.folder = given, folder
         self.over, self.lock, self.last = threading.Event(), threading.Lock(), 0
         self.chance = random.Random(f"kills {given.seed}")
-        self.relay = Relay(machines, given.loss, given.seed, given.cuts)
+        self.relay = Relay(machines, given.loss, given.seed)
         self.server = Server(machines, folder, given)
         self.hosts = [Host(machines, folder, number, given) for number in range(given.hosts)]
         self.prompts = [Prompt(self, host, place) for host in self.hosts for place in range(PROMPTS)]
@@ -355,7 +365,7 @@ class Trial:
         until = time.monotonic() + self.given.seconds
         soon = lambda mean: time.monotonic() + (self.chance.expovariate(1 / mean) if mean else 1e9)
         kill, cut = soon(self.given.kills), soon(self.given.cuts)
-        while time.monotonic() < until:
+        while time.monotonic() < until and sum(len(prompt.told) for prompt in self.prompts) < self.given.calls:
             if time.monotonic() > kill:
                 self.kills_one()
                 kill = soon(self.given.kills)
@@ -370,7 +380,7 @@ class Trial:
         self.server.starts()
         for host in self.hosts:
             host.starts()
-        for file in range(1, FILES + 1):
+        for file in range(1, self.given.files + 1):
             if self.asks_once(f"create file{file} {BLOCKS}") != f"ok, file {file}":
                 sys.exit(f"file {file} could not be made: {self.prompts[0].told[-1]}")
         threads = [threading.Thread(target=prompt.works) for prompt in self.prompts]
@@ -385,7 +395,7 @@ class Trial:
         self.over.clear()
         for prompt in self.prompts[::PROMPTS]:
             run = prompt.connects()
-            for file in range(1, FILES + 1):
+            for file in range(1, self.given.files + 1):
                 for words in [f"sync {file}", *(f"fetch {file} {block}" for block in range(BLOCKS))]:
                     prompt.asks(run, words)
             prompt.process.kill()
@@ -401,6 +411,30 @@ class Trial:
 
 
 # ---- what is looked at
+
+# Books of which the server refuses a line, each with its number and how what it says begins.
+BAD_BOOKS = [
+    ("server 10.77.0.2:20560\nserver 10.77.0.3:20560\n", 2, "this party has"),
+    ("# a note\n\n0 10.77.0.2:20560\nserver 10.77.0.2:20560\n", 4, "another party has"),
+    ("server\n", 1, "a party and its address"),
+    ("64 10.77.0.2:20560\n", 1, "the first word is neither"),
+    ("Server 10.77.0.2:20560\n", 1, "the first word is neither"),
+    ("server 10.77.0.2:65536\n", 1, "behind the blank"),
+    ("server 10.77.0.2\n", 1, "behind the blank"),
+    ("server  10.77.0.2:20560\n", 1, "behind the blank"),
+    ("server [fd77::2]:20560\n63 [fd77::g]:1", 2, "behind the blank"),
+]
+
+
+def book_faults(given, folder):
+    """What the server says wrongly of books that it has to refuse."""
+    faults = []
+    for text, number, why in BAD_BOOKS:
+        (folder / "bad.book").write_text(text)
+        ended = subprocess.run([given.server, "bad.img", "--hosts", "bad.book"], cwd=folder, stdout=subprocess.PIPE, stderr=subprocess.PIPE, text=True, timeout=10)
+        if ended.returncode != 1 or not ended.stderr.startswith(f"nqnfsd: bad.book: line {number}: {why}"):
+            faults.append(f"the book {text!r}: status {ended.returncode}, {ended.stderr.strip()}")
+    return faults
 
 
 def said(answer):
@@ -561,6 +595,8 @@ def looks(trial, folder, given):
     (folder / "merged.journal").write_text(journal)
     verdict = judged(given.judge, journal)
     faults = told_faults(told, diaries) + read_faults(told, lost)
+    if not given.loss and not given.cuts:
+        faults += [f"host {host}: writes of (file, block) {blocks} are lost, and nobody was cut off" for host, _, _, blocks in lost]
     print(f"journal of {len(journal.splitlines())} lines, {len(notes)} steps that were kept and not noted: {verdict}")
     for fault in faults[:10]:
         print(fault)
@@ -578,18 +614,22 @@ def main():
     words = argparse.ArgumentParser(description=__doc__.splitlines()[0])
     built = lambda name: str(ROOT / f"crates/{name}/out/{name}")
     for name, kind, value in (("hosts", int, 4), ("seconds", float, 60), ("loss", float, 5), ("kills", float, 0), ("cuts", float, 0), ("seed", int, 1),
-                              ("longest", int, 10), ("reads", float, 0.6)):
+                              ("longest", int, 10), ("reads", float, 0.6), ("files", int, 2), ("own", float, 0), ("calls", int, 120_000)):
         words.add_argument(f"--{name}", type=kind, default=value)
     for name, program in (("server", "nqnfsd"), ("host", "nqnfs_host"), ("user", "nqnfs_user"), ("judge", "nqnfs")):
         words.add_argument(f"--{name}", default=built(program))
+    words.add_argument("--slow")
     words.add_argument("--keep")
     words.add_argument("--capture", action="store_true")
     words.add_argument("--spoil", action="store_true")
     given = words.parse_args()
     for name in "server", "host", "user", "judge":
         setattr(given, name, str(pathlib.Path(getattr(given, name)).resolve()))
+    given.slow = given.slow and str(pathlib.Path(given.slow).resolve())
     folder = pathlib.Path(given.keep or tempfile.mkdtemp()).resolve()
     folder.mkdir(exist_ok=True)
+    for fault in book_faults(given, folder):
+        sys.exit(fault)
     with Machines(given.hosts) as machines:
         machines.books(folder)
         trial = Trial(machines, folder, given)

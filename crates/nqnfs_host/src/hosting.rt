@@ -256,24 +256,34 @@ impl Hosting {
 
     /// Goes on with the list at work: takes the page that came, and asks for the next one where that is due. Whether it is over.
     fn list_on(&mut self) -> bool {
-        let who = self.desk.who();
         if let Some(page) = self.desk.take_listed() {
-            let came = match &mut self.work {
-                Some(work) => work.take_page(who, &page),
-                None => Came::On,
-            };
+            let came = self.take_page(&page);
             self.came(came);
         }
-        let (number, now) = (self.next_number(), self.desk.time());
-        let asked = match &mut self.work {
-            Some(work) => work.asks_page(who, number, now),
-            None => return true,
-        };
-        match asked {
+        match self.page_due() {
             Ok(request) => self.send_request(request),
             Err(NoMemory::Memory) => self.lack(),
         }
         self.work.is_none()
+    }
+
+    /// Takes a page for the list at work.
+    fn take_page(&mut self, page: &[u8]) -> Came {
+        let Some(work) = &mut self.work else {
+            return Came::On;
+        };
+        let who = self.desk.who();
+        work.take_page(who, page)
+    }
+
+    /// The request for the next page of the list at work, where that is due.
+    fn page_due(&mut self) -> Result<Option<Vec<u8>>, NoMemory> {
+        let (number, now) = (self.next_number(), self.desk.time());
+        let Some(work) = &mut self.work else {
+            return Ok(None);
+        };
+        let who = self.desk.who();
+        work.asks_page(who, number, now)
     }
 
     /// The ask at work is over, since memory was wanting.
@@ -304,20 +314,34 @@ impl Hosting {
             Some(work) => (work.place(), work.number(), work.is_listing()),
             None => return,
         };
-        let (who, now) = (self.desk.who(), self.desk.time());
         if !is_listing {
-            if let Some(page) = self.desk.take_listed() {
-                self.waiting.take(self.alloc, who, &page);
-            }
-            let next = self.next_number();
-            if let Ok(request) = self.waiting.asks(self.alloc, who, next, now) {
-                self.send_request(request);
-            }
+            self.hear_page();
+            self.probe();
         }
+        let now = self.desk.time();
         if let Some(words) = self.waiting.tells(now) {
             if let Some(Some(asker)) = self.askers.get_mut(place) {
                 asker.answer(number, Kind::Wait, words, &[]);
             }
+        }
+    }
+
+    /// Takes the page that came, which may tell whether the server recovers.
+    fn hear_page(&mut self) {
+        let Some(page) = self.desk.take_listed() else {
+            return;
+        };
+        let who = self.desk.who();
+        self.waiting.take(self.alloc, who, &page);
+    }
+
+    /// Asks whether the server recovers, where that is due.
+    fn probe(&mut self) {
+        let (number, now) = (self.next_number(), self.desk.time());
+        let who = self.desk.who();
+        match self.waiting.asks(self.alloc, who, number, now) {
+            Ok(request) => self.send_request(request),
+            Err(NoMemory::Memory) => {}
         }
     }
 

@@ -65,7 +65,7 @@ fn obey(rt: &HostRuntime) -> Ending {
         ),
     };
     match order_of(words.as_slice()) {
-        Ok(Order::Be { host, files }) => be_host(rt, host, files),
+        Ok(Order::Be { host, files }) => be_host(rt, Host(host), files),
         Ok(Order::Help) => {
             let _told = print!(rt; "{HELP}");
             Ending::Done

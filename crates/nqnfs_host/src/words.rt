@@ -1,6 +1,5 @@
 //! What the words say.
 
-use nq_base::Host;
 use nq_words::{Args, Next, Wrong, number_in};
 
 /// The greatest number of a host.
@@ -14,7 +13,7 @@ pub(crate) enum Order<'a> {
     /// Say which version this is.
     Version,
     /// Be this host, with the files that are named.
-    Be { host: Host, files: Files<'a> },
+    Be { host: u32, files: Files<'a> },
 }
 
 /// The files that words name.
@@ -54,7 +53,7 @@ pub(crate) fn order_of(words: &[String]) -> Result<Order<'_>, Wrong<'_>> {
             Next::Flag(word) => return Err(Wrong::Flag(word)),
             Next::Plain(word) if host.is_some() => return Err(Wrong::Extra(word)),
             Next::Plain(word) => match number_in(word, 0, LAST_HOST) {
-                Ok(number) => host = Some(Host(number)),
+                Ok(number) => host = Some(number),
                 Err(wrong) => return Err(wrong),
             },
         }

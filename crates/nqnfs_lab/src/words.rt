@@ -41,7 +41,7 @@ pub(crate) fn asked_of(words: &[String]) -> Result<Asked<'_>, Wrong<'_>> {
             Next::Version => return Ok(Asked::Version),
             Next::Flag("--once") => once = true,
             Next::Flag("--port") => match args.number("--port", 1, 65_535) {
-                Ok(number) => port = number as u16,
+                Ok(number) => port = u16::try_from(number).unwrap_or(u16::MAX),
                 Err(wrong) => return Err(wrong),
             },
             Next::Flag("--web") => match args.value("--web") {

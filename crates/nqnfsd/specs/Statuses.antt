@@ -94,6 +94,11 @@ IsSaid end = (end ≡ Ending.Done) ⊎ (end ≡ Ending.WriteFault)
 abbrev pub NamesFiles : Options → Type 0
 NamesFiles options = (options.hosts ≢ None) ⊎ (options.journal ≢ None)
 
+-- how the program ends without the files beside the image: with a fault of the words where this is so, which says that a file was named, or for want
+-- of memory
+abbrev pub IsWithoutFiles : (named : Type 0) → Ending → Type 0
+IsWithoutFiles named end = (end ≡ Ending.Memory) ⊎ (named × (end ≡ Ending.Usage))
+
 -- how the program ends that serves by these options: over their image, or with a fault of the words where a file that they name cannot be used
 abbrev pub EndsAt : Options → Ending → Type 0
 EndsAt options end = ((path : List ℕ) × EndsOver path end) ⊎ (NamesFiles options × (end ≡ Ending.Usage))

@@ -59,7 +59,7 @@ fn main(rt: HostRuntime) -> ExitCode {
 
 /// Does what is to be done; how the program ends.
 fn obey(rt: &HostRuntime, order: Result<Order<'_>, Wrong<'_>>) -> Ending
-    ensures ends { EndsOrder order result }
+    ensures ends { EndsOrder order.entry result }
 {
     match order {
         Ok(Order::Serve(options)) => serve_at(rt, options),
@@ -74,11 +74,11 @@ fn obey(rt: &HostRuntime, order: Result<Order<'_>, Wrong<'_>>) -> Ending
 
 /// Serves, if the files that the options name can be read and written; how the program ends.
 fn serve_at(rt: &HostRuntime, options: Options<'_>) -> Ending
-    ensures ends { EndsAt options result }
+    ensures ends { EndsAt options.entry result }
 {
     match places_of(rt, options.hosts, options.journal) {
-        Some(places) => serve(rt, options.image, places, options),
-        None => Ending::Usage,
+        Ok(places) => serve(rt, options.image, places, options),
+        Err(end) => end,
     }
 }
 
