@@ -1,5 +1,5 @@
 -- How a loop ends.
-use Rattle.std.proofs.Common.{◌≡◌, ◌⊎◌, ℕ, List, [], map, Option, inl, inr, refl, subst, sym}
+use Rattle.std.proofs.Common.{◌≡◌, ◌⊎◌, ℕ, List, [], map, Option, Result, Ok, Err, inl, inr, refl, subst, sym}
 use Rattle.std.proofs.lemmas.List.{reverse-reverse}
 use Rattle.std.specs.List.{AllByRecursion}
 use Rattle.std.specs.Prelude.{reverse}
@@ -9,12 +9,12 @@ use Rattle.nq_base.specs.declared.ending.ending.Ending.{Ending}
 use Rattle.nq_loop.proofs.Playing.{plays-taken}
 use Rattle.nq_loop.proofs.Takings.{now_at}
 use Rattle.nq_loop.specs.Counting.{Counts}
-use Rattle.nq_loop.specs.Holding.{CountsTurn, IsLooped, IsLooping, Loop, StandsBehind}
-use Rattle.nq_loop.specs.Looped.{HasEnded, IsWhole, KeepsLoop, LoopEnds, MayLack, PrintsLoop, StopsSilently, TellsEnd, between}
+use Rattle.nq_loop.specs.Holding.{CountsKeep, IsLooped, IsLooping, Loop, Stands}
+use Rattle.nq_loop.specs.Looped.{HasEnded, IsWhole, KeepsLoop, LoopEnds, MayLack, PrintsLoop, StopsSilently, TellsEnd, TellsStopped, between}
 use Rattle.nq_loop.specs.Printed.{PrintsRan, PrintsSpelled, loop_text}
 use Rattle.nq_loop.specs.Turning.{Between, Ran, Stops, TakesTurns}
 use Rattle.nq_loop.specs.Whole.{loop_head}
-use Rattle.nq_loop.specs.declared.turns.LoopTurn.{LoopTurn}
+use Rattle.nq_loop.specs.declared.turns.Halt.{Halt}
 use Rattle.nq_model.specs.Kept.{Kept}
 use Rattle.nq_model.specs.World.{Head as Beginning}
 use Rattle.nq_link.specs.Links.{LinkTold}
@@ -33,40 +33,30 @@ use Rattle.nq_world.specs.declared.Stepped.{Stepped}
 
 -- ---- what is told
 
-pub limited-tells : {K : Type 0} (end : Ending) (limit : Limit) (head : Head) (world : WorldOver K) (kept : Option Kept) (ran : List Event)
-    (held now : Option (List ℕ)) (w w' : ℕ) → TellsStop end 0 (Stepped.Limit limit) held now w w'
-    → TellsEnd end (LoopTurn.Limit limit) head world kept ran held now w w'
-limited-tells Ending.Limit limit head world kept ran held now w w' tells =
-    inr (inr (inr (inl (refl, record { limit = limit; reached = refl; printed = tells }))))
-limited-tells Ending.Memory limit head world kept ran held now w w' tells = inr (inr (inr (inr (refl, tt, tells))))
-limited-tells other limit head world kept ran held now w w' tells = absurd tells
+pub limited-tells : (end : Ending) (limit : Limit) (held now : Option (List ℕ)) (w w' : ℕ) → TellsStop end 0 (Stepped.Limit limit) held now w w'
+    → TellsStopped end (Err (Halt.Limit limit)) held now w w'
+limited-tells Ending.Limit limit held now w w' tells = inr (inr (inl (refl, record { limit = limit; reached = refl; printed = tells })))
+limited-tells Ending.Memory limit held now w w' tells = inr (inr (inr (refl, tt, tells)))
+limited-tells other limit held now w w' tells = absurd tells
 
 -- ---- the loop as a whole
 
-ran-all : (last : LoopTurn) (head : Beginning) (turns : ℕ) (at after : Between) → HasEnded last → TakesTurns head turns last at after → Ran head turns at after
-ran-all LoopTurn.Took head turns at after ended takes = takes
-ran-all LoopTurn.Quiet head turns at after ended takes = takes
-ran-all LoopTurn.Link head turns at after ended takes = absurd ended
-ran-all LoopTurn.Keep head turns at after ended takes = absurd ended
-ran-all LoopTurn.Memory head turns at after ended takes = absurd ended
-ran-all (LoopTurn.Limit limit) head turns at after ended takes = absurd ended
+ran-all : (last : Result Unit Halt) (head : Beginning) (turns : ℕ) (at after : Between) → HasEnded last → TakesTurns head turns last at after
+    → Ran head turns at after
+ran-all (Ok done) head turns at after ended takes = takes
+ran-all (Err why) head turns at after ended takes = absurd ended
 
-is-looping : {K : Type 0} (last : LoopTurn) (head : Beginning) (l : Loop K) → HasEnded last → StandsBehind head last l → IsLooping head l
-is-looping LoopTurn.Took head l ended stands = stands
-is-looping LoopTurn.Quiet head l ended stands = stands
-is-looping LoopTurn.Link head l ended stands = absurd ended
-is-looping LoopTurn.Keep head l ended stands = absurd ended
-is-looping LoopTurn.Memory head l ended stands = absurd ended
-is-looping (LoopTurn.Limit limit) head l ended stands = absurd ended
+is-looping : {K : Type 0} (last : Result Unit Halt) (head : Beginning) (l : Loop K) → HasEnded last → Stands head last l → IsLooping head l
+is-looping (Ok done) head l ended stands = stands
+is-looping (Err why) head l ended stands = absurd ended
 
 -- the events are of a loop, however it stands
-pub are-looped : {K : Type 0} (last : LoopTurn) (head : Beginning) (l : Loop K) → StandsBehind head last l → AllByRecursion (IsLooped head.hosts) l.ran
-are-looped LoopTurn.Took head l stands = stands.looped
-are-looped LoopTurn.Quiet head l stands = stands.looped
-are-looped LoopTurn.Link head l stands = stands.looped
-are-looped LoopTurn.Keep head l stands = stands.looped
-are-looped LoopTurn.Memory head l stands = stands.looped
-are-looped (LoopTurn.Limit limit) head l stands = stands.looped
+pub are-looped : {K : Type 0} (last : Result Unit Halt) (head : Beginning) (l : Loop K) → Stands head last l → AllByRecursion (IsLooped head.hosts) l.ran
+are-looped (Ok done) head l stands = stands.looped
+are-looped (Err Halt.Link) head l stands = stands.looped
+are-looped (Err Halt.Keep) head l stands = stands.looped
+are-looped (Err Halt.Memory) head l stands = stands.looped
+are-looped (Err (Halt.Limit limit)) head l stands = stands.looped
 
 is-whole : {K : Type 0} (hosts turns : ℕ) (text : List ℕ) (clock clock' : ClockTold) (links : List LinkTold) (l : Loop K)
     → Ran (beginning (loop_head hosts)) turns (between [] links clock) (now_at l clock') → IsLooping (beginning (loop_head hosts)) l
@@ -110,26 +100,22 @@ prints-by end hosts turns clock clock' links links' held now w w' printed =
     by-end end hosts turns clock clock' links links' held now w w' printed (bytes_end end (loop_text (loop_head hosts) printed.text printed.events)
     held now w w' printed.printed)
 
-lacks : {K : Type 0} (end : Ending) (last : LoopTurn) (hosts turns : ℕ) (clock clock' : ClockTold) (links : List LinkTold) (l : Loop K)
+lacks : {K : Type 0} (end : Ending) (last : Result Unit Halt) (hosts turns : ℕ) (clock clock' : ClockTold) (links : List LinkTold) (l : Loop K)
     (held now : Option (List ℕ)) (w w' : ℕ) → TakesTurns (beginning (loop_head hosts)) turns last (between [] links clock) (now_at l clock')
     → end ≡ Ending.Memory → MayLack last → now ≡ held → LoopEnds end hosts turns clock clock' links l.links held now w w'
 lacks end last hosts turns clock clock' links l held now w w' takes wanting may none =
     subst (λ e. LoopEnds e hosts turns clock clock' links l.links held now w w') (sym wanting)
     (inr (inl (record { last = last; lacking = may; events = reverse l.ran; taken = takes; silent = none })))
 
-may-lack : (last : LoopTurn) → HasEnded last → MayLack last
-may-lack LoopTurn.Took ended = tt
-may-lack LoopTurn.Quiet ended = tt
-may-lack LoopTurn.Link ended = absurd ended
-may-lack LoopTurn.Keep ended = absurd ended
-may-lack LoopTurn.Memory ended = absurd ended
-may-lack (LoopTurn.Limit limit) ended = absurd ended
+may-lack : (last : Result Unit Halt) → HasEnded last → MayLack last
+may-lack (Ok done) ended = tt
+may-lack (Err why) ended = absurd ended
 
-stops-silently : {K : Type 0} (turn last : LoopTurn) (hosts turns : ℕ) (clock clock' : ClockTold) (links : List LinkTold) (l : Loop K)
+stops-silently : {K : Type 0} (why : Halt) (hosts turns : ℕ) (clock clock' : ClockTold) (links : List LinkTold) (l : Loop K)
     (held now : Option (List ℕ)) (w w' : ℕ)
-    → Stops (beginning (loop_head hosts)) turns turn (between [] links clock) (now_at l clock') → now ≡ held → w' ≡ w → StopsSilently turn hosts turns
+    → Stops (beginning (loop_head hosts)) turns why (between [] links clock) (now_at l clock') → now ≡ held → w' ≡ w → StopsSilently why hosts turns
     clock clock' links l.links held now w w'
-stops-silently turn last hosts turns clock clock' links l held now w w' stops none same = record {
+stops-silently why hosts turns clock clock' links l held now w w' stops none same = record {
   events = reverse l.ran;
   stops = stops;
   silent =
@@ -137,9 +123,9 @@ stops-silently turn last hosts turns clock clock' links l held now w w' stops no
   count = same;
 }
 
-pub ends : {K : Type 0} (end : Ending) (last : LoopTurn) (hosts turns : ℕ) (clock clock' : ClockTold) (links : List LinkTold) (l : Loop K)
+pub ends : {K : Type 0} (end : Ending) (last : Result Unit Halt) (hosts turns : ℕ) (clock clock' : ClockTold) (links : List LinkTold) (l : Loop K)
     (held now : Option (List ℕ)) (w w' : ℕ) → TakesTurns (beginning (loop_head hosts)) turns last (between [] links clock) (now_at l clock')
-    → StandsBehind (beginning (loop_head hosts)) last l → TellsEnd end last (loop_head hosts) l.world l.kept l.ran held now w w'
+    → Stands (beginning (loop_head hosts)) last l → TellsEnd end last (loop_head hosts) l.world l.kept l.ran held now w w'
     → LoopEnds end hosts turns clock clock' links l.links held now w w'
 ends end last hosts turns clock clock' links l held now w w' takes stands (inl printed) =
     let head = beginning (loop_head hosts) in
@@ -155,12 +141,12 @@ ends end last hosts turns clock clock' links l held now w w' takes stands (inr (
     let head = beginning (loop_head hosts) in
     let stops = subst (λ t. TakesTurns head turns t (between [] links clock) (now_at l clock')) failed.1 takes in
     subst (λ e. LoopEnds e hosts turns clock clock' links l.links held now w w') (sym failed.0)
-    (stops-silently LoopTurn.Link last hosts turns clock clock' links l held now w w' stops failed.2 failed.3)
+    (stops-silently Halt.Link hosts turns clock clock' links l held now w w' stops failed.2 failed.3)
 ends end last hosts turns clock clock' links l held now w w' takes stands (inr (inr (inl failed))) =
     let head = beginning (loop_head hosts) in
     let stops = subst (λ t. TakesTurns head turns t (between [] links clock) (now_at l clock')) failed.1 takes in
     subst (λ e. LoopEnds e hosts turns clock clock' links l.links held now w w') (sym failed.0)
-    (inr (stops-silently LoopTurn.Keep last hosts turns clock clock' links l held now w w' stops failed.2 failed.3))
+    (inr (stops-silently Halt.Keep hosts turns clock clock' links l held now w w' stops failed.2 failed.3))
 ends end last hosts turns clock clock' links l held now w w' takes stands (inr (inr (inr (inl reached)))) =
     let head = beginning (loop_head hosts) in
     let stops = subst (λ t. TakesTurns head turns t (between [] links clock) (now_at l clock')) reached.1.reached takes in
@@ -183,9 +169,9 @@ keeps-ran hosts turns clock clock' links l held now w w' turned looping prints =
   keeps = looping.plays.keeps;
 }
 
-pub keeps-loop : {K : Type 0} (end : Ending) (last : LoopTurn) (hosts turns : ℕ) (clock clock' : ClockTold) (links : List LinkTold) (l : Loop K)
+pub keeps-loop : {K : Type 0} (end : Ending) (last : Result Unit Halt) (hosts turns : ℕ) (clock clock' : ClockTold) (links : List LinkTold) (l : Loop K)
     (held now : Option (List ℕ)) (w w' : ℕ) → TakesTurns (beginning (loop_head hosts)) turns last (between [] links clock) (now_at l clock')
-    → StandsBehind (beginning (loop_head hosts)) last l → TellsEnd end last (loop_head hosts) l.world l.kept l.ran held now w w' → end ≡ Ending.Done
+    → Stands (beginning (loop_head hosts)) last l → TellsEnd end last (loop_head hosts) l.world l.kept l.ran held now w w' → end ≡ Ending.Done
     → KeepsLoop hosts turns clock clock' links l.links held now l.kept
 keeps-loop end last hosts turns clock clock' links l held now w w' takes stands (inl printed) done =
     let head = beginning (loop_head hosts) in
@@ -204,21 +190,16 @@ keeps-loop end last hosts turns clock clock' links l held now w w' takes stands 
 
 -- ---- the keeper's faults
 
-same-ended : (last : LoopTurn) (before count : ℕ) → HasEnded last → CountsTurn last before count → count ≡ before
-same-ended LoopTurn.Took before count ended counts = counts
-same-ended LoopTurn.Quiet before count ended counts = counts
-same-ended LoopTurn.Link before count ended counts = counts
-same-ended LoopTurn.Keep before count ended counts = absurd ended
-same-ended LoopTurn.Memory before count ended counts = counts
-same-ended (LoopTurn.Limit limit) before count ended counts = counts
+same-ended : (last : Result Unit Halt) (before count : ℕ) → HasEnded last → CountsKeep last before count → count ≡ before
+same-ended (Ok done) before count ended counts = counts
+same-ended (Err why) before count ended counts = absurd ended
 
-same-lacking : (last : LoopTurn) (before count : ℕ) → MayLack last → CountsTurn last before count → count ≡ before
-same-lacking LoopTurn.Took before count may counts = counts
-same-lacking LoopTurn.Quiet before count may counts = counts
-same-lacking LoopTurn.Link before count may counts = counts
-same-lacking LoopTurn.Keep before count may counts = absurd may
-same-lacking LoopTurn.Memory before count may counts = counts
-same-lacking (LoopTurn.Limit limit) before count may counts = counts
+same-lacking : (last : Result Unit Halt) (before count : ℕ) → MayLack last → CountsKeep last before count → count ≡ before
+same-lacking (Ok done) before count may counts = counts
+same-lacking (Err Halt.Link) before count may counts = counts
+same-lacking (Err Halt.Keep) before count may counts = absurd may
+same-lacking (Err Halt.Memory) before count may counts = counts
+same-lacking (Err (Halt.Limit limit)) before count may counts = counts
 
 counts-by : (end : Ending) (before count : ℕ) → count ≡ before → (end ≡ Ending.Done) ⊎ ((end ≡ Ending.WriteFault) ⊎ (end ≡ Ending.Memory))
     → CountsKeeper end before count
@@ -232,18 +213,18 @@ counts-printed end head ran held now w w' before count (inl printed) same =
     counts-by end before count same (bytes_end end (loop_text head printed.text (reverse ran)) held now w w' printed.printed)
 counts-printed end head ran held now w w' before count (inr none) same = counts-by end before count same (inr (inr none.0))
 
-pub counts-loop : {K : Type 0} (end : Ending) (last : LoopTurn) (hosts : ℕ) (l : Loop K) (held now : Option (List ℕ)) (w w' before count : ℕ)
-    → StandsBehind (beginning (loop_head hosts)) last l
-    → TellsEnd end last (loop_head hosts) l.world l.kept l.ran held now w w' → CountsTurn last before count → CountsKeeper end before count
+pub counts-loop : {K : Type 0} (end : Ending) (last : Result Unit Halt) (hosts : ℕ) (l : Loop K) (held now : Option (List ℕ)) (w w' before count : ℕ)
+    → Stands (beginning (loop_head hosts)) last l
+    → TellsEnd end last (loop_head hosts) l.world l.kept l.ran held now w w' → CountsKeep last before count → CountsKeeper end before count
 counts-loop end last hosts l held now w w' before count stands (inl printed) counts =
     let looping = is-looping last (beginning (loop_head hosts)) l printed.0 stands in
     counts-printed end (loop_head hosts) l.ran held now w w' before count (printed.1 looping.plays) (same-ended last before count printed.0 counts)
 counts-loop end last hosts l held now w w' before count stands (inr (inl failed)) counts =
-    subst (λ e. CountsKeeper e before count) (sym failed.0) (subst (λ t. CountsTurn t before count) failed.1 counts)
+    subst (λ e. CountsKeeper e before count) (sym failed.0) (subst (λ t. CountsKeep t before count) failed.1 counts)
 counts-loop end last hosts l held now w w' before count stands (inr (inr (inl failed))) counts =
-    subst (λ e. CountsKeeper e before count) (sym failed.0) (subst (λ t. CountsTurn t before count) failed.1 counts)
+    subst (λ e. CountsKeeper e before count) (sym failed.0) (subst (λ t. CountsKeep t before count) failed.1 counts)
 counts-loop end last hosts l held now w w' before count stands (inr (inr (inr (inl reached)))) counts =
-    subst (λ e. CountsKeeper e before count) (sym reached.0) (subst (λ t. CountsTurn t before count) reached.1.reached counts)
+    subst (λ e. CountsKeeper e before count) (sym reached.0) (subst (λ t. CountsKeep t before count) reached.1.reached counts)
 counts-loop end last hosts l held now w w' before count stands (inr (inr (inr (inr wanting)))) counts =
     subst (λ e. CountsKeeper e before count) (sym wanting.0) (same-lacking last before count wanting.1 counts)
 

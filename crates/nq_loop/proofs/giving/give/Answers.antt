@@ -1,4 +1,4 @@
-use Rattle.std.proofs.Common.{◌≡◌, ◌≤◌, ◌∙◌, Err, inl, length, drop, map, refl, sym, ap, subst, arith}
+use Rattle.std.proofs.Common.{◌≡◌, ◌≤◌, ◌∙◌, Bool, Err, inl, length, drop, map, refl, sym, ap, subst, arith}
 use Rattle.std.specs.Prelude.{reverse}
 use Rattle.nq_loop.proofs.Events.{can-come, counts-refused, counts-taken, has-count, refused, taken}
 use Rattle.nq_loop.proofs.Kept.{filled_event}
@@ -84,7 +84,7 @@ returns-in_default g c = record {
       (dropped c.args.ran.now c.keep.new.ran c.drop_last.new.self c.args.event.now c.in-Ok.ensures.kept c.drop_last.ensures) refl) in
       record { gives = given.gives; stands = given.stands };
   keeps = record {
-    faults = subst (λ why. CountsKeep (Err why) (g.K.Keeper.faults c.args.world.now.server.keeper) (g.K.Keeper.faults c.step.new.self.server.keeper))
+    faults = subst (λ why. CountsKeep {X = Bool} (Err why) (g.K.Keeper.faults c.args.world.now.server.keeper) (g.K.Keeper.faults c.step.new.self.server.keeper))
         (sym c.halt_of.ensures) (counts-refused c.step.result (g.K.Keeper.faults c.args.world.now.server.keeper)
         (g.K.Keeper.faults c.step.new.self.server.keeper) c.in_default.not-Done c.step.ensures.faults);
     clients_are = c.step.ensures.settings.hosts_are;

@@ -1,7 +1,7 @@
 use Rattle.std.proofs.Common.{◌≡◌, ◌≤◌, ◌∙◌, inl, inr, length, refl, sym, arith}
 use Rattle.std.specs.Prelude.{reverse}
 use Rattle.nq_clock.specs.Clocks.{clock_told}
-use Rattle.nq_loop.proofs.Takings.{now_at, stopped, stopped-counts, went, went-counts}
+use Rattle.nq_loop.proofs.Takings.{now_at, stopped, stopped-counts, went}
 use Rattle.nq_loop.specs.Holding.{loop_of}
 use Rattle.nq_loop.proofs.taking.take_turns.Goals as goal
 
@@ -27,8 +27,8 @@ loop-turn-preserved g c = record {
       let before = c.loop-turn.invariant.goes head hosts here in
       let mine : head.hosts ≡ length c.loop-turn.state.begun = hosts ∙ sym c.loop-turn.invariant.hosts in
       let left = sym (c.all_answered.ensures head (reverse c.loop-turn.ran) mine before.1.plays before.1.counts) ∙ c.if-all_answered.false in
-      let turned = c.loop_turn.ensures.turn head mine before.1 in
-      went head c.loop-turn.turn c.loop_turn.result (now_at (loop_of g.P.Keeper.content g.L.Link.sent g.L.Link.waiting g.L.Link.faults
+      let turned = c.in-Ok.ensures.turn head mine before.1 in
+      went head c.loop-turn.turn c.in-Ok._moved (now_at (loop_of g.P.Keeper.content g.L.Link.sent g.L.Link.waiting g.L.Link.faults
       g.L.Link.receives c.args.world.now c.args.state.now c.args.ran.now c.args.links.now) (clock_told g.C.Clock.floor g.C.Clock.readings g.C.Clock.reads
       c.args.clock.now)) (clock_told g.C.Clock.floor g.C.Clock.readings g.C.Clock.reads c.loop-turn.clock) (clock_told g.C.Clock.floor g.C.Clock.readings g.C.Clock.reads
       c.loop_turn.new.clock)
@@ -36,10 +36,10 @@ loop-turn-preserved g c = record {
       c.loop-turn.links)
       (loop_of g.P.Keeper.content g.L.Link.sent g.L.Link.waiting g.L.Link.faults g.L.Link.receives c.loop_turn.new.world c.loop_turn.new.state
       c.loop_turn.new.ran c.loop_turn.new.links)
-      (sym c.went_on.ensures ∙ c.in-Ok.is) before.0 left turned;
+      before.0 left turned;
   clients = c.loop_turn.ensures.keeps.clients_are ∙ c.loop-turn.invariant.clients;
   hosts = c.loop_turn.ensures.keeps.hosts_are ∙ c.loop-turn.invariant.hosts;
-  faults = went-counts c.loop_turn.result _ _ (sym c.went_on.ensures ∙ c.in-Ok.is) c.loop_turn.ensures.keeps.faults ∙ c.loop-turn.invariant.faults;
+  faults = c.in-Ok.ensures.keeps.faults ∙ c.loop-turn.invariant.faults;
   follows = g.met.P.Keeper.follows_on _ _ _ c.loop-turn.invariant.follows c.loop_turn.ensures.follows;
 }
 
@@ -48,8 +48,8 @@ returns-in-Err-clause-turns g c = λ head hosts here.
     let before = c.loop-turn.invariant.goes head hosts here in
     let mine : head.hosts ≡ length c.loop-turn.state.begun = hosts ∙ sym c.loop-turn.invariant.hosts in
     let left = sym (c.all_answered.ensures head (reverse c.loop-turn.ran) mine before.1.plays before.1.counts) ∙ c.if-all_answered.false in
-    let turned = c.loop_turn.ensures.turn head mine before.1 in
-    stopped head c.loop-turn.turn c.args.turns c.loop_turn.result c.in-Err.stopped (now_at (loop_of g.P.Keeper.content g.L.Link.sent g.L.Link.waiting
+    let turned = c.in-Err.ensures.turn head mine before.1 in
+    stopped head c.loop-turn.turn c.args.turns c.in-Err.why (now_at (loop_of g.P.Keeper.content g.L.Link.sent g.L.Link.waiting
     g.L.Link.faults g.L.Link.receives c.args.world.now c.args.state.now c.args.ran.now c.args.links.now) (clock_told g.C.Clock.floor
     g.C.Clock.readings g.C.Clock.reads c.args.clock.now)) (clock_told g.C.Clock.floor g.C.Clock.readings g.C.Clock.reads c.loop-turn.clock) (clock_told g.C.Clock.floor
     g.C.Clock.readings g.C.Clock.reads c.loop_turn.new.clock)
@@ -57,7 +57,7 @@ returns-in-Err-clause-turns g c = λ head hosts here.
     c.loop-turn.links)
     (loop_of g.P.Keeper.content g.L.Link.sent g.L.Link.waiting g.L.Link.faults g.L.Link.receives c.loop_turn.new.world c.loop_turn.new.state
     c.loop_turn.new.ran c.loop_turn.new.links)
-    (sym c.went_on.ensures ∙ c.in-Err.is) c.loop-turn-test.true before.0 left turned
+    c.loop-turn-test.true before.0 left turned
 
 pub returns-then-all_answered-clause-turns : goal.returns-then-all_answered-clause-turns
 returns-then-all_answered-clause-turns g c = λ head hosts here.
@@ -75,8 +75,7 @@ returns-clause-turns g c = λ head hosts here.
 
 pub returns-in-Err-clause-faults : goal.returns-in-Err-clause-faults
 returns-in-Err-clause-faults g c =
-    stopped-counts c.loop_turn.result c.in-Err.stopped _ _ _ (sym c.went_on.ensures ∙ c.in-Err.is) c.loop-turn.invariant.faults
-    c.loop_turn.ensures.keeps.faults
+    stopped-counts c.in-Err.why _ _ _ c.loop-turn.invariant.faults c.in-Err.ensures.keeps.faults
 
 pub returns-in-Err-clause-follows : goal.returns-in-Err-clause-follows
 returns-in-Err-clause-follows g c = g.met.P.Keeper.follows_on _ _ _ c.loop-turn.invariant.follows c.loop_turn.ensures.follows

@@ -1,18 +1,17 @@
 use Rattle.nq_clock.specs.Clocks.{clock_told}
-use Rattle.nq_loop.proofs.Turned.{keeps-turn, turned}
+use Rattle.nq_loop.proofs.Turned.{turned}
 use Rattle.nq_loop.specs.Holding.{loop_of}
 use Rattle.nq_loop.proofs.turning.loop_turn.Goals as goal
 
 pub returns : goal.returns
 returns g c = record {
   turn = λ head hosts here.
-      turned head c.answered.result c.take_steps.result c.now-reading.result c.rounds_due-rounds.result c.server_time.result
+      turned head c.take_steps.result c.now-reading.result c.rounds_due-rounds.result c.server_time.result
       (clock_told g.C.Clock.floor g.C.Clock.readings g.C.Clock.reads c.args.clock.now) (clock_told g.C.Clock.floor g.C.Clock.readings g.C.Clock.reads c.now-reading.new.self)
       (loop_of g.K.Keeper.content g.L.Link.sent g.L.Link.waiting g.L.Link.faults g.L.Link.receives c.args.world.now c.args.state.now c.args.ran.now
       c.args.links.now)
       (loop_of g.K.Keeper.content g.L.Link.sent g.L.Link.waiting g.L.Link.faults g.L.Link.receives c.take_steps.new.world c.take_steps.new.state
       c.take_steps.new.ran c.take_steps.new.links)
-      c.answered.ensures
       (record {
         rises = c.now-reading.ensures.rises;
         floor = c.now-reading.ensures.floor;
@@ -21,6 +20,6 @@ returns g c = record {
         once = c.now-reading.ensures.reads;
       })
       c.rounds_due-rounds.ensures c.server_time.ensures here (c.take_steps.ensures.loops head hosts here);
-  keeps = keeps-turn c.answered.result c.take_steps.result _ _ _ _ _ _ c.answered.ensures c.take_steps.ensures.keeps;
+  keeps = c.take_steps.ensures.keeps;
   follows = c.take_steps.ensures.follows;
 }
