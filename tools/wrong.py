@@ -105,11 +105,12 @@ def module_of(edit):
 
 
 def path_of(edit):
-    """The path below the crate of the function that an edit touches, as the prover names it."""
+    """The end of the name that the prover gives to the function that an edit touches. A method's has its type, and not the module of its impl."""
     content, around = content_of(edit), ""
     for found in IMPL.finditer(content, 0, content.index(edit["pairs"][0][0])):
         around = f"{found.group(2)}{found.group(1) or ''}" if found.group(2) else ""
-    return "::".join(it for it in (module_of(edit), around, function_of(edit)) if it)
+    before = around or module_of(edit)
+    return f"{before}::{function_of(edit)}" if before else function_of(edit)
 
 
 def groups_of(edits):
@@ -178,11 +179,10 @@ def is_verdict(said):
 def stopped_at(edit, said):
     """The goals of the edited function at which the prover stopped, and other functions that are not proved; None where all is proved."""
     goals, others = [], []
-    path = "::".join(it for it in (edit["crate"], module_of(edit)) if it) + "::"
     for name, why in re.findall(r"^fn (\S+): (?:not proved|no proof|could not tell)(.*)$", said, re.M):
         if "it calls" in why:
             continue
-        mine = name.startswith(path) and name.split("::")[-1] == function_of(edit)
+        mine = f"::{name}".endswith(f"::{path_of(edit)}")
         (goals if mine else others).append(f"{name.split('::')[-1]}{why}")
     if not goals:
         return None, others

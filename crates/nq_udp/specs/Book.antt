@@ -51,9 +51,14 @@ abbrev pub with_address : Listed → Party → SocketAddr → Listed
 with_address None party address = None
 with_address (Some places) party address = Some (slice_set places (place_of party) (Some address))
 
+-- by this book the party has no address yet, and nobody has this one
+pub record IsFresh (party : Party) (address : SocketAddr) (book : Listed) : Type 0 where
+  pub unlisted : (known : SocketAddr) → ¬ (IsAddressIn book party known)
+  pub nobody : (other : Party) → ¬ (IsAddressIn book other address)
+
 -- what listing an address for a party does, by its answer: there is no such host, the party has an address, or a party has this one
 abbrev pub Lists : Result Unit Clash → Party → SocketAddr → (book book' : Listed) → Type 0
-Lists (Ok _) party address book book' = book' ≡ with_address book party address
+Lists (Ok _) party address book book' = (book' ≡ with_address book party address) × IsFresh party address book
 Lists (Err Clash.Host) party address book book' = (book' ≡ book) × (nat_lt (place_of party) 65 ≡ false)
 Lists (Err Clash.Party) party address book book' = (book' ≡ book) × ((known : SocketAddr) × IsAddressIn book party known)
 Lists (Err Clash.Address) party address book book' = (book' ≡ book) × ((other : Party) × IsAddressIn book other address)

@@ -102,7 +102,7 @@ impl Book {
     ///
     /// `Host` where there is no such host, `Party` where the party has an address, and `Address` where a party has this one, as each
     /// party in the book of one machine has. The book is as before then.
-    #[tactic(auto, using(crate::proofs::Places::known))]
+    #[tactic(auto, using(crate::proofs::Places::known, crate::proofs::Places::fresh))]
     pub fn list(&mut self, party: Party, address: SocketAddr) -> Result<(), Clash>
         ensures { Lists result party address self.old self.new }
     {
