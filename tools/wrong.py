@@ -8,7 +8,7 @@
     wrong.py --over FOLDER  takes the libraries below from another checkout of the same text
 
 It takes the libraries that `rt ci` left in crates/*/out, so run that before. Edits of a crate that touch different functions are tried together,
-in a check of these functions; one that is still proved there is tried alone, in a check of the whole crate. For each edit it says
+in a check of these functions; one that is still proved there is tried alone, and then in a check of the whole crate. For each edit it says
 at which function and clauses the prover stopped, and `elsewhere` where these are other ones than wrong.edits says.
 It ends with status 1 where an edit is still proved, could not be tried, or was refused elsewhere.
 """
@@ -177,23 +177,24 @@ def is_verdict(said):
 
 
 def stopped_at(edit, said):
-    """The goals of the edited function at which the prover stopped, and other functions that are not proved; None where all is proved."""
-    goals, others = [], []
+    """The goals of the edited function at which the prover stopped, and other functions that are not proved; None where it did not stop there."""
+    goals, others = None, []
     for name, why in re.findall(r"^fn (\S+): (?:not proved|no proof|could not tell)(.*)$", said, re.M):
         if "it calls" in why:
             continue
-        mine = f"::{name}".endswith(f"::{path_of(edit)}")
-        (goals if mine else others).append(f"{name.split('::')[-1]}{why}")
-    if not goals:
+        if f"::{name}".endswith(f"::{path_of(edit)}"):
+            goals = re.findall(r"`([^`]+)`", why.partition("did not prove")[2])
+        else:
+            others.append(f"{name.split('::')[-1]}{why}")
+    if goals is None:
         return None, others
     content = content_of(edit)
     starts = [(content.count("\n", 0, found.start(1)) + 1, found.group(1)) for found in FUNCTION.finditer(content)]
-    named = []
     for file, line, goal in re.findall(r"^note: (src/\S+?):(\d+):\d+: it is not proved .*?\(`([^`]+)`\)", said, re.M):
         names = [name for start, name in starts if start <= int(line)]
         if file == edit["file"] and names and names[-1] == function_of(edit):
-            named.append(goal)
-    return list(dict.fromkeys(named)), others
+            goals.append(goal)
+    return list(dict.fromkeys(goals)), others
 
 
 def place_told(edit, goals):
@@ -215,10 +216,9 @@ def verdict_of(edit, said):
     return f"refused{', ' + place if place else ''}{told}", not place
 
 
-def try_alone(over, edit):
+def try_in_crate(over, edit):
     """Tries an edit in a check of the whole crate: whether the prover refuses another function for it."""
-    text, _ = made(edit, content_of(edit))
-    said = checked(over, edit["crate"], {edit["file"]: text}, [])
+    said = checked(over, edit["crate"], {edit["file"]: made(edit, content_of(edit))[0]}, [])
     if not is_verdict(said):
         return "not tried: " + " ".join(said.split())[:300], False
     goals, others = stopped_at(edit, said)
@@ -228,13 +228,17 @@ def try_alone(over, edit):
 
 
 def try_group(over, crate, group, texts):
-    """Tries the edits of a group together, and gives each with its verdict."""
+    """Tries the edits of a group together, and gives each with its verdict. One that may wait for another of them is tried without them."""
     said = checked(over, crate, texts, sorted({path_of(edit) for edit in group}))
-    if not is_verdict(said):
-        if len(group) == 1:
-            return [(group[0], "not tried: " + " ".join(said.split())[:300], False)]
-        return [one for edit in group for one in try_group(over, crate, [edit], {edit["file"]: made(edit, content_of(edit))[0]})]
-    return [(edit, *(try_alone(over, edit) if stopped_at(edit, said)[0] is None else verdict_of(edit, said))) for edit in group]
+    for edit in group:
+        if is_verdict(said) and stopped_at(edit, said)[0] is not None:
+            yield edit, *verdict_of(edit, said)
+        elif len(group) > 1:
+            yield from try_group(over, crate, [edit], {edit["file"]: made(edit, content_of(edit))[0]})
+        elif is_verdict(said):
+            yield edit, *try_in_crate(over, edit)
+        else:
+            yield edit, "not tried: " + " ".join(said.split())[:300], False
 
 
 def main():
