@@ -344,14 +344,14 @@ def write_journal(entries, lines):
 
 
 def judged(program, made, lines):
-    """Seconds, peak memory in MB and status of the fastest of three runs of the judge."""
+    """Seconds of processor time, peak memory in MB and status of the fastest of three runs of the judge."""
     path = write_journal(made(lines), lines)
     try:
-        runs = [run(program, ["check"], path) for _ in range(3)]
+        runs = [spent(program, ["check"], path) for _ in range(3)]
     finally:
         os.unlink(path)
-    took, _, status, _ = min(runs)
-    return took, max(one[1] for one in runs), status
+    took, (_, _, status, _) = min(runs)
+    return took, max(ran[1] for _, ran in runs), status
 
 
 def journals(program, lines):

@@ -76,7 +76,7 @@ BENDS = """(async () => {
 
 ADDRESS = """(async () => {
   await bendPacket({ kind: "lose", packet: 0 });
-  await keepAddress(current());
+  await writeAddress(current());
   return [location.href, current().run.schedule];
 })()"""
 
@@ -124,8 +124,9 @@ TIMED = """(async (schedule, tries) => {
   return [current().before.events.length, took];
 })(%s, %d)"""
 
-TIP = """(() => {
+TIP = """(async () => {
   document.querySelector(".chart").scrollIntoView();
+  await new Promise((goes) => requestAnimationFrame(() => requestAnimationFrame(goes)));
   const place = (part) => { const box = part.getBoundingClientRect(); return [box.left + box.width / 2, box.top + box.height / 2]; };
   const tip = document.querySelector(".tip[data-packet='0']");
   return [place(tip), [place(tip)[0], bandOf(shown.chart, 3).getBoundingClientRect().bottom - 4]];

@@ -2,7 +2,7 @@
 // The page: one run at one of its events.
 
 const place = (name) => document.getElementById(name);
-const shown = { chart: null, open: new Set(), chosen: null };
+const shown = { chart: null, open: new Set(), chosen: null, timer: 0 };
 
 async function begin() {
   document.body.classList.toggle("stored", !(await isThere()));
@@ -208,8 +208,13 @@ function thenChanged() {
   if (made) bendFrom({ ...made, words });
 }
 
-// Keeps the schedule and the event in the address.
-async function keepAddress(entry) {
+// Keeps the schedule and the event in the address, a little after the last move: a browser drops changes of it that come too often.
+function keepAddress(entry) {
+  clearTimeout(shown.timer);
+  shown.timer = setTimeout(() => writeAddress(entry), 200);
+}
+
+async function writeAddress(entry) {
   const address = await addressOf(entry);
   if (entry !== current()) return;
   entry.address = address;
@@ -217,8 +222,7 @@ async function keepAddress(entry) {
 }
 
 async function copyLink() {
-  await keepAddress(current());
-  await navigator.clipboard?.writeText(location.href);
+  await navigator.clipboard?.writeText(new URL(await addressOf(current()), location.href).href);
   place("link").textContent = "Copied";
   setTimeout(() => { place("link").textContent = "Copy link"; }, 1500);
 }

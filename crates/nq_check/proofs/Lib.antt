@@ -11,9 +11,11 @@ pub mod NamingLosses
 pub mod Once
 pub mod OwnWrite
 pub mod Passing
+pub mod Ranging
 pub mod Reporting
 pub mod Sounds
 pub mod Spots
 pub mod Standing
+pub mod Storing
 pub mod Timing
 pub mod Verdicts

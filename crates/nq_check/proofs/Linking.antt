@@ -46,7 +46,8 @@ pub head_linked : (kind : Kind) (place : ℕ) (entry : Entry) (old new : List (S
     → IsHeadNext kind place entry old new link → after ≡ before ++ link ∷ [] → IsLinkedNext kind place entry old new before after
 head_linked kind place entry old new before after link h p = record { link = link; pushed = p; head = h }
 
-get_pushed : (xs : List ℕ) (e y i : ℕ) → slice_get (xs ++ e ∷ []) i ≡ Some y → (slice_get xs i ≡ Some y) ⊎ ((i ≡ length xs) × (y ≡ e))
+pub get_pushed : {X : Type 0} (xs : List X) (e y : X) (i : ℕ) → slice_get (xs ++ e ∷ []) i ≡ Some y
+    → (slice_get xs i ≡ Some y) ⊎ ((i ≡ length xs) × (y ≡ e))
 get_pushed [] e y zero h = inr (refl, sym (some_one e y h))
 get_pushed [] e y (suc i) h = absurd (cc)
 get_pushed (x ∷ xs) e y zero h = inl h
@@ -56,7 +57,7 @@ get_pushed (x ∷ xs) e y (suc i) h =
       | inr r ↦ let same = r.0 in inr (omega arith, r.1)
     ]
 
-long_pushed : (xs : List ℕ) (e : ℕ) → length (xs ++ e ∷ []) ≡ length xs + 1
+pub long_pushed : {X : Type 0} (xs : List X) (e : X) → length (xs ++ e ∷ []) ≡ length xs + 1
 long_pushed [] e = refl
 long_pushed (x ∷ xs) e = let h = long_pushed xs e in omega arith
 

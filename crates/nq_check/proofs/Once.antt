@@ -94,11 +94,11 @@ not_both true true f = absurd (f refl refl)
 not_both true false f = refl
 not_both false y f = refl
 
-each_of : {X : Type 0} (test : X → Bool) → ((x : X) → test x ≡ true) → (xs : List X) → each test xs ≡ true
+pub each_of : {X : Type 0} (test : X → Bool) → ((x : X) → test x ≡ true) → (xs : List X) → each test xs ≡ true
 each_of test all [] = refl
 each_of test all (x ∷ xs) = and_from (test x) (each test xs) (all x) (each_of test all xs)
 
-first_again : (entry : Entry) (before : List Entry) → ((write : Entry) → Covers entry write → Exists (λ other. Covers other write) before → ⊥)
+pub first_again : (entry : Entry) (before : List Entry) → ((write : Entry) → Covers entry write → Exists (λ other. Covers other write) before → ⊥)
     → (write : Entry) → is_first_to_cover before entry write ≡ true
 first_again entry before none write =
     not_both (covers entry write) (exists (λ other. covers other write) before)

@@ -7,6 +7,7 @@ use Rattle.nq_rules.specs.Marks.{Spot, mark_at, spot}
 use Rattle.nq_check.specs.declared.covering.Reach.{Reach}
 use Rattle.nq_model.specs.FateTest.{is_accounted_at}
 use Rattle.nq_model.specs.Journal.{Each}
+use Rattle.nq_model.specs.JournalTest.{covers, exists}
 
 -- numbers from first to last of a block are no higher, and no lower, than what is told
 pub record IsReached (most : ℕ) (reach : Reach) (at : Spot) (first last : ℕ) : Type 0 where
@@ -37,6 +38,11 @@ pub record IsExtended (most : ℕ) (at : Spot) (first last : ℕ) (old new : Rea
 pub record IsAnew (most : ℕ) (at : Spot) (first last : ℕ) (old new : Reach) : Type 0 where
   pub outside : is_outside most old at first last ≡ true
   pub extended : IsExtended most at first last old new
+
+-- whether an entry is no L, or covers a write
+abbrev pub covers_some : (whole : List Entry) → Entry → Bool
+covers_some whole (L who file block first last) = exists (covers (L who file block first last)) whole
+covers_some whole other = true
 
 -- where it is told how far the entries before it cover, an entry accounts for what it covers, and it is told of that entry, too
 abbrev pub Accounts : (most : ℕ) (whole : List Entry) → Entry → (old new : Reach) → Type 0

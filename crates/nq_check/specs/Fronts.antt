@@ -6,6 +6,7 @@ use Rattle.nq_check.specs.declared.fronts.Fronts.{Fronts}
 use Rattle.nq_check.specs.declared.rules.Rule.{Rule}
 use Rattle.nq_check.specs.declared.rules.Rule.TheVariants.{Ordered, Accounted, Reported, Synchronized}
 use Rattle.nq_check.specs.Rules.{keeps}
+use Rattle.nq_check.specs.Stored.{AreStored}
 
 -- whether the entry at a place of a journal, the oldest first, keeps a rule
 abbrev pub keeps_at : Rule → (whole : List Entry) (place : ℕ) → Entry → Bool
@@ -15,9 +16,10 @@ keeps_at rule whole place entry = keeps rule (reverse whole) (drop (place + 1) w
 abbrev pub KeepsBelow : Rule → (whole : List Entry) (front : ℕ) → Type 0
 KeepsBelow rule whole front = (place : ℕ) (entry : Entry) → place < front → slice_get whole place ≡ Some entry → keeps_at rule whole place entry ≡ true
 
--- it is so with each front
+-- it is so with each front, and it is known which writes are stored
 pub record AreFronts (whole : List Entry) (fronts : Fronts) : Type 0 where
   pub ordered : KeepsBelow Ordered whole fronts.ordered
   pub accounted : KeepsBelow Accounted whole fronts.fates.accounted
+  pub stored : AreStored whole fronts.fates.stored.items
   pub reported : KeepsBelow Reported whole fronts.reported
   pub synchronized : KeepsBelow Synchronized whole fronts.synchronized

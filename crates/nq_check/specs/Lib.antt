@@ -1,3 +1,4 @@
+pub mod Apart
 pub mod Covered
 pub mod Fronts
 pub mod Leases
@@ -10,6 +11,7 @@ pub mod Reports
 pub mod Rising
 pub mod Rules
 pub mod Settling
+pub mod Stored
 pub mod Tables
 pub mod Verdict
 pub mod Words

@@ -6,6 +6,7 @@ ghost use Rattle.nq_check.specs.Fronts.{KeepsBelow};
 ghost use Rattle.nq_check.specs.declared.rules.Rule.{Rule};
 
 use crate::along::is_there;
+use crate::apart::apart_front;
 use crate::links::{Heads, head_at, set_head};
 use nq_base::{Entry, NoMemory, Number, Who};
 use nq_rules::keys::{Key, own_key};
@@ -130,9 +131,11 @@ fn account_all(whole: &[Entry], places: &Heads, reach: &mut Reach) -> Result<usi
     Ok(whole.len())
 }
 
-/// A place below which each entry accounts for what it covers.
+/// A place below which each entry accounts for what it covers. Where the entries cover numbers between those that are covered, their
+/// ranges are sorted; blocks are told by their marks.
 pub(crate) fn accounted_front(
     alloc: Global,
+    marks: &Heads,
     places: &Heads,
     whole: &[Entry],
 ) -> Result<usize, NoMemory>
@@ -142,5 +145,13 @@ pub(crate) fn accounted_front(
         highest: HashMap::new(alloc),
         lowest: HashMap::new(alloc),
     };
-    account_all(whole, places, &mut reach)
+    let front = account_all(whole, places, &mut reach)?;
+    if front >= whole.len() {
+        return Ok(front);
+    }
+    let apart = apart_front(alloc, marks, places, whole)?;
+    if front < apart {
+        return Ok(apart);
+    }
+    Ok(front)
 }

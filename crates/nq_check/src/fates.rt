@@ -3,11 +3,14 @@
 
 ghost use Rattle.std.specs.Prelude.{IfOk};
 ghost use Rattle.nq_check.specs.Fronts.{KeepsBelow};
+ghost use Rattle.nq_check.specs.Stored.{AreStored};
+ghost use Rattle.nq_check.specs.Tables.{AreTables};
 ghost use Rattle.nq_check.specs.declared.rules.Rule.{Rule};
 
 use crate::along::is_there;
 use crate::covering::{accounted_front, number_key, places_of_writes};
 use crate::links::{Heads, head_at};
+use crate::stored::find_stored;
 use crate::tables::Tables;
 use nq_base::{Entry, NoMemory, Number, Who};
 use nq_rules::entries::covers;
@@ -23,13 +26,18 @@ pub(crate) struct Fates {
     pub(crate) named: Heads,
     /// How far the entries account for what they cover.
     pub(crate) accounted: usize,
+    /// For each entry whether it is a delayed write that an S covers.
+    pub(crate) stored: Vec<bool>,
 }
 
 /// The place that stands for none.
 const NOWHERE: usize = usize::MAX;
 
+/// How many writes before an S or L are looked at, whatever their numbers are.
+const MOST_NEAR: u64 = 64;
+
 /// The place that is kept at another.
-fn place_in(places: &Vec<usize>, at: usize) -> usize {
+pub(crate) fn place_in(places: &Vec<usize>, at: usize) -> usize {
     places.get(at).copied().unwrap_or(NOWHERE)
 }
 
@@ -132,6 +140,62 @@ fn settle(
     }
 }
 
+/// Sets the fate of those that an S or L covers among the last writes of its block, where their numbers need not rise: back from it
+/// to one that has a fate, and over no more writes than it has numbers.
+fn settle_near(
+    covered: &mut Vec<usize>,
+    tables: &Tables,
+    whole: &[Entry],
+    numbers: u64,
+    place: usize,
+    entry: &Entry,
+) {
+    let mut left = numbers.min(MOST_NEAR);
+    let mut at = place_in(&tables.leases.own.earlier, place);
+    while left > 0 {
+        if at == 0 {
+            return;
+        }
+        let Some(other) = whole.get(at - 1) else {
+            return;
+        };
+        if place_in(covered, at - 1) != NOWHERE {
+            return;
+        }
+        if covers(entry, other) {
+            set_fate(covered, at - 1, place);
+        }
+        at = place_in(&tables.leases.own.earlier, at - 1);
+        left -= 1;
+    }
+}
+
+/// Sets the fate of the writes that an S or L covers.
+fn settle_all(
+    covered: &mut Vec<usize>,
+    tables: &Tables,
+    places: &Heads,
+    whole: &[Entry],
+    place: usize,
+    entry: &Entry,
+) {
+    match entry {
+        Entry::S { first, last, .. } | Entry::L { first, last, .. } => {
+            let from = last_covered(tables, places, whole, place, entry);
+            settle(covered, tables, whole, from, *first, place, entry);
+            settle_near(
+                covered,
+                tables,
+                whole,
+                last.0.saturating_sub(first.0),
+                place,
+                entry,
+            );
+        }
+        _ => {}
+    }
+}
+
 /// For each delayed write the place of an S or L that covers it.
 fn find_covered(
     alloc: Global,
@@ -141,19 +205,7 @@ fn find_covered(
 ) -> Result<Vec<usize>, NoMemory> {
     let mut covered = Vec::new(alloc);
     for (place, entry) in whole.iter().enumerate() {
-        let from = last_covered(tables, places, whole, place, entry);
-        match entry {
-            Entry::S { first, .. } | Entry::L { first, .. } => settle(
-                &mut covered,
-                tables,
-                whole,
-                from,
-                *first,
-                place,
-                entry,
-            ),
-            _ => {}
-        }
+        settle_all(&mut covered, tables, places, whole, place, entry);
         covered.push(NOWHERE)?;
     }
     Ok(covered)
@@ -166,14 +218,17 @@ pub(crate) fn find_fates(
     named: Heads,
     whole: &[Entry],
 ) -> Result<Fates, NoMemory>
-    ensures { IfOk result (λ fates. KeepsBelow Rule.Accounted whole.now fates.accounted) }
+    requires { AreTables whole.now tables.now }
+    ensures { IfOk result (λ fates. KeepsBelow Rule.Accounted whole.now fates.accounted × AreStored whole.now fates.stored.items) }
 {
     let places = places_of_writes(alloc, whole)?;
-    let accounted = accounted_front(alloc, &places, whole)?;
+    let accounted = accounted_front(alloc, &tables.covers.heads, &places, whole)?;
     let covered = find_covered(alloc, tables, &places, whole)?;
+    let stored = find_stored(alloc, tables, &covered, accounted, whole)?;
     Ok(Fates {
         covered,
         named,
         accounted,
+        stored,
     })
 }

@@ -5,9 +5,10 @@ ghost use Rattle.std.specs.List.{slice_get};
 ghost use Rattle.nq_check.specs.Fronts.{KeepsBelow};
 ghost use Rattle.nq_check.specs.Tables.{AreTables, NoneBetween};
 ghost use Rattle.nq_check.specs.Legal.{is_legal_answer, is_legal_at};
+ghost use Rattle.nq_check.specs.Stored.{AreStored};
 ghost use Rattle.nq_check.specs.declared.rules.Rule.{Rule};
 ghost use Rattle.nq_model.specs.Journal.{call_of};
-ghost use Rattle.nq_model.specs.JournalTest.{is_counted, is_lost, is_stored};
+ghost use Rattle.nq_model.specs.JournalTest.{is_counted, is_lost};
 ghost use Rattle.nq_model.specs.LegalTest.{is_counted_by, is_counted_with, is_legal_read, is_reading};
 ghost use Rattle.nq_model.specs.StandsTest.{standing_value, stands};
 
@@ -15,6 +16,7 @@ use crate::along::{
     back_from, call_near, is_before_near, is_between, is_somewhere, is_somewhere_near, is_there,
 };
 use crate::fates::{Fates, fate_at};
+use crate::stored::is_stored;
 use crate::tables::{Tables, answer_near};
 use nq_base::{BlockNo, Entry, FileId, Said, Who};
 use nq_rules::calls::is_reading;
@@ -55,24 +57,6 @@ pub(crate) fn is_counted(tables: &Tables, whole: &[Entry], place: usize, entry: 
     }
 }
 
-/// Whether an S covers the write at a place. The entry that is its fate is looked at first: where all entries are known to
-/// account for what they cover, no S covers a write that was lost.
-fn is_stored(tables: &Tables, fates: &Fates, whole: &[Entry], at: usize, write: &Entry) -> bool
-    requires tables { AreTables whole.now tables.now }
-    requires accounted { KeepsBelow Rule.Accounted whole.now fates.now.accounted }
-    requires there { slice_get whole.now at ≡ Some write.now }
-    ensures { result ≡ is_stored (reverse whole.now) write.now }
-{
-    let fate = fate_at(fates, at);
-    if is_there(whole, fate, Sought::Store(write)) {
-        return true;
-    }
-    if fates.accounted >= whole.len() && is_there(whole, fate, Sought::Loss(write)) {
-        return false;
-    }
-    is_somewhere(&tables.covers, whole, Sought::Store(write))
-}
-
 /// Whether an L before a place covers the write at another.
 fn is_lost(
     tables: &Tables,
@@ -107,6 +91,7 @@ fn stands(
 ) -> bool
     requires tables { AreTables whole.now tables.now }
     requires accounted { KeepsBelow Rule.Accounted whole.now fates.now.accounted }
+    requires stored { AreStored whole.now fates.now.stored.items }
     requires there { slice_get whole.now at ≡ Some write.now }
     requires within { place < length whole.now }
     ensures { result ≡ stands (reverse whole.now) (reverse (take place whole.now)) read.now.who.now read.now.file read.now.block write.now }
@@ -128,6 +113,7 @@ fn last_standing(
 ) -> usize
     requires tables { AreTables whole.now tables.now }
     requires accounted { KeepsBelow Rule.Accounted whole.now fates.now.accounted }
+    requires stored { AreStored whole.now fates.now.stored.items }
     requires within { place < length whole.now }
     ensures low { result ≤ place }
     ensures none { NoneBetween (stands (reverse whole.now) (reverse (take place whole.now)) read.now.who.now read.now.file read.now.block) whole.now
@@ -163,6 +149,7 @@ fn standing_value(
 ) -> u32
     requires tables { AreTables whole.now tables.now }
     requires accounted { KeepsBelow Rule.Accounted whole.now fates.now.accounted }
+    requires stored { AreStored whole.now fates.now.stored.items }
     requires within { place < length whole.now }
     ensures { result ≡ standing_value (reverse whole.now) (reverse (take place whole.now)) read.now.who.now read.now.file read.now.block }
 {
@@ -190,6 +177,7 @@ fn is_legal_read(
 ) -> bool
     requires tables { AreTables whole.now tables.now }
     requires accounted { KeepsBelow Rule.Accounted whole.now fates.now.accounted }
+    requires stored { AreStored whole.now fates.now.stored.items }
     requires within { place < length whole.now }
     ensures { result ≡ is_legal_read (reverse whole.now) (reverse (take place whole.now)) read.now.who.now read.now.q read.now.file read.now.block
         read.now.value }
@@ -294,6 +282,7 @@ pub(crate) fn is_legal(
 ) -> bool
     requires tables { AreTables whole.now tables.now }
     requires accounted { KeepsBelow Rule.Accounted whole.now fates.now.accounted }
+    requires stored { AreStored whole.now fates.now.stored.items }
     requires within { place < length whole.now }
     ensures { result ≡ is_legal_at (reverse whole.now) entry.now (reverse (take place whole.now)) }
 {

@@ -2,6 +2,7 @@
 #![tactic(auto)]
 
 mod along;
+mod apart;
 mod covering;
 mod endings;
 mod fates;
@@ -19,6 +20,7 @@ mod reports;
 mod rising;
 mod rules;
 mod settled;
+mod stored;
 mod syncs;
 mod tables;
 mod trail;

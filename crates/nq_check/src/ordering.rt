@@ -27,6 +27,7 @@ fn no_line() -> Line
     Line {
         highest: 0,
         last: 0,
+        least: u64::MAX,
         current: None,
         busy: None,
     }

@@ -250,6 +250,7 @@ quiet whole before who line entry k h = record {
   resizes = λ q l. or_none (is_resize_by who q entry) (exists (is_resize_by who q) before) (k.resize q) (h.resizes q l);
   reads = λ q l. or_none (is_counted_by whole who q entry) (exists (is_counted_by whole who q) before) (k.read q) (h.reads q l);
   writes = λ n l. or_none (is_numbered who n entry) (exists (is_numbered who n) before) (k.number n) (h.writes n l);
+  below = λ n l. or_none (is_numbered who n entry) (exists (is_numbered who n) before) (k.number n) (h.below n l);
   alone = λ q o. h.alone q (sym (same_open who q entry before (k.call q) (k.answer q)) ∙ o);
   current = still_opened whole before who line.current entry k h.current;
   busy = still_busy before who line.highest line.current line.busy entry k.answer h.busy;
@@ -278,8 +279,8 @@ asks_resize file to told sizing e h = resize_asked file to told (ap (is_sizing f
 
 -- ---- the next line, from its parts
 
-abbrev pub a_line : (highest last : ℕ) (current : Option Open) (busy : Option ℕ) → Line
-a_line highest last current busy = record { highest = highest; last = last; current = current; busy = busy }
+abbrev pub a_line : (highest last least : ℕ) (current : Option Open) (busy : Option ℕ) → Line
+a_line highest last least current busy = record { highest = highest; last = last; least = least; current = current; busy = busy }
 
 some_or : {X : Type 0} → X → Option X → X
 some_or d None = d

@@ -55,6 +55,7 @@ pub record IsLineOf (whole before : List Entry) (who : Who) (line : Line) : Type
   pub resizes : (q : ℕ) → line.highest < q → exists (is_resize_by who q) before ≡ false
   pub reads : (q : ℕ) → line.highest < q → exists (is_counted_by whole who q) before ≡ false
   pub writes : (number : ℕ) → line.last < number → exists (is_numbered who number) before ≡ false
+  pub below : (number : ℕ) → number < line.least → exists (is_numbered who number) before ≡ false
   pub alone : (q : ℕ) → is_open before who q ≡ true → IsOpenCall line.current q ⊎ IsBusyCall line.busy q
   pub current : AreOpened whole before who line.current
   pub busy : AreBusy before who line.highest line.current line.busy

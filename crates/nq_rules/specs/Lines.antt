@@ -39,7 +39,7 @@ is_sizing file to (Some size) = (size.0 == file) && (size.1 == to)
 
 -- an incarnation that has told nothing
 abbrev pub no_line : Line
-no_line = record { highest = 0; last = 0; current = None; busy = None }
+no_line = record { highest = 0; last = 0; least = 18446744073709551615; current = None; busy = None }
 
 -- a call that has just begun
 abbrev pub begun : (q : ℕ) (told : Told) → Open
@@ -47,22 +47,34 @@ begun q told = record { q = q; writing = writing_of told; sizing = sizing_of tol
 
 -- the line behind a C: its call opens where none is open, and is busy where the next entry says so
 abbrev pub after_call_at : Line → (q : ℕ) (told : Told) (is_busy : Bool) → (current : Option Open) (busy : Option ℕ) → Option Line
-after_call_at line q told is_busy None None = Some (record { highest = q; last = line.last; current = Some (begun q told); busy = None })
+after_call_at line q told is_busy None None = Some (record { highest = q; last = line.last; least = line.least; current = Some (begun q told); busy = None })
 after_call_at line q told is_busy (Some current) None =
-    if is_busy then Some (record { highest = q; last = line.last; current = Some current; busy = Some q }) else None
+    if is_busy then Some (record { highest = q; last = line.last; least = line.least; current = Some current; busy = Some q }) else None
 after_call_at line q told is_busy current (Some other) = None
 
 abbrev pub after_call : Line → (q : ℕ) (told : Told) (is_busy : Bool) → Option Line
 after_call line q told is_busy = if nat_le q line.highest then None else after_call_at line q told is_busy line.current line.busy
 
--- the line behind a W of the open call
+-- the higher of two numbers, and the lower
+abbrev pub upper : (a b : ℕ) → ℕ
+upper a b = if nat_le a b then b else a
+
+abbrev pub lower : (a b : ℕ) → ℕ
+lower a b = if nat_le a b then a else b
+
+-- whether a number is neither above all that were used nor below them
+abbrev pub is_used : Line → (number : ℕ) → Bool
+is_used line number = nat_le number line.last && nat_le line.least number
+
+-- the line behind a W of the open call, whose number is above all that were used, or below them
 abbrev pub after_write_of : Line → (file block number value : ℕ) → (current : Option Open) (busy : Option ℕ) → Option Line
 after_write_of line file block number value (Some current) None =
-    if current.wrote || nat_le number line.last || not (is_writing file block value current.writing) then None
+    if current.wrote || is_used line number || not (is_writing file block value current.writing) then None
     else Some
     (record {
       highest = line.highest;
-      last = number;
+      last = upper number line.last;
+      least = lower number line.least;
       current = Some
           (record { q = current.q; writing = current.writing; sizing = current.sizing; wrote = true; resized = current.resized; read = current.read });
       busy = None;
@@ -78,6 +90,7 @@ after_resize_of line q file to (Some current) =
     (record {
       highest = line.highest;
       last = line.last;
+      least = line.least;
       current = Some
           (record { q = current.q; writing = current.writing; sizing = current.sizing; wrote = current.wrote; resized = true; read = current.read });
       busy = line.busy;
@@ -93,6 +106,7 @@ after_read_of line q (Some current) =
     (record {
       highest = line.highest;
       last = line.last;
+      least = line.least;
       current = Some
           (record { q = current.q; writing = current.writing; sizing = current.sizing; wrote = current.wrote; resized = current.resized; read = true });
       busy = line.busy;
@@ -102,9 +116,9 @@ after_read_of line q (Some current) =
 -- the line behind an A: of the busy call where there is one, else of the open one
 abbrev pub after_answer_of : Line → (q : ℕ) → (current : Option Open) (busy : Option ℕ) → Option Line
 after_answer_of line q current (Some busy) =
-    if busy == q then Some (record { highest = line.highest; last = line.last; current = current; busy = None }) else None
+    if busy == q then Some (record { highest = line.highest; last = line.last; least = line.least; current = current; busy = None }) else None
 after_answer_of line q (Some current) None =
-    if current.q == q then Some (record { highest = line.highest; last = line.last; current = None; busy = None }) else None
+    if current.q == q then Some (record { highest = line.highest; last = line.last; least = line.least; current = None; busy = None }) else None
 after_answer_of line q None None = None
 
 -- the line of an incarnation, in a list of them

@@ -1,7 +1,7 @@
 //! How far the calls of an incarnation have come, as one look over a journal learns it.
 
 ghost use Rattle.std.specs.Prelude.{◌≡◌};
-ghost use Rattle.nq_rules.specs.Lines.{after_answer_of, after_call, after_call_at, after_read_of, after_resize_of, after_write_of, is_sizing, is_writing, sizing_of, writing_of};
+ghost use Rattle.nq_rules.specs.Lines.{after_answer_of, after_call, after_call_at, after_read_of, after_resize_of, after_write_of, is_sizing, is_used, is_writing, lower, sizing_of, upper, writing_of};
 
 use nq_base::{BlockNo, FileId, Number, Told};
 
@@ -77,6 +77,8 @@ pub struct Line {
     pub highest: u64,
     /// The highest number of its writes.
     pub last: u64,
+    /// The lowest number of its writes.
+    pub least: u64,
     /// The call that is open, where one is.
     pub current: Option<Open>,
     /// The call that the next entry answers `busy`.
@@ -122,7 +124,28 @@ pub fn after_call(line: &Line, q: u64, told: &Told, is_busy: bool) -> Option<Lin
     after_call_at(line, q, told, is_busy)
 }
 
-/// The line behind a W. None where the W may be out of order.
+/// The higher of two numbers.
+fn upper(a: u64, b: u64) -> u64
+    ensures { result ≡ upper a b }
+{
+    if a <= b { b } else { a }
+}
+
+/// The lower of two numbers.
+fn lower(a: u64, b: u64) -> u64
+    ensures { result ≡ lower a b }
+{
+    if a <= b { a } else { b }
+}
+
+/// Whether a number is neither above all that were used nor below them.
+fn is_used(line: &Line, number: Number) -> bool
+    ensures { result ≡ is_used line.now number }
+{
+    number.0 <= line.last && line.least <= number.0
+}
+
+/// The line behind a W, whose number has to be above all that were used, or below them. None where the W may be out of order.
 pub fn after_write(
     line: &Line,
     file: FileId,
@@ -136,7 +159,7 @@ pub fn after_write(
         return None;
     }
     let open = line.current?;
-    if open.wrote || number.0 <= line.last || !is_writing(open.writing, file, block, value) {
+    if open.wrote || is_used(line, number) || !is_writing(open.writing, file, block, value) {
         return None;
     }
     let open = Open {
@@ -148,7 +171,8 @@ pub fn after_write(
         read: open.read,
     };
     Some(Line {
-        last: number.0,
+        last: upper(number.0, line.last),
+        least: lower(number.0, line.least),
         current: Some(open),
         ..*line
     })

@@ -1,3 +1,4 @@
+pub mod Inbox
 pub mod Listing
 pub mod Waiting
 pub mod Work

@@ -1,5 +1,5 @@
 -- Why an ask waits.
-use Rattle.std.specs.Prelude.{ℕ, ◌-◌, Bool, true, false, ◌||◌, nat_lt, List, Option, Some, None, if◌then◌else◌, codes}
+use Rattle.std.specs.Prelude.{ℕ, ◌-◌, Bool, true, false, not, ◌&&◌, ◌||◌, nat_le, nat_lt, List, Option, Some, None, if◌then◌else◌, codes}
 use Rattle.nq_tasks.specs.declared.listing.Listed.{Listed}
 use Rattle.nq_tasks.specs.declared.waiting.Known.{Known}
 
@@ -22,6 +22,16 @@ known_by Listed.Whole known = Known.Serves
 -- the same, of an ask that waits
 abbrev pub heard : Listed → Waits → Waits
 heard listed w = record { since = w.since; known = known_by listed w.known; told = w.told }
+
+-- whether nothing is known yet
+abbrev pub is_unknown : Known → Bool
+is_unknown Known.Nothing = true
+is_unknown Known.Serves = false
+is_unknown Known.Recovers = false
+
+-- whether the server is asked if it recovers: a tick has passed, nothing is known yet, and nothing was told
+abbrev pub asks_at : (now : ℕ) → Waits → Bool
+asks_at now w = is_unknown w.known && not w.told && nat_le 1 (now - w.since)
 
 -- why an ask waits, in words
 abbrev pub reason_of : Known → List ℕ

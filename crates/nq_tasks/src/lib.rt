@@ -3,12 +3,14 @@
 #![tactic(auto)]
 
 mod asks;
+mod inbox;
 mod listing;
 mod texts;
 mod waiting;
 mod work;
 
 pub use asks::{Ask, Made, name_stored, own_name};
+pub use inbox::{Inbox, Taken};
 pub use listing::{Listed, Listing};
 pub use texts::NO_MEMORY;
 pub use waiting::Waiting;

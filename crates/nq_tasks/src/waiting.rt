@@ -1,7 +1,7 @@
 //! Why an ask waits.
 
-ghost use Rattle.std.specs.Prelude.{◌≡◌, None, Some, option_map};
-ghost use Rattle.nq_tasks.specs.Waiting.{begun, heard, reason_of, told_at};
+ghost use Rattle.std.specs.Prelude.{◌≡◌, None, Some, IfOk, IsSome, option_map, true};
+ghost use Rattle.nq_tasks.specs.Waiting.{asks_at, begun, heard, is_unknown, reason_of, told_at};
 
 use crate::listing::{Listed, Listing};
 use nq_base::{NoMemory, Who};
@@ -53,6 +53,16 @@ fn reason_of(known: Known) -> &'static [u8]
     }
 }
 
+/// Whether nothing is known yet.
+fn is_unknown(known: Known) -> bool
+    ensures { result ≡ is_unknown known }
+{
+    match known {
+        Known::Nothing => true,
+        Known::Serves | Known::Recovers => false,
+    }
+}
+
 impl Waiting {
     /// It begins to wait.
     pub fn new(alloc: Global, now: u64) -> Waiting
@@ -77,6 +87,13 @@ impl Waiting {
         }
     }
 
+    /// Whether the server is asked at this time.
+    fn asks_at(&self, now: u64) -> bool
+        ensures { result ≡ asks_at now self.now }
+    {
+        is_unknown(self.known) && !self.is_told && now.saturating_sub(self.since) >= ASKS
+    }
+
     /// The request of this number that asks whether the server recovers, where that is due at this time.
     ///
     /// # Errors
@@ -89,10 +106,10 @@ impl Waiting {
         number: u32,
         now: u64,
     ) -> Result<Option<Vec<u8>>, NoMemory>
-        ensures { self.new ≡ self.old }
+        ensures same { self.new ≡ self.old }
+        ensures asks { IfOk result (λ request. IsSome request → asks_at now self.old ≡ true) }
     {
-        let is_known = !matches!(self.known, Known::Nothing);
-        if is_known || self.is_told || now.saturating_sub(self.since) < ASKS {
+        if !self.asks_at(now) {
             return Ok(None);
         }
         if !self.probe.is_due(now) {

@@ -1,16 +1,10 @@
 //! Those who ask a host on this machine.
 
 use mio::net::UnixStream;
-use nq_asks::{Kind, Numbers, ask_in, push_answer};
-use nq_base::NoMemory;
-use nq_script::words::{Words, cut, is};
-use nq_tasks::Ask;
-use nq_whole::MOST_BYTES;
+use nq_asks::{Kind, push_answer};
+use nq_tasks::{Ask, Inbox, Taken};
 use std::alloc::Global;
 use std::io::{ErrorKind, Read, Write};
-
-/// The most bytes of a line.
-const MOST_LINE: usize = 1024;
 
 /// The most parts in which an answer is sent at once.
 const MOST_PARTS: u32 = 4096;
@@ -21,45 +15,22 @@ const READ_SIZE: usize = 16384;
 /// Somebody who asks.
 #[derive(Drop)]
 pub(crate) struct Asker {
-    alloc: Global,
     stream: UnixStream,
-    incoming: Vec<u8>,
+    inbox: Inbox,
     outgoing: Vec<u8>,
     sent: usize,
-    numbers: Numbers,
     /// Whether it is gone, or said what is no ask.
     pub(crate) is_over: bool,
-}
-
-/// How many bytes follow a line: as many as the third word of `store NAME SIZE` says. None where those are too many.
-fn bytes_behind(text: &[u8]) -> Option<usize> {
-    let mut words = Words::new(text);
-    let verb = words.next().unwrap_or(b"");
-    if !is(verb, b"store") {
-        return Some(0);
-    }
-    let _name = words.next();
-    let size = words.u32()? as usize;
-    if size > MOST_BYTES { None } else { Some(size) }
-}
-
-/// The number and the words of a line that asks, and how many bytes follow it.
-fn asked(line: &[u8]) -> Option<(u32, &[u8], usize)> {
-    let (number, text) = ask_in(line)?;
-    let size = bytes_behind(text)?;
-    Some((number, text, size))
 }
 
 impl Asker {
     /// Somebody who has connected.
     pub(crate) fn new(alloc: Global, stream: UnixStream) -> Asker {
         Asker {
-            alloc,
             stream,
-            incoming: Vec::new(alloc),
+            inbox: Inbox::new(alloc),
             outgoing: Vec::new(alloc),
             sent: 0,
-            numbers: Numbers::new(),
             is_over: false,
         }
     }
@@ -72,13 +43,13 @@ impl Asker {
     /// Takes in what has come. Whether anything has.
     pub(crate) fn read(&mut self) -> bool {
         let mut buffer = [0; READ_SIZE];
-        if self.incoming.len() > MOST_BYTES + MOST_LINE {
+        if !self.inbox.has_room() {
             return false;
         }
         match self.stream.read(&mut buffer) {
             Ok(0) => self.is_over = true,
             Ok(count) => {
-                if count > READ_SIZE || self.incoming.extend_from_slice(&buffer[..count]).is_err() {
+                if count > READ_SIZE || self.inbox.add(&buffer[..count]).is_err() {
                     self.is_over = true;
                 }
                 return true;
@@ -94,40 +65,19 @@ impl Asker {
         if self.is_over || !self.outgoing.is_empty() {
             return None;
         }
-        let Some((line, rest)) = cut(&self.incoming, b'\n') else {
-            self.is_over = self.incoming.len() > MOST_LINE;
-            return None;
-        };
-        let Some((number, text, size)) = asked(line) else {
-            self.is_over = true;
-            return None;
-        };
-        if rest.len() < size {
-            return None;
-        }
-        let ask = copied(self.alloc, number, text, &rest[..size]);
-        let rest = rest[size..].to_vec(self.alloc);
-        let (Ok(ask), Ok(rest)) = (ask, rest) else {
-            self.is_over = true;
-            return None;
-        };
-        self.incoming = rest;
-        if self.numbers.admit(number) {
-            Some(ask)
-        } else {
-            None
+        match self.inbox.next() {
+            Taken::Ask(ask) => Some(ask),
+            Taken::Nothing => None,
+            Taken::Wrong => {
+                self.is_over = true;
+                None
+            }
         }
     }
 
     /// Whether the next ask says that the host is to end.
     pub(crate) fn says_end(&self) -> bool {
-        match cut(&self.incoming, b'\n') {
-            Some((line, _)) => match ask_in(line) {
-                Some((_, text)) => is(text, b"end"),
-                None => false,
-            },
-            None => false,
-        }
+        self.inbox.says(b"end")
     }
 
     /// Sends an answer, with bytes behind the line where the kind says so.
@@ -160,11 +110,4 @@ impl Asker {
             }
         }
     }
-}
-
-/// An ask with its own words and bytes.
-fn copied(alloc: Global, number: u32, text: &[u8], body: &[u8]) -> Result<Ask, NoMemory> {
-    let text = text.to_vec(alloc)?;
-    let body = body.to_vec(alloc)?;
-    Ok(Ask { number, text, body })
 }

@@ -12,7 +12,8 @@ kept_front-requires-clause-ordered c = c.in_ok-ordered.ensures
 pub returns : goal.returns
 returns c = record {
   ordered = c.in_ok-ordered.ensures;
-  accounted = c.in_ok-fates.ensures;
+  accounted = c.in_ok-fates.ensures.0;
+  stored = c.in_ok-fates.ensures.1;
   reported = c.in_ok-reported.ensures;
   synchronized = c.in_ok-synchronized.ensures;
 }
