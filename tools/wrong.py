@@ -194,7 +194,15 @@ def stopped_at(edit, said):
         names = [name for start, name in starts if start <= int(line)]
         if file == edit["file"] and names and names[-1] == function_of(edit):
             goals.append(goal)
-    return list(dict.fromkeys(goals)), others
+    return list(dict.fromkeys(goals + unfit(edit, said))), others
+
+
+def unfit(edit, said):
+    """The goals of the edited function that its written proof no longer fits, but for those of which it names what the edit took away."""
+    file = f"/{path_of(edit).replace('::', '/')}/"
+    found = re.findall(r"^\./(proofs/\S+?)[^/]*\.antt:\d+:\d+: error: `([^`]+)`: (.*)$", said, re.M)
+    gone = "has no field|is not in scope|has no `|was not admitted"
+    return [goal for place, goal, why in found if f"/{place}".endswith(file) and not re.search(gone, why)]
 
 
 def place_told(edit, goals):
