@@ -189,8 +189,8 @@ def ended(tries, folder, hosts):
     """Looks at all files when nobody kills any more, and at what is left of cut-off stores."""
     calm = random.Random()
     calm.random = lambda: 1.0
-    # Hosts 0 and 1 begin once more, and look at what their last starts left.
-    for which in KILLED:
+    # All that were asked begin once more, and look at what their last starts left: also at bytes that another host replaced as it was killed.
+    for which in (*KILLED, STEADY):
         hosts[which].ends()
         hosts[which] = prompts.Host(tries.programs, which, folder)
     time.sleep(15)
