@@ -252,7 +252,7 @@ def imports(body):
         lines.append("use Rattle.nq_laws.specs.Example.{Example}")
         constructors = [word for word in ("one", "times", "round", "flow") if word in words]
         if constructors:
-            lines.append(f"use Rattle.nq_model.specs.Lines.{{{', '.join(constructors)}}}")
+            lines.append(f"use Rattle.nq_model.specs.protocol.Lines.{{{', '.join(constructors)}}}")
     return "\n".join(lines) + "\n"
 
 

@@ -45,7 +45,8 @@ def imports_of(text):
 
 def definitions_of(path):
     """The definitions of a file, in its order. A definition ends before the next one, or before the comment above it."""
-    crate, module = path.split(os.sep)[-3], os.path.splitext(os.path.basename(path))[0]
+    crate, inside = os.path.relpath(path, os.path.join(TOP, "crates")).split(f"{os.sep}specs{os.sep}")
+    module = os.path.splitext(inside)[0].replace(os.sep, ".")
     text = text_of(path)
     imports, found, told, body, name = imports_of(text), [], [], [], None
 
@@ -80,8 +81,9 @@ def definitions_of(path):
 def all_definitions():
     """All definitions of the repository, by crate, module and name."""
     found = {}
-    for path in sorted(glob.glob(os.path.join(TOP, "crates/*/specs/*.antt"))):
-        if not path.endswith("Lib.antt"):
+    for path in sorted(glob.glob(os.path.join(TOP, "crates/*/specs/**/*.antt"), recursive=True)):
+        is_list = path.endswith("Lib.antt") or os.path.isdir(os.path.splitext(path)[0])
+        if not is_list:
             for definition in definitions_of(path):
                 found[(definition.crate, definition.module, definition.name)] = definition
     return found
@@ -94,9 +96,9 @@ def place_of(name, imports, own, known):
     if name not in imports:
         return None, False
     path, there = imports[name]
-    parts = path.split(".")
-    if len(parts) == 3 and parts[1] == "specs" and (parts[0], parts[2], there) in known:
-        return (parts[0], parts[2], there), True
+    crate, _, module = path.partition(".specs.")
+    if (crate, module, there) in known:
+        return (crate, module, there), True
     return (path, there), False
 
 
@@ -158,7 +160,7 @@ def main():
         files.setdefault((definition.crate, definition.module), []).append(definition)
     if not said.count:
         for (crate, module), definitions in files.items():
-            print(f"-- ==== crates/{crate}/specs/{module}.antt\n")
+            print(f"-- ==== crates/{crate}/specs/{module.replace('.', '/')}.antt\n")
             for definition in definitions:
                 print("\n".join([*definition.told, definition.text]) + "\n")
         print("-- ==== words of std, and types that the code declares\n")

@@ -12,11 +12,11 @@ use Rattle.nq_client.specs.Counted.{Counted}
 use Rattle.nq_client.specs.Outcome.{or_pending}
 use Rattle.nq_clock.specs.Clocks.{ClockTold}
 use Rattle.nq_link.specs.Links.{LinkTold}
-use Rattle.nq_model.specs.Client.{Client, ClientStep, Lease, UnderWay, lease_on, lets_read, is_live}
-use Rattle.nq_model.specs.ClientStep.{begins_call, client_call, is_called, says_busy, sends_unless_cached}
-use Rattle.nq_model.specs.Send.{send_next, sends_request, after_seq, after_number, takes_push, gives_up}
-use Rattle.nq_model.specs.Settle.{answers, reads_cached, marks_written, settle, after_write}
-use Rattle.nq_model.specs.Table.{caches}
+use Rattle.nq_model.specs.protocol.Client.{Client, ClientStep, Lease, UnderWay, lease_on, lets_read, is_live}
+use Rattle.nq_model.specs.protocol.ClientStep.{begins_call, client_call, is_called, says_busy, sends_unless_cached}
+use Rattle.nq_model.specs.protocol.Send.{send_next, sends_request, after_seq, after_number, takes_push, gives_up}
+use Rattle.nq_model.specs.protocol.Settle.{answers, reads_cached, marks_written, settle, after_write}
+use Rattle.nq_model.specs.protocol.Table.{caches}
 use Rattle.walk_steps.proofs.ClientMoves.{some-same}
 use Rattle.walk_steps.proofs.SendCases.{send-moves}
 use Rattle.walk_steps.proofs.SettleCases.{settle-cases, CanRead, IsRead}

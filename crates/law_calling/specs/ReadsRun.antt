@@ -8,8 +8,8 @@ use Rattle.nq_calling.specs.Calling.{CallsNow}
 use Rattle.nq_client.specs.Counted.{Counted}
 use Rattle.nq_clock.specs.Clocks.{ClockTold}
 use Rattle.nq_link.specs.Links.{LinkTold}
-use Rattle.nq_model.specs.Client.{Client, Lease, lease_on}
-use Rattle.nq_model.specs.Table.{caches}
+use Rattle.nq_model.specs.protocol.Client.{Client, Lease, lease_on}
+use Rattle.nq_model.specs.protocol.Table.{caches}
 
 -- the file that a call reads
 abbrev pub file_read : Call → Option ℕ

@@ -8,10 +8,10 @@ use Rattle.nq_base.specs.declared.Row.{Row}
 use Rattle.nq_base.specs.declared.Tag.{Tag}
 use Rattle.nq_base.specs.declared.Who.{Who}
 use Rattle.nq_directory.proofs.Called.{same-name, same-self}
-use Rattle.nq_model.specs.Kept.{find_file}
-use Rattle.nq_model.specs.LeaseInterval.{claim_of, HasFitting}
-use Rattle.nq_model.specs.Profile.{same_bytes}
-use Rattle.nq_model.specs.Table.{caches, tag_below, find_row}
+use Rattle.nq_model.specs.protocol.Kept.{find_file}
+use Rattle.nq_model.specs.laws.LeaseInterval.{claim_of, HasFitting}
+use Rattle.nq_model.specs.protocol.Profile.{same_bytes}
+use Rattle.nq_model.specs.protocol.Table.{caches, tag_below, find_row}
 use Rattle.nq_name_server.specs.Served.{Served, number_of}
 use Rattle.walk_steps.proofs.Packets.{In}
 use Rattle.walk_steps.proofs.TagFacts.{IsDrawn}

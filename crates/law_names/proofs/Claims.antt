@@ -13,11 +13,11 @@ use Rattle.nq_directory.specs.declared.listing.messages.DirTag.{DirTag}
 use Rattle.nq_directory.specs.declared.listing.messages.ReadDir.{ReadDir}
 use Rattle.nq_directory.specs.Messages.{Answer, Listing, page, most_names}
 use Rattle.nq_directory.specs.Reading.{read_dir_in, dir_vacated_in, dir_evicted_in, told_in}
-use Rattle.nq_model.specs.Client.{Lease}
-use Rattle.nq_model.specs.Kept.{File, Kept, host_row}
-use Rattle.nq_model.specs.LeaseInterval.{cover_end}
-use Rattle.nq_model.specs.Server.{Phase, serving, recovering}
-use Rattle.nq_model.specs.Table.{tag_below}
+use Rattle.nq_model.specs.protocol.Client.{Lease}
+use Rattle.nq_model.specs.protocol.Kept.{File, Kept, host_row}
+use Rattle.nq_model.specs.laws.LeaseInterval.{cover_end}
+use Rattle.nq_model.specs.protocol.Server.{Phase, serving, recovering}
+use Rattle.nq_model.specs.protocol.Table.{tag_below}
 use Rattle.nq_directory.specs.Asking.{is_reading}
 use Rattle.nq_directory.specs.NameCacheNames.{DirList, Names, Request}
 use Rattle.nq_name_server.specs.Served.{Served, names_behind}

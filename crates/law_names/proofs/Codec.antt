@@ -14,8 +14,8 @@ use Rattle.nq_directory.specs.Messages.{Answer, IsEntry, IsReadDir, Listing, pag
 use Rattle.nq_directory.specs.Messages.{dir_vacated_bytes, read_dir_bytes}
 use Rattle.nq_wire.specs.Parts.{IsGrant, IsTag}
 use Rattle.nq_directory.specs.Reading.{dir_evicted_in, dir_vacated_in, read_dir_in, told_in}
-use Rattle.nq_model.specs.Kept.{File, Kept, find_file}
-use Rattle.nq_model.specs.Message.{call}
+use Rattle.nq_model.specs.protocol.Kept.{File, Kept, find_file}
+use Rattle.nq_model.specs.protocol.Message.{call}
 use Rattle.nq_directory.specs.Asking.{is_reading}
 use Rattle.nq_name_server.specs.Outside.{changes_as}
 

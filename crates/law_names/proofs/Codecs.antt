@@ -18,8 +18,8 @@ use Rattle.nq_directory.specs.Messages.{dir_vacated, dir_vacated_bytes, front_by
 use Rattle.nq_directory.specs.Messages.{results, wait}
 use Rattle.nq_directory.specs.Reading.{call_as, call_by, call_in, dir_evicted_in, dir_tag_by, dir_vacated_in, read_dir_by, read_dir_in, results_by}
 use Rattle.nq_directory.specs.Reading.{results_in, results_of, told_at, told_by, told_for, told_in}
-use Rattle.nq_model.specs.Kept.{File, Kept, find_file}
-use Rattle.nq_model.specs.Message.{call, request}
+use Rattle.nq_model.specs.protocol.Kept.{File, Kept, find_file}
+use Rattle.nq_model.specs.protocol.Message.{call, request}
 use Rattle.nq_directory.specs.Asking.{is_reading}
 use Rattle.nq_name_server.specs.Outside.{Changes, changes_as, changes_of, own_changes}
 use Rattle.nq_xdr.proofs.Messages.{message_again, null_fits}

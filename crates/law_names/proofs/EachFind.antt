@@ -2,14 +2,14 @@
 use Rattle.std.proofs.Common.{◌≡◌, ◌≤◌, ◌⊎◌, ℕ, zero, suc, ◌+◌, List, [], ◌∷◌, Some, None, length, map, refl, sym, subst, ap, ◌∙◌, arith, inl, inr}
 use Rattle.std.specs.Prelude.{slice_get}
 use Rattle.nq_base.specs.declared.Event.{Event}
-use Rattle.nq_model.specs.Bounds.{KeepsBounds}
-use Rattle.nq_model.specs.OneRequestPerSequence.{OneOpenInEveryRun}
-use Rattle.nq_model.specs.Client.{Client}
-use Rattle.nq_model.specs.ClientStep.{attached_client, fresh_client}
-use Rattle.nq_model.specs.ServerStep.{boot}
-use Rattle.nq_model.specs.Skew.{IsWithinSkew}
-use Rattle.nq_model.specs.Table.{empty_table}
-use Rattle.nq_model.specs.World.{Head, first_clients, start}
+use Rattle.nq_model.specs.laws.Bounds.{KeepsBounds}
+use Rattle.nq_model.specs.laws.OneRequestPerSequence.{OneOpenInEveryRun}
+use Rattle.nq_model.specs.protocol.Client.{Client}
+use Rattle.nq_model.specs.protocol.ClientStep.{attached_client, fresh_client}
+use Rattle.nq_model.specs.protocol.ServerStep.{boot}
+use Rattle.nq_model.specs.protocol.Skew.{IsWithinSkew}
+use Rattle.nq_model.specs.protocol.Table.{empty_table}
+use Rattle.nq_model.specs.protocol.World.{Head, first_clients, start}
 use Rattle.nq_directory.specs.NameCacheNames.{Names, first_number, new_names}
 use Rattle.nq_name_server.specs.Served.{Served}
 use Rattle.nq_name_server.proofs.Inner.{core-listing, delivery-cases, inner-ran, runs-inside}

@@ -10,9 +10,9 @@ use Rattle.nq_directory.specs.Names.{named}
 use Rattle.nq_directory.specs.Prefix.{directory}
 use Rattle.nq_directory.proofs.Called.{same-name, same-self}
 use Rattle.nq_model.proofs.Finding.{decided, same-number}
-use Rattle.nq_model.specs.Change.{AreApart}
-use Rattle.nq_model.specs.Kept.{File, find_file, find_name, replace_file, drop_file}
-use Rattle.nq_model.specs.Profile.{same_bytes}
+use Rattle.nq_model.specs.protocol.Change.{AreApart}
+use Rattle.nq_model.specs.protocol.Kept.{File, find_file, find_name, replace_file, drop_file}
+use Rattle.nq_model.specs.protocol.Profile.{same_bytes}
 use Rattle.nq_name_server.specs.Served.{name_of, names_of, names_behind}
 use Rattle.nq_name_server.specs.Lasting.{id_of}
 use Rattle.law_names.proofs.Pages.{upto, cut, IsUpTo, IsWhole, IsPage}

@@ -7,12 +7,12 @@ use Rattle.nq_base.specs.declared.Event.{Event}
 use Rattle.nq_base.specs.declared.Party.{Party}
 use Rattle.nq_base.specs.declared.Tag.{Tag}
 use Rattle.nq_base.specs.declared.Who.{Who}
-use Rattle.nq_model.specs.StepsAreOfOneHost.{receiver_of, stepper}
-use Rattle.nq_model.specs.Client.{Client, ClientStep, UnderWay}
-use Rattle.nq_model.specs.ClientStep.{client_call, client_tick, fresh_client, next_incarnation, restart, starts}
-use Rattle.nq_model.specs.Hear.{hear}
-use Rattle.nq_model.specs.Message.{Packet}
-use Rattle.nq_model.specs.World.{Head, World, after_client, after_hearing, at_client, deliver, deliver_to, deliver_to_client, step}
+use Rattle.nq_model.specs.laws.StepsAreOfOneHost.{receiver_of, stepper}
+use Rattle.nq_model.specs.protocol.Client.{Client, ClientStep, UnderWay}
+use Rattle.nq_model.specs.protocol.ClientStep.{client_call, client_tick, fresh_client, next_incarnation, restart, starts}
+use Rattle.nq_model.specs.protocol.Hear.{hear}
+use Rattle.nq_model.specs.protocol.Message.{Packet}
+use Rattle.nq_model.specs.protocol.World.{Head, World, after_client, after_hearing, at_client, deliver, deliver_to, deliver_to_client, step}
 use Rattle.nq_directory.specs.NameCacheNames.{Names, before_call, new_names}
 use Rattle.nq_name_server.specs.Served.{Served}
 use Rattle.nq_name_server.specs.Outer.{Outer}

@@ -10,15 +10,15 @@ use Rattle.nq_base.specs.declared.Tag.{Tag}
 use Rattle.nq_base.specs.declared.Who.{Who}
 use Rattle.nq_directory.specs.Prefix.{directory}
 use Rattle.nq_directory.proofs.Called.{same-name}
-use Rattle.nq_model.specs.Client.{Client, Job, attaching, for_call, pushing, renewing, UnderWay}
-use Rattle.nq_model.specs.Kept.{File, find_file, host_row, new_file}
-use Rattle.nq_model.specs.LeaseInterval.{cover_end}
-use Rattle.nq_model.specs.Message.{Datagram, Packet, asker, call, datagram_of, request, sequence_of}
-use Rattle.nq_model.specs.Profile.{same_bytes}
-use Rattle.nq_model.specs.Server.{serving, Server, ServerStep}
-use Rattle.nq_model.specs.ServerStep.{receive}
-use Rattle.nq_model.specs.Skew.{ticks_of}
-use Rattle.nq_model.specs.World.{Head, World, from_host, sending_host}
+use Rattle.nq_model.specs.protocol.Client.{Client, Job, attaching, for_call, pushing, renewing, UnderWay}
+use Rattle.nq_model.specs.protocol.Kept.{File, find_file, host_row, new_file}
+use Rattle.nq_model.specs.laws.LeaseInterval.{cover_end}
+use Rattle.nq_model.specs.protocol.Message.{Datagram, Packet, asker, call, datagram_of, request, sequence_of}
+use Rattle.nq_model.specs.protocol.Profile.{same_bytes}
+use Rattle.nq_model.specs.protocol.Server.{serving, Server, ServerStep}
+use Rattle.nq_model.specs.protocol.ServerStep.{receive}
+use Rattle.nq_model.specs.protocol.Skew.{ticks_of}
+use Rattle.nq_model.specs.protocol.World.{Head, World, from_host, sending_host}
 use Rattle.nq_directory.specs.NameCacheNames.{Names}
 use Rattle.nq_name_server.specs.Served.{Served}
 use Rattle.nq_name_server.specs.Outer.{Outer}

@@ -5,17 +5,17 @@ use Rattle.nq_base.specs.declared.Event.{Event}
 use Rattle.nq_base.specs.declared.Party.{Party}
 use Rattle.nq_base.specs.declared.Tag.{Tag}
 use Rattle.nq_base.specs.declared.Who.{Who}
-use Rattle.nq_model.specs.Client.{Client}
-use Rattle.nq_model.specs.ClientStep.{restart}
-use Rattle.nq_model.specs.Kept.{host_row, with_files, with_new_file, with_row}
-use Rattle.nq_model.specs.LeaseInterval.{cover_end}
-use Rattle.nq_model.specs.Message.{Datagram, Packet, datagram_of}
-use Rattle.nq_model.specs.Profile.{skew, write_slack}
-use Rattle.nq_model.specs.Server.{Phase, serving, recovering, Server, ServerStep, last_in}
-use Rattle.nq_model.specs.ServerStep.{boot, crash, receive}
-use Rattle.nq_model.specs.Skew.{ticks_of}
-use Rattle.nq_model.specs.Table.{empty_table}
-use Rattle.nq_model.specs.World.{Head, World, after_server, sending_host, step}
+use Rattle.nq_model.specs.protocol.Client.{Client}
+use Rattle.nq_model.specs.protocol.ClientStep.{restart}
+use Rattle.nq_model.specs.protocol.Kept.{host_row, with_files, with_new_file, with_row}
+use Rattle.nq_model.specs.laws.LeaseInterval.{cover_end}
+use Rattle.nq_model.specs.protocol.Message.{Datagram, Packet, datagram_of}
+use Rattle.nq_model.specs.protocol.Profile.{skew, write_slack}
+use Rattle.nq_model.specs.protocol.Server.{Phase, serving, recovering, Server, ServerStep, last_in}
+use Rattle.nq_model.specs.protocol.ServerStep.{boot, crash, receive}
+use Rattle.nq_model.specs.protocol.Skew.{ticks_of}
+use Rattle.nq_model.specs.protocol.Table.{empty_table}
+use Rattle.nq_model.specs.protocol.World.{Head, World, after_server, sending_host, step}
 use Rattle.nq_directory.specs.NameCacheNames.{Names, new_names}
 use Rattle.nq_name_server.specs.Served.{Served}
 use Rattle.nq_name_server.specs.Outer.{Outer, of_boot}

@@ -14,12 +14,12 @@ use Rattle.nq_directory.specs.declared.listing.messages.ReadDir.{ReadDir}
 use Rattle.nq_directory.specs.Messages.{Answer, IsEntry, Listing, page, wait, dir_vacated_bytes}
 use Rattle.nq_wire.specs.Parts.{IsTag}
 use Rattle.nq_directory.specs.Reading.{dir_evicted_in, dir_vacated_in, read_dir_in, told_in}
-use Rattle.nq_model.specs.Client.{UnderWay}
-use Rattle.nq_model.specs.Hear.{granted_lease}
-use Rattle.nq_model.specs.Profile.{same_bytes}
-use Rattle.nq_model.specs.Stepped.{most_events}
-use Rattle.nq_model.specs.Table.{same_who}
-use Rattle.nq_model.specs.World.{World}
+use Rattle.nq_model.specs.protocol.Client.{UnderWay}
+use Rattle.nq_model.specs.protocol.Hear.{granted_lease}
+use Rattle.nq_model.specs.protocol.Profile.{same_bytes}
+use Rattle.nq_model.specs.protocol.Stepped.{most_events}
+use Rattle.nq_model.specs.protocol.Table.{same_who}
+use Rattle.nq_model.specs.protocol.World.{World}
 use Rattle.nq_directory.specs.Asking.{Asks, asks_behind, cleared, evicted, gives_up, goes_on, grown, heard, heard_as, heard_by, is_later, last_id}
 use Rattle.nq_directory.specs.Asking.{lease_by, lists_dir, noticed, request_of, silent, takes_page, told, vacated_of, with_page, with_room}
 use Rattle.nq_directory.specs.NameCacheNames.{DirList, Names, Request, empty_list, forgets, list_of, most_lists, number_after, other_lists}

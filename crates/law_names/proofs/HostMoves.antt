@@ -8,12 +8,12 @@ use Rattle.nq_directory.specs.Names.{put_names}
 use Rattle.nq_directory.specs.Prefix.{directory}
 use Rattle.nq_directory.proofs.Called.{same-self}
 use Rattle.nq_directory.specs.Messages.{Listing, page, most_names}
-use Rattle.nq_model.specs.Change.{AreApart}
-use Rattle.nq_model.specs.Client.{Lease}
-use Rattle.nq_model.specs.Hear.{breaks}
-use Rattle.nq_model.specs.Kept.{File, find_name}
-use Rattle.nq_model.specs.Profile.{same_bytes}
-use Rattle.nq_model.specs.Table.{tag_below}
+use Rattle.nq_model.specs.protocol.Change.{AreApart}
+use Rattle.nq_model.specs.protocol.Client.{Lease}
+use Rattle.nq_model.specs.protocol.Hear.{breaks}
+use Rattle.nq_model.specs.protocol.Kept.{File, find_name}
+use Rattle.nq_model.specs.protocol.Profile.{same_bytes}
+use Rattle.nq_model.specs.protocol.Table.{tag_below}
 use Rattle.nq_directory.specs.Asking.{goes_on, is_reading, last_id}
 use Rattle.nq_directory.specs.NameCacheNames.{DirList, Names, Request, before_call, forgets, forgets_all, other_request}
 use Rattle.walk_steps.proofs.ClientMoves.{some-same, none-some}

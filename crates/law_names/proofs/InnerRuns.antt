@@ -1,14 +1,14 @@
 -- What is known of the inner world of a run with lists.
 use Rattle.std.proofs.Common.{◌≡◌, ◌≤◌, ℕ, ◌+◌, List, length, refl, sym, subst, ap, ◌∙◌}
 use Rattle.nq_base.specs.declared.Event.{Event}
-use Rattle.nq_model.specs.Bounds.{KeepsBounds}
-use Rattle.nq_model.specs.OneRequestPerSequence.{OpensOne, OneOpenInEveryRun}
-use Rattle.nq_model.specs.Client.{Client}
-use Rattle.nq_model.specs.ClientStep.{attached_client, client_call, client_tick, fresh_client, restart, starts}
-use Rattle.nq_model.specs.Server.{ServerStep}
-use Rattle.nq_model.specs.Skew.{IsWithinSkew}
-use Rattle.nq_model.specs.Stepped.{most_events}
-use Rattle.nq_model.specs.World.{Head, World, after_server, run, start}
+use Rattle.nq_model.specs.laws.Bounds.{KeepsBounds}
+use Rattle.nq_model.specs.laws.OneRequestPerSequence.{OpensOne, OneOpenInEveryRun}
+use Rattle.nq_model.specs.protocol.Client.{Client}
+use Rattle.nq_model.specs.protocol.ClientStep.{attached_client, client_call, client_tick, fresh_client, restart, starts}
+use Rattle.nq_model.specs.protocol.Server.{ServerStep}
+use Rattle.nq_model.specs.protocol.Skew.{IsWithinSkew}
+use Rattle.nq_model.specs.protocol.Stepped.{most_events}
+use Rattle.nq_model.specs.protocol.World.{Head, World, after_server, run, start}
 use Rattle.walk_steps.specs.Within.{AreGiven, IsHeadWithin, IsServerAfter, NumbersStayWithin}
 use Rattle.walk_steps.proofs.WorldNumbers.{DrawnUpTo, drawn-up-to}
 use Rattle.walk_steps.proofs.LeaseIntervals.{run-runs}

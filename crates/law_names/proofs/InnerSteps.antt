@@ -6,8 +6,8 @@ use Rattle.nq_base.specs.declared.Tag.{Tag}
 use Rattle.nq_directory.specs.declared.listing.messages.DirTag.{DirTag}
 use Rattle.nq_directory.specs.declared.listing.messages.ReadDir.{ReadDir}
 use Rattle.nq_directory.specs.Messages.{Answer}
-use Rattle.nq_model.specs.Client.{Client, UnderWay}
-use Rattle.nq_model.specs.World.{World}
+use Rattle.nq_model.specs.protocol.Client.{Client, UnderWay}
+use Rattle.nq_model.specs.protocol.World.{World}
 use Rattle.nq_directory.specs.NameCacheNames.{Names, first_number}
 use Rattle.nq_name_server.specs.Served.{Served}
 use Rattle.nq_name_server.specs.Outer.{Outer}

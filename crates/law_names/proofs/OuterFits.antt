@@ -11,13 +11,13 @@ use Rattle.nq_directory.specs.declared.listing.messages.DirTag.{DirTag}
 use Rattle.nq_directory.specs.declared.listing.messages.ReadDir.{ReadDir}
 use Rattle.nq_directory.specs.Messages.{Answer, IsReadDir, answer_bytes, dir_evicted_bytes, dir_vacated_bytes, read_dir_bytes}
 use Rattle.nq_model.proofs.Finding.{find-passes}
-use Rattle.nq_model.specs.Client.{Client, Lease, UnderWay, is_live}
-use Rattle.nq_model.specs.Kept.{File, find_name}
-use Rattle.nq_model.specs.LeaseInterval.{cover_end}
-use Rattle.nq_model.specs.Message.{Packet}
-use Rattle.nq_model.specs.Profile.{same_bytes}
-use Rattle.nq_model.specs.Server.{Phase, serving, recovering}
-use Rattle.nq_model.specs.World.{World}
+use Rattle.nq_model.specs.protocol.Client.{Client, Lease, UnderWay, is_live}
+use Rattle.nq_model.specs.protocol.Kept.{File, find_name}
+use Rattle.nq_model.specs.laws.LeaseInterval.{cover_end}
+use Rattle.nq_model.specs.protocol.Message.{Packet}
+use Rattle.nq_model.specs.protocol.Profile.{same_bytes}
+use Rattle.nq_model.specs.protocol.Server.{Phase, serving, recovering}
+use Rattle.nq_model.specs.protocol.World.{World}
 use Rattle.nq_client_parts.specs.HoldingLeases.{passes}
 use Rattle.nq_directory.specs.declared.name_cache.found.Found.{Found}
 use Rattle.nq_directory.specs.NameCacheNames.{DirList, Names, Request, first_number, found_as, found_in, list_of}

@@ -19,14 +19,14 @@ use Rattle.nq_directory.specs.Messages.{IsReadDir}
 use Rattle.nq_directory.specs.Reading.{dir_vacated_in, read_dir_in}
 use Rattle.walk_steps.specs.Within.{CarriesText}
 use Rattle.walk_steps.proofs.OneHost.{of-one-host}
-use Rattle.nq_model.specs.Change.{IsFileWithin}
-use Rattle.nq_model.specs.Client.{Client}
-use Rattle.nq_model.specs.Kept.{File, find_file, find_name, host_row}
-use Rattle.nq_model.specs.Message.{Packet, call, datagram_of}
-use Rattle.nq_model.specs.Profile.{most_ids, same_bytes}
-use Rattle.nq_model.specs.Server.{Phase, serving, recovering}
-use Rattle.nq_model.specs.Stepped.{most_events}
-use Rattle.nq_model.specs.World.{Head, sending_host, step}
+use Rattle.nq_model.specs.protocol.Change.{IsFileWithin}
+use Rattle.nq_model.specs.protocol.Client.{Client}
+use Rattle.nq_model.specs.protocol.Kept.{File, find_file, find_name, host_row}
+use Rattle.nq_model.specs.protocol.Message.{Packet, call, datagram_of}
+use Rattle.nq_model.specs.protocol.Profile.{most_ids, same_bytes}
+use Rattle.nq_model.specs.protocol.Server.{Phase, serving, recovering}
+use Rattle.nq_model.specs.protocol.Stepped.{most_events}
+use Rattle.nq_model.specs.protocol.World.{Head, sending_host, step}
 use Rattle.nq_directory.specs.Asking.{Asks, heard, lists_dir}
 use Rattle.nq_directory.specs.NameCacheNames.{Names, before_call}
 use Rattle.nq_name_server.specs.Served.{Served, leaf_behind}
@@ -40,7 +40,7 @@ use Rattle.nq_name_server.specs.Outside.{served_as, served_read, served_vacated,
 use Rattle.nq_name_server.specs.Theorem.{BringsPrefix}
 use Rattle.walk_steps.proofs.ClientMoves.{none-some, some-same}
 use Rattle.walk_steps.proofs.Packets.{In, in-get}
-use Rattle.nq_model.specs.StepsAreOfOneHost.{receiver_of}
+use Rattle.nq_model.specs.laws.StepsAreOfOneHost.{receiver_of}
 use Rattle.walk_steps.proofs.Rows.{decided, same-number}
 use Rattle.law_names.proofs.Chains.{Chained}
 use Rattle.law_names.proofs.Codec.{IsChange, IsCodec}

@@ -15,15 +15,16 @@ use Rattle.walk_steps.proofs.SettleCases.{settle-cases, IsSettling}
 use Rattle.walk_steps.proofs.StepCases.{call-cases, unless-cached-cases, tick-cases, evicted-cases, heard-cases}
 use Rattle.walk_steps.proofs.ClientFacts.{Alone, fits_job}
 use Rattle.walk_steps.proofs.ClientMoves.{none-some, some-same}
-use Rattle.nq_model.specs.Client.{Client, ClientStep, Job, for_call, renewing, pushing, Ticket, UnderWay, begun, notice_on}
-use Rattle.nq_model.specs.ClientStep.{begins_call, is_called, says_busy, client_call, client_tick, at_time, sends_again}
-use Rattle.nq_model.specs.Hear.{vacates_lease, notes_notice, evicted, cancels, cancelled, wants_of, replied, reply_counts, hear, spends, attached}
-use Rattle.nq_model.specs.Hear.{pauses, marks_through, loses, reports, without_lease, push_refused, breaks_chain, if_broken, holds, takes_grant}
-use Rattle.nq_model.specs.Hear.{takes_optional, answers_call, answer_of, caches_block, purges, knows_revision, then_caches, read_done, lease_done}
-use Rattle.nq_model.specs.Hear.{write_done, ends_push, caches_push, push_done, with_through}
-use Rattle.nq_model.specs.Message.{Message}
-use Rattle.nq_model.specs.Send.{sends_request, after_seq, after_number, takes_push, gives_up, send_next}
-use Rattle.nq_model.specs.Settle.{answers, names_losses, reads_cached, after_read, after_write, delays, marks_written, settle, ticket_is_for_call, is_for_call}
+use Rattle.nq_model.specs.protocol.Client.{Client, ClientStep, Job, for_call, renewing, pushing, Ticket, UnderWay, begun, notice_on}
+use Rattle.nq_model.specs.protocol.ClientStep.{begins_call, is_called, says_busy, client_call, client_tick, at_time, sends_again}
+use Rattle.nq_model.specs.protocol.Hear.{vacates_lease, notes_notice, evicted, cancels, cancelled, wants_of, replied, reply_counts, hear, spends, attached}
+use Rattle.nq_model.specs.protocol.Hear.{pauses, marks_through, loses, reports, without_lease, push_refused, breaks_chain, if_broken, holds, takes_grant}
+use Rattle.nq_model.specs.protocol.Hear.{takes_optional, answers_call, answer_of, caches_block, purges, knows_revision, then_caches, read_done, lease_done}
+use Rattle.nq_model.specs.protocol.Hear.{write_done, ends_push, caches_push, push_done, with_through}
+use Rattle.nq_model.specs.protocol.Message.{Message}
+use Rattle.nq_model.specs.protocol.Send.{sends_request, after_seq, after_number, takes_push, gives_up, send_next}
+use Rattle.nq_model.specs.protocol.Settle.{answers, names_losses, reads_cached, after_read, after_write, delays, marks_written, settle, ticket_is_for_call}
+use Rattle.nq_model.specs.protocol.Settle.{is_for_call}
 
 -- ---- what is kept
 

@@ -12,9 +12,9 @@ use Rattle.nq_directory.specs.Prefix.{directory}
 use Rattle.nq_directory.proofs.Called.{same-name, same-self}
 use Rattle.nq_directory.proofs.Order.{not-before-itself}
 use Rattle.nq_model.proofs.Finding.{decided}
-use Rattle.nq_model.specs.Change.{AreApart}
-use Rattle.nq_model.specs.Kept.{File, find_name}
-use Rattle.nq_model.specs.Profile.{same_bytes}
+use Rattle.nq_model.specs.protocol.Change.{AreApart}
+use Rattle.nq_model.specs.protocol.Kept.{File, find_name}
+use Rattle.nq_model.specs.protocol.Profile.{same_bytes}
 use Rattle.nq_directory.specs.Asking.{last_id}
 use Rattle.nq_name_server.specs.Served.{is_behind, names_of, names_behind}
 use Rattle.nq_name_server.specs.Lasting.{id_of}

@@ -11,11 +11,11 @@ use Rattle.nq_base.specs.declared.Row.{Row}
 use Rattle.nq_base.specs.declared.Tag.{Tag}
 use Rattle.nq_base.specs.declared.Who.{Who}
 use Rattle.nq_directory.specs.declared.listing.messages.DirTag.{DirTag}
-use Rattle.nq_model.specs.Ask.{ask, conflicts, free}
-use Rattle.nq_model.specs.Kept.{File}
-use Rattle.nq_model.specs.Profile.{xid_end}
-use Rattle.nq_model.specs.ServerStep.{is_over, vacated_rows}
-use Rattle.nq_model.specs.Table.{Table, caches, same_tag, tag_below, is_row_of, find_row, drop_row, with_rows}
+use Rattle.nq_model.specs.protocol.Ask.{ask, conflicts, free}
+use Rattle.nq_model.specs.protocol.Kept.{File}
+use Rattle.nq_model.specs.protocol.Profile.{xid_end}
+use Rattle.nq_model.specs.protocol.ServerStep.{is_over, vacated_rows}
+use Rattle.nq_model.specs.protocol.Table.{Table, caches, same_tag, tag_below, is_row_of, find_row, drop_row, with_rows}
 use Rattle.nq_name_server.specs.Served.{Served, number_of}
 use Rattle.nq_name_server.specs.Serving.{Serves, ToHost, notices, notice_to, changes_for, readers, holds, holds_for, holds_as, holds_up, gives_up}
 use Rattle.nq_name_server.specs.Serving.{vacates, ticks}

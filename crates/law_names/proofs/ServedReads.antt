@@ -13,11 +13,11 @@ use Rattle.nq_base.specs.declared.Tag.{Tag}
 use Rattle.nq_base.specs.declared.Want.{Want}
 use Rattle.nq_base.specs.declared.Who.{Who}
 use Rattle.nq_directory.specs.declared.listing.messages.ReadDir.{ReadDir}
-use Rattle.nq_model.specs.Ask.{ask, term_of, grant_of, granted, no_lease, put_off_by_own, free, sharing_row, caching_row, shared_again, renewed_row}
-use Rattle.nq_model.specs.Kept.{File, find_file}
-use Rattle.nq_model.specs.LeaseInterval.{claim_of, HasFitting}
-use Rattle.nq_model.specs.Profile.{skew, granted_term}
-use Rattle.nq_model.specs.Table.{Table, caches, tag_below, is_row_of, find_row, drop_row, put_row, with_rows, after_draw}
+use Rattle.nq_model.specs.protocol.Ask.{ask, term_of, grant_of, granted, no_lease, put_off_by_own, free, sharing_row, caching_row, shared_again, renewed_row}
+use Rattle.nq_model.specs.protocol.Kept.{File, find_file}
+use Rattle.nq_model.specs.laws.LeaseInterval.{claim_of, HasFitting}
+use Rattle.nq_model.specs.protocol.Profile.{skew, granted_term}
+use Rattle.nq_model.specs.protocol.Table.{Table, caches, tag_below, is_row_of, find_row, drop_row, put_row, with_rows, after_draw}
 use Rattle.nq_directory.specs.Asking.{is_reading}
 use Rattle.nq_name_server.specs.Served.{Served, Leaf, most_directories, number_of}
 use Rattle.nq_name_server.specs.Serving.{Serves, ToHost, lists_for, tells, puts_off, notice_to, evicting, delays, answers, leased, own_again}

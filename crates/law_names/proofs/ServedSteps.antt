@@ -8,10 +8,10 @@ use Rattle.nq_base.specs.declared.Tag.{Tag}
 use Rattle.nq_directory.specs.declared.listing.messages.DirTag.{DirTag}
 use Rattle.nq_directory.specs.declared.listing.messages.ReadDir.{ReadDir}
 use Rattle.nq_directory.specs.Messages.{Answer, Listing, page}
-use Rattle.nq_model.specs.Kept.{host_row}
-use Rattle.nq_model.specs.LeaseInterval.{cover_end}
-use Rattle.nq_model.specs.Table.{tag_below}
-use Rattle.nq_model.specs.World.{World}
+use Rattle.nq_model.specs.protocol.Kept.{host_row}
+use Rattle.nq_model.specs.laws.LeaseInterval.{cover_end}
+use Rattle.nq_model.specs.protocol.Table.{tag_below}
+use Rattle.nq_model.specs.protocol.World.{World}
 use Rattle.nq_directory.specs.Asking.{is_reading}
 use Rattle.nq_directory.specs.NameCacheNames.{Names, Request}
 use Rattle.nq_name_server.specs.Served.{Served}

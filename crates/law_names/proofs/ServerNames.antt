@@ -3,14 +3,14 @@ use Rattle.std.proofs.Common.{◌≡◌, ◌≤◌, ℕ, ◌+◌, List, [], ◌�
 use Rattle.std.specs.Prelude.{⊤}
 use Rattle.nq_base.specs.declared.Request.{Request}
 use Rattle.nq_base.specs.declared.Who.{Who}
-use Rattle.nq_model.specs.Change.{AreApart}
-use Rattle.nq_model.specs.Decide.{decides, creates, writes_through, stores, wrote, stores_recovering, resizes, removes, puts_off, commits}
-use Rattle.nq_model.specs.Kept.{File, Kept, find_file, drop_file, fenced_file, new_file, replace_file, written_file, resized_file, with_files}
-use Rattle.nq_model.specs.Kept.{with_new_file, with_row, host_row}
-use Rattle.nq_model.specs.Message.{Datagram, request}
-use Rattle.nq_model.specs.Profile.{write_slack}
-use Rattle.nq_model.specs.Server.{Phase, serving, recovering, Server, quiet, drops, says, after_notices, keeping, keeping_with, with_table}
-use Rattle.nq_model.specs.ServerStep.{attaches, vacates, tells_later, serves, leases, receive, fence}
+use Rattle.nq_model.specs.protocol.Change.{AreApart}
+use Rattle.nq_model.specs.protocol.Decide.{decides, creates, writes_through, stores, wrote, stores_recovering, resizes, removes, puts_off, commits}
+use Rattle.nq_model.specs.protocol.Kept.{File, Kept, find_file, drop_file, fenced_file, new_file, replace_file, written_file, resized_file, with_files}
+use Rattle.nq_model.specs.protocol.Kept.{with_new_file, with_row, host_row}
+use Rattle.nq_model.specs.protocol.Message.{Datagram, request}
+use Rattle.nq_model.specs.protocol.Profile.{write_slack}
+use Rattle.nq_model.specs.protocol.Server.{Phase, serving, recovering, Server, quiet, drops, says, after_notices, keeping, keeping_with, with_table}
+use Rattle.nq_model.specs.protocol.ServerStep.{attaches, vacates, tells_later, serves, leases, receive, fence}
 use Rattle.nq_name_server.specs.Served.{names_of}
 use Rattle.walk_steps.proofs.KeptChanges.{later-incs, same-incs}
 use Rattle.walk_steps.proofs.ServerCases.{server-hears}

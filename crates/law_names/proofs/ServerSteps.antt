@@ -16,15 +16,15 @@ use Rattle.nq_directory.specs.Messages.{Answer, IsEntry, IsReadDir, Listing, pag
 use Rattle.nq_wire.specs.Parts.{IsTag}
 use Rattle.nq_directory.specs.Reading.{told_in}
 use Rattle.nq_directory.specs.declared.FileName.{FileName}
-use Rattle.nq_model.specs.Change.{IsFileWithin}
-use Rattle.nq_model.specs.Kept.{File, host_row}
-use Rattle.nq_model.specs.LeaseInterval.{cover_end}
-use Rattle.nq_model.specs.Profile.{granted_term, most_ids}
-use Rattle.nq_model.specs.Server.{Phase, serving, recovering}
-use Rattle.nq_model.specs.Skew.{ticks_of}
-use Rattle.nq_model.specs.Stepped.{most_events}
-use Rattle.nq_model.specs.Table.{Table}
-use Rattle.nq_model.specs.World.{Head, World}
+use Rattle.nq_model.specs.protocol.Change.{IsFileWithin}
+use Rattle.nq_model.specs.protocol.Kept.{File, host_row}
+use Rattle.nq_model.specs.laws.LeaseInterval.{cover_end}
+use Rattle.nq_model.specs.protocol.Profile.{granted_term, most_ids}
+use Rattle.nq_model.specs.protocol.Server.{Phase, serving, recovering}
+use Rattle.nq_model.specs.protocol.Skew.{ticks_of}
+use Rattle.nq_model.specs.protocol.Stepped.{most_events}
+use Rattle.nq_model.specs.protocol.Table.{Table}
+use Rattle.nq_model.specs.protocol.World.{Head, World}
 use Rattle.nq_directory.specs.Asking.{is_reading}
 use Rattle.nq_directory.specs.NameCacheNames.{Names, Request}
 use Rattle.nq_name_server.specs.Served.{Leaf, Served, is_behind, leaf_behind, names_behind, names_of, number_of}

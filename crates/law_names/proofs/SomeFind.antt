@@ -11,10 +11,10 @@ use Rattle.nq_directory.specs.Messages.{read_dir_arguments, read_dir_bytes, entr
 use Rattle.nq_directory.specs.Reading.{call_as, call_in, results_of, results_in, end_at, prefix_at, entry_at, count_at, page_at, read_dir_at}
 use Rattle.nq_directory.specs.Reading.{page_alone, wait_alone, answer_at, told_at, read_dir_in, dir_tag_at, dir_evicted_in, dir_vacated_in, told_in}
 use Rattle.nq_model.proofs.SkewTest.{skew-test-is-sound}
-use Rattle.nq_model.specs.Client.{Client, Lease}
-use Rattle.nq_model.specs.ClientStep.{attached_client, fresh_client}
-use Rattle.nq_model.specs.Skew.{IsWithinSkew}
-use Rattle.nq_model.specs.World.{Head}
+use Rattle.nq_model.specs.protocol.Client.{Client, Lease}
+use Rattle.nq_model.specs.protocol.ClientStep.{attached_client, fresh_client}
+use Rattle.nq_model.specs.protocol.Skew.{IsWithinSkew}
+use Rattle.nq_model.specs.protocol.World.{Head}
 use Rattle.nq_directory.specs.declared.name_cache.found.Found.{Found}
 use Rattle.nq_directory.specs.NameCacheNames.{DirList, Names}
 use Rattle.nq_name_server.specs.declared.run.event.NameEvent.{NameEvent}
@@ -22,7 +22,7 @@ use Rattle.nq_name_server.specs.Lasting.{IsLive}
 use Rattle.nq_name_server.specs.Outer.{Outside, outside_start}
 use Rattle.nq_name_server.specs.Outside.{asks_as, found, outside_run, sends, served_as}
 use Rattle.nq_name_server.specs.Theorem.{IsNamesSchedule}
-use Rattle.nq_model.specs.Bounds.{BootsWithin}
+use Rattle.nq_model.specs.laws.Bounds.{BootsWithin}
 use Rattle.nq_xdr.specs.Message.{auth, numbers, outcome, spelling}
 use Rattle.nq_xdr.specs.RpcReading.{behind_auth, call_at, ended, bounds_at, accepted_as, accepted_at, denied_as, denied_at, outcome_at, reply_at, message_at}
 use Rattle.nq_wire.specs.Parts.{head, tag_bytes, want_bytes, grant_bytes, optional}

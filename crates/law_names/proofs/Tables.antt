@@ -9,10 +9,10 @@ use Rattle.nq_base.specs.declared.Row.{Row}
 use Rattle.nq_base.specs.declared.Tag.{Tag}
 use Rattle.nq_base.specs.declared.Want.{Want}
 use Rattle.nq_base.specs.declared.Who.{Who}
-use Rattle.nq_model.specs.Ask.{ask, marked, free, sharing_row, caching_row, shared_again, renewed_row, granted, no_lease, put_off_by_own, term_of}
-use Rattle.nq_model.specs.Kept.{File, find_file, new_file}
-use Rattle.nq_model.specs.ServerStep.{access_of, end_reading, is_over, vacated_rows}
-use Rattle.nq_model.specs.Table.{Table, caches, is_writing, tag_below, is_row_of, find_row, put_row, with_rows, after_draw}
+use Rattle.nq_model.specs.protocol.Ask.{ask, marked, free, sharing_row, caching_row, shared_again, renewed_row, granted, no_lease, put_off_by_own, term_of}
+use Rattle.nq_model.specs.protocol.Kept.{File, find_file, new_file}
+use Rattle.nq_model.specs.protocol.ServerStep.{access_of, end_reading, is_over, vacated_rows}
+use Rattle.nq_model.specs.protocol.Table.{Table, caches, is_writing, tag_below, is_row_of, find_row, put_row, with_rows, after_draw}
 use Rattle.walk_steps.proofs.ClientMoves.{some-same, none-some}
 use Rattle.walk_steps.proofs.Covers.{AreOfBoot, GoesOnAt, same-goes-on, marked-goes-on, granted-goes-on, waiting-goes-on}
 use Rattle.walk_steps.proofs.TagFacts.{IsDrawn}

@@ -5,15 +5,15 @@ use Rattle.nq_base.specs.declared.Event.{Event}
 use Rattle.nq_base.specs.declared.Tag.{Tag}
 use Rattle.nq_base.specs.declared.Who.{Who}
 use Rattle.nq_model.proofs.Finding.{find-passes}
-use Rattle.nq_model.specs.Client.{Client}
-use Rattle.nq_model.specs.Kept.{File, Kept, find_file, host_row, with_files}
-use Rattle.nq_model.specs.LeaseInterval.{cover_end}
-use Rattle.nq_model.specs.Profile.{skew}
-use Rattle.nq_model.specs.Server.{Phase, serving, recovering}
-use Rattle.nq_model.specs.ServerStep.{boot, end_reading, fence, tick}
-use Rattle.nq_model.specs.Skew.{ticks_of}
-use Rattle.nq_model.specs.Table.{Table, with_rows}
-use Rattle.nq_model.specs.World.{Head, World, step}
+use Rattle.nq_model.specs.protocol.Client.{Client}
+use Rattle.nq_model.specs.protocol.Kept.{File, Kept, find_file, host_row, with_files}
+use Rattle.nq_model.specs.laws.LeaseInterval.{cover_end}
+use Rattle.nq_model.specs.protocol.Profile.{skew}
+use Rattle.nq_model.specs.protocol.Server.{Phase, serving, recovering}
+use Rattle.nq_model.specs.protocol.ServerStep.{boot, end_reading, fence, tick}
+use Rattle.nq_model.specs.protocol.Skew.{ticks_of}
+use Rattle.nq_model.specs.protocol.Table.{Table, with_rows}
+use Rattle.nq_model.specs.protocol.World.{Head, World, step}
 use Rattle.nq_directory.specs.NameCacheNames.{Names}
 use Rattle.nq_name_server.specs.Served.{Served, names_of, number_of}
 use Rattle.nq_name_server.specs.Serving.{ticks}

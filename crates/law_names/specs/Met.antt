@@ -1,7 +1,7 @@
 -- There is a schedule of which the laws of finding speak: a host lists a directory, and then knows of its names.
 use Rattle.std.specs.Prelude.{◌≡◌, ℕ, List}
-use Rattle.nq_model.specs.Client.{Client, Lease}
-use Rattle.nq_model.specs.World.{Head}
+use Rattle.nq_model.specs.protocol.Client.{Client, Lease}
+use Rattle.nq_model.specs.protocol.World.{Head}
 use Rattle.nq_directory.specs.declared.name_cache.found.Found.{Found}
 use Rattle.nq_directory.specs.NameCacheNames.{DirList, Names}
 use Rattle.nq_name_server.specs.declared.run.event.NameEvent.{NameEvent}

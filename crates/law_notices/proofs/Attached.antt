@@ -6,14 +6,14 @@ use Rattle.nq_base.specs.declared.Event.{Event}
 use Rattle.nq_base.specs.declared.Grant.{Grant}
 use Rattle.nq_base.specs.declared.Reply.{Reply}
 use Rattle.nq_base.specs.declared.Tag.{Tag}
-use Rattle.nq_model.specs.Client.{Client, ClientStep, Ticket, begun}
-use Rattle.nq_model.specs.ClientStep.{begins_call, is_called, says_busy, client_call, client_tick}
-use Rattle.nq_model.specs.Hear.{hear, inc_of, reply_counts, goes_on, replied}
-use Rattle.nq_model.specs.Lines.{Play}
-use Rattle.nq_model.specs.Message.{Message, Packet, reply}
-use Rattle.nq_model.specs.Send.{sends_request, after_seq, after_number, takes_push, gives_up, send_next}
-use Rattle.nq_model.specs.Settle.{answers, after_read, reads_cached, after_write, marks_written, settle}
-use Rattle.nq_model.specs.World.{Head, step}
+use Rattle.nq_model.specs.protocol.Client.{Client, ClientStep, Ticket, begun}
+use Rattle.nq_model.specs.protocol.ClientStep.{begins_call, is_called, says_busy, client_call, client_tick}
+use Rattle.nq_model.specs.protocol.Hear.{hear, inc_of, reply_counts, goes_on, replied}
+use Rattle.nq_model.specs.protocol.Lines.{Play}
+use Rattle.nq_model.specs.protocol.Message.{Message, Packet, reply}
+use Rattle.nq_model.specs.protocol.Send.{sends_request, after_seq, after_number, takes_push, gives_up, send_next}
+use Rattle.nq_model.specs.protocol.Settle.{answers, after_read, reads_cached, after_write, marks_written, settle}
+use Rattle.nq_model.specs.protocol.World.{Head, step}
 use Rattle.walk_steps.proofs.ClientCases.{Core, Closed}
 use Rattle.walk_steps.proofs.ClientFacts.{Alone}
 use Rattle.walk_steps.proofs.ClientMoves.{some-same}

@@ -10,17 +10,17 @@ use Rattle.nq_base.specs.declared.Request.{Request}
 use Rattle.nq_base.specs.declared.Row.{Row}
 use Rattle.nq_base.specs.declared.Tag.{Tag}
 use Rattle.nq_base.specs.declared.Who.{Who}
-use Rattle.nq_model.specs.Client.{Client, ClientStep, Notice, begun, notice_on}
-use Rattle.nq_model.specs.ClientStep.{client_call, client_tick}
-use Rattle.nq_model.specs.Hear.{hear, cancels, evicted, goes_on}
-use Rattle.nq_model.specs.Kept.{host_row}
-use Rattle.nq_model.specs.Lines.{Play, play}
-use Rattle.nq_model.specs.Message.{Message, Packet, call, request, datagram_of}
-use Rattle.nq_model.specs.Server.{Server, ServerStep, Phase, serving, recovering, to_host}
-use Rattle.nq_model.specs.ServerStep.{receive, tick}
-use Rattle.nq_model.specs.Skew.{is_tick_of, ticks_of}
-use Rattle.nq_model.specs.Table.{find_row, tag_below, with_rows}
-use Rattle.nq_model.specs.World.{Head, World, from_host, after_client, after_server, at_client, sending_host, step, run}
+use Rattle.nq_model.specs.protocol.Client.{Client, ClientStep, Notice, begun, notice_on}
+use Rattle.nq_model.specs.protocol.ClientStep.{client_call, client_tick}
+use Rattle.nq_model.specs.protocol.Hear.{hear, cancels, evicted, goes_on}
+use Rattle.nq_model.specs.protocol.Kept.{host_row}
+use Rattle.nq_model.specs.protocol.Lines.{Play, play}
+use Rattle.nq_model.specs.protocol.Message.{Message, Packet, call, request, datagram_of}
+use Rattle.nq_model.specs.protocol.Server.{Server, ServerStep, Phase, serving, recovering, to_host}
+use Rattle.nq_model.specs.protocol.ServerStep.{receive, tick}
+use Rattle.nq_model.specs.protocol.Skew.{is_tick_of, ticks_of}
+use Rattle.nq_model.specs.protocol.Table.{find_row, tag_below, with_rows}
+use Rattle.nq_model.specs.protocol.World.{Head, World, from_host, after_client, after_server, at_client, sending_host, step, run}
 use Rattle.walk_steps.proofs.ClientMoves.{some-same, none-some}
 use Rattle.walk_steps.proofs.LeaseIntervals.{run-runs}
 use Rattle.walk_steps.proofs.Packets.{In}

@@ -1,8 +1,8 @@
 -- A run that meets the premises of this law, computed.
 use Rattle.std.proofs.Common.{◌≡◌, ◌+◌, ◌++◌, nat_lt, true, false, [], refl}
 use Rattle.nq_base.specs.Block.{filled, zeros}
-use Rattle.nq_model.specs.Skew.{is_within_skew}
-use Rattle.nq_model.specs.Table.{find_row}
+use Rattle.nq_model.specs.protocol.Skew.{is_within_skew}
+use Rattle.nq_model.specs.protocol.Table.{find_row}
 use Rattle.walk_steps.proofs.GivenRuns.{given-run}
 use Rattle.law_rounds.specs.DeliveryEnds.{calmed}
 use Rattle.law_timely.specs.Timely.{is_timely, is_still, ticks_to_settle}

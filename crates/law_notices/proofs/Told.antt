@@ -8,12 +8,12 @@ use Rattle.nq_base.specs.declared.Row.{Row}
 use Rattle.nq_base.specs.declared.Tag.{Tag}
 use Rattle.nq_base.specs.declared.Want.{Want}
 use Rattle.nq_base.specs.declared.Who.{Who}
-use Rattle.nq_model.specs.Ask.{conflicts, marked, sharing_row, caching_row, shared_again, renewed_row}
-use Rattle.nq_model.specs.Decide.{in_the_way, decides, creates, writes_through, stores, stores_recovering, wrote, resizes, removes, puts_off, commits}
-use Rattle.nq_model.specs.Message.{Packet, Datagram, call}
-use Rattle.nq_model.specs.Server.{Server, notices, to_host, after_notices, keeping, keeping_with, with_table, quiet, drops, says}
-use Rattle.nq_model.specs.ServerStep.{access_of, attaches, vacates, vacated_rows, tells_later, serves, leases, receive}
-use Rattle.nq_model.specs.Table.{Table, find_row, is_row_of, put_row, with_rows, after_draw}
+use Rattle.nq_model.specs.protocol.Ask.{conflicts, marked, sharing_row, caching_row, shared_again, renewed_row}
+use Rattle.nq_model.specs.protocol.Decide.{in_the_way, decides, creates, writes_through, stores, stores_recovering, wrote, resizes, removes, puts_off, commits}
+use Rattle.nq_model.specs.protocol.Message.{Packet, Datagram, call}
+use Rattle.nq_model.specs.protocol.Server.{Server, notices, to_host, after_notices, keeping, keeping_with, with_table, quiet, drops, says}
+use Rattle.nq_model.specs.protocol.ServerStep.{access_of, attaches, vacates, vacated_rows, tells_later, serves, leases, receive}
+use Rattle.nq_model.specs.protocol.Table.{Table, find_row, is_row_of, put_row, with_rows, after_draw}
 use Rattle.walk_steps.proofs.AskCases.{IsGranted, shares_again, begins_sharing, begins_caching, renews_row}
 use Rattle.walk_steps.proofs.Packets.{In, in-left}
 use Rattle.walk_steps.proofs.RowChanges.{HasUniqueKeys, mark, found-marked, found-put, found-kept, found-vacated, of-key}

@@ -4,9 +4,9 @@ use Rattle.nq_base.specs.Block.{filled}
 use Rattle.nq_base.specs.declared.Call.{Call}
 use Rattle.nq_base.specs.declared.Event.{Event}
 use Rattle.nq_base.specs.declared.Row.{Row}
-use Rattle.nq_model.specs.Lines.{Play}
-use Rattle.nq_model.specs.Skew.{is_within_skew}
-use Rattle.nq_model.specs.Table.{find_row}
+use Rattle.nq_model.specs.protocol.Lines.{Play}
+use Rattle.nq_model.specs.protocol.Skew.{is_within_skew}
+use Rattle.nq_model.specs.protocol.Table.{find_row}
 use Rattle.law_rounds.specs.DeliveryEnds.{calmed}
 use Rattle.law_timely.specs.Timely.{play_events, is_timely, is_still, ticks_to_settle}
 use Rattle.law_timely.specs.TimelyMet.{met_head, ticks}

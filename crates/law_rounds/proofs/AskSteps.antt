@@ -9,8 +9,9 @@ use Rattle.nq_base.specs.declared.Row.{Row}
 use Rattle.nq_base.specs.declared.Tag.{Tag}
 use Rattle.nq_base.specs.declared.Want.{Want}
 use Rattle.nq_base.specs.declared.Who.{Who}
-use Rattle.nq_model.specs.Ask.{Reply, ask, shares, marked, sharing_row, caching_row, shared_again, renewed_row, put_off_by_own, granted, no_lease, free}
-use Rattle.nq_model.specs.Table.{Table, caches, find_row, is_row_of, put_row, with_rows, after_draw}
+use Rattle.nq_model.specs.protocol.Ask.{Reply, ask, shares, marked, sharing_row, caching_row, shared_again, renewed_row, put_off_by_own, granted, no_lease}
+use Rattle.nq_model.specs.protocol.Ask.{free}
+use Rattle.nq_model.specs.protocol.Table.{Table, caches, find_row, is_row_of, put_row, with_rows, after_draw}
 use Rattle.walk_steps.proofs.ClientMoves.{some-same, none-some}
 use Rattle.walk_steps.proofs.AskCases.{IsGranted, shares_again, begins_sharing, begins_caching, renews_row, own_in, clash_in, has_room, asks}
 use Rattle.walk_steps.proofs.Modes.{greater-caches}

@@ -11,15 +11,15 @@ use Rattle.nq_base.specs.declared.Row.{Row}
 use Rattle.nq_base.specs.declared.Tag.{Tag}
 use Rattle.nq_base.specs.declared.Want.{Want}
 use Rattle.nq_base.specs.declared.Who.{Who}
-use Rattle.nq_model.specs.Ask.{Reply, ask}
-use Rattle.nq_model.specs.Hear.{wants_of}
-use Rattle.nq_model.specs.Kept.{File, find_file, host_row}
-use Rattle.nq_model.specs.Message.{Message, Reason, old_incarnation, wrong_host, request, call, datagram_of}
-use Rattle.nq_model.specs.Profile.{most_hosts}
-use Rattle.nq_model.specs.Server.{Phase, serving, recovering, Server, ServerStep, quiet, drops, says, with_table, after_notices}
-use Rattle.nq_model.specs.ServerStep.{access_of, to_read, tells_later, serves, leases, read_of, read_asked, read_block, read, lease_asked, lease_of}
-use Rattle.nq_model.specs.ServerStep.{get_lease, look, perform, not_attached, receive, vacates, vacated_rows}
-use Rattle.nq_model.specs.Table.{is_writing, find_row, drop_row, same_tag, with_rows}
+use Rattle.nq_model.specs.protocol.Ask.{Reply, ask}
+use Rattle.nq_model.specs.protocol.Hear.{wants_of}
+use Rattle.nq_model.specs.protocol.Kept.{File, find_file, host_row}
+use Rattle.nq_model.specs.protocol.Message.{Message, Reason, old_incarnation, wrong_host, request, call, datagram_of}
+use Rattle.nq_model.specs.protocol.Profile.{most_hosts}
+use Rattle.nq_model.specs.protocol.Server.{Phase, serving, recovering, Server, ServerStep, quiet, drops, says, with_table, after_notices}
+use Rattle.nq_model.specs.protocol.ServerStep.{access_of, to_read, tells_later, serves, leases, read_of, read_asked, read_block, read, lease_asked, lease_of}
+use Rattle.nq_model.specs.protocol.ServerStep.{get_lease, look, perform, not_attached, receive, vacates, vacated_rows}
+use Rattle.nq_model.specs.protocol.Table.{is_writing, find_row, drop_row, same_tag, with_rows}
 use Rattle.walk_steps.proofs.ClientMoves.{some-same}
 use Rattle.walk_steps.proofs.Rows.{same-number, number-same}
 use Rattle.walk_steps.proofs.ServerCases.{found-file}

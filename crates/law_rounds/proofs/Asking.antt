@@ -8,18 +8,18 @@ use Rattle.nq_base.specs.declared.Event.{Event}
 use Rattle.nq_base.specs.declared.Reply.{Reply}
 use Rattle.nq_base.specs.declared.Request.{Request}
 use Rattle.nq_base.specs.declared.Who.{Who}
-use Rattle.nq_model.specs.Client.{Client, Job, attaching, for_call, renewing, pushing, Ticket}
-use Rattle.nq_model.specs.Hear.{inc_of, reply_counts}
-use Rattle.nq_model.specs.Kept.{host_row}
-use Rattle.nq_model.specs.Message.{Packet, call, reply, request, datagram_of, asker, sequence_of}
-use Rattle.nq_model.specs.Profile.{most_hosts}
-use Rattle.nq_model.specs.Server.{Server, to_host, notices}
-use Rattle.nq_model.specs.ServerStep.{receive}
-use Rattle.nq_model.specs.Skew.{IsWithinSkew}
-use Rattle.nq_model.specs.Stepped.{most_events, most_sent}
-use Rattle.nq_model.specs.World.{Head, run}
-use Rattle.nq_model.specs.Bounds.{KeepsBounds}
-use Rattle.nq_model.specs.RepliesAreOwed.{has_reply, is_out_of_bounds, owes, CanBe}
+use Rattle.nq_model.specs.protocol.Client.{Client, Job, attaching, for_call, renewing, pushing, Ticket}
+use Rattle.nq_model.specs.protocol.Hear.{inc_of, reply_counts}
+use Rattle.nq_model.specs.protocol.Kept.{host_row}
+use Rattle.nq_model.specs.protocol.Message.{Packet, call, reply, request, datagram_of, asker, sequence_of}
+use Rattle.nq_model.specs.protocol.Profile.{most_hosts}
+use Rattle.nq_model.specs.protocol.Server.{Server, to_host, notices}
+use Rattle.nq_model.specs.protocol.ServerStep.{receive}
+use Rattle.nq_model.specs.protocol.Skew.{IsWithinSkew}
+use Rattle.nq_model.specs.protocol.Stepped.{most_events, most_sent}
+use Rattle.nq_model.specs.protocol.World.{Head, run}
+use Rattle.nq_model.specs.laws.Bounds.{KeepsBounds}
+use Rattle.nq_model.specs.laws.RepliesAreOwed.{has_reply, is_out_of_bounds, owes, CanBe}
 use Rattle.walk_steps.proofs.WorldNumbers.{drawn-up-to}
 use Rattle.walk_steps.proofs.LeaseIntervals.{run-runs}
 use Rattle.law_rounds.proofs.Owing.{replies-are-owed}

@@ -7,14 +7,14 @@ use Rattle.nq_base.specs.declared.Reply.{Reply}
 use Rattle.nq_base.specs.declared.Request.{Request}
 use Rattle.nq_base.specs.declared.Tag.{Tag}
 use Rattle.nq_base.specs.declared.Who.{Who}
-use Rattle.nq_model.specs.Client.{Client, ClientStep}
-use Rattle.nq_model.specs.ClientStep.{at_time, client_tick}
-use Rattle.nq_model.specs.Hear.{hear, attached}
-use Rattle.nq_model.specs.Kept.{can_be_kept, host_row}
-use Rattle.nq_model.specs.Message.{Message, Packet, call, reply, datagram_of, out_of_bounds, old_incarnation, wrong_host}
-use Rattle.nq_model.specs.Profile.{inc_end, most_hosts}
-use Rattle.nq_model.specs.Server.{Server, ServerStep, drops, says, replies, to_host}
-use Rattle.nq_model.specs.ServerStep.{row_of_attach, attaches, attach_later, admit, receive}
+use Rattle.nq_model.specs.protocol.Client.{Client, ClientStep}
+use Rattle.nq_model.specs.protocol.ClientStep.{at_time, client_tick}
+use Rattle.nq_model.specs.protocol.Hear.{hear, attached}
+use Rattle.nq_model.specs.protocol.Kept.{can_be_kept, host_row}
+use Rattle.nq_model.specs.protocol.Message.{Message, Packet, call, reply, datagram_of, out_of_bounds, old_incarnation, wrong_host}
+use Rattle.nq_model.specs.protocol.Profile.{inc_end, most_hosts}
+use Rattle.nq_model.specs.protocol.Server.{Server, ServerStep, drops, says, replies, to_host}
+use Rattle.nq_model.specs.protocol.ServerStep.{row_of_attach, attaches, attach_later, admit, receive}
 use Rattle.walk_steps.proofs.ClientCases.{Core, Closed}
 use Rattle.walk_steps.proofs.ClientFacts.{Alone}
 use Rattle.walk_steps.proofs.ClientWalk.{reply-keeps, notice-keeps, tick-keeps}

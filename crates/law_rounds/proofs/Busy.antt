@@ -6,11 +6,11 @@ use Rattle.nq_base.specs.declared.Call.{Call}
 use Rattle.nq_base.specs.declared.Mode.{Mode}
 use Rattle.nq_base.specs.declared.Push.{Push}
 use Rattle.nq_base.specs.declared.Request.{Request}
-use Rattle.nq_model.specs.Client.{ClientStep, Job, UnderWay, lease_on, first_dirty, is_push_of, is_clean_in, is_clean}
-use Rattle.nq_model.specs.Send.{sends_request, after_seq, gives_up, want_of, pushes_these, pushes, noticed_file, sends_write, next_write, next_put}
-use Rattle.nq_model.specs.Send.{next_change, asks, next_of_call, next_of_under_way, is_asking, then_renews, then_calls, pushes_due, then_pushes}
-use Rattle.nq_model.specs.Send.{then_ending, send_next, ending_file, shares_live}
-use Rattle.nq_model.specs.Settle.{ticket_is_for_call}
+use Rattle.nq_model.specs.protocol.Client.{ClientStep, Job, UnderWay, lease_on, first_dirty, is_push_of, is_clean_in, is_clean}
+use Rattle.nq_model.specs.protocol.Send.{sends_request, after_seq, gives_up, want_of, pushes_these, pushes, noticed_file, sends_write, next_write, next_put}
+use Rattle.nq_model.specs.protocol.Send.{next_change, asks, next_of_call, next_of_under_way, is_asking, then_renews, then_calls, pushes_due, then_pushes}
+use Rattle.nq_model.specs.protocol.Send.{then_ending, send_next, ending_file, shares_live}
+use Rattle.nq_model.specs.protocol.Settle.{ticket_is_for_call}
 use Rattle.walk_steps.proofs.ClientFacts.{DelayingOf}
 use Rattle.walk_steps.proofs.ClientMoves.{some-same, none-some}
 use Rattle.walk_steps.proofs.SettleCases.{IsSettling, Settled, IsSync, of_sync, of_put}

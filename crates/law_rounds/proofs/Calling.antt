@@ -7,13 +7,13 @@ use Rattle.nq_base.specs.declared.Refusal.{Refusal}
 use Rattle.nq_base.specs.declared.Reply.{Reply}
 use Rattle.nq_base.specs.declared.Request.{Request}
 use Rattle.nq_base.specs.declared.Value.{Value}
-use Rattle.nq_model.specs.Client.{Client, ClientStep, Job, Ticket, UnderWay, begun}
-use Rattle.nq_model.specs.ClientStep.{client_tick, sends_again, at_time}
-use Rattle.nq_model.specs.Hear.{hear, reply_counts, is_put_off, answers_call, marks_through, with_through, pauses, replied, cancels, vacates_lease}
-use Rattle.nq_model.specs.Hear.{notes_notice, evicted}
-use Rattle.nq_model.specs.Message.{Message, reply}
-use Rattle.nq_model.specs.Send.{sends_request, after_seq, after_number, takes_push, gives_up, send_next}
-use Rattle.nq_model.specs.Settle.{answers, after_read, reads_cached, after_write, marks_written, settle}
+use Rattle.nq_model.specs.protocol.Client.{Client, ClientStep, Job, Ticket, UnderWay, begun}
+use Rattle.nq_model.specs.protocol.ClientStep.{client_tick, sends_again, at_time}
+use Rattle.nq_model.specs.protocol.Hear.{hear, reply_counts, is_put_off, answers_call, marks_through, with_through, pauses, replied, cancels, vacates_lease}
+use Rattle.nq_model.specs.protocol.Hear.{notes_notice, evicted}
+use Rattle.nq_model.specs.protocol.Message.{Message, reply}
+use Rattle.nq_model.specs.protocol.Send.{sends_request, after_seq, after_number, takes_push, gives_up, send_next}
+use Rattle.nq_model.specs.protocol.Settle.{answers, after_read, reads_cached, after_write, marks_written, settle}
 use Rattle.walk_steps.proofs.ClientFacts.{Alone}
 use Rattle.walk_steps.proofs.ClientMoves.{some-same, none-some}
 use Rattle.walk_steps.proofs.PartCases.{answers-call-cases, lease-done-cases}

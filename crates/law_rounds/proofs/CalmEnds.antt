@@ -3,9 +3,9 @@ use Rattle.std.proofs.Common.{◌≡◌, ◌≤◌, ℕ, ◌+◌, ◌-◌, ◌==
 use Rattle.std.specs.Prelude.{filter}
 use Rattle.std.proofs.lemmas.List.{length-append}
 use Rattle.nq_base.specs.declared.Event.{Event}
-use Rattle.nq_model.specs.Lines.{Play, play, play_flow, flow_first, play_hosts, delivered, numbers_from, added}
-use Rattle.nq_model.specs.Message.{Packet}
-use Rattle.nq_model.specs.World.{Head, step, run}
+use Rattle.nq_model.specs.protocol.Lines.{Play, play, play_flow, flow_first, play_hosts, delivered, numbers_from, added}
+use Rattle.nq_model.specs.protocol.Message.{Packet}
+use Rattle.nq_model.specs.protocol.World.{Head, step, run}
 use Rattle.walk_steps.proofs.Steps.{step-changes}
 use Rattle.walk_steps.proofs.Rows.{choice}
 use Rattle.law_rounds.specs.DeliveryEnds.{AreUnderWay, calmed, enough_deliveries, IsDelivered}

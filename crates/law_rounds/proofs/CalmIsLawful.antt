@@ -2,10 +2,10 @@
 use Rattle.std.proofs.Common.{◌≡◌, ◌<◌, ◌≤◌, ℕ, ◌+◌, ◌==◌, Bool, true, false, zero, suc, List, [], ◌∷◌, length, refl, sym, subst, ap, ◌∙◌, arith}
 use Rattle.std.proofs.lemmas.Bool.Decides.{nat_tests}
 use Rattle.nq_base.specs.declared.Event.{Event}
-use Rattle.nq_model.specs.Bounds.{KeepsBounds, BootsWithin}
-use Rattle.nq_model.specs.Lines.{Play, play, play_flow, flow_first, play_hosts, play_rounds}
-use Rattle.nq_model.specs.Skew.{is_server_tick, IsWithinSkew}
-use Rattle.nq_model.specs.World.{Head, step}
+use Rattle.nq_model.specs.laws.Bounds.{KeepsBounds, BootsWithin}
+use Rattle.nq_model.specs.protocol.Lines.{Play, play, play_flow, flow_first, play_hosts, play_rounds}
+use Rattle.nq_model.specs.protocol.Skew.{is_server_tick, IsWithinSkew}
+use Rattle.nq_model.specs.protocol.World.{Head, step}
 use Rattle.walk_steps.proofs.NoCrash.{one-first}
 use Rattle.walk_steps.proofs.Rows.{same-number}
 use Rattle.law_rounds.specs.CalmRound.{calm_round, calm_rounds}

@@ -1,7 +1,7 @@
 -- Calm rounds are whole rounds: of all orders, that in which the packets were sent.
 use Rattle.std.proofs.Common.{◌≡◌, ℕ, zero, suc, List, [], ◌∷◌, length, refl, subst, ap, ◌∙◌, arith}
-use Rattle.nq_model.specs.Lines.{Play, play_flow, flow_first, play_rounds}
-use Rattle.nq_model.specs.World.{Head}
+use Rattle.nq_model.specs.protocol.Lines.{Play, play_flow, flow_first, play_rounds}
+use Rattle.nq_model.specs.protocol.World.{Head}
 use Rattle.law_rounds.specs.DeliveryEnds.{calmed, enough_deliveries}
 use Rattle.law_rounds.specs.CalmRound.{calm_round, calm_rounds}
 use Rattle.law_rounds.specs.CalmRoundsAreLawful.{IsLawful}

@@ -2,7 +2,7 @@
 use Rattle.std.proofs.Common.{◌≡◌, ℕ, ◌+◌, zero, suc, List, [], ◌∷◌, length, refl, ap, ◌∙◌}
 use Rattle.std.proofs.lemmas.List.{length-set}
 use Rattle.nq_base.specs.declared.Event.{Event}
-use Rattle.nq_model.specs.World.{Head, World, after_server, after_client, first_clients, run, start}
+use Rattle.nq_model.specs.protocol.World.{Head, World, after_server, after_client, first_clients, run, start}
 use Rattle.walk_steps.proofs.Steps.{Changes, nothing, by_client, by_server, step-changes}
 
 same-clients : (w v : World) → Changes w v → length v.clients ≡ length w.clients

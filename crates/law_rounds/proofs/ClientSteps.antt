@@ -6,11 +6,11 @@ use Rattle.std.proofs.lemmas.List.{append-nil}
 use Rattle.nq_base.specs.declared.Request.{Request}
 use Rattle.nq_base.specs.declared.Tag.{Tag}
 use Rattle.nq_base.specs.declared.Who.{Who}
-use Rattle.nq_model.specs.Client.{Client, ClientStep}
-use Rattle.nq_model.specs.Hear.{hear, wants_of}
-use Rattle.nq_model.specs.Message.{Message, Packet, call}
-use Rattle.nq_model.specs.Server.{to_host}
-use Rattle.nq_model.specs.World.{World, from_host, after_client, after_hearing, deliver, deliver_to_client}
+use Rattle.nq_model.specs.protocol.Client.{Client, ClientStep}
+use Rattle.nq_model.specs.protocol.Hear.{hear, wants_of}
+use Rattle.nq_model.specs.protocol.Message.{Message, Packet, call}
+use Rattle.nq_model.specs.protocol.Server.{to_host}
+use Rattle.nq_model.specs.protocol.World.{World, from_host, after_client, after_hearing, deliver, deliver_to_client}
 use Rattle.walk_steps.proofs.ClientMoves.{some-same, none-some}
 use Rattle.walk_steps.proofs.Worlds.{get-set-same, get-set-other}
 use Rattle.walk_steps.proofs.Rows.{same-number, number-same}

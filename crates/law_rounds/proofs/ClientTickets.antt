@@ -6,10 +6,10 @@ use Rattle.nq_base.specs.declared.Reply.{Reply}
 use Rattle.nq_base.specs.declared.Request.{Request}
 use Rattle.nq_base.specs.declared.Tag.{Tag}
 use Rattle.nq_base.specs.declared.Who.{Who}
-use Rattle.nq_model.specs.Client.{Client, ClientStep, begun, Ticket}
-use Rattle.nq_model.specs.ClientStep.{client_call, client_tick, at_time}
-use Rattle.nq_model.specs.Hear.{inc_of, reply_counts, hear, goes_on, replied, evicted, cancels}
-use Rattle.nq_model.specs.Message.{Message, Packet, call, reply, sequence_of}
+use Rattle.nq_model.specs.protocol.Client.{Client, ClientStep, begun, Ticket}
+use Rattle.nq_model.specs.protocol.ClientStep.{client_call, client_tick, at_time}
+use Rattle.nq_model.specs.protocol.Hear.{inc_of, reply_counts, hear, goes_on, replied, evicted, cancels}
+use Rattle.nq_model.specs.protocol.Message.{Message, Packet, call, reply, sequence_of}
 use Rattle.walk_steps.proofs.ClientCases.{Core, core_of, Closed}
 use Rattle.walk_steps.proofs.ClientFacts.{Alone}
 use Rattle.walk_steps.proofs.ClientMoves.{some-same, none-some, keeps-or-cancels}

@@ -2,9 +2,9 @@
 use Rattle.std.proofs.Common.{◌≡◌, ◌≤◌, ◌⊎◌, ℕ, ◌+◌, ◌-◌, ◌==◌, ◌++◌, not, zero, suc, List, [], ◌∷◌, Some, length, sym, ap, ◌∙◌, arith, inl, inr}
 use Rattle.std.specs.Prelude.{slice_get}
 use Rattle.nq_base.specs.declared.Event.{Event}
-use Rattle.nq_model.specs.Lines.{Play, play, delivered, added, numbers_from}
-use Rattle.nq_model.specs.Message.{Packet}
-use Rattle.nq_model.specs.World.{step}
+use Rattle.nq_model.specs.protocol.Lines.{Play, play, delivered, added, numbers_from}
+use Rattle.nq_model.specs.protocol.Message.{Packet}
+use Rattle.nq_model.specs.protocol.World.{step}
 use Rattle.law_rounds.proofs.ClientSteps.{get-below}
 use Rattle.law_rounds.proofs.PacketsCome.{Comes}
 use Rattle.walk_steps.proofs.Members.{in-filter}

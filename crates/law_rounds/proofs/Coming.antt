@@ -5,12 +5,12 @@ use Rattle.std.specs.Prelude.{map, slice_get}
 use Rattle.std.proofs.lemmas.List.{length-append}
 use Rattle.nq_base.specs.declared.Event.{Event}
 use Rattle.nq_base.specs.declared.Party.{Party}
-use Rattle.nq_model.specs.Client.{Client, ClientStep}
-use Rattle.nq_model.specs.Hear.{hear}
-use Rattle.nq_model.specs.Lines.{Play, play, delivered, numbers_from, added}
-use Rattle.nq_model.specs.Message.{Packet, datagram_of}
-use Rattle.nq_model.specs.ServerStep.{receive}
-use Rattle.nq_model.specs.World.{World, after_client, after_server, after_hearing, sending_host, deliver, deliver_to, deliver_to_client, step}
+use Rattle.nq_model.specs.protocol.Client.{Client, ClientStep}
+use Rattle.nq_model.specs.protocol.Hear.{hear}
+use Rattle.nq_model.specs.protocol.Lines.{Play, play, delivered, numbers_from, added}
+use Rattle.nq_model.specs.protocol.Message.{Packet, datagram_of}
+use Rattle.nq_model.specs.protocol.ServerStep.{receive}
+use Rattle.nq_model.specs.protocol.World.{World, after_client, after_server, after_hearing, sending_host, deliver, deliver_to, deliver_to_client, step}
 use Rattle.walk_steps.proofs.Members.{filter-in}
 use Rattle.walk_steps.proofs.Packets.{In, in-left, in-right}
 use Rattle.walk_steps.proofs.Steps.{step-changes}

@@ -5,12 +5,12 @@ use Rattle.std.proofs.lemmas.List.{length-append}
 use Rattle.nq_base.specs.declared.Event.{Event}
 use Rattle.nq_base.specs.declared.Request.{Request}
 use Rattle.nq_base.specs.declared.Row.{Row}
-use Rattle.nq_model.specs.Client.{Client}
-use Rattle.nq_model.specs.Lines.{Play, play}
-use Rattle.nq_model.specs.Message.{Message, Packet}
-use Rattle.nq_model.specs.Server.{Server, to_host}
-use Rattle.nq_model.specs.Table.{find_row}
-use Rattle.nq_model.specs.World.{World, deliver}
+use Rattle.nq_model.specs.protocol.Client.{Client}
+use Rattle.nq_model.specs.protocol.Lines.{Play, play}
+use Rattle.nq_model.specs.protocol.Message.{Message, Packet}
+use Rattle.nq_model.specs.protocol.Server.{Server, to_host}
+use Rattle.nq_model.specs.protocol.Table.{find_row}
+use Rattle.nq_model.specs.protocol.World.{World, deliver}
 use Rattle.law_rounds.proofs.Asked.{is_taken}
 use Rattle.law_rounds.proofs.ClientSteps.{sum_of, CameOf, nothing, gives_up, asks_again, ClientOut, turned, went_on, client-delivered}
 use Rattle.law_rounds.proofs.Energy.{energy}

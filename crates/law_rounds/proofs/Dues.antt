@@ -8,19 +8,19 @@ use Rattle.nq_base.specs.declared.Call.{Call}
 use Rattle.nq_base.specs.declared.Event.{Event}
 use Rattle.nq_base.specs.declared.Push.{Push}
 use Rattle.nq_base.specs.declared.Request.{Request}
-use Rattle.nq_model.specs.Client.{UnderWay, Client, ClientStep, Job, Lease, Notice, begun, lease_on, notice_on, file_of_lease, file_of_notice}
-use Rattle.nq_model.specs.Client.{first_dirty, is_push_of, is_clean_in, used_lease}
-use Rattle.nq_model.specs.ClientStep.{begins_call, is_called, says_busy, client_call, at_time, sends_again, client_tick, attached_client, starts}
-use Rattle.nq_model.specs.ClientStep.{fresh_client, restart}
-use Rattle.nq_model.specs.Hear.{hear, replied, cancels, evicted}
-use Rattle.nq_model.specs.Message.{Message}
-use Rattle.nq_model.specs.Profile.{renewal}
-use Rattle.nq_model.specs.Send.{next_put, next_of_call, next_of_under_way, send_next, is_asking, sends_request, pushes, pushes_these, least_with}
-use Rattle.nq_model.specs.Send.{least, noticed_file, noticed_in, is_to_push_in, ending_in, ending_file, then_calls, then_pushes, then_ending}
-use Rattle.nq_model.specs.Send.{pushes_due}
-use Rattle.nq_model.specs.Settle.{ticket_is_for_call, answers, after_read, reads_cached, after_write, marks_written, settle}
-use Rattle.nq_model.specs.Table.{is_writing}
-use Rattle.nq_model.specs.World.{Head, World, after_server, after_client, start, run}
+use Rattle.nq_model.specs.protocol.Client.{UnderWay, Client, ClientStep, Job, Lease, Notice, begun, lease_on, notice_on, file_of_lease, file_of_notice}
+use Rattle.nq_model.specs.protocol.Client.{first_dirty, is_push_of, is_clean_in, used_lease}
+use Rattle.nq_model.specs.protocol.ClientStep.{begins_call, is_called, says_busy, client_call, at_time, sends_again, client_tick, attached_client, starts}
+use Rattle.nq_model.specs.protocol.ClientStep.{fresh_client, restart}
+use Rattle.nq_model.specs.protocol.Hear.{hear, replied, cancels, evicted}
+use Rattle.nq_model.specs.protocol.Message.{Message}
+use Rattle.nq_model.specs.protocol.Profile.{renewal}
+use Rattle.nq_model.specs.protocol.Send.{next_put, next_of_call, next_of_under_way, send_next, is_asking, sends_request, pushes, pushes_these, least_with}
+use Rattle.nq_model.specs.protocol.Send.{least, noticed_file, noticed_in, is_to_push_in, ending_in, ending_file, then_calls, then_pushes, then_ending}
+use Rattle.nq_model.specs.protocol.Send.{pushes_due}
+use Rattle.nq_model.specs.protocol.Settle.{ticket_is_for_call, answers, after_read, reads_cached, after_write, marks_written, settle}
+use Rattle.nq_model.specs.protocol.Table.{is_writing}
+use Rattle.nq_model.specs.protocol.World.{Head, World, after_server, after_client, start, run}
 use Rattle.nq_model.proofs.ClientLists.{marked-before, marked-mode, marked-expiry}
 use Rattle.walk_steps.proofs.ClientFacts.{Alone, DelayingOf}
 use Rattle.walk_steps.proofs.ClientMoves.{some-same, none-some}

@@ -11,12 +11,12 @@ use Rattle.nq_base.specs.declared.Request.{Request}
 use Rattle.nq_base.specs.declared.Value.{Value}
 use Rattle.nq_base.specs.declared.Want.{Want}
 use Rattle.nq_base.specs.declared.Who.{Who}
-use Rattle.nq_model.specs.Client.{ClientStep, Job, attaching, for_call, renewing, pushing, Lease, Ticket, UnderWay, is_push_of, is_push_at}
-use Rattle.nq_model.specs.Client.{first_dirty, dirty_at, drop_dirty}
-use Rattle.nq_model.specs.Message.{Message}
-use Rattle.nq_model.specs.Send.{sends_request, after_seq, after_number, takes_push, gives_up, base_of, send_next}
-use Rattle.nq_model.specs.Settle.{answers, after_read, reads_cached, overwritten_at, with_write, write_in, after_write, delays, marks_written}
-use Rattle.nq_model.specs.Settle.{ticket_is_for_call, is_for_call, settle}
+use Rattle.nq_model.specs.protocol.Client.{ClientStep, Job, attaching, for_call, renewing, pushing, Lease, Ticket, UnderWay, is_push_of, is_push_at}
+use Rattle.nq_model.specs.protocol.Client.{first_dirty, dirty_at, drop_dirty}
+use Rattle.nq_model.specs.protocol.Message.{Message}
+use Rattle.nq_model.specs.protocol.Send.{sends_request, after_seq, after_number, takes_push, gives_up, base_of, send_next}
+use Rattle.nq_model.specs.protocol.Settle.{answers, after_read, reads_cached, overwritten_at, with_write, write_in, after_write, delays, marks_written}
+use Rattle.nq_model.specs.protocol.Settle.{ticket_is_for_call, is_for_call, settle}
 use Rattle.walk_steps.proofs.ClientMoves.{some-same, none-some}
 use Rattle.walk_steps.proofs.SendCases.{pushed, send-cases}
 use Rattle.walk_steps.proofs.SettleCases.{IsSettling, IsRead, IsWrite, IsSync, of_sync, of_put, needs_packet, CanWrite, WriteWaits, settle-cases}

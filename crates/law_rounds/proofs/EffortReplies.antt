@@ -13,17 +13,17 @@ use Rattle.nq_base.specs.declared.Value.{Value}
 use Rattle.nq_base.specs.declared.Want.{Want}
 use Rattle.nq_base.specs.declared.Who.{Who}
 use Rattle.nq_model.proofs.ClientLists.{put-lease-found}
-use Rattle.nq_model.specs.Client.{Client, ClientStep, begun, Job, attaching, for_call, renewing, pushing, Notice, Ticket, UnderWay, lease_on}
-use Rattle.nq_model.specs.Client.{notice_on, is_push_of, dirty_at, is_clean, revision_of, is_revision_before, lets_write}
-use Rattle.nq_model.specs.Hear.{answers_call, answer_of, vacates_lease, vacates_noticed, loses, waits_for, reports_to, reports, push_refused}
-use Rattle.nq_model.specs.Hear.{without_lease, granted_lease, breaks, breaks_chain, if_broken, holds, takes_grant, takes_optional, grant_caches}
-use Rattle.nq_model.specs.Hear.{caches_block, purges, knows_revision, then_caches, with_through, marks_through, lease_done, holds_caching}
-use Rattle.nq_model.specs.Hear.{caches_write, ends_push, caches_push, vacates_if_clean, push_done, spends, attached, pauses, replied, wants_of}
-use Rattle.nq_model.specs.Hear.{cancelled, cancels, notes_notice, evicted, reply_counts}
-use Rattle.nq_model.specs.Message.{Message}
-use Rattle.nq_model.specs.Profile.{patience}
-use Rattle.nq_model.specs.Settle.{answers, names_losses, is_for_call, ticket_is_for_call, settle}
-use Rattle.nq_model.specs.Table.{is_writing}
+use Rattle.nq_model.specs.protocol.Client.{Client, ClientStep, begun, Job, attaching, for_call, renewing, pushing, Notice, Ticket, UnderWay, lease_on}
+use Rattle.nq_model.specs.protocol.Client.{notice_on, is_push_of, dirty_at, is_clean, revision_of, is_revision_before, lets_write}
+use Rattle.nq_model.specs.protocol.Hear.{answers_call, answer_of, vacates_lease, vacates_noticed, loses, waits_for, reports_to, reports, push_refused}
+use Rattle.nq_model.specs.protocol.Hear.{without_lease, granted_lease, breaks, breaks_chain, if_broken, holds, takes_grant, takes_optional, grant_caches}
+use Rattle.nq_model.specs.protocol.Hear.{caches_block, purges, knows_revision, then_caches, with_through, marks_through, lease_done, holds_caching}
+use Rattle.nq_model.specs.protocol.Hear.{caches_write, ends_push, caches_push, vacates_if_clean, push_done, spends, attached, pauses, replied, wants_of}
+use Rattle.nq_model.specs.protocol.Hear.{cancelled, cancels, notes_notice, evicted, reply_counts}
+use Rattle.nq_model.specs.protocol.Message.{Message}
+use Rattle.nq_model.specs.protocol.Profile.{patience}
+use Rattle.nq_model.specs.protocol.Settle.{answers, names_losses, is_for_call, ticket_is_for_call, settle}
+use Rattle.nq_model.specs.protocol.Table.{is_writing}
 use Rattle.walk_steps.proofs.ClientFacts.{Alone}
 use Rattle.walk_steps.proofs.ClientMoves.{none-some}
 use Rattle.walk_steps.proofs.PartCases.{answers-call-cases, lease-done-cases, vacates-if-clean-cases}

@@ -2,9 +2,9 @@
 use Rattle.std.proofs.Common.{◌≡◌, ℕ, ◌+◌, ◌++◌, Bool, true, false, List, [], ◌∷◌, Some, arith}
 use Rattle.nq_base.specs.declared.Reply.{Reply}
 use Rattle.nq_base.specs.declared.Request.{Request}
-use Rattle.nq_model.specs.Client.{ClientStep}
-use Rattle.nq_model.specs.Message.{Message, call, reply, error}
-use Rattle.nq_model.specs.Table.{is_writing}
+use Rattle.nq_model.specs.protocol.Client.{ClientStep}
+use Rattle.nq_model.specs.protocol.Message.{Message, call, reply, error}
+use Rattle.nq_model.specs.protocol.Table.{is_writing}
 use Rattle.law_rounds.specs.Efforts.{is_idle, effort}
 
 -- the sum of what each element of a list costs

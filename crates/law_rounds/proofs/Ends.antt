@@ -4,9 +4,9 @@ use Rattle.std.proofs.lemmas.List.{append-nil, length-append}
 use Rattle.nq_base.specs.declared.Event.{Event}
 use Rattle.nq_base.specs.declared.Request.{Request}
 use Rattle.nq_base.specs.declared.Row.{Row}
-use Rattle.nq_model.specs.Client.{Client}
-use Rattle.nq_model.specs.Lines.{Play, play, play_flow, flow_first}
-use Rattle.nq_model.specs.Server.{Server}
+use Rattle.nq_model.specs.protocol.Client.{Client}
+use Rattle.nq_model.specs.protocol.Lines.{Play, play, play_flow, flow_first}
+use Rattle.nq_model.specs.protocol.Server.{Server}
 use Rattle.law_rounds.specs.DeliveryEnds.{growth, most_growths}
 use Rattle.law_rounds.proofs.Deliver.{Spends, less_energy, less_weight, GoesOn}
 use Rattle.law_rounds.proofs.Energy.{energy}

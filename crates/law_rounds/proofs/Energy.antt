@@ -4,7 +4,7 @@ use Rattle.std.proofs.Common.{ap, subst, arith}
 use Rattle.std.proofs.lemmas.Bool.Decides.{nat_tests}
 use Rattle.nq_base.specs.declared.Request.{Request}
 use Rattle.nq_base.specs.declared.Row.{Row}
-use Rattle.nq_model.specs.Table.{caches, find_row}
+use Rattle.nq_model.specs.protocol.Table.{caches, find_row}
 use Rattle.walk_steps.proofs.Rows.{same-number}
 
 -- ---- sums over hosts

@@ -10,16 +10,16 @@ use Rattle.nq_base.specs.declared.Row.{Row}
 use Rattle.nq_base.specs.declared.Tag.{Tag}
 use Rattle.nq_base.specs.declared.Want.{Want}
 use Rattle.nq_base.specs.declared.Who.{Who}
-use Rattle.nq_model.specs.Ask.{ask}
-use Rattle.nq_model.specs.Client.{Client, ClientStep, Job, attaching, for_call, renewing, pushing, Ticket}
-use Rattle.nq_model.specs.Hear.{hear, wants_of}
-use Rattle.nq_model.specs.Message.{Message, Packet, call, datagram_of}
-use Rattle.nq_model.specs.Profile.{most_hosts, most_rows}
-use Rattle.nq_model.specs.Server.{to_host}
-use Rattle.nq_model.specs.ServerStep.{receive}
-use Rattle.nq_model.specs.Table.{Table, caches, find_row}
-use Rattle.nq_model.specs.World.{World, from_host, sending_host, step}
-use Rattle.nq_model.specs.RowsStandApart.{AreOfKeptIncarnations, WritesAlone}
+use Rattle.nq_model.specs.protocol.Ask.{ask}
+use Rattle.nq_model.specs.protocol.Client.{Client, ClientStep, Job, attaching, for_call, renewing, pushing, Ticket}
+use Rattle.nq_model.specs.protocol.Hear.{hear, wants_of}
+use Rattle.nq_model.specs.protocol.Message.{Message, Packet, call, datagram_of}
+use Rattle.nq_model.specs.protocol.Profile.{most_hosts, most_rows}
+use Rattle.nq_model.specs.protocol.Server.{to_host}
+use Rattle.nq_model.specs.protocol.ServerStep.{receive}
+use Rattle.nq_model.specs.protocol.Table.{Table, caches, find_row}
+use Rattle.nq_model.specs.protocol.World.{World, from_host, sending_host, step}
+use Rattle.nq_model.specs.laws.RowsStandApart.{AreOfKeptIncarnations, WritesAlone}
 use Rattle.walk_steps.proofs.Packets.{In}
 use Rattle.walk_steps.proofs.Worlds.{Holds}
 

@@ -6,11 +6,11 @@ use Rattle.std.proofs.lemmas.List.Sums.{sum_by-cons}
 use Rattle.nq_base.specs.declared.Call.{Call}
 use Rattle.nq_base.specs.declared.Event.{Event}
 use Rattle.nq_base.specs.declared.Request.{Request}
-use Rattle.nq_model.specs.Client.{Client, Job, attaching, for_call, renewing, pushing, Ticket, UnderWay}
-use Rattle.nq_model.specs.Lines.{Play, play, play_flow}
-use Rattle.nq_model.specs.Settle.{pending}
-use Rattle.nq_model.specs.Stepped.{most_sends}
-use Rattle.nq_model.specs.World.{Head, step, run}
+use Rattle.nq_model.specs.protocol.Client.{Client, Job, attaching, for_call, renewing, pushing, Ticket, UnderWay}
+use Rattle.nq_model.specs.protocol.Lines.{Play, play, play_flow}
+use Rattle.nq_model.specs.protocol.Settle.{pending}
+use Rattle.nq_model.specs.protocol.Stepped.{most_sends}
+use Rattle.nq_model.specs.protocol.World.{Head, step, run}
 use Rattle.walk_steps.proofs.NoCrash.{one-first}
 use Rattle.law_rounds.specs.Efforts.{writes_to, read_left, lease_left, sent_left, job_left, requests_left, put_delays, may_delay, delays_left}
 use Rattle.law_rounds.specs.Turns.{turns_left}

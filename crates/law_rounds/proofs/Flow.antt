@@ -7,12 +7,12 @@ use Rattle.nq_base.specs.declared.Event.{Event}
 use Rattle.nq_base.specs.declared.Request.{Request}
 use Rattle.nq_base.specs.declared.Tag.{Tag}
 use Rattle.nq_base.specs.declared.Who.{Who}
-use Rattle.nq_model.specs.Client.{Client}
-use Rattle.nq_model.specs.Hear.{wants_of}
-use Rattle.nq_model.specs.Lines.{Play, play, play_flow, flow_first}
-use Rattle.nq_model.specs.Message.{Message, Packet}
-use Rattle.nq_model.specs.Server.{to_host}
-use Rattle.nq_model.specs.World.{from_host}
+use Rattle.nq_model.specs.protocol.Client.{Client}
+use Rattle.nq_model.specs.protocol.Hear.{wants_of}
+use Rattle.nq_model.specs.protocol.Lines.{Play, play, play_flow, flow_first}
+use Rattle.nq_model.specs.protocol.Message.{Message, Packet}
+use Rattle.nq_model.specs.protocol.Server.{to_host}
+use Rattle.nq_model.specs.protocol.World.{from_host}
 use Rattle.walk_steps.proofs.Packets.{in-get}
 use Rattle.walk_steps.proofs.Worlds.{IsSent, by_host, by_server}
 use Rattle.law_rounds.specs.DeliveryEnds.{growth, most_growths}

@@ -8,16 +8,16 @@ use Rattle.nq_base.specs.declared.Party.{Party}
 use Rattle.nq_base.specs.declared.Reply.{Reply}
 use Rattle.nq_base.specs.declared.Request.{Request}
 use Rattle.nq_base.specs.declared.Tag.{Tag}
-use Rattle.nq_model.specs.Client.{Client, ClientStep, Ticket, begun}
-use Rattle.nq_model.specs.ClientStep.{client_tick}
-use Rattle.nq_model.specs.Hear.{inc_of, reply_counts, hear, goes_on, replied, evicted, cancels}
-use Rattle.nq_model.specs.Lines.{Play, play, play_hosts, delivered}
-use Rattle.nq_model.specs.Message.{Message, Packet, call, reply, datagram_of}
-use Rattle.nq_model.specs.Profile.{patience}
-use Rattle.nq_model.specs.Server.{to_host}
-use Rattle.nq_model.specs.ServerStep.{receive}
-use Rattle.nq_model.specs.Stepped.{most_sent}
-use Rattle.nq_model.specs.World.{Head, World, from_host, after_client, after_server, at_client, sending_host, step, run}
+use Rattle.nq_model.specs.protocol.Client.{Client, ClientStep, Ticket, begun}
+use Rattle.nq_model.specs.protocol.ClientStep.{client_tick}
+use Rattle.nq_model.specs.protocol.Hear.{inc_of, reply_counts, hear, goes_on, replied, evicted, cancels}
+use Rattle.nq_model.specs.protocol.Lines.{Play, play, play_hosts, delivered}
+use Rattle.nq_model.specs.protocol.Message.{Message, Packet, call, reply, datagram_of}
+use Rattle.nq_model.specs.protocol.Profile.{patience}
+use Rattle.nq_model.specs.protocol.Server.{to_host}
+use Rattle.nq_model.specs.protocol.ServerStep.{receive}
+use Rattle.nq_model.specs.protocol.Stepped.{most_sent}
+use Rattle.nq_model.specs.protocol.World.{Head, World, from_host, after_client, after_server, at_client, sending_host, step, run}
 use Rattle.law_rounds.proofs.GoingOn.{calls-go-on}
 use Rattle.law_rounds.proofs.ClientCount.{client-count}
 use Rattle.law_rounds.specs.CalmRoundsAreLawful.{IsLawful}

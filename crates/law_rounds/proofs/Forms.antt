@@ -6,12 +6,12 @@ use Rattle.nq_base.specs.declared.Request.{Request}
 use Rattle.nq_base.specs.declared.Row.{Row}
 use Rattle.nq_base.specs.declared.Tag.{Tag}
 use Rattle.nq_base.specs.declared.Who.{Who}
-use Rattle.nq_model.specs.Client.{Client}
-use Rattle.nq_model.specs.Hear.{wants_of}
-use Rattle.nq_model.specs.Message.{Message, call, reply, error}
-use Rattle.nq_model.specs.Server.{Server, to_host}
-use Rattle.nq_model.specs.Table.{find_row}
-use Rattle.nq_model.specs.World.{World, from_host}
+use Rattle.nq_model.specs.protocol.Client.{Client}
+use Rattle.nq_model.specs.protocol.Hear.{wants_of}
+use Rattle.nq_model.specs.protocol.Message.{Message, call, reply, error}
+use Rattle.nq_model.specs.protocol.Server.{Server, to_host}
+use Rattle.nq_model.specs.protocol.Table.{find_row}
+use Rattle.nq_model.specs.protocol.World.{World, from_host}
 use Rattle.law_rounds.proofs.Asked.{is_taken, question_of, writes_for}
 use Rattle.law_rounds.proofs.Facts.{asked_for, wants_in}
 use Rattle.law_rounds.proofs.GoodRows.{IsGood}

@@ -6,14 +6,14 @@ use Rattle.nq_base.specs.declared.Call.{Call}
 use Rattle.nq_base.specs.declared.Event.{Event}
 use Rattle.nq_base.specs.declared.Request.{Request}
 use Rattle.nq_base.specs.declared.Who.{Who}
-use Rattle.nq_model.specs.Client.{Client, ClientStep, UnderWay, begun}
-use Rattle.nq_model.specs.ClientStep.{begins_call, is_called, says_busy, client_call, at_time, sends_again, client_tick, attached_client, starts}
-use Rattle.nq_model.specs.ClientStep.{fresh_client, restart}
-use Rattle.nq_model.specs.Hear.{hear, replied, cancels, evicted}
-use Rattle.nq_model.specs.Message.{Message, asker}
-use Rattle.nq_model.specs.Send.{send_next, is_asking}
-use Rattle.nq_model.specs.Settle.{answers, names_losses, after_read, reads_cached, after_write, marks_written, settle}
-use Rattle.nq_model.specs.World.{Head, World, after_server, after_client, start, run}
+use Rattle.nq_model.specs.protocol.Client.{Client, ClientStep, UnderWay, begun}
+use Rattle.nq_model.specs.protocol.ClientStep.{begins_call, is_called, says_busy, client_call, at_time, sends_again, client_tick, attached_client, starts}
+use Rattle.nq_model.specs.protocol.ClientStep.{fresh_client, restart}
+use Rattle.nq_model.specs.protocol.Hear.{hear, replied, cancels, evicted}
+use Rattle.nq_model.specs.protocol.Message.{Message, asker}
+use Rattle.nq_model.specs.protocol.Send.{send_next, is_asking}
+use Rattle.nq_model.specs.protocol.Settle.{answers, names_losses, after_read, reads_cached, after_write, marks_written, settle}
+use Rattle.nq_model.specs.protocol.World.{Head, World, after_server, after_client, start, run}
 use Rattle.walk_steps.proofs.ClientFacts.{Alone, fits_attach, fits_job}
 use Rattle.walk_steps.proofs.ClientMoves.{some-same, none-some}
 use Rattle.walk_steps.proofs.SettleCases.{settle-cases, settle-settles}

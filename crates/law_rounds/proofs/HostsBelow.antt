@@ -12,18 +12,18 @@ use Rattle.nq_base.specs.declared.Row.{Row}
 use Rattle.nq_base.specs.declared.Tag.{Tag}
 use Rattle.nq_base.specs.declared.Want.{Want}
 use Rattle.nq_base.specs.declared.Who.{Who}
-use Rattle.nq_model.specs.Ask.{marked, sharing_row, caching_row, shared_again, renewed_row}
-use Rattle.nq_model.specs.Client.{ClientStep}
-use Rattle.nq_model.specs.Decide.{decides, creates, writes_through, stores, stores_recovering, wrote, resizes, removes, puts_off, commits}
-use Rattle.nq_model.specs.Message.{Packet, Datagram, datagram_of}
-use Rattle.nq_model.specs.Profile.{most_hosts}
-use Rattle.nq_model.specs.Server.{Server, ServerStep, after_notices, keeping, keeping_with, with_table, quiet, drops, says}
-use Rattle.nq_model.specs.ServerStep.{access_of, to_read, end_reading, attaches, vacates, vacated_rows, tells_later, serves, leases, receive, tick}
-use Rattle.nq_model.specs.ServerStep.{boot, crash}
-use Rattle.nq_model.specs.Table.{Table, empty_table, after_draw, find_row, is_row_of, put_row, drop_row, same_tag, with_rows}
-use Rattle.nq_model.specs.World.{Head, World, from_host, after_server, after_client, sending_host, first_kept, start, run}
-use Rattle.nq_model.specs.RowsStandApart.{HasOneRowEach, StandApart}
-use Rattle.nq_model.specs.ServerAlone.{Coming, datagram, step_for, server_after, first_boot}
+use Rattle.nq_model.specs.protocol.Ask.{marked, sharing_row, caching_row, shared_again, renewed_row}
+use Rattle.nq_model.specs.protocol.Client.{ClientStep}
+use Rattle.nq_model.specs.protocol.Decide.{decides, creates, writes_through, stores, stores_recovering, wrote, resizes, removes, puts_off, commits}
+use Rattle.nq_model.specs.protocol.Message.{Packet, Datagram, datagram_of}
+use Rattle.nq_model.specs.protocol.Profile.{most_hosts}
+use Rattle.nq_model.specs.protocol.Server.{Server, ServerStep, after_notices, keeping, keeping_with, with_table, quiet, drops, says}
+use Rattle.nq_model.specs.protocol.ServerStep.{access_of, to_read, end_reading, attaches, vacates, vacated_rows, tells_later, serves, leases, receive, tick}
+use Rattle.nq_model.specs.protocol.ServerStep.{boot, crash}
+use Rattle.nq_model.specs.protocol.Table.{Table, empty_table, after_draw, find_row, is_row_of, put_row, drop_row, same_tag, with_rows}
+use Rattle.nq_model.specs.protocol.World.{Head, World, from_host, after_server, after_client, sending_host, first_kept, start, run}
+use Rattle.nq_model.specs.laws.RowsStandApart.{HasOneRowEach, StandApart}
+use Rattle.nq_model.specs.protocol.ServerAlone.{Coming, datagram, step_for, server_after, first_boot}
 use Rattle.walk_steps.proofs.NoticeCounts.{HostedBelow}
 use Rattle.walk_steps.proofs.ServerAlone.{rows-stand-apart}
 use Rattle.walk_steps.proofs.Members.{in-map}

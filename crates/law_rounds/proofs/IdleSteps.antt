@@ -9,18 +9,18 @@ use Rattle.nq_base.specs.declared.Refusal.{Refusal}
 use Rattle.nq_base.specs.declared.Reply.{Reply}
 use Rattle.nq_base.specs.declared.Request.{Request}
 use Rattle.nq_base.specs.declared.Tag.{Tag}
-use Rattle.nq_model.specs.Client.{Client, ClientStep, lease_on, notice_on, first_dirty, dirty_at, drop_dirty, other_dirty, is_clean, revision_of}
-use Rattle.nq_model.specs.Client.{is_revision_before, Job, attaching, for_call, renewing, pushing, Notice, Ticket, UnderWay, begun}
-use Rattle.nq_model.specs.ClientStep.{client_tick, sends_again, at_time}
-use Rattle.nq_model.specs.Hear.{hear, waits_for, breaks, grant_caches, holds_caching, is_put_off, answer_of, answers_call, vacates_lease}
-use Rattle.nq_model.specs.Hear.{vacates_noticed, other_push, loses, reports_to, without_lease, push_refused, breaks_chain, if_broken, holds}
-use Rattle.nq_model.specs.Hear.{takes_grant, takes_optional, answers_call_of, caches_block, purges, knows_revision, then_caches, read_done}
-use Rattle.nq_model.specs.Hear.{with_through, marks_through, lease_done, caches_write, write_done, ends_push, caches_push, push_done, spends}
-use Rattle.nq_model.specs.Hear.{attached, pauses, done_for_call, done_renewal, done_push, done, refused_push, refused, replied, cancels, notes_notice}
-use Rattle.nq_model.specs.Hear.{evicted}
-use Rattle.nq_model.specs.Message.{Message}
-use Rattle.nq_model.specs.Send.{sends_request, after_seq, after_number, takes_push, gives_up, send_next}
-use Rattle.nq_model.specs.Settle.{answers, names_losses, settle}
+use Rattle.nq_model.specs.protocol.Client.{Client, ClientStep, lease_on, notice_on, first_dirty, dirty_at, drop_dirty, other_dirty, is_clean, revision_of}
+use Rattle.nq_model.specs.protocol.Client.{is_revision_before, Job, attaching, for_call, renewing, pushing, Notice, Ticket, UnderWay, begun}
+use Rattle.nq_model.specs.protocol.ClientStep.{client_tick, sends_again, at_time}
+use Rattle.nq_model.specs.protocol.Hear.{hear, waits_for, breaks, grant_caches, holds_caching, is_put_off, answer_of, answers_call, vacates_lease}
+use Rattle.nq_model.specs.protocol.Hear.{vacates_noticed, other_push, loses, reports_to, without_lease, push_refused, breaks_chain, if_broken, holds}
+use Rattle.nq_model.specs.protocol.Hear.{takes_grant, takes_optional, answers_call_of, caches_block, purges, knows_revision, then_caches, read_done}
+use Rattle.nq_model.specs.protocol.Hear.{with_through, marks_through, lease_done, caches_write, write_done, ends_push, caches_push, push_done, spends}
+use Rattle.nq_model.specs.protocol.Hear.{attached, pauses, done_for_call, done_renewal, done_push, done, refused_push, refused, replied, cancels, notes_notice}
+use Rattle.nq_model.specs.protocol.Hear.{evicted}
+use Rattle.nq_model.specs.protocol.Message.{Message}
+use Rattle.nq_model.specs.protocol.Send.{sends_request, after_seq, after_number, takes_push, gives_up, send_next}
+use Rattle.nq_model.specs.protocol.Settle.{answers, names_losses, settle}
 use Rattle.walk_steps.proofs.ClientMoves.{none-some}
 use Rattle.walk_steps.proofs.SendCases.{send-cases}
 use Rattle.walk_steps.proofs.SettleCases.{settle-cases}

@@ -6,9 +6,9 @@ use Rattle.std.proofs.lemmas.List.{length-append}
 use Rattle.nq_base.specs.declared.Request.{Request}
 use Rattle.nq_base.specs.declared.Tag.{Tag}
 use Rattle.nq_base.specs.declared.Who.{Who}
-use Rattle.nq_model.specs.Lines.{numbers_from, without, added}
-use Rattle.nq_model.specs.Message.{Packet, call}
-use Rattle.nq_model.specs.World.{World, from_host}
+use Rattle.nq_model.specs.protocol.Lines.{numbers_from, without, added}
+use Rattle.nq_model.specs.protocol.Message.{Packet, call}
+use Rattle.nq_model.specs.protocol.World.{World, from_host}
 use Rattle.walk_steps.proofs.ClientMoves.{none-some}
 use Rattle.walk_steps.proofs.Rows.{number-same}
 use Rattle.law_rounds.specs.DeliveryEnds.{AreUnderWay}

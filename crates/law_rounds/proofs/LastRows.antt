@@ -7,16 +7,16 @@ use Rattle.nq_base.specs.declared.Mode.{Mode}
 use Rattle.nq_base.specs.declared.Mode.TheVariants.{NonCaching, Reading, Writing}
 use Rattle.nq_base.specs.declared.Row.{Row}
 use Rattle.nq_base.specs.declared.Tag.{Tag}
-use Rattle.nq_model.specs.Client.{Client, Lease, Ticket, lease_on}
-use Rattle.nq_model.specs.LeaseInterval.{IsCovered, OutlivedBy, claim_of, cover_end}
-use Rattle.nq_model.specs.Message.{Datagram, datagram_of}
-use Rattle.nq_model.specs.Profile.{skew, write_slack}
-use Rattle.nq_model.specs.Server.{Phase, serving, recovering, Server, last_table, last_in}
-use Rattle.nq_model.specs.ServerStep.{receive, tick, crash, boot, boot_phase}
-use Rattle.nq_model.specs.Skew.{IsWithinSkew, ticks_of}
-use Rattle.nq_model.specs.Table.{Table, caches, is_writing, find_row}
-use Rattle.nq_model.specs.World.{Head, after_client, after_server, sending_host, start, run}
-use Rattle.nq_model.specs.Bounds.{KeepsBounds}
+use Rattle.nq_model.specs.protocol.Client.{Client, Lease, Ticket, lease_on}
+use Rattle.nq_model.specs.laws.LeaseInterval.{IsCovered, OutlivedBy, claim_of, cover_end}
+use Rattle.nq_model.specs.protocol.Message.{Datagram, datagram_of}
+use Rattle.nq_model.specs.protocol.Profile.{skew, write_slack}
+use Rattle.nq_model.specs.protocol.Server.{Phase, serving, recovering, Server, last_table, last_in}
+use Rattle.nq_model.specs.protocol.ServerStep.{receive, tick, crash, boot, boot_phase}
+use Rattle.nq_model.specs.protocol.Skew.{IsWithinSkew, ticks_of}
+use Rattle.nq_model.specs.protocol.Table.{Table, caches, is_writing, find_row}
+use Rattle.nq_model.specs.protocol.World.{Head, after_client, after_server, sending_host, start, run}
+use Rattle.nq_model.specs.laws.Bounds.{KeepsBounds}
 use Rattle.law_rounds.proofs.RowEnds.{rows-end-soon, recoveries-end-soon}
 use Rattle.walk_steps.proofs.LeaseIntervals.{run-runs}
 use Rattle.walk_steps.proofs.WorldClocks.{run-clocked}

@@ -7,12 +7,12 @@ use Rattle.nq_base.specs.declared.Request.{Request}
 use Rattle.nq_base.specs.declared.Row.{Row}
 use Rattle.nq_base.specs.declared.Tag.{Tag}
 use Rattle.nq_base.specs.declared.Who.{Who}
-use Rattle.nq_model.specs.Client.{Client}
-use Rattle.nq_model.specs.Hear.{wants_of}
-use Rattle.nq_model.specs.Message.{Message, Packet, call, reply, error}
-use Rattle.nq_model.specs.Server.{Server, ServerStep, to_host}
-use Rattle.nq_model.specs.Table.{find_row, drop_row}
-use Rattle.nq_model.specs.World.{World, from_host}
+use Rattle.nq_model.specs.protocol.Client.{Client}
+use Rattle.nq_model.specs.protocol.Hear.{wants_of}
+use Rattle.nq_model.specs.protocol.Message.{Message, Packet, call, reply, error}
+use Rattle.nq_model.specs.protocol.Server.{Server, ServerStep, to_host}
+use Rattle.nq_model.specs.protocol.Table.{find_row, drop_row}
+use Rattle.nq_model.specs.protocol.World.{World, from_host}
 use Rattle.walk_steps.proofs.Packets.{not-both}
 use Rattle.walk_steps.proofs.Rows.{same-number}
 use Rattle.law_rounds.proofs.Asked.{is_taken, rows_without, writes_for, same-question, Vacates}

@@ -5,14 +5,15 @@ use Rattle.nq_base.specs.declared.HostRow.{HostRow}
 use Rattle.nq_base.specs.declared.Request.{Request}
 use Rattle.nq_base.specs.declared.Verdict.{Verdict}
 use Rattle.nq_base.specs.declared.Who.{Who}
-use Rattle.nq_model.specs.Ask.{marked}
-use Rattle.nq_model.specs.Decide.{Decision, decides, creates, writes_through, stores, wrote, stores_recovering, resizes, removes, puts_off, commits, row_after}
-use Rattle.nq_model.specs.Kept.{Kept, host_row, with_row, with_files, with_new_file}
-use Rattle.nq_model.specs.Message.{Datagram, request, asker, sequence_of}
-use Rattle.nq_model.specs.Profile.{most_hosts}
-use Rattle.nq_model.specs.Server.{Server, ServerStep, quiet, drops, says, after_notices, keeping, keeping_with, with_table}
-use Rattle.nq_model.specs.ServerStep.{receive, row_of_attach, attaches, tells_later, serves, leases, vacates}
-use Rattle.nq_model.specs.Table.{with_rows}
+use Rattle.nq_model.specs.protocol.Ask.{marked}
+use Rattle.nq_model.specs.protocol.Decide.{Decision, decides, creates, writes_through, stores, wrote, stores_recovering, resizes, removes, puts_off, commits}
+use Rattle.nq_model.specs.protocol.Decide.{row_after}
+use Rattle.nq_model.specs.protocol.Kept.{Kept, host_row, with_row, with_files, with_new_file}
+use Rattle.nq_model.specs.protocol.Message.{Datagram, request, asker, sequence_of}
+use Rattle.nq_model.specs.protocol.Profile.{most_hosts}
+use Rattle.nq_model.specs.protocol.Server.{Server, ServerStep, quiet, drops, says, after_notices, keeping, keeping_with, with_table}
+use Rattle.nq_model.specs.protocol.ServerStep.{receive, row_of_attach, attaches, tells_later, serves, leases, vacates}
+use Rattle.nq_model.specs.protocol.Table.{with_rows}
 use Rattle.walk_steps.proofs.KeptChanges.{own-line, other-line, same-lines}
 use Rattle.walk_steps.proofs.Rows.{same-number, number-same}
 use Rattle.walk_steps.proofs.ServerCases.{server-hears}

@@ -11,15 +11,15 @@ use Rattle.nq_base.specs.declared.Tag.{Tag}
 use Rattle.nq_base.specs.declared.Value.{Value}
 use Rattle.nq_base.specs.declared.Want.{Want}
 use Rattle.nq_base.specs.declared.Who.{Who}
-use Rattle.nq_model.specs.Client.{Client, ClientStep, begun, for_call, Ticket, UnderWay, lease_on}
-use Rattle.nq_model.specs.ClientStep.{begins_call, is_called, says_busy, client_call, at_time, sends_again, client_tick, attached_client, starts}
-use Rattle.nq_model.specs.ClientStep.{fresh_client, restart}
-use Rattle.nq_model.specs.Hear.{hear, spends, answers_call, takes_optional, then_caches, knows_revision, caches_write, marks_through, push_done}
-use Rattle.nq_model.specs.Hear.{push_refused, attached, pauses, replied, cancels, vacates_lease, notes_notice, evicted, reply_counts}
-use Rattle.nq_model.specs.Message.{Message}
-use Rattle.nq_model.specs.Send.{sends_request, after_seq, after_number, takes_push, gives_up, want_of, read_want, shares_live, send_next}
-use Rattle.nq_model.specs.Settle.{answers, after_read, reads_cached, after_write, marks_written, is_for_call, ticket_is_for_call, settle}
-use Rattle.nq_model.specs.World.{Head, World, after_server, after_client, start, run}
+use Rattle.nq_model.specs.protocol.Client.{Client, ClientStep, begun, for_call, Ticket, UnderWay, lease_on}
+use Rattle.nq_model.specs.protocol.ClientStep.{begins_call, is_called, says_busy, client_call, at_time, sends_again, client_tick, attached_client, starts}
+use Rattle.nq_model.specs.protocol.ClientStep.{fresh_client, restart}
+use Rattle.nq_model.specs.protocol.Hear.{hear, spends, answers_call, takes_optional, then_caches, knows_revision, caches_write, marks_through, push_done}
+use Rattle.nq_model.specs.protocol.Hear.{push_refused, attached, pauses, replied, cancels, vacates_lease, notes_notice, evicted, reply_counts}
+use Rattle.nq_model.specs.protocol.Message.{Message}
+use Rattle.nq_model.specs.protocol.Send.{sends_request, after_seq, after_number, takes_push, gives_up, want_of, read_want, shares_live, send_next}
+use Rattle.nq_model.specs.protocol.Settle.{answers, after_read, reads_cached, after_write, marks_written, is_for_call, ticket_is_for_call, settle}
+use Rattle.nq_model.specs.protocol.World.{Head, World, after_server, after_client, start, run}
 use Rattle.walk_steps.proofs.ClientFacts.{Alone}
 use Rattle.walk_steps.proofs.ClientMoves.{some-same, none-some, keeps-or-cancels}
 use Rattle.walk_steps.proofs.PartCases.{answers-call-cases, lease-done-cases}

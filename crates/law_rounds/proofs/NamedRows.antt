@@ -11,17 +11,17 @@ use Rattle.nq_base.specs.declared.Row.{Row}
 use Rattle.nq_base.specs.declared.Tag.{Tag}
 use Rattle.nq_base.specs.declared.Want.{Want}
 use Rattle.nq_base.specs.declared.Who.{Who}
-use Rattle.nq_model.specs.Ask.{marked, sharing_row, caching_row, shared_again, renewed_row}
-use Rattle.nq_model.specs.Client.{Client, ClientStep, Notice, notice_on}
-use Rattle.nq_model.specs.ClientStep.{fresh_client, attached_client}
-use Rattle.nq_model.specs.Message.{Message, Datagram, call, datagram_of}
-use Rattle.nq_model.specs.Server.{Server, ServerStep, Phase, serving, standing, to_host, quiet}
-use Rattle.nq_model.specs.ServerStep.{access_of, to_read, vacated_rows, at_time as at_server_time, opens, ends_writing, receive, tick, boot, crash}
-use Rattle.nq_model.specs.Table.{Table, empty_table, next_tag, find_row, is_row_of, drop_row, put_row, same_tag, with_rows, after_draw}
-use Rattle.nq_model.specs.World.{Head, World, from_host, after_server, after_client, sending_host, start, run}
-use Rattle.nq_model.specs.Bounds.{KeepsBounds}
-use Rattle.nq_model.specs.RowsStandApart.{HasOneRowEach}
-use Rattle.nq_model.specs.Skew.{IsWithinSkew}
+use Rattle.nq_model.specs.protocol.Ask.{marked, sharing_row, caching_row, shared_again, renewed_row}
+use Rattle.nq_model.specs.protocol.Client.{Client, ClientStep, Notice, notice_on}
+use Rattle.nq_model.specs.protocol.ClientStep.{fresh_client, attached_client}
+use Rattle.nq_model.specs.protocol.Message.{Message, Datagram, call, datagram_of}
+use Rattle.nq_model.specs.protocol.Server.{Server, ServerStep, Phase, serving, standing, to_host, quiet}
+use Rattle.nq_model.specs.protocol.ServerStep.{access_of, to_read, vacated_rows, at_time as at_server_time, opens, ends_writing, receive, tick, boot, crash}
+use Rattle.nq_model.specs.protocol.Table.{Table, empty_table, next_tag, find_row, is_row_of, drop_row, put_row, same_tag, with_rows, after_draw}
+use Rattle.nq_model.specs.protocol.World.{Head, World, from_host, after_server, after_client, sending_host, start, run}
+use Rattle.nq_model.specs.laws.Bounds.{KeepsBounds}
+use Rattle.nq_model.specs.laws.RowsStandApart.{HasOneRowEach}
+use Rattle.nq_model.specs.protocol.Skew.{IsWithinSkew}
 use Rattle.walk_steps.proofs.LeaseIntervals.{run-runs}
 use Rattle.walk_steps.proofs.NoticeCounts.{HostedBelow}
 use Rattle.walk_steps.proofs.ClientCases.{core_of}

@@ -5,13 +5,13 @@ use Rattle.nq_base.specs.declared.Request.{Request}
 use Rattle.nq_base.specs.declared.Tag.{Tag}
 use Rattle.nq_base.specs.declared.Who.{Who}
 use Rattle.nq_model.proofs.ClientLists.{notice-before-drop, notice-after-put}
-use Rattle.nq_model.specs.Client.{Client, ClientStep, begun, Job, Notice, Ticket, notice_on}
-use Rattle.nq_model.specs.ClientStep.{at_time, starts, fresh_client, next_incarnation, restart}
-use Rattle.nq_model.specs.Hear.{hear, noticed_tag}
-use Rattle.nq_model.specs.Message.{Message, Packet, call, reply}
-use Rattle.nq_model.specs.Server.{to_host}
-use Rattle.nq_model.specs.Table.{tag_below, later_tag}
-use Rattle.nq_model.specs.World.{from_host}
+use Rattle.nq_model.specs.protocol.Client.{Client, ClientStep, begun, Job, Notice, Ticket, notice_on}
+use Rattle.nq_model.specs.protocol.ClientStep.{at_time, starts, fresh_client, next_incarnation, restart}
+use Rattle.nq_model.specs.protocol.Hear.{hear, noticed_tag}
+use Rattle.nq_model.specs.protocol.Message.{Message, Packet, call, reply}
+use Rattle.nq_model.specs.protocol.Server.{to_host}
+use Rattle.nq_model.specs.protocol.Table.{tag_below, later_tag}
+use Rattle.nq_model.specs.protocol.World.{from_host}
 use Rattle.walk_steps.proofs.ClientCases.{Core, Closed, core_of}
 use Rattle.walk_steps.proofs.ClientFacts.{Alone, fits_job}
 use Rattle.walk_steps.proofs.ClientMoves.{some-same, none-some, keeps-or-cancels}

@@ -4,8 +4,8 @@ use Rattle.std.proofs.Common.{subst, ap, ◌∙◌, arith, inl, inr}
 use Rattle.std.specs.Prelude.{slice_get}
 use Rattle.std.proofs.lemmas.Bool.{and_from, and_parts}
 use Rattle.nq_base.specs.declared.Party.{Party}
-use Rattle.nq_model.specs.Lines.{Play}
-use Rattle.nq_model.specs.Message.{Packet}
+use Rattle.nq_model.specs.protocol.Lines.{Play}
+use Rattle.nq_model.specs.protocol.Message.{Packet}
 use Rattle.law_rounds.proofs.Items.{Rise}
 use Rattle.law_rounds.proofs.CalmEnds.{IsRising}
 use Rattle.walk_steps.proofs.Packets.{In, in-append, in-right}

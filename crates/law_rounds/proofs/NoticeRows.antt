@@ -11,14 +11,14 @@ use Rattle.nq_base.specs.declared.Row.{Row}
 use Rattle.nq_base.specs.declared.Tag.{Tag}
 use Rattle.nq_base.specs.declared.Who.{Who}
 use Rattle.nq_model.proofs.Finding.{number-other}
-use Rattle.nq_model.specs.Ask.{conflicts, marked, sharing_row}
-use Rattle.nq_model.specs.Decide.{in_the_way, decides, creates, writes_through, stores, stores_recovering, wrote, resizes, removes, puts_off, commits}
-use Rattle.nq_model.specs.Message.{Message, Packet, Datagram, other_rpc, other_program, other_version, unknown_procedure, garbage, call, reply}
-use Rattle.nq_model.specs.Profile.{xid_end}
-use Rattle.nq_model.specs.Server.{Server, notices, to_host, after_notices, keeping, keeping_with, with_table, quiet, drops, says}
-use Rattle.nq_model.specs.ServerStep.{access_of, attaches, vacates, tells_later, serves, leases, receive}
-use Rattle.nq_model.specs.Table.{find_row, is_row_of, put_row, with_rows, after_draw}
-use Rattle.nq_model.specs.RowsStandApart.{HasOneRowEach}
+use Rattle.nq_model.specs.protocol.Ask.{conflicts, marked, sharing_row}
+use Rattle.nq_model.specs.protocol.Decide.{in_the_way, decides, creates, writes_through, stores, stores_recovering, wrote, resizes, removes, puts_off, commits}
+use Rattle.nq_model.specs.protocol.Message.{Message, Packet, Datagram, other_rpc, other_program, other_version, unknown_procedure, garbage, call, reply}
+use Rattle.nq_model.specs.protocol.Profile.{xid_end}
+use Rattle.nq_model.specs.protocol.Server.{Server, notices, to_host, after_notices, keeping, keeping_with, with_table, quiet, drops, says}
+use Rattle.nq_model.specs.protocol.ServerStep.{access_of, attaches, vacates, tells_later, serves, leases, receive}
+use Rattle.nq_model.specs.protocol.Table.{find_row, is_row_of, put_row, with_rows, after_draw}
+use Rattle.nq_model.specs.laws.RowsStandApart.{HasOneRowEach}
 use Rattle.walk_steps.proofs.Members.{in-filter, filter-in}
 use Rattle.walk_steps.proofs.Packets.{In, in-append, in-get}
 use Rattle.walk_steps.proofs.RowChanges.{mark, own-key, find-put, find-marked, mark-is, is-clash}

@@ -1,8 +1,8 @@
 -- Deliveries in whatever order, and whole rounds of them: the plays to which they lead are lawful, and what is under way stands in order in them.
 use Rattle.std.proofs.Common.{◌≡◌, ◌≤◌, ℕ, ◌++◌, zero, suc, List, [], ◌∷◌, length, refl, ap, arith}
 use Rattle.nq_base.specs.declared.Event.{Event}
-use Rattle.nq_model.specs.Lines.{Play, play, play_hosts}
-use Rattle.nq_model.specs.World.{Head}
+use Rattle.nq_model.specs.protocol.Lines.{Play, play, play_hosts}
+use Rattle.nq_model.specs.protocol.World.{Head}
 use Rattle.law_rounds.specs.CalmRoundsAreLawful.{IsLawful}
 use Rattle.law_rounds.proofs.CalmEnds.{IsRising, played-rising, hosts-rising}
 use Rattle.law_rounds.proofs.CalmIsLawful.{played-quiet, round}

@@ -14,18 +14,18 @@ use Rattle.nq_base.specs.declared.Tag.{Tag}
 use Rattle.nq_base.specs.declared.Verdict.{Verdict}
 use Rattle.nq_base.specs.declared.Want.{Want}
 use Rattle.nq_base.specs.declared.Who.{Who}
-use Rattle.nq_model.specs.RepliesAreOwed.{has_reply, goes_out, is_out_of_bounds, owes_incarnation, owes_request, owes, CanBe, IsReply, brings_result}
-use Rattle.nq_model.specs.RepliesAreOwed.{brings_error, IsReplied, RepliesAreOwed}
-use Rattle.nq_model.specs.Decide.{Decision, decide, decides, creates, writes_through, stores, stores_recovering, resizes, removes, puts_off}
-use Rattle.nq_model.specs.Decide.{verdict_reply, row_after, commits, decided_once}
-use Rattle.nq_model.specs.Kept.{File, find_file, find_name, can_be_kept, host_row}
-use Rattle.nq_model.specs.Message.{Message, reply, Packet, Datagram, too_long, no_message, no_call, other_rpc, other_program, other_version}
-use Rattle.nq_model.specs.Message.{unknown_procedure, garbage_vacated, garbage, request, Reason, wrong_host, asker}
-use Rattle.nq_model.specs.Profile.{most_hosts}
-use Rattle.nq_model.specs.Server.{Phase, serving, recovering, Server, ServerStep, to_host, says, quiet, drops, notices}
-use Rattle.nq_model.specs.ServerStep.{row_of_attach, attaches, attach, look_up, get_attr, read_asked, read_block, read, lease_asked, get_lease}
-use Rattle.nq_model.specs.ServerStep.{vacates, tells_later, serves, leases, look, perform, not_attached, is_attach, admit, answer_request, receive}
-use Rattle.nq_model.specs.Table.{Table}
+use Rattle.nq_model.specs.laws.RepliesAreOwed.{has_reply, goes_out, is_out_of_bounds, owes_incarnation, owes_request, owes, CanBe, IsReply, brings_result}
+use Rattle.nq_model.specs.laws.RepliesAreOwed.{brings_error, IsReplied, RepliesAreOwed}
+use Rattle.nq_model.specs.protocol.Decide.{Decision, decide, decides, creates, writes_through, stores, stores_recovering, resizes, removes, puts_off}
+use Rattle.nq_model.specs.protocol.Decide.{verdict_reply, row_after, commits, decided_once}
+use Rattle.nq_model.specs.protocol.Kept.{File, find_file, find_name, can_be_kept, host_row}
+use Rattle.nq_model.specs.protocol.Message.{Message, reply, Packet, Datagram, too_long, no_message, no_call, other_rpc, other_program, other_version}
+use Rattle.nq_model.specs.protocol.Message.{unknown_procedure, garbage_vacated, garbage, request, Reason, wrong_host, asker}
+use Rattle.nq_model.specs.protocol.Profile.{most_hosts}
+use Rattle.nq_model.specs.protocol.Server.{Phase, serving, recovering, Server, ServerStep, to_host, says, quiet, drops, notices}
+use Rattle.nq_model.specs.protocol.ServerStep.{row_of_attach, attaches, attach, look_up, get_attr, read_asked, read_block, read, lease_asked, get_lease}
+use Rattle.nq_model.specs.protocol.ServerStep.{vacates, tells_later, serves, leases, look, perform, not_attached, is_attach, admit, answer_request, receive}
+use Rattle.nq_model.specs.protocol.Table.{Table}
 use Rattle.walk_steps.proofs.ClientMoves.{some-same, none-some}
 use Rattle.walk_steps.proofs.Rows.{choice}
 use Rattle.walk_steps.proofs.ServerCases.{server-hears}

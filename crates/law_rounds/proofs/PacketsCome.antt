@@ -1,8 +1,8 @@
 -- Packets stay where they are, and come until they are delivered.
 use Rattle.std.proofs.Common.{◌≡◌, ℕ, ◌++◌, zero, suc, List, [], ◌∷◌, Some}
 use Rattle.std.specs.Prelude.{slice_get}
-use Rattle.nq_model.specs.Lines.{Play}
-use Rattle.nq_model.specs.Message.{Packet}
+use Rattle.nq_model.specs.protocol.Lines.{Play}
+use Rattle.nq_model.specs.protocol.Message.{Packet}
 use Rattle.walk_steps.proofs.ClientMoves.{none-some}
 use Rattle.walk_steps.proofs.Packets.{In}
 

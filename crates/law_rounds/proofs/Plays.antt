@@ -3,9 +3,9 @@ use Rattle.std.proofs.Common.{◌≡◌, ◌≤◌, ℕ, ◌+◌, ◌*◌, ◌++
 use Rattle.std.specs.Prelude.{slice_get}
 use Rattle.std.proofs.lemmas.List.{length-append}
 use Rattle.nq_base.specs.declared.Event.{Event}
-use Rattle.nq_model.specs.Lines.{Play, play, flow_first, numbers_from, without, added}
-use Rattle.nq_model.specs.Message.{Packet}
-use Rattle.nq_model.specs.World.{World, step}
+use Rattle.nq_model.specs.protocol.Lines.{Play, play, flow_first, numbers_from, without, added}
+use Rattle.nq_model.specs.protocol.Message.{Packet}
+use Rattle.nq_model.specs.protocol.World.{World, step}
 use Rattle.law_rounds.proofs.Items.{Item, one, pair, all_numbers, numbers_of, Each, IsSingle, Rise, Queued, Adds, adds-ones, all-append, ones}
 use Rattle.law_rounds.proofs.Items.{delivered-queue, queue-of}
 

@@ -4,9 +4,9 @@ use Rattle.std.proofs.Common.{arith, inl, inr}
 use Rattle.std.specs.Prelude.{slice_get}
 use Rattle.nq_base.specs.declared.Call.{Call}
 use Rattle.nq_base.specs.declared.Push.{Push}
-use Rattle.nq_model.specs.Client.{Client, Notice, UnderWay, notice_on}
-use Rattle.nq_model.specs.Lines.{Play}
-use Rattle.nq_model.specs.World.{Head, World, run}
+use Rattle.nq_model.specs.protocol.Client.{Client, Notice, UnderWay, notice_on}
+use Rattle.nq_model.specs.protocol.Lines.{Play}
+use Rattle.nq_model.specs.protocol.World.{Head, World, run}
 use Rattle.law_rounds.specs.CallsGoOn.{GoesOn}
 use Rattle.law_rounds.proofs.ClientCount.{client-count}
 use Rattle.law_rounds.proofs.GoingOn.{calls-go-on}

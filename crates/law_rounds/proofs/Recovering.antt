@@ -11,18 +11,19 @@ use Rattle.nq_base.specs.declared.Reply.{Reply}
 use Rattle.nq_base.specs.declared.Request.{Request}
 use Rattle.nq_base.specs.declared.Row.{Row}
 use Rattle.nq_base.specs.declared.Who.{Who}
-use Rattle.nq_model.specs.Client.{Client, Ticket, Lease, lease_on, is_clean}
-use Rattle.nq_model.specs.Decide.{decides, creates, writes_through, stores, wrote, stores_recovering, resizes, removes, puts_off, commits}
-use Rattle.nq_model.specs.Hear.{inc_of, is_of_procedure, reply_counts}
-use Rattle.nq_model.specs.Kept.{host_row, with_files, with_new_file}
-use Rattle.nq_model.specs.LeaseInterval.{grant_in, requested_file}
-use Rattle.nq_model.specs.Lines.{Play, play}
-use Rattle.nq_model.specs.Message.{Packet, Datagram, reply, request, datagram_of}
-use Rattle.nq_model.specs.Profile.{write_slack}
-use Rattle.nq_model.specs.Server.{Phase, recovering, Server, ServerStep, last_table, quiet, drops, says, after_notices, keeping, keeping_with, with_table}
-use Rattle.nq_model.specs.ServerStep.{receive, tick, attaches, tells_later, serves, leases, vacates}
-use Rattle.nq_model.specs.Table.{Table, is_writing, find_row}
-use Rattle.nq_model.specs.World.{Head, World, after_client, after_server, sending_host, step, run}
+use Rattle.nq_model.specs.protocol.Client.{Client, Ticket, Lease, lease_on, is_clean}
+use Rattle.nq_model.specs.protocol.Decide.{decides, creates, writes_through, stores, wrote, stores_recovering, resizes, removes, puts_off, commits}
+use Rattle.nq_model.specs.protocol.Hear.{inc_of, is_of_procedure, reply_counts}
+use Rattle.nq_model.specs.protocol.Kept.{host_row, with_files, with_new_file}
+use Rattle.nq_model.specs.laws.LeaseInterval.{grant_in, requested_file}
+use Rattle.nq_model.specs.protocol.Lines.{Play, play}
+use Rattle.nq_model.specs.protocol.Message.{Packet, Datagram, reply, request, datagram_of}
+use Rattle.nq_model.specs.protocol.Profile.{write_slack}
+use Rattle.nq_model.specs.protocol.Server.{Phase, recovering, Server, ServerStep, last_table, quiet, drops, says, after_notices, keeping, keeping_with}
+use Rattle.nq_model.specs.protocol.Server.{with_table}
+use Rattle.nq_model.specs.protocol.ServerStep.{receive, tick, attaches, tells_later, serves, leases, vacates}
+use Rattle.nq_model.specs.protocol.Table.{Table, is_writing, find_row}
+use Rattle.nq_model.specs.protocol.World.{Head, World, after_client, after_server, sending_host, step, run}
 use Rattle.law_runs.proofs.ChainWorlds.{chain-fits}
 use Rattle.walk_steps.proofs.LeaseIntervals.{run-runs}
 use Rattle.walk_steps.proofs.WorldSequences.{run-draws}

@@ -1,7 +1,7 @@
 -- A datagram that is a request is the call of that request.
 use Rattle.std.proofs.Common.{◌≡◌, ℕ}
 use Rattle.nq_base.specs.declared.Request.{Request}
-use Rattle.nq_model.specs.Message.{Message, call, reply, error, request, datagram_of, datagram_of_call}
+use Rattle.nq_model.specs.protocol.Message.{Message, call, reply, error, request, datagram_of, datagram_of_call}
 
 -- a datagram that is a request is that call
 call-of : (xid x : ℕ) (r q : Request) → datagram_of_call x q ≡ request xid r → Message.call x q ≡ Message.call xid r

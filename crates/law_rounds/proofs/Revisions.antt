@@ -3,13 +3,14 @@ use Rattle.std.proofs.Common.{◌≡◌, ◌≤◌, ℕ, ◌+◌, ◌==◌, not,
 use Rattle.std.specs.Prelude.{All}
 use Rattle.std.proofs.lemmas.List.Elements.{All-nil, All-cons, All-head, All-tail, All-append, All-filter, All-weaker}
 use Rattle.nq_base.specs.declared.Event.{Event}
-use Rattle.nq_model.specs.Kept.{File, Kept, find_file, replace_file, drop_file, new_file, written_file, resized_file, fenced_file, with_row}
-use Rattle.nq_model.specs.Kept.{with_files, with_new_file}
-use Rattle.nq_model.specs.Message.{Datagram, datagram_of}
-use Rattle.nq_model.specs.Decide.{decides, creates, writes_through, stores, wrote, stores_recovering, resizes, removes, puts_off, commits}
-use Rattle.nq_model.specs.Server.{Server, ServerStep, quiet, drops, says, after_notices, keeping, keeping_with, with_table}
-use Rattle.nq_model.specs.ServerStep.{receive, tick, crash, boot, fence, booted, attaches, tells_later, serves, leases, vacates, at_time, opens, ends_writing}
-use Rattle.nq_model.specs.World.{Head, World, sending_host, first_files, first_kept, after_client, after_server, start, run}
+use Rattle.nq_model.specs.protocol.Kept.{File, Kept, find_file, replace_file, drop_file, new_file, written_file, resized_file, fenced_file, with_row}
+use Rattle.nq_model.specs.protocol.Kept.{with_files, with_new_file}
+use Rattle.nq_model.specs.protocol.Message.{Datagram, datagram_of}
+use Rattle.nq_model.specs.protocol.Decide.{decides, creates, writes_through, stores, wrote, stores_recovering, resizes, removes, puts_off, commits}
+use Rattle.nq_model.specs.protocol.Server.{Server, ServerStep, quiet, drops, says, after_notices, keeping, keeping_with, with_table}
+use Rattle.nq_model.specs.protocol.ServerStep.{receive, tick, crash, boot, fence, booted, attaches, tells_later, serves, leases, vacates, at_time, opens}
+use Rattle.nq_model.specs.protocol.ServerStep.{ends_writing}
+use Rattle.nq_model.specs.protocol.World.{Head, World, sending_host, first_files, first_kept, after_client, after_server, start, run}
 use Rattle.nq_model.proofs.Finding.{choice}
 use Rattle.nq_model.proofs.FreshFits.{found-has}
 use Rattle.walk_steps.proofs.Steps.{Changes, nothing, by_client, by_server, ServerActs, received, ticks, crashes, step-changes}

@@ -10,13 +10,13 @@ use Rattle.nq_base.specs.declared.Row.{Row}
 use Rattle.nq_base.specs.declared.Tag.{Tag}
 use Rattle.nq_base.specs.declared.Want.{Want}
 use Rattle.nq_base.specs.declared.Who.{Who}
-use Rattle.nq_model.specs.Ask.{marked, sharing_row, caching_row, shared_again, renewed_row}
-use Rattle.nq_model.specs.Message.{Datagram, datagram_of}
-use Rattle.nq_model.specs.Profile.{most_rows}
-use Rattle.nq_model.specs.Server.{Server, ServerStep}
-use Rattle.nq_model.specs.ServerStep.{access_of, to_read, is_over, end_reading, vacated_rows, receive, tick, crash, boot}
-use Rattle.nq_model.specs.Table.{is_row_of, find_row, drop_row, row_before, insert_row, put_row, same_tag, empty_table, with_rows, after_draw}
-use Rattle.nq_model.specs.World.{Head, World, sending_host, after_server, after_client, start, run}
+use Rattle.nq_model.specs.protocol.Ask.{marked, sharing_row, caching_row, shared_again, renewed_row}
+use Rattle.nq_model.specs.protocol.Message.{Datagram, datagram_of}
+use Rattle.nq_model.specs.protocol.Profile.{most_rows}
+use Rattle.nq_model.specs.protocol.Server.{Server, ServerStep}
+use Rattle.nq_model.specs.protocol.ServerStep.{access_of, to_read, is_over, end_reading, vacated_rows, receive, tick, crash, boot}
+use Rattle.nq_model.specs.protocol.Table.{is_row_of, find_row, drop_row, row_before, insert_row, put_row, same_tag, empty_table, with_rows, after_draw}
+use Rattle.nq_model.specs.protocol.World.{Head, World, sending_host, after_server, after_client, start, run}
 use Rattle.walk_steps.proofs.Steps.{Changes, nothing, by_client, by_server, ServerActs, received, ticks, crashes, step-changes}
 use Rattle.walk_steps.proofs.AskCases.{IsGranted, shares_again, begins_sharing, begins_caching, renews_row}
 use Rattle.walk_steps.proofs.RowChanges.{mark}

@@ -10,16 +10,16 @@ use Rattle.nq_base.specs.declared.Row.{Row}
 use Rattle.nq_base.specs.declared.Tag.{Tag}
 use Rattle.nq_base.specs.declared.Want.{Want}
 use Rattle.nq_base.specs.declared.Who.{Who}
-use Rattle.nq_model.specs.Ask.{marked, term_of, sharing_row, caching_row, shared_again, renewed_row}
-use Rattle.nq_model.specs.Kept.{Kept, find_file, with_files}
-use Rattle.nq_model.specs.Message.{Datagram, datagram_of}
-use Rattle.nq_model.specs.Profile.{skew, write_slack, shortest_term, granted_term}
-use Rattle.nq_model.specs.Server.{Phase, serving, recovering, Server, ServerStep}
-use Rattle.nq_model.specs.ServerStep.{access_of, to_read, vacated_rows, end_reading, fence, receive, tick, boot_phase, booted, boot, crash}
-use Rattle.nq_model.specs.Table.{Table, empty_table, is_row_of, is_writing, row_before, insert_row, drop_row, put_row, same_tag, with_rows, after_draw}
-use Rattle.nq_model.specs.World.{Head, World, after_server, after_client, sending_host, first_kept, start, run}
-use Rattle.nq_model.specs.Bounds.{KeepsBounds}
-use Rattle.nq_model.specs.Skew.{IsWithinSkew}
+use Rattle.nq_model.specs.protocol.Ask.{marked, term_of, sharing_row, caching_row, shared_again, renewed_row}
+use Rattle.nq_model.specs.protocol.Kept.{Kept, find_file, with_files}
+use Rattle.nq_model.specs.protocol.Message.{Datagram, datagram_of}
+use Rattle.nq_model.specs.protocol.Profile.{skew, write_slack, shortest_term, granted_term}
+use Rattle.nq_model.specs.protocol.Server.{Phase, serving, recovering, Server, ServerStep}
+use Rattle.nq_model.specs.protocol.ServerStep.{access_of, to_read, vacated_rows, end_reading, fence, receive, tick, boot_phase, booted, boot, crash}
+use Rattle.nq_model.specs.protocol.Table.{Table, empty_table, is_row_of, is_writing, row_before, insert_row, drop_row, put_row, same_tag, with_rows, after_draw}
+use Rattle.nq_model.specs.protocol.World.{Head, World, after_server, after_client, sending_host, first_kept, start, run}
+use Rattle.nq_model.specs.laws.Bounds.{KeepsBounds}
+use Rattle.nq_model.specs.protocol.Skew.{IsWithinSkew}
 use Rattle.walk_steps.proofs.LeaseIntervals.{run-runs}
 use Rattle.walk_steps.proofs.Members.{in-filtered, in-map, find-in}
 use Rattle.walk_steps.proofs.Packets.{In}

@@ -5,8 +5,8 @@ use Rattle.std.specs.Option.{option_map}
 use Rattle.std.proofs.lemmas.Bool.{and_parts}
 use Rattle.nq_base.specs.declared.Access.{Access}
 use Rattle.nq_base.specs.declared.Row.{Row}
-use Rattle.nq_model.specs.Ask.{conflicts, marked, mode_conflicts}
-use Rattle.nq_model.specs.Table.{caches, find_row, is_row_of, drop_row, put_row}
+use Rattle.nq_model.specs.protocol.Ask.{conflicts, marked, mode_conflicts}
+use Rattle.nq_model.specs.protocol.Table.{caches, find_row, is_row_of, drop_row, put_row}
 use Rattle.walk_steps.proofs.RowChanges.{mark, mark-is, of-key, has-key, find-put, find-marked, find-row-dropped, find-other-dropped}
 use Rattle.walk_steps.proofs.Rows.{found-row, same-number}
 use Rattle.walk_steps.proofs.Tests.{is-other}

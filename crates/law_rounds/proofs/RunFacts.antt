@@ -14,17 +14,17 @@ use Rattle.nq_base.specs.declared.Row.{Row}
 use Rattle.nq_base.specs.declared.Tag.{Tag}
 use Rattle.nq_base.specs.declared.Want.{Want}
 use Rattle.nq_base.specs.declared.Who.{Who}
-use Rattle.nq_model.specs.Client.{Client, ClientStep, Job, attaching, for_call, renewing, pushing, Ticket}
-use Rattle.nq_model.specs.Hear.{hear, reply_counts, is_of_procedure, wants_of, inc_of}
-use Rattle.nq_model.specs.Message.{Message, Packet, call, reply, error, datagram_of}
-use Rattle.nq_model.specs.Server.{to_host}
-use Rattle.nq_model.specs.ServerStep.{receive}
-use Rattle.nq_model.specs.Settle.{is_for_call}
-use Rattle.nq_model.specs.Skew.{IsWithinSkew}
-use Rattle.nq_model.specs.Stepped.{most_sends}
-use Rattle.nq_model.specs.Table.{is_writing, find_row}
-use Rattle.nq_model.specs.World.{Head, from_host, sending_host, run}
-use Rattle.nq_model.specs.Bounds.{KeepsBounds}
+use Rattle.nq_model.specs.protocol.Client.{Client, ClientStep, Job, attaching, for_call, renewing, pushing, Ticket}
+use Rattle.nq_model.specs.protocol.Hear.{hear, reply_counts, is_of_procedure, wants_of, inc_of}
+use Rattle.nq_model.specs.protocol.Message.{Message, Packet, call, reply, error, datagram_of}
+use Rattle.nq_model.specs.protocol.Server.{to_host}
+use Rattle.nq_model.specs.protocol.ServerStep.{receive}
+use Rattle.nq_model.specs.protocol.Settle.{is_for_call}
+use Rattle.nq_model.specs.protocol.Skew.{IsWithinSkew}
+use Rattle.nq_model.specs.protocol.Stepped.{most_sends}
+use Rattle.nq_model.specs.protocol.Table.{is_writing, find_row}
+use Rattle.nq_model.specs.protocol.World.{Head, from_host, sending_host, run}
+use Rattle.nq_model.specs.laws.Bounds.{KeepsBounds}
 use Rattle.walk_steps.proofs.WorldSends.{events-send-few}
 use Rattle.walk_steps.proofs.ClientMoves.{some-same, none-some}
 use Rattle.walk_steps.proofs.StepCases.{heard-cases}

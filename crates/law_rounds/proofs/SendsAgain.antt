@@ -9,13 +9,13 @@ use Rattle.nq_base.specs.declared.Push.{Push}
 use Rattle.nq_base.specs.declared.Request.{Request}
 use Rattle.nq_base.specs.declared.Tag.{Tag}
 use Rattle.nq_model.proofs.ClientLists.{lease-before-drop, notice-before-drop, put-notice-found}
-use Rattle.nq_model.specs.Client.{Client, ClientStep, begun, Job, for_call, pushing, Lease, Notice, Ticket, UnderWay, lease_on, drop_lease, notice_on}
-use Rattle.nq_model.specs.Client.{first_dirty, is_push_of, is_clean_in}
-use Rattle.nq_model.specs.Hear.{vacates_lease, notes_notice, noticed_tag, evicted, cancels, cancelled, wants_of, goes_on}
-use Rattle.nq_model.specs.Message.{Message, call}
-use Rattle.nq_model.specs.Send.{sends_request, after_seq, after_number, takes_push, gives_up, want_of, read_want, shares_live, noticed_in, is_asking}
-use Rattle.nq_model.specs.Send.{send_next}
-use Rattle.nq_model.specs.Settle.{answers, after_read, reads_cached, after_write, marks_written, is_for_call, settle}
+use Rattle.nq_model.specs.protocol.Client.{Client, ClientStep, begun, Job, for_call, pushing, Lease, Notice, Ticket, UnderWay, lease_on, drop_lease, notice_on}
+use Rattle.nq_model.specs.protocol.Client.{first_dirty, is_push_of, is_clean_in}
+use Rattle.nq_model.specs.protocol.Hear.{vacates_lease, notes_notice, noticed_tag, evicted, cancels, cancelled, wants_of, goes_on}
+use Rattle.nq_model.specs.protocol.Message.{Message, call}
+use Rattle.nq_model.specs.protocol.Send.{sends_request, after_seq, after_number, takes_push, gives_up, want_of, read_want, shares_live, noticed_in, is_asking}
+use Rattle.nq_model.specs.protocol.Send.{send_next}
+use Rattle.nq_model.specs.protocol.Settle.{answers, after_read, reads_cached, after_write, marks_written, is_for_call, settle}
 use Rattle.walk_steps.proofs.ClientCases.{Core, Closed}
 use Rattle.walk_steps.proofs.ClientFacts.{Alone, DelayingOf}
 use Rattle.walk_steps.proofs.ClientMoves.{some-same, none-some}

@@ -7,15 +7,16 @@ use Rattle.nq_base.specs.declared.Row.{Row}
 use Rattle.nq_base.specs.declared.Tag.{Tag}
 use Rattle.nq_base.specs.declared.Verdict.{Verdict}
 use Rattle.nq_base.specs.declared.Who.{Who}
-use Rattle.nq_model.specs.Client.{Job, attaching}
-use Rattle.nq_model.specs.Decide.{decides, creates, writes_through, stores, wrote, stores_recovering, resizes, removes, puts_off, commits, verdict_reply}
-use Rattle.nq_model.specs.Hear.{inc_of}
-use Rattle.nq_model.specs.Kept.{blocks_of}
-use Rattle.nq_model.specs.LeaseInterval.{requested_file}
-use Rattle.nq_model.specs.Message.{Packet, request, reply, asker, sequence_of}
-use Rattle.nq_model.specs.Server.{Server, ServerStep, to_host, quiet, drops, says, notices}
-use Rattle.nq_model.specs.ServerStep.{receive, attaches, tells_later, serves, leases, vacates}
-use Rattle.nq_model.specs.Table.{Table}
+use Rattle.nq_model.specs.protocol.Client.{Job, attaching}
+use Rattle.nq_model.specs.protocol.Decide.{decides, creates, writes_through, stores, wrote, stores_recovering, resizes, removes, puts_off, commits}
+use Rattle.nq_model.specs.protocol.Decide.{verdict_reply}
+use Rattle.nq_model.specs.protocol.Hear.{inc_of}
+use Rattle.nq_model.specs.protocol.Kept.{blocks_of}
+use Rattle.nq_model.specs.laws.LeaseInterval.{requested_file}
+use Rattle.nq_model.specs.protocol.Message.{Packet, request, reply, asker, sequence_of}
+use Rattle.nq_model.specs.protocol.Server.{Server, ServerStep, to_host, quiet, drops, says, notices}
+use Rattle.nq_model.specs.protocol.ServerStep.{receive, attaches, tells_later, serves, leases, vacates}
+use Rattle.nq_model.specs.protocol.Table.{Table}
 use Rattle.walk_steps.proofs.ClientFacts.{fits_job}
 use Rattle.walk_steps.proofs.ClientMoves.{some-same, none-some}
 use Rattle.walk_steps.proofs.Packets.{In, in-right}

@@ -9,12 +9,12 @@ use Rattle.nq_base.specs.declared.Request.{Request}
 use Rattle.nq_base.specs.declared.Row.{Row}
 use Rattle.nq_base.specs.declared.Tag.{Tag}
 use Rattle.nq_base.specs.declared.Who.{Who}
-use Rattle.nq_model.specs.Client.{Client}
-use Rattle.nq_model.specs.Message.{Packet, reply, error, datagram_of}
-use Rattle.nq_model.specs.Server.{Server, ServerStep}
-use Rattle.nq_model.specs.ServerStep.{receive}
-use Rattle.nq_model.specs.Table.{find_row, same_tag}
-use Rattle.nq_model.specs.World.{World, after_server, sending_host, deliver, deliver_to, step}
+use Rattle.nq_model.specs.protocol.Client.{Client}
+use Rattle.nq_model.specs.protocol.Message.{Packet, reply, error, datagram_of}
+use Rattle.nq_model.specs.protocol.Server.{Server, ServerStep}
+use Rattle.nq_model.specs.protocol.ServerStep.{receive}
+use Rattle.nq_model.specs.protocol.Table.{find_row, same_tag}
+use Rattle.nq_model.specs.protocol.World.{World, after_server, sending_host, deliver, deliver_to, step}
 use Rattle.walk_steps.proofs.Packets.{In, in-get}
 use Rattle.walk_steps.proofs.ServerSays.{IsSaid, said_reply, said_error, said_notice}
 use Rattle.walk_steps.proofs.Worlds.{received-said}

@@ -9,15 +9,15 @@ use Rattle.nq_base.specs.declared.Row.{Row}
 use Rattle.nq_base.specs.declared.Tag.{Tag}
 use Rattle.nq_base.specs.declared.Want.{Want}
 use Rattle.nq_base.specs.declared.Who.{Who}
-use Rattle.nq_model.specs.Ask.{ask, conflicts, mode_conflicts, marked, sharing_row, caching_row, shared_again, renewed_row, put_off_by_own, granted}
-use Rattle.nq_model.specs.Ask.{no_lease, free}
-use Rattle.nq_model.specs.Client.{Client}
-use Rattle.nq_model.specs.Hear.{wants_of}
-use Rattle.nq_model.specs.Profile.{most_rows}
-use Rattle.nq_model.specs.Server.{ServerStep}
-use Rattle.nq_model.specs.ServerStep.{access_of_mode}
-use Rattle.nq_model.specs.Table.{Table, caches, is_writing, find_row, drop_row, put_row, with_rows, after_draw, same_tag}
-use Rattle.nq_model.specs.World.{World}
+use Rattle.nq_model.specs.protocol.Ask.{ask, conflicts, mode_conflicts, marked, sharing_row, caching_row, shared_again, renewed_row, put_off_by_own, granted}
+use Rattle.nq_model.specs.protocol.Ask.{no_lease, free}
+use Rattle.nq_model.specs.protocol.Client.{Client}
+use Rattle.nq_model.specs.protocol.Hear.{wants_of}
+use Rattle.nq_model.specs.protocol.Profile.{most_rows}
+use Rattle.nq_model.specs.protocol.Server.{ServerStep}
+use Rattle.nq_model.specs.protocol.ServerStep.{access_of_mode}
+use Rattle.nq_model.specs.protocol.Table.{Table, caches, is_writing, find_row, drop_row, put_row, with_rows, after_draw, same_tag}
+use Rattle.nq_model.specs.protocol.World.{World}
 use Rattle.walk_steps.proofs.ClientMoves.{some-same, none-some}
 use Rattle.walk_steps.proofs.AskCases.{IsGranted, shares_again, begins_sharing, begins_caching, renews_row, own_in, clash_in, has_room, asks}
 use Rattle.walk_steps.proofs.RowChanges.{find-row-dropped, find-other-dropped, is-clash}

@@ -13,13 +13,13 @@ use Rattle.nq_base.specs.declared.Row.{Row}
 use Rattle.nq_base.specs.declared.Tag.{Tag}
 use Rattle.nq_base.specs.declared.Want.{Want}
 use Rattle.nq_base.specs.declared.Who.{Who}
-use Rattle.nq_model.specs.Ask.{Reply, ask, ask_past, ask_freely, ask_for, begin, renew, share_again, shares, conflicts, marked, sharing_row}
-use Rattle.nq_model.specs.Ask.{caching_row, shared_again, renewed_row, with_waiting, put_off, free, put_off_by_own, granted, no_lease, term_of}
-use Rattle.nq_model.specs.Message.{Datagram}
-use Rattle.nq_model.specs.Profile.{most_rows}
-use Rattle.nq_model.specs.Server.{Server}
-use Rattle.nq_model.specs.ServerStep.{access_of, to_read, vacated_rows, receive}
-use Rattle.nq_model.specs.Table.{Table, caches, same_tag, find_row, is_row_of, put_row, drop_row, drop_host, drop_rows_of, with_rows, after_draw}
+use Rattle.nq_model.specs.protocol.Ask.{Reply, ask, ask_past, ask_freely, ask_for, begin, renew, share_again, shares, conflicts, marked, sharing_row}
+use Rattle.nq_model.specs.protocol.Ask.{caching_row, shared_again, renewed_row, with_waiting, put_off, free, put_off_by_own, granted, no_lease, term_of}
+use Rattle.nq_model.specs.protocol.Message.{Datagram}
+use Rattle.nq_model.specs.protocol.Profile.{most_rows}
+use Rattle.nq_model.specs.protocol.Server.{Server}
+use Rattle.nq_model.specs.protocol.ServerStep.{access_of, to_read, vacated_rows, receive}
+use Rattle.nq_model.specs.protocol.Table.{Table, caches, same_tag, find_row, is_row_of, put_row, drop_row, drop_host, drop_rows_of, with_rows, after_draw}
 use Rattle.walk_steps.proofs.ClientMoves.{none-some}
 use Rattle.walk_steps.proofs.AskCases.{IsGranted, shares_again, begins_sharing, begins_caching, renews_row, with_marked, with_waiter}
 use Rattle.walk_steps.proofs.RowChanges.{mark, of-key, find-row-dropped, find-other-dropped, find-put-same, found-put, find-host-dropped}

@@ -13,16 +13,19 @@ use Rattle.nq_base.specs.declared.Row.{Row}
 use Rattle.nq_base.specs.declared.Tag.{Tag}
 use Rattle.nq_base.specs.declared.Want.{Want}
 use Rattle.nq_base.specs.declared.Who.{Who}
-use Rattle.nq_model.specs.Ask.{marked, sharing_row, caching_row, shared_again, renewed_row}
-use Rattle.nq_model.specs.Client.{Client, ClientStep}
-use Rattle.nq_model.specs.Decide.{decides, creates, writes_through, stores, stores_recovering, wrote, resizes, removes, puts_off, commits}
-use Rattle.nq_model.specs.Hear.{hear}
-use Rattle.nq_model.specs.Message.{Message, Packet, call, datagram_of}
-use Rattle.nq_model.specs.Profile.{most_hosts}
-use Rattle.nq_model.specs.Server.{Server, Phase, standing_in, serving, recovering, after_notices, keeping, keeping_with, with_table, quiet, drops, says}
-use Rattle.nq_model.specs.ServerStep.{access_of, to_read, attaches, vacates, vacated_rows, tells_later, serves, leases, receive}
-use Rattle.nq_model.specs.Table.{Table, caches, is_writing, same_tag, find_row, is_row_of, drop_host, drop_rows_of, drop_row, put_row, with_rows, after_draw}
-use Rattle.nq_model.specs.World.{World, from_host, after_server, after_client, after_hearing, sending_host, deliver, deliver_to, deliver_to_client, run}
+use Rattle.nq_model.specs.protocol.Ask.{marked, sharing_row, caching_row, shared_again, renewed_row}
+use Rattle.nq_model.specs.protocol.Client.{Client, ClientStep}
+use Rattle.nq_model.specs.protocol.Decide.{decides, creates, writes_through, stores, stores_recovering, wrote, resizes, removes, puts_off, commits}
+use Rattle.nq_model.specs.protocol.Hear.{hear}
+use Rattle.nq_model.specs.protocol.Message.{Message, Packet, call, datagram_of}
+use Rattle.nq_model.specs.protocol.Profile.{most_hosts}
+use Rattle.nq_model.specs.protocol.Server.{Server, Phase, standing_in, serving, recovering, after_notices, keeping, keeping_with, with_table, quiet, drops}
+use Rattle.nq_model.specs.protocol.Server.{says}
+use Rattle.nq_model.specs.protocol.ServerStep.{access_of, to_read, attaches, vacates, vacated_rows, tells_later, serves, leases, receive}
+use Rattle.nq_model.specs.protocol.Table.{Table, caches, is_writing, same_tag, find_row, is_row_of, drop_host, drop_rows_of, drop_row, put_row, with_rows}
+use Rattle.nq_model.specs.protocol.Table.{after_draw}
+use Rattle.nq_model.specs.protocol.World.{World, from_host, after_server, after_client, after_hearing, sending_host, deliver, deliver_to, deliver_to_client}
+use Rattle.nq_model.specs.protocol.World.{run}
 use Rattle.walk_steps.proofs.LeaseIntervals.{run-runs}
 use Rattle.walk_steps.proofs.ClientMoves.{some-same, none-some}
 use Rattle.walk_steps.proofs.Runs.{none-served}

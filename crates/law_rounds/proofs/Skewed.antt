@@ -2,8 +2,8 @@
 -- clock ticked since the server's last did.
 use Rattle.std.proofs.Common.{◌≡◌, ◌<◌, ◌≤◌, ℕ, ◌+◌, Bool, true, false, ◌==◌, List, [], ◌∷◌, ◌++◌, if◌then◌else◌, refl, subst, arith}
 use Rattle.nq_base.specs.declared.Event.{Event}
-use Rattle.nq_model.specs.Profile.{skew}
-use Rattle.nq_model.specs.Skew.{is_server_tick, is_tick_of, server_ticks, ticks_of, IsWithinSkew}
+use Rattle.nq_model.specs.protocol.Profile.{skew}
+use Rattle.nq_model.specs.protocol.Skew.{is_server_tick, is_tick_of, server_ticks, ticks_of, IsWithinSkew}
 use Rattle.walk_steps.proofs.Rows.{number-same}
 
 first-same : {A : Type 0} (x y : A) (xs ys : List A) → x ∷ xs ≡ y ∷ ys → x ≡ y

@@ -9,21 +9,21 @@ use Rattle.nq_base.specs.declared.Refusal.{Refusal}
 use Rattle.nq_base.specs.declared.Reply.{Reply}
 use Rattle.nq_base.specs.declared.Request.{Request}
 use Rattle.nq_base.specs.declared.Tag.{Tag}
-use Rattle.nq_model.specs.Client.{Client, ClientStep, Lease, lease_on, drop_lease, put_lease, used_lease, lets_write, notice_on, first_dirty}
-use Rattle.nq_model.specs.Client.{dirty_at, other_dirty, is_clean, revision_of, is_revision_before, Job, attaching, for_call, renewing, pushing}
-use Rattle.nq_model.specs.Client.{Notice, Ticket, UnderWay, begun}
-use Rattle.nq_model.specs.ClientStep.{client_tick, sends_again, at_time}
-use Rattle.nq_model.specs.Hear.{hear, inc_of, reply_counts, granted_lease, waits_for, breaks, grant_caches, holds_caching, is_put_off, answer_of}
-use Rattle.nq_model.specs.Hear.{answers_call, vacates_lease, vacates_noticed, other_push, loses, reports_to, without_lease, push_refused}
-use Rattle.nq_model.specs.Hear.{breaks_chain, if_broken, holds, takes_grant, takes_optional, answers_call_of, caches_block, purges, knows_revision}
-use Rattle.nq_model.specs.Hear.{then_caches, read_done, marks_through, lease_done, caches_write, write_done, ends_push, caches_push, push_done}
-use Rattle.nq_model.specs.Hear.{spends, attached, pauses, done_for_call, done_renewal, done_push, done, refused_push, refused, replied, cancels}
-use Rattle.nq_model.specs.Hear.{notes_notice, evicted}
-use Rattle.nq_model.specs.Message.{Message, reply}
-use Rattle.nq_model.specs.Send.{sends_request, after_seq, after_number, gives_up, send_next}
-use Rattle.nq_model.specs.Settle.{answers, names_losses, after_read, reads_cached, after_write, marks_written, settle}
-use Rattle.nq_model.specs.Table.{is_writing}
-use Rattle.nq_model.specs.LeaseInterval.{grant_in}
+use Rattle.nq_model.specs.protocol.Client.{Client, ClientStep, Lease, lease_on, drop_lease, put_lease, used_lease, lets_write, notice_on, first_dirty}
+use Rattle.nq_model.specs.protocol.Client.{dirty_at, other_dirty, is_clean, revision_of, is_revision_before, Job, attaching, for_call, renewing, pushing}
+use Rattle.nq_model.specs.protocol.Client.{Notice, Ticket, UnderWay, begun}
+use Rattle.nq_model.specs.protocol.ClientStep.{client_tick, sends_again, at_time}
+use Rattle.nq_model.specs.protocol.Hear.{hear, inc_of, reply_counts, granted_lease, waits_for, breaks, grant_caches, holds_caching, is_put_off, answer_of}
+use Rattle.nq_model.specs.protocol.Hear.{answers_call, vacates_lease, vacates_noticed, other_push, loses, reports_to, without_lease, push_refused}
+use Rattle.nq_model.specs.protocol.Hear.{breaks_chain, if_broken, holds, takes_grant, takes_optional, answers_call_of, caches_block, purges, knows_revision}
+use Rattle.nq_model.specs.protocol.Hear.{then_caches, read_done, marks_through, lease_done, caches_write, write_done, ends_push, caches_push, push_done}
+use Rattle.nq_model.specs.protocol.Hear.{spends, attached, pauses, done_for_call, done_renewal, done_push, done, refused_push, refused, replied, cancels}
+use Rattle.nq_model.specs.protocol.Hear.{notes_notice, evicted}
+use Rattle.nq_model.specs.protocol.Message.{Message, reply}
+use Rattle.nq_model.specs.protocol.Send.{sends_request, after_seq, after_number, gives_up, send_next}
+use Rattle.nq_model.specs.protocol.Settle.{answers, names_losses, after_read, reads_cached, after_write, marks_written, settle}
+use Rattle.nq_model.specs.protocol.Table.{is_writing}
+use Rattle.nq_model.specs.laws.LeaseInterval.{grant_in}
 use Rattle.nq_model.proofs.ClientLists.{lease-before-drop, lease-after-put, marked-before, marked-mode, marked-expiry}
 use Rattle.std.proofs.lemmas.Bool.{and_parts}
 use Rattle.walk_steps.proofs.Tests.{is-below}

@@ -5,10 +5,10 @@ use Rattle.nq_base.specs.declared.Grant.{Grant}
 use Rattle.nq_base.specs.declared.Reply.{Reply}
 use Rattle.nq_base.specs.declared.Tag.{Tag}
 use Rattle.nq_base.specs.declared.Who.{Who}
-use Rattle.nq_model.specs.Client.{Client, ClientStep, Ticket, begun}
-use Rattle.nq_model.specs.ClientStep.{client_call, client_tick, at_time}
-use Rattle.nq_model.specs.Hear.{hear, inc_of, reply_counts, goes_on, replied}
-use Rattle.nq_model.specs.Message.{Message, Packet, reply}
+use Rattle.nq_model.specs.protocol.Client.{Client, ClientStep, Ticket, begun}
+use Rattle.nq_model.specs.protocol.ClientStep.{client_call, client_tick, at_time}
+use Rattle.nq_model.specs.protocol.Hear.{hear, inc_of, reply_counts, goes_on, replied}
+use Rattle.nq_model.specs.protocol.Message.{Message, Packet, reply}
 use Rattle.walk_steps.proofs.ClientCases.{Core, core_of, Closed}
 use Rattle.walk_steps.proofs.ClientFacts.{Alone}
 use Rattle.walk_steps.proofs.ClientMoves.{some-same, none-some, keeps-or-cancels}

@@ -9,14 +9,14 @@ use Rattle.nq_base.specs.declared.Push.{Push}
 use Rattle.nq_base.specs.declared.Reply.{Reply}
 use Rattle.nq_base.specs.declared.Request.{Request}
 use Rattle.nq_base.specs.declared.Tag.{Tag}
-use Rattle.nq_model.specs.Client.{Client, ClientStep, begun, Ticket, UnderWay, for_call}
-use Rattle.nq_model.specs.Hear.{hear, replied, cancels, cancelled, wants_of, vacates_lease, notes_notice, evicted, goes_on, reply_counts}
-use Rattle.nq_model.specs.Message.{Message, call, reply}
-use Rattle.nq_model.specs.Send.{sends_request, after_seq, after_number, takes_push, gives_up, base_of, want_of, read_want, noticed_file, ending_file}
-use Rattle.nq_model.specs.Send.{is_asking, then_pushes, then_ending, then_calls, send_next}
-use Rattle.nq_model.specs.Settle.{answers, after_read, reads_cached, after_write, marks_written, is_for_call, settle}
-use Rattle.nq_model.specs.Table.{is_writing}
-use Rattle.nq_model.specs.World.{Head, run}
+use Rattle.nq_model.specs.protocol.Client.{Client, ClientStep, begun, Ticket, UnderWay, for_call}
+use Rattle.nq_model.specs.protocol.Hear.{hear, replied, cancels, cancelled, wants_of, vacates_lease, notes_notice, evicted, goes_on, reply_counts}
+use Rattle.nq_model.specs.protocol.Message.{Message, call, reply}
+use Rattle.nq_model.specs.protocol.Send.{sends_request, after_seq, after_number, takes_push, gives_up, base_of, want_of, read_want, noticed_file, ending_file}
+use Rattle.nq_model.specs.protocol.Send.{is_asking, then_pushes, then_ending, then_calls, send_next}
+use Rattle.nq_model.specs.protocol.Settle.{answers, after_read, reads_cached, after_write, marks_written, is_for_call, settle}
+use Rattle.nq_model.specs.protocol.Table.{is_writing}
+use Rattle.nq_model.specs.protocol.World.{Head, run}
 use Rattle.walk_steps.proofs.ClientFacts.{Alone}
 use Rattle.walk_steps.proofs.ClientMoves.{none-some}
 use Rattle.walk_steps.proofs.SendCases.{send-cases}

@@ -8,11 +8,11 @@ use Rattle.nq_base.specs.declared.Request.{Request}
 use Rattle.nq_base.specs.declared.Row.{Row}
 use Rattle.nq_base.specs.declared.Verdict.{Verdict}
 use Rattle.nq_base.specs.declared.Want.{Want}
-use Rattle.nq_model.specs.Ask.{grant_of, shared_again, sharing_row, caching_row, renewed_row}
-use Rattle.nq_model.specs.Profile.{granted_term}
-use Rattle.nq_model.specs.Decide.{verdict_reply}
-use Rattle.nq_model.specs.Message.{sequence_of}
-use Rattle.nq_model.specs.Table.{Table, caches, is_writing, greater_mode}
+use Rattle.nq_model.specs.protocol.Ask.{grant_of, shared_again, sharing_row, caching_row, renewed_row}
+use Rattle.nq_model.specs.protocol.Profile.{granted_term}
+use Rattle.nq_model.specs.protocol.Decide.{verdict_reply}
+use Rattle.nq_model.specs.protocol.Message.{sequence_of}
+use Rattle.nq_model.specs.protocol.Table.{Table, caches, is_writing, greater_mode}
 use Rattle.walk_steps.proofs.ClientMoves.{none-some}
 use Rattle.walk_steps.proofs.AskCases.{IsGranted, shares_again, begins_sharing, begins_caching, renews_row}
 use Rattle.law_rounds.specs.Efforts.{is_idle}

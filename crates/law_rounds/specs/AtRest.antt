@@ -1,6 +1,6 @@
 -- A client that is done: its calls are answered, and its writes stored.
 use Rattle.std.specs.Prelude.{◌≡◌, true, [], None}
-use Rattle.nq_model.specs.Client.{Client}
+use Rattle.nq_model.specs.protocol.Client.{Client}
 
 -- a client is attached, and no call of it is open
 pub record IsAnswered (c : Client) : Type 0 where

@@ -2,9 +2,9 @@
 use Rattle.std.specs.Prelude.{◌≡◌, ◌≤◌, ◌<◌, ◌⊎◌, ℕ, ◌+◌, true, false, List, Some, is_some, slice_get}
 use Rattle.nq_base.specs.declared.Event.{Event}
 use Rattle.nq_base.specs.declared.Request.{Request}
-use Rattle.nq_model.specs.Client.{Client, Ticket, UnderWay}
-use Rattle.nq_model.specs.Profile.{patience}
-use Rattle.nq_model.specs.World.{Head, run}
+use Rattle.nq_model.specs.protocol.Client.{Client, Ticket, UnderWay}
+use Rattle.nq_model.specs.protocol.Profile.{patience}
+use Rattle.nq_model.specs.protocol.World.{Head, run}
 
 -- a client asks to be attached
 pub record AsksToBeAttached (c : Client) : Type 0 where

@@ -1,6 +1,6 @@
 -- A calm round: all that is under way arrives, and all that this sends; then each clock ticks once.
 use Rattle.std.specs.Prelude.{ℕ, zero, suc}
-use Rattle.nq_model.specs.Lines.{Play, play_flow, play_rounds}
+use Rattle.nq_model.specs.protocol.Lines.{Play, play_flow, play_rounds}
 use Rattle.law_rounds.specs.DeliveryEnds.{enough_deliveries}
 
 -- a calm round: the least packet that is under way is delivered, again and again, until there is none; then each host's clock ticks,

@@ -1,10 +1,10 @@
 -- Calm rounds are events like any others: a schedule goes on by them within its bounds and within skew, so each promise holds of it.
 use Rattle.std.specs.Prelude.{◌≡◌, ℕ, List}
 use Rattle.nq_base.specs.declared.Event.{Event}
-use Rattle.nq_model.specs.Bounds.{KeepsBounds}
-use Rattle.nq_model.specs.Lines.{Play}
-use Rattle.nq_model.specs.Skew.{IsWithinSkew}
-use Rattle.nq_model.specs.World.{Head, run}
+use Rattle.nq_model.specs.laws.Bounds.{KeepsBounds}
+use Rattle.nq_model.specs.protocol.Lines.{Play}
+use Rattle.nq_model.specs.protocol.Skew.{IsWithinSkew}
+use Rattle.nq_model.specs.protocol.World.{Head, run}
 use Rattle.law_rounds.specs.CalmRound.{calm_rounds}
 use Rattle.law_rounds.specs.DeliveryEnds.{calmed}
 

@@ -1,12 +1,12 @@
 -- Delivery ends: what is under way leads to no more packets than a formula tells, in every run.
 use Rattle.std.specs.Prelude.{◌≡◌, ◌<◌, ℕ, ◌+◌, ◌*◌, List, [], ◌∷◌, All, length, sum_by, zero, suc}
 use Rattle.nq_base.specs.declared.Event.{Event}
-use Rattle.nq_model.specs.Bounds.{InEveryRun}
-use Rattle.nq_model.specs.Client.{Client}
-use Rattle.nq_model.specs.Lines.{Play, play_flow}
-use Rattle.nq_model.specs.Settle.{pending}
-use Rattle.nq_model.specs.Stepped.{most_sends}
-use Rattle.nq_model.specs.World.{Head, run}
+use Rattle.nq_model.specs.laws.Bounds.{InEveryRun}
+use Rattle.nq_model.specs.protocol.Client.{Client}
+use Rattle.nq_model.specs.protocol.Lines.{Play, play_flow}
+use Rattle.nq_model.specs.protocol.Settle.{pending}
+use Rattle.nq_model.specs.protocol.Stepped.{most_sends}
+use Rattle.nq_model.specs.protocol.World.{Head, run}
 
 -- the numbers of packets that are under way stand in order, and each was sent
 abbrev pub AreUnderWay : (sent : ℕ) → List ℕ → Type 0

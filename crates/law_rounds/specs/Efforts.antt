@@ -3,8 +3,8 @@ use Rattle.std.specs.Prelude.{ℕ, ◌+◌, ◌*◌, ◌==◌, ◌&&◌, Bool, t
 use Rattle.nq_base.specs.declared.Call.{Call}
 use Rattle.nq_base.specs.declared.Grant.{Grant}
 use Rattle.nq_base.specs.declared.Request.{Request}
-use Rattle.nq_model.specs.Client.{Client, Job, attaching, for_call, renewing, pushing, Ticket, UnderWay}
-use Rattle.nq_model.specs.Table.{caches, is_writing}
+use Rattle.nq_model.specs.protocol.Client.{Client, Job, attaching, for_call, renewing, pushing, Ticket, UnderWay}
+use Rattle.nq_model.specs.protocol.Table.{caches, is_writing}
 
 -- the requests of a call that may be sent from now on, where none is under way
 abbrev pub write_price : (price : ℕ) (through : Bool) → ℕ

@@ -2,11 +2,11 @@
 use Rattle.std.specs.Prelude.{◌≡◌, ◌≤◌, ℕ, ◌+◌, List, Option, Some}
 use Rattle.nq_base.specs.declared.Event.{Event}
 use Rattle.nq_base.specs.declared.Row.{Row}
-use Rattle.nq_model.specs.Bounds.{InEveryRun}
-use Rattle.nq_model.specs.Profile.{skew, write_slack}
-use Rattle.nq_model.specs.Server.{Server, recovering}
-use Rattle.nq_model.specs.Table.{Table, find_row}
-use Rattle.nq_model.specs.World.{Head, run}
+use Rattle.nq_model.specs.laws.Bounds.{InEveryRun}
+use Rattle.nq_model.specs.protocol.Profile.{skew, write_slack}
+use Rattle.nq_model.specs.protocol.Server.{Server, recovering}
+use Rattle.nq_model.specs.protocol.Table.{Table, find_row}
+use Rattle.nq_model.specs.protocol.World.{Head, run}
 
 -- a row ends no later than the longest term and the skew from now on, and its last write was heard in the past
 pub record EndsSoon (s : Server) (row : Row) : Type 0 where

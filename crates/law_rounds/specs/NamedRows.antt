@@ -4,11 +4,11 @@ use Rattle.nq_base.specs.declared.Request.{Request}
 use Rattle.nq_base.specs.declared.Row.{Row}
 use Rattle.nq_base.specs.declared.Tag.{Tag}
 use Rattle.nq_base.specs.declared.Who.{Who}
-use Rattle.nq_model.specs.Bounds.{InEveryRun}
-use Rattle.nq_model.specs.Message.{Packet, call}
-use Rattle.nq_model.specs.Server.{to_host}
-use Rattle.nq_model.specs.Table.{find_row}
-use Rattle.nq_model.specs.World.{from_host, run}
+use Rattle.nq_model.specs.laws.Bounds.{InEveryRun}
+use Rattle.nq_model.specs.protocol.Message.{Packet, call}
+use Rattle.nq_model.specs.protocol.Server.{to_host}
+use Rattle.nq_model.specs.protocol.Table.{find_row}
+use Rattle.nq_model.specs.protocol.World.{from_host, run}
 
 -- a tag was named: in a notice to a host, or by its client in a VACATED
 pub data IsNamed (packets : List Packet) (file host : ℕ) (tag : Tag) : Type 0 where

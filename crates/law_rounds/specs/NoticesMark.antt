@@ -4,11 +4,11 @@ use Rattle.nq_base.specs.declared.Request.{Request}
 use Rattle.nq_base.specs.declared.Row.{Row}
 use Rattle.nq_base.specs.declared.Tag.{Tag}
 use Rattle.nq_base.specs.declared.Who.{Who}
-use Rattle.nq_model.specs.Message.{Datagram, call}
-use Rattle.nq_model.specs.Server.{Server, to_host}
-use Rattle.nq_model.specs.ServerStep.{receive}
-use Rattle.nq_model.specs.Table.{find_row}
-use Rattle.nq_model.specs.RowsStandApart.{HasOneRowEach}
+use Rattle.nq_model.specs.protocol.Message.{Datagram, call}
+use Rattle.nq_model.specs.protocol.Server.{Server, to_host}
+use Rattle.nq_model.specs.protocol.ServerStep.{receive}
+use Rattle.nq_model.specs.protocol.Table.{find_row}
+use Rattle.nq_model.specs.laws.RowsStandApart.{HasOneRowEach}
 
 -- the row of this holder with this tag is there, and is to go
 pub record IsToGo (rows : List Row) (who : Who) (file : ℕ) (tag : Tag) : Type 0 where

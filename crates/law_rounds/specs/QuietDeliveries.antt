@@ -1,6 +1,6 @@
 -- Whether the server recovers.
 use Rattle.std.specs.Prelude.{Bool, true, false}
-use Rattle.nq_model.specs.Server.{Phase, serving, recovering}
+use Rattle.nq_model.specs.protocol.Server.{Phase, serving, recovering}
 
 -- whether the server recovers
 abbrev pub recovers : Phase → Bool

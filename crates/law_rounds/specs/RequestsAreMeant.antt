@@ -6,8 +6,8 @@ use Rattle.nq_base.specs.declared.Mode.{Mode}
 use Rattle.nq_base.specs.declared.Request.{Request}
 use Rattle.nq_base.specs.declared.Want.{Want}
 use Rattle.nq_base.specs.declared.Who.{Who}
-use Rattle.nq_model.specs.Client.{Client, Ticket, UnderWay, for_call}
-use Rattle.nq_model.specs.World.{Head, run}
+use Rattle.nq_model.specs.protocol.Client.{Client, Ticket, UnderWay, for_call}
+use Rattle.nq_model.specs.protocol.World.{Head, run}
 
 -- a call is a `write` to this file, which is not to go through
 pub record IsWriteTo (file : ℕ) (u : UnderWay) : Type 0 where

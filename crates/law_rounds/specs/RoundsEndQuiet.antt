@@ -1,11 +1,11 @@
 -- Once the network is calm, each delivery ends quietly: nobody waits for a reply, and nobody has anything to send.
 use Rattle.std.specs.Prelude.{◌≡◌, ◌≤◌, ◌<◌, ℕ, ◌+◌, Bool, true, false, Some, None, length}
 use Rattle.nq_base.specs.declared.Call.{Call}
-use Rattle.nq_model.specs.Client.{Client, Lease, UnderWay, lease_on, notice_on, is_clean}
-use Rattle.nq_model.specs.Lines.{Play}
-use Rattle.nq_model.specs.Profile.{patience, renewal}
-use Rattle.nq_model.specs.Stepped.{most_events, most_sent}
-use Rattle.nq_model.specs.Table.{is_writing}
+use Rattle.nq_model.specs.protocol.Client.{Client, Lease, UnderWay, lease_on, notice_on, is_clean}
+use Rattle.nq_model.specs.protocol.Lines.{Play}
+use Rattle.nq_model.specs.protocol.Profile.{patience, renewal}
+use Rattle.nq_model.specs.protocol.Stepped.{most_events, most_sent}
+use Rattle.nq_model.specs.protocol.Table.{is_writing}
 
 -- a play has no more events than a schedule may have, and no more packets than may have been sent before one
 pub record IsSmall (p : Play) : Type 0 where

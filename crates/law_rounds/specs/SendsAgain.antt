@@ -4,11 +4,11 @@ use Rattle.nq_base.specs.declared.Event.{Event}
 use Rattle.nq_base.specs.declared.Push.{Push}
 use Rattle.nq_base.specs.declared.Request.{Request}
 use Rattle.nq_base.specs.declared.Tag.{Tag}
-use Rattle.nq_model.specs.Client.{Client, ClientStep, Ticket, for_call}
-use Rattle.nq_model.specs.Hear.{hear, wants_of}
-use Rattle.nq_model.specs.Message.{call}
-use Rattle.nq_model.specs.Settle.{is_for_call}
-use Rattle.nq_model.specs.World.{Head, run}
+use Rattle.nq_model.specs.protocol.Client.{Client, ClientStep, Ticket, for_call}
+use Rattle.nq_model.specs.protocol.Hear.{hear, wants_of}
+use Rattle.nq_model.specs.protocol.Message.{call}
+use Rattle.nq_model.specs.protocol.Settle.{is_for_call}
+use Rattle.nq_model.specs.protocol.World.{Head, run}
 
 -- whether a notice for a file cancels the request under way, and it is the call's
 abbrev pub is_cancelled : (file : ℕ) → Option Ticket → Bool

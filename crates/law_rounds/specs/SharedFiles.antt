@@ -1,10 +1,10 @@
 -- What keeps notices few: a file that somebody shares or waits for comes to be cached by nobody, until his row goes.
 use Rattle.std.specs.Prelude.{◌≡◌, ℕ, true, false, List, Some}
 use Rattle.nq_base.specs.declared.Row.{Row}
-use Rattle.nq_model.specs.Message.{Datagram}
-use Rattle.nq_model.specs.Server.{Server}
-use Rattle.nq_model.specs.ServerStep.{receive}
-use Rattle.nq_model.specs.Table.{caches, find_row}
+use Rattle.nq_model.specs.protocol.Message.{Datagram}
+use Rattle.nq_model.specs.protocol.Server.{Server}
+use Rattle.nq_model.specs.protocol.ServerStep.{receive}
+use Rattle.nq_model.specs.protocol.Table.{caches, find_row}
 
 -- a host has a row of a file
 pub record HasRow (rows : List Row) (file host : ℕ) : Type 0 where

@@ -7,12 +7,12 @@ use Rattle.nq_base.specs.declared.Question.{Question}
 use Rattle.nq_base.specs.declared.Request.{Request}
 use Rattle.nq_base.specs.declared.Row.{Row}
 use Rattle.nq_base.specs.declared.Want.{Want}
-use Rattle.nq_model.specs.Bounds.{InEveryRun}
-use Rattle.nq_model.specs.Ask.{ask}
-use Rattle.nq_model.specs.Message.{Message, Packet, call}
-use Rattle.nq_model.specs.Profile.{most_rows}
-use Rattle.nq_model.specs.Table.{Table, caches, find_row}
-use Rattle.nq_model.specs.World.{run, step}
+use Rattle.nq_model.specs.laws.Bounds.{InEveryRun}
+use Rattle.nq_model.specs.protocol.Ask.{ask}
+use Rattle.nq_model.specs.protocol.Message.{Message, Packet, call}
+use Rattle.nq_model.specs.protocol.Profile.{most_rows}
+use Rattle.nq_model.specs.protocol.Table.{Table, caches, find_row}
+use Rattle.nq_model.specs.protocol.World.{run, step}
 use Rattle.law_rounds.specs.SharedFiles.{HasRow, HasCachingRow}
 
 -- a host has a row of a file that does not let it cache

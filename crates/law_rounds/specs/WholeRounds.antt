@@ -2,12 +2,12 @@
 use Rattle.std.specs.Prelude.{◌≡◌, ◌≤◌, ℕ, ◌+◌, ◌==◌, ◌&&◌, ◌||◌, not, Bool, true, false, List, [], ◌∷◌, Option, Some, All, length, slice_get}
 use Rattle.nq_base.specs.declared.Event.{Event}
 use Rattle.nq_base.specs.declared.Party.{Party}
-use Rattle.nq_model.specs.Bounds.{InEveryRun, KeepsBounds}
-use Rattle.nq_model.specs.Lines.{Play, play, play_rounds}
-use Rattle.nq_model.specs.Message.{Packet}
-use Rattle.nq_model.specs.Profile.{skew, write_slack}
-use Rattle.nq_model.specs.Skew.{IsWithinSkew}
-use Rattle.nq_model.specs.World.{Head, run}
+use Rattle.nq_model.specs.laws.Bounds.{InEveryRun, KeepsBounds}
+use Rattle.nq_model.specs.protocol.Lines.{Play, play, play_rounds}
+use Rattle.nq_model.specs.protocol.Message.{Packet}
+use Rattle.nq_model.specs.protocol.Profile.{skew, write_slack}
+use Rattle.nq_model.specs.protocol.Skew.{IsWithinSkew}
+use Rattle.nq_model.specs.protocol.World.{Head, run}
 use Rattle.law_rounds.specs.DeliveryEnds.{AreUnderWay, calmed}
 use Rattle.law_rounds.specs.QuietDeliveries.{recovers}
 use Rattle.law_rounds.specs.RoundsEndQuiet.{IsSmall, IsQuiet}

@@ -14,16 +14,16 @@ use Rattle.walk_steps.proofs.ClientCases.{Core, core_of, Closed, Both}
 use Rattle.walk_steps.proofs.ClientMoves.{some-same, none-some}
 use Rattle.walk_steps.proofs.ClientWalk.{Replying, reply-keeps, notice-keeps, call-keeps, tick-keeps}
 use Rattle.walk_files.proofs.ServerTells.{Tells, later, decided, Moves, same_lines, attaches_one, decides_one, Decides, Attaches, ServerTells}
-use Rattle.nq_model.specs.Client.{Client, ClientStep, begun, Ticket, lease_on}
-use Rattle.nq_model.specs.ClientStep.{client_call, client_tick, at_time, restart, starts, fresh_client}
-use Rattle.nq_model.specs.Decide.{verdict_reply}
-use Rattle.nq_model.specs.Hear.{inc_of, is_reply_to, reply_counts, hear, hear_reply, hear_notice, hear_call, goes_on, replied, holds_later, evicted}
-use Rattle.nq_model.specs.Hear.{cancels, cancelled}
-use Rattle.nq_model.specs.Kept.{host_row}
-use Rattle.nq_model.specs.Message.{Message, Packet, call, reply, error, sequence_of}
-use Rattle.nq_model.specs.Server.{Server, ServerStep, to_host}
-use Rattle.nq_model.specs.Table.{same_who}
-use Rattle.nq_model.specs.World.{from_host}
+use Rattle.nq_model.specs.protocol.Client.{Client, ClientStep, begun, Ticket, lease_on}
+use Rattle.nq_model.specs.protocol.ClientStep.{client_call, client_tick, at_time, restart, starts, fresh_client}
+use Rattle.nq_model.specs.protocol.Decide.{verdict_reply}
+use Rattle.nq_model.specs.protocol.Hear.{inc_of, is_reply_to, reply_counts, hear, hear_reply, hear_notice, hear_call, goes_on, replied, holds_later, evicted}
+use Rattle.nq_model.specs.protocol.Hear.{cancels, cancelled}
+use Rattle.nq_model.specs.protocol.Kept.{host_row}
+use Rattle.nq_model.specs.protocol.Message.{Message, Packet, call, reply, error, sequence_of}
+use Rattle.nq_model.specs.protocol.Server.{Server, ServerStep, to_host}
+use Rattle.nq_model.specs.protocol.Table.{same_who}
+use Rattle.nq_model.specs.protocol.World.{from_host}
 use Rattle.walk_steps.proofs.Sequences.{Seqs}
 use Rattle.walk_steps.proofs.Mail.{packets_with, packets-last, spent-mail, cancelled-fewer, same-fewer}
 use Rattle.walk_steps.proofs.Packets.{In, in-append, Asked, Told, not-both, Mail, IsFewer}

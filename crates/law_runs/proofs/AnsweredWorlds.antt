@@ -9,16 +9,16 @@ use Rattle.law_runs.proofs.Answered.{Answered, AnsweredOf, call-answers, tick-an
 use Rattle.walk_files.proofs.ServerTells.{none-quiet, one-quiet, ServerTells, same_lines, hears-tells}
 use Rattle.walk_steps.proofs.Runs.{Runs}
 use Rattle.walk_steps.proofs.LeaseIntervals.{run-runs}
-use Rattle.nq_model.specs.Bounds.{KeepsBounds}
-use Rattle.nq_model.specs.Client.{Client, ClientStep}
-use Rattle.nq_model.specs.ClientStep.{client_call, client_tick, restart, attached_client, fresh_client}
-use Rattle.nq_model.specs.Kept.{find_file, host_row}
-use Rattle.nq_model.specs.Message.{Packet, datagram_of}
-use Rattle.nq_model.specs.Server.{Server, ServerStep, quiet, keeping_with, with_table}
-use Rattle.nq_model.specs.ServerStep.{receive, tick, crash, boot, opens, ends_writing, at_time}
-use Rattle.nq_model.specs.Skew.{IsWithinSkew}
-use Rattle.nq_model.specs.Table.{with_rows}
-use Rattle.nq_model.specs.World.{Head, World, after_server, after_client, sending_host, start, run}
+use Rattle.nq_model.specs.laws.Bounds.{KeepsBounds}
+use Rattle.nq_model.specs.protocol.Client.{Client, ClientStep}
+use Rattle.nq_model.specs.protocol.ClientStep.{client_call, client_tick, restart, attached_client, fresh_client}
+use Rattle.nq_model.specs.protocol.Kept.{find_file, host_row}
+use Rattle.nq_model.specs.protocol.Message.{Packet, datagram_of}
+use Rattle.nq_model.specs.protocol.Server.{Server, ServerStep, quiet, keeping_with, with_table}
+use Rattle.nq_model.specs.protocol.ServerStep.{receive, tick, crash, boot, opens, ends_writing, at_time}
+use Rattle.nq_model.specs.protocol.Skew.{IsWithinSkew}
+use Rattle.nq_model.specs.protocol.Table.{with_rows}
+use Rattle.nq_model.specs.protocol.World.{Head, World, after_server, after_client, sending_host, start, run}
 use Rattle.walk_steps.proofs.WorldSequences.{Draws, run-draws}
 use Rattle.walk_steps.proofs.RunCases.{Keeps, run-keeps, OfClients, clients-after}
 use Rattle.walk_steps.proofs.KnownWorlds.{first-there, first-line}

@@ -20,12 +20,12 @@ use Rattle.law_runs.proofs.Journals.{Journals, call-begun}
 use Rattle.law_runs.proofs.JournalMoves.{journals-quiet, is_lost, journals-answer, journals-busy, journals-begin, loss_at, waits-speaks}
 use Rattle.law_runs.proofs.JournalMoves.{journals-names, journals-tell}
 use Rattle.law_runs.proofs.LossMoves.{journals-lose, journals-same, lost_at, push_at, lost-counts, loss-of-counts, named-lost}
-use Rattle.nq_model.specs.Client.{UnderWay, file_of_loss, other_losses, add_losses, dirty_at, drop_dirty, other_dirty, is_push_of, is_push_at}
+use Rattle.nq_model.specs.protocol.Client.{UnderWay, file_of_loss, other_losses, add_losses, dirty_at, drop_dirty, other_dirty, is_push_of, is_push_at}
 use Rattle.nq_base.specs.Calls.{told}
-use Rattle.nq_model.specs.Hear.{loss_of, loss_entry, push_of, other_push, waits_for}
-use Rattle.nq_model.specs.Journal.{Exists, call_of}
-use Rattle.nq_model.specs.Reported.{Names}
-use Rattle.nq_model.specs.Settle.{said, with_write, overwritten_at}
+use Rattle.nq_model.specs.protocol.Hear.{loss_of, loss_entry, push_of, other_push, waits_for}
+use Rattle.nq_model.specs.laws.Journal.{Exists, call_of}
+use Rattle.nq_model.specs.laws.Reported.{Names}
+use Rattle.nq_model.specs.protocol.Settle.{said, with_write, overwritten_at}
 
 -- ---- first numbers are used once
 

@@ -12,16 +12,16 @@ use Rattle.nq_base.specs.declared.Who.{Who}
 use Rattle.walk_steps.proofs.ClientMoves.{some-same, none-some}
 use Rattle.nq_model.proofs.Lists.{exists-append, each-append}
 use Rattle.walk_steps.proofs.Rows.{choice, same-number}
-use Rattle.nq_model.specs.LossesAreReported.{cleans}
+use Rattle.nq_model.specs.laws.LossesAreReported.{cleans}
 use Rattle.law_runs.proofs.Books.{Book, unsaved_on, after_loss, after_names, after_report, after_call, Closed}
 use Rattle.law_runs.proofs.Tallies.{IsOne, one-passed, one-mapped, each-mapped, each-reverse}
 use Rattle.nq_model.proofs.ByFile.{of-added}
-use Rattle.nq_model.specs.Client.{UnderWay, file_of_loss, losses_of, is_push_of, span_list}
-use Rattle.nq_model.specs.ClientStep.{changed_file, losses_for}
+use Rattle.nq_model.specs.protocol.Client.{UnderWay, file_of_loss, losses_of, is_push_of, span_list}
+use Rattle.nq_model.specs.protocol.ClientStep.{changed_file, losses_for}
 use Rattle.nq_base.specs.Calls.{told}
-use Rattle.nq_model.specs.Hear.{loss_of, loss_entry, push_of, waits_for}
-use Rattle.nq_model.specs.Journal.{Each}
-use Rattle.nq_model.specs.Settle.{said}
+use Rattle.nq_model.specs.protocol.Hear.{loss_of, loss_entry, push_of, waits_for}
+use Rattle.nq_model.specs.laws.Journal.{Each}
+use Rattle.nq_model.specs.protocol.Settle.{said}
 
 -- ---- no loss waits on the file that is cleaned
 

@@ -8,7 +8,7 @@ use Rattle.nq_base.specs.declared.Loss.{Loss}
 use Rattle.nq_base.specs.declared.Push.{Push}
 use Rattle.nq_base.specs.declared.Who.{Who}
 use Rattle.walk_steps.proofs.Rows.{choice}
-use Rattle.nq_model.specs.LossesAreReported.{losses_told, IsPartOf}
+use Rattle.nq_model.specs.laws.LossesAreReported.{losses_told, IsPartOf}
 use Rattle.law_runs.proofs.Books.{Book, unsaved_on, after_loss, after_names, after_report, Closed}
 use Rattle.law_runs.proofs.BookNone.{IsBy, unsaved-one}
 use Rattle.law_runs.proofs.Tallies.{each-mapped}
@@ -16,10 +16,10 @@ use Rattle.law_runs.proofs.JournalMoves.{IsQuiet}
 use Rattle.law_runs.proofs.Journals.{same-who, other-who}
 use Rattle.nq_model.proofs.ByFile.{of-added}
 use Rattle.nq_model.proofs.Finding.{filter-swap}
-use Rattle.nq_model.specs.Client.{UnderWay, file_of_loss, losses_of, other_losses, add_losses}
-use Rattle.nq_model.specs.Hear.{loss_of, loss_entry, waits_for}
-use Rattle.nq_model.specs.Journal.{Each}
-use Rattle.nq_model.specs.Table.{same_who}
+use Rattle.nq_model.specs.protocol.Client.{UnderWay, file_of_loss, losses_of, other_losses, add_losses}
+use Rattle.nq_model.specs.protocol.Hear.{loss_of, loss_entry, waits_for}
+use Rattle.nq_model.specs.laws.Journal.{Each}
+use Rattle.nq_model.specs.protocol.Table.{same_who}
 
 -- ---- parts of a list
 

@@ -20,15 +20,15 @@ use Rattle.walk_steps.proofs.SendCases.{send-moves, pushed}
 use Rattle.walk_steps.proofs.SettleCases.{settle-cases}
 use Rattle.walk_steps.proofs.StepCases.{call-cases, unless-cached-cases, tick-cases, evicted-cases, heard-cases}
 use Rattle.law_runs.proofs.Books.{Book, book_of, book_at, unsaved_on, after_loss, after_names, after_report, tells_losses, Closed}
-use Rattle.nq_model.specs.Client.{Client, ClientStep, Job, begun, Notice, Ticket, UnderWay, notice_on, first_dirty}
-use Rattle.nq_model.specs.ClientStep.{begins_call, is_called, losses_for, changed_file, says_busy, client_call, at_time, sends_again, client_tick}
-use Rattle.nq_model.specs.Hear.{vacates_lease, vacates_noticed, loses, loss_entry, reports_to, reports, waits_for, without_lease, push_refused}
-use Rattle.nq_model.specs.Hear.{breaks_chain, if_broken, holds, takes_optional, answers_call, caches_block, purges, knows_revision, then_caches}
-use Rattle.nq_model.specs.Hear.{with_through, marks_through, caches_write, ends_push, caches_push, push_done, answer_of, spends, attached, pauses}
-use Rattle.nq_model.specs.Hear.{reply_counts, replied, notes_notice, evicted, cancels, hear}
-use Rattle.nq_model.specs.Message.{Message}
-use Rattle.nq_model.specs.Send.{sends_request, after_seq, after_number, takes_push, gives_up, sends_write, send_next}
-use Rattle.nq_model.specs.Settle.{answers, after_read, reads_cached, after_write, delays, marks_written, names_losses, settle}
+use Rattle.nq_model.specs.protocol.Client.{Client, ClientStep, Job, begun, Notice, Ticket, UnderWay, notice_on, first_dirty}
+use Rattle.nq_model.specs.protocol.ClientStep.{begins_call, is_called, losses_for, changed_file, says_busy, client_call, at_time, sends_again, client_tick}
+use Rattle.nq_model.specs.protocol.Hear.{vacates_lease, vacates_noticed, loses, loss_entry, reports_to, reports, waits_for, without_lease, push_refused}
+use Rattle.nq_model.specs.protocol.Hear.{breaks_chain, if_broken, holds, takes_optional, answers_call, caches_block, purges, knows_revision, then_caches}
+use Rattle.nq_model.specs.protocol.Hear.{with_through, marks_through, caches_write, ends_push, caches_push, push_done, answer_of, spends, attached, pauses}
+use Rattle.nq_model.specs.protocol.Hear.{reply_counts, replied, notes_notice, evicted, cancels, hear}
+use Rattle.nq_model.specs.protocol.Message.{Message}
+use Rattle.nq_model.specs.protocol.Send.{sends_request, after_seq, after_number, takes_push, gives_up, sends_write, send_next}
+use Rattle.nq_model.specs.protocol.Settle.{answers, after_read, reads_cached, after_write, delays, marks_written, names_losses, settle}
 
 module _ {P : Book → Type 0} (closed : Closed P) (j : List Entry) where
   -- what is kept, in the middle of a step

@@ -8,12 +8,12 @@ use Rattle.nq_base.specs.declared.Loss.{Loss}
 use Rattle.nq_base.specs.declared.Push.{Push}
 use Rattle.nq_base.specs.declared.Said.{Said}
 use Rattle.nq_base.specs.declared.Who.{Who}
-use Rattle.nq_model.specs.Client.{Client, ClientStep, UnderWay, losses_of, other_losses, add_losses, first_dirty, dirty_at, drop_dirty, other_dirty}
-use Rattle.nq_model.specs.Client.{is_push_of, span_list}
-use Rattle.nq_model.specs.ClientStep.{changed_file, losses_for}
+use Rattle.nq_model.specs.protocol.Client.{Client, ClientStep, UnderWay, losses_of, other_losses, add_losses, first_dirty, dirty_at, drop_dirty, other_dirty}
+use Rattle.nq_model.specs.protocol.Client.{is_push_of, span_list}
+use Rattle.nq_model.specs.protocol.ClientStep.{changed_file, losses_for}
 use Rattle.nq_base.specs.Calls.{told}
-use Rattle.nq_model.specs.Hear.{loss_of, push_of, loss_entry, other_push, waits_for}
-use Rattle.nq_model.specs.Settle.{said, with_write}
+use Rattle.nq_model.specs.protocol.Hear.{loss_of, push_of, loss_entry, other_push, waits_for}
+use Rattle.nq_model.specs.protocol.Settle.{said, with_write}
 use Rattle.std.specs.List.{filter}
 
 -- the client's incarnation, numbers, call, delayed writes and losses, and the journal with the step's entries

@@ -9,16 +9,16 @@ use Rattle.nq_base.specs.declared.Row.{Row}
 use Rattle.nq_base.specs.declared.Tag.{Tag}
 use Rattle.law_runs.proofs.ChainWorlds.{chain-fits}
 use Rattle.walk_files.proofs.ChainFacts.{ChainFits, IsFenced, gone, ahead, earlier, IsBoundOrFenced, bound, fenced, done_at, rev_at}
-use Rattle.nq_model.specs.Chained.{IsChained, has_done_write, due}
+use Rattle.nq_model.specs.laws.Chained.{IsChained, has_done_write, due}
 use Rattle.walk_steps.proofs.ClientMoves.{none-some, some-same}
 use Rattle.law_runs.proofs.ExcusesInRuns.{bound-or-excused}
-use Rattle.nq_model.specs.LossesAreExcused.{IsUnsaved, listed, under_way, IsBoundAt, IsExcusedLoss, UnsavedFilesAreBoundOrExcused}
-use Rattle.nq_model.specs.Client.{Client, Lease, Revision, lease_on, is_clean, revision_of, revision_or_zero}
-use Rattle.nq_model.specs.Kept.{Kept, host_row}
-use Rattle.nq_model.specs.Message.{call}
-use Rattle.nq_model.specs.Server.{standing}
-use Rattle.nq_model.specs.Table.{is_writing, tag_below}
-use Rattle.nq_model.specs.World.{World, from_host, run}
+use Rattle.nq_model.specs.laws.LossesAreExcused.{IsUnsaved, listed, under_way, IsBoundAt, IsExcusedLoss, UnsavedFilesAreBoundOrExcused}
+use Rattle.nq_model.specs.protocol.Client.{Client, Lease, Revision, lease_on, is_clean, revision_of, revision_or_zero}
+use Rattle.nq_model.specs.protocol.Kept.{Kept, host_row}
+use Rattle.nq_model.specs.protocol.Message.{call}
+use Rattle.nq_model.specs.protocol.Server.{standing}
+use Rattle.nq_model.specs.protocol.Table.{is_writing, tag_below}
+use Rattle.nq_model.specs.protocol.World.{World, from_host, run}
 use Rattle.walk_steps.proofs.Packets.{In, in-get}
 use Rattle.walk_steps.proofs.Modes.{writing-caches, at-least-writing}
 use Rattle.walk_steps.proofs.Tests.{there-is}
@@ -27,7 +27,7 @@ use Rattle.law_runs.proofs.KnownRuns.{run-known, still-fits}
 use Rattle.walk_files.proofs.StillFits.{standing-boot}
 use Rattle.walk_files.proofs.Tags.{IsEntry}
 use Rattle.law_runs.proofs.UndisturbedRuns.{Still}
-use Rattle.nq_model.specs.WritesAreUndisturbed as law
+use Rattle.nq_model.specs.laws.WritesAreUndisturbed as law
 
 -- ---- bound or fenced
 

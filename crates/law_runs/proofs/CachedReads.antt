@@ -18,19 +18,19 @@ use Rattle.nq_base.specs.declared.Row.{Row}
 use Rattle.nq_base.specs.declared.Tag.{Tag}
 use Rattle.nq_base.specs.declared.Verdict.{Verdict}
 use Rattle.nq_base.specs.declared.Who.{Who}
-use Rattle.nq_model.specs.Chained.{IsChained, is_done, has_done, has_done_write, due, KnowsFile}
+use Rattle.nq_model.specs.laws.Chained.{IsChained, is_done, has_done, has_done_write, due, KnowsFile}
 use Rattle.walk_steps.proofs.ClientFacts.{push_in, fits_job, IsPush}
 use Rattle.walk_steps.proofs.ClientMoves.{none-some, some-same}
 use Rattle.law_runs.proofs.Laws.{clean-in-every-run, done-in-every-run}
 use Rattle.law_runs.proofs.RunContents.{run-fits}
-use Rattle.nq_model.specs.RevisionsHaveOneContent.{first_length, IsOfRevision}
-use Rattle.nq_model.specs.Contents.{content_at}
-use Rattle.nq_model.specs.Told.{HasValue, IsDoneAs}
+use Rattle.nq_model.specs.laws.RevisionsHaveOneContent.{first_length, IsOfRevision}
+use Rattle.nq_model.specs.laws.Contents.{content_at}
+use Rattle.nq_model.specs.laws.Told.{HasValue, IsDoneAs}
 use Rattle.walk_files.proofs.FactPushes.{dirty-clear}
 use Rattle.walk_files.proofs.JournalMoves.{store-covers}
 use Rattle.walk_files.proofs.PushLists.{is-at, at-is}
 use Rattle.walk_files.proofs.WritesFit.{CoversNumber, IsClear, IsDirty, IsDecidedAs, PushStands, waits, stored, LiesWithin, in_list, under_way, WritesFit}
-use Rattle.nq_model.specs.Bounds.{KeepsBounds}
+use Rattle.nq_model.specs.laws.Bounds.{KeepsBounds}
 use Rattle.walk_files.proofs.EarlierStores.{Earlier, push-behind}
 use Rattle.walk_files.proofs.Entries.{stored-covered}
 use Rattle.law_runs.proofs.HeldRuns.{held-blocks}
@@ -38,24 +38,24 @@ use Rattle.law_runs.proofs.RestingRuns.{run-rests}
 use Rattle.walk_files.proofs.Held.{HasHeld}
 use Rattle.walk_files.proofs.ReaderValues.{NoneWaits, held-stands, unsaved-stands, covered-either}
 use Rattle.walk_files.proofs.Stores.{lost-covered, stored-value}
-use Rattle.nq_model.specs.Client.{Client, Clean, Job, for_call, Lease, Ticket, lease_on, revision_of, revision_or_zero, is_push_at, dirty_at}
-use Rattle.nq_model.specs.Client.{clean_at, lets_read}
-use Rattle.nq_model.specs.Journal.{IsStored, IsLost}
-use Rattle.nq_model.specs.Kept.{host_row}
-use Rattle.nq_model.specs.LeaseInterval.{claim_of, IsCovered, cover_end}
-use Rattle.nq_model.specs.Message.{sequence_of}
-use Rattle.nq_model.specs.Server.{Phase, serving, recovering, Server, standing, standing_in}
-use Rattle.nq_model.specs.Settle.{cached_body, held_body, pushed_body, clean_body}
-use Rattle.nq_model.specs.Skew.{IsWithinSkew}
-use Rattle.nq_model.specs.Stands.{IsStandingValue}
-use Rattle.nq_model.specs.Table.{caches}
-use Rattle.nq_model.specs.World.{Head, World, run}
+use Rattle.nq_model.specs.protocol.Client.{Client, Clean, Job, for_call, Lease, Ticket, lease_on, revision_of, revision_or_zero, is_push_at, dirty_at}
+use Rattle.nq_model.specs.protocol.Client.{clean_at, lets_read}
+use Rattle.nq_model.specs.laws.Journal.{IsStored, IsLost}
+use Rattle.nq_model.specs.protocol.Kept.{host_row}
+use Rattle.nq_model.specs.laws.LeaseInterval.{claim_of, IsCovered, cover_end}
+use Rattle.nq_model.specs.protocol.Message.{sequence_of}
+use Rattle.nq_model.specs.protocol.Server.{Phase, serving, recovering, Server, standing, standing_in}
+use Rattle.nq_model.specs.protocol.Settle.{cached_body, held_body, pushed_body, clean_body}
+use Rattle.nq_model.specs.protocol.Skew.{IsWithinSkew}
+use Rattle.nq_model.specs.laws.Stands.{IsStandingValue}
+use Rattle.nq_model.specs.protocol.Table.{caches}
+use Rattle.nq_model.specs.protocol.World.{Head, World, run}
 use Rattle.walk_steps.proofs.Members.{find-in}
 use Rattle.walk_steps.proofs.Packets.{In}
 use Rattle.walk_steps.proofs.Rows.{same-number, number-same, find-passes}
 use Rattle.walk_files.proofs.Holders.{KnownOf}
 use Rattle.law_runs.proofs.UndisturbedRuns.{run-still}
-use Rattle.nq_model.specs.Undisturbed.{IsUndisturbed}
+use Rattle.nq_model.specs.laws.Undisturbed.{IsUndisturbed}
 
 -- ---- the row of a lease that runs
 

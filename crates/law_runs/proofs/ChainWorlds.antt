@@ -16,26 +16,26 @@ use Rattle.walk_files.proofs.PushAfter.{pushes-sends, pushes-running, pushes-aft
 use Rattle.walk_files.proofs.RepliesReceived.{replies-received}
 use Rattle.walk_files.proofs.RowsReceived.{rows-received, line-received, grows-received}
 use Rattle.walk_files.proofs.ServerChains.{RowsMove, LineTo, FilesGrow, FileMove, Claims, NewReply, ChainEffect}
-use Rattle.nq_model.specs.ChainedLeasesKnow.{HeldKnow, TakeableKnow, ChainedLeasesKnowTheFile}
+use Rattle.nq_model.specs.laws.ChainedLeasesKnow.{HeldKnow, TakeableKnow, ChainedLeasesKnowTheFile}
 use Rattle.walk_files.proofs.ChainClients.{Before, fits-sends, call-fits, tick-fits, heard-fits}
 use Rattle.walk_files.proofs.ChainFacts.{line_for, ChainFits, PushFits, PushesFit}
-use Rattle.nq_model.specs.Chained.{has_done_write, KnowsFile}
+use Rattle.nq_model.specs.laws.Chained.{has_done_write, KnowsFile}
 use Rattle.walk_steps.proofs.ClientMoves.{some-same, none-some}
 use Rattle.walk_steps.proofs.Runs.{Runs, none-served}
 use Rattle.walk_steps.proofs.LeaseIntervals.{run-runs, tick-sends, crash-sends}
 use Rattle.walk_steps.proofs.ServerEffects.{standing-serving}
-use Rattle.nq_model.specs.Bounds.{KeepsBounds}
-use Rattle.nq_model.specs.Client.{Client, ClientStep, revision_of, revision_or_zero}
-use Rattle.nq_model.specs.ClientStep.{client_call, client_tick, restart, starts, fresh_client, attached_client, next_incarnation}
-use Rattle.nq_model.specs.Hear.{hear}
-use Rattle.nq_model.specs.Kept.{host_row}
-use Rattle.nq_model.specs.Message.{Message, Packet, reply, asker, Datagram, datagram_of, request}
-use Rattle.nq_model.specs.Server.{serving, Server, ServerStep, standing, to_host}
-use Rattle.nq_model.specs.ServerStep.{receive, tick, crash}
-use Rattle.nq_model.specs.Skew.{IsWithinSkew}
-use Rattle.nq_model.specs.Table.{find_row}
-use Rattle.nq_model.specs.World.{Head, World, after_server, after_client, at_client, after_hearing, sending_host, deliver_to_client, deliver_to}
-use Rattle.nq_model.specs.World.{deliver, start, run}
+use Rattle.nq_model.specs.laws.Bounds.{KeepsBounds}
+use Rattle.nq_model.specs.protocol.Client.{Client, ClientStep, revision_of, revision_or_zero}
+use Rattle.nq_model.specs.protocol.ClientStep.{client_call, client_tick, restart, starts, fresh_client, attached_client, next_incarnation}
+use Rattle.nq_model.specs.protocol.Hear.{hear}
+use Rattle.nq_model.specs.protocol.Kept.{host_row}
+use Rattle.nq_model.specs.protocol.Message.{Message, Packet, reply, asker, Datagram, datagram_of, request}
+use Rattle.nq_model.specs.protocol.Server.{serving, Server, ServerStep, standing, to_host}
+use Rattle.nq_model.specs.protocol.ServerStep.{receive, tick, crash}
+use Rattle.nq_model.specs.protocol.Skew.{IsWithinSkew}
+use Rattle.nq_model.specs.protocol.Table.{find_row}
+use Rattle.nq_model.specs.protocol.World.{Head, World, after_server, after_client, at_client, after_hearing, sending_host, deliver_to_client, deliver_to}
+use Rattle.nq_model.specs.protocol.World.{deliver, start, run}
 use Rattle.walk_steps.proofs.Sequences.{Drew, DrewIf, call-draws, tick-draws, restart-draws, hear-draws, asked-before-server}
 use Rattle.walk_steps.proofs.WorldSequences.{run-draws}
 use Rattle.walk_steps.proofs.RunCases.{During, client_at, Keeps, run-keeps, OfClients, clients-after}

@@ -2,8 +2,8 @@
 use Rattle.std.proofs.Common.{◌≡◌, ℕ, zero, suc, ◌-◌, ◌==◌, Bool, true, false, List, [], ◌∷◌, Some, if◌then◌else◌, take, replicate, map, subst, inl, inr}
 use Rattle.std.specs.List.{find, filter}
 use Rattle.std.specs.Prelude.{slice_get, slice_set}
-use Rattle.nq_model.specs.Journal.{Each}
-use Rattle.nq_model.specs.Profile.{at_most}
+use Rattle.nq_model.specs.laws.Journal.{Each}
+use Rattle.nq_model.specs.protocol.Profile.{at_most}
 use Rattle.walk_steps.proofs.Members.{each-in, in-filtered, find-in}
 use Rattle.walk_steps.proofs.Packets.{In, in-get}
 

@@ -7,28 +7,28 @@ use Rattle.nq_base.specs.declared.Entry.{Entry}
 use Rattle.nq_base.specs.declared.Event.{Event}
 use Rattle.nq_base.specs.declared.Row.{Row}
 use Rattle.nq_base.specs.declared.Who.{Who}
-use Rattle.nq_model.specs.EndingsComeLate.{boot_opened, was_caching, IsLate, EndingsComeLate}
+use Rattle.nq_model.specs.laws.EndingsComeLate.{boot_opened, was_caching, IsLate, EndingsComeLate}
 use Rattle.walk_files.proofs.LateEndings.{late-end, long-wait, all-over}
 use Rattle.walk_files.proofs.LogRuns.{Alone as ServerAlone, LogRuns, IsShortGrant, runs-start, runs-receive, runs-tick, runs-crash}
 use Rattle.walk_files.proofs.UntimedSteps.{call-untimed, tick-untimed, hear-untimed, restart-untimed}
 use Rattle.walk_steps.proofs.Runs.{Served}
 use Rattle.walk_steps.proofs.LeaseIntervals.{run-runs}
 use Rattle.walk_steps.proofs.ServerLives.{HasServed}
-use Rattle.nq_model.specs.Bounds.{KeepsBounds}
-use Rattle.nq_model.specs.Client.{ClientStep}
-use Rattle.nq_model.specs.ClientStep.{client_call, client_tick, restart}
-use Rattle.nq_model.specs.CutOff.{Given, last_grant, IsLateEnd, IsLongWait, IsLateOpening}
-use Rattle.nq_model.specs.Journal.{Throughout, Exists, Each}
-use Rattle.nq_model.specs.Decide.{decides, creates, writes_through, stores, wrote, stores_recovering, resizes, removes, puts_off, commits}
-use Rattle.nq_model.specs.Kept.{find_file, with_files, with_new_file, with_row}
-use Rattle.nq_model.specs.Message.{Datagram, datagram_of}
-use Rattle.nq_model.specs.Profile.{write_slack}
-use Rattle.nq_model.specs.Server.{serving, recovering, Server, ServerStep, quiet, drops, says, keeping, keeping_with, with_table, after_notices}
-use Rattle.nq_model.specs.ServerStep.{boot, is_over, attaches, vacates, tells_later, serves, leases, is_due, end_reading, at_time, opens}
-use Rattle.nq_model.specs.ServerStep.{ends_writing, receive, tick, crash}
-use Rattle.nq_model.specs.Skew.{IsWithinSkew}
-use Rattle.nq_model.specs.Table.{Table, caches, is_writing, find_row, with_rows, same_who}
-use Rattle.nq_model.specs.World.{Head, World, after_server, after_client, sending_host, start, run}
+use Rattle.nq_model.specs.laws.Bounds.{KeepsBounds}
+use Rattle.nq_model.specs.protocol.Client.{ClientStep}
+use Rattle.nq_model.specs.protocol.ClientStep.{client_call, client_tick, restart}
+use Rattle.nq_model.specs.laws.CutOff.{Given, last_grant, IsLateEnd, IsLongWait, IsLateOpening}
+use Rattle.nq_model.specs.laws.Journal.{Throughout, Exists, Each}
+use Rattle.nq_model.specs.protocol.Decide.{decides, creates, writes_through, stores, wrote, stores_recovering, resizes, removes, puts_off, commits}
+use Rattle.nq_model.specs.protocol.Kept.{find_file, with_files, with_new_file, with_row}
+use Rattle.nq_model.specs.protocol.Message.{Datagram, datagram_of}
+use Rattle.nq_model.specs.protocol.Profile.{write_slack}
+use Rattle.nq_model.specs.protocol.Server.{serving, recovering, Server, ServerStep, quiet, drops, says, keeping, keeping_with, with_table, after_notices}
+use Rattle.nq_model.specs.protocol.ServerStep.{boot, is_over, attaches, vacates, tells_later, serves, leases, is_due, end_reading, at_time, opens}
+use Rattle.nq_model.specs.protocol.ServerStep.{ends_writing, receive, tick, crash}
+use Rattle.nq_model.specs.protocol.Skew.{IsWithinSkew}
+use Rattle.nq_model.specs.protocol.Table.{Table, caches, is_writing, find_row, with_rows, same_who}
+use Rattle.nq_model.specs.protocol.World.{Head, World, after_server, after_client, sending_host, start, run}
 use Rattle.walk_steps.proofs.RunCases.{Keeps, run-keeps}
 use Rattle.walk_steps.proofs.Worlds.{run-holds}
 use Rattle.walk_steps.proofs.LogFits.{timed-append}

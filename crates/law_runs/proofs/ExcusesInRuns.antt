@@ -4,17 +4,17 @@ use Rattle.nq_base.specs.declared.Mode.TheVariants.{Writing}
 use Rattle.nq_base.specs.declared.Push.{Push}
 use Rattle.walk_steps.proofs.ClientMoves.{some-same, none-some}
 use Rattle.law_runs.proofs.ExcuseWorlds.{ChainsInEveryRun, run-excused}
-use Rattle.nq_model.specs.LossesAreExcused.{LossesAreExcused, IsUnsaved, listed, under_way, IsBoundAt, IsExcusedLoss, UnsavedFilesAreBoundOrExcused}
+use Rattle.nq_model.specs.laws.LossesAreExcused.{LossesAreExcused, IsUnsaved, listed, under_way, IsBoundAt, IsExcusedLoss, UnsavedFilesAreBoundOrExcused}
 use Rattle.walk_files.proofs.BoundRows.{bound-fitting}
 use Rattle.walk_files.proofs.Cuts.{IsExcusedIn, cut-excused}
 use Rattle.walk_files.proofs.Holdings.{IsHeldBound}
 use Rattle.walk_files.proofs.Waiting.{IsWaiting}
 use Rattle.nq_model.proofs.Endings.{ends-first}
-use Rattle.nq_model.specs.Client.{Client}
-use Rattle.nq_model.specs.Hear.{loss_entry}
-use Rattle.nq_model.specs.LeaseInterval.{claim_of, HasFitting}
-use Rattle.nq_model.specs.Server.{standing}
-use Rattle.nq_model.specs.World.{World, run}
+use Rattle.nq_model.specs.protocol.Client.{Client}
+use Rattle.nq_model.specs.protocol.Hear.{loss_entry}
+use Rattle.nq_model.specs.laws.LeaseInterval.{claim_of, HasFitting}
+use Rattle.nq_model.specs.protocol.Server.{standing}
+use Rattle.nq_model.specs.protocol.World.{World, run}
 use Rattle.walk_steps.proofs.Packets.{In, in-get}
 use Rattle.walk_steps.proofs.Rows.{same-number}
 use Rattle.walk_steps.proofs.Tests.{is-other}

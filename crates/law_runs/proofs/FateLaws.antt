@@ -9,16 +9,16 @@ use Rattle.nq_base.specs.declared.Who.{Who}
 use Rattle.nq_model.proofs.Accounts.{covered_by, tells_restarts}
 use Rattle.nq_model.proofs.JournalTests.{tells_exists, tells_covers}
 use Rattle.nq_model.proofs.Telling.{not_told}
-use Rattle.nq_model.specs.Fate.{IsDelayed, Restarts}
-use Rattle.nq_model.specs.FateTest.{restarts}
-use Rattle.nq_model.specs.Tests.{Tells}
+use Rattle.nq_model.specs.laws.Fate.{IsDelayed, Restarts}
+use Rattle.nq_model.specs.laws.FateTest.{restarts}
+use Rattle.nq_model.specs.laws.Tests.{Tells}
 use Rattle.walk_files.proofs.WritesFit.{CoversNumber, LiesWithin, in_list, under_way}
-use Rattle.nq_model.specs.WritesAreAccounted.{AccountedInEveryRun, Encloses, UnderWayEncloses, StillHas, IsDelayedBy, WaitingAreUnsavedInEveryRun}
-use Rattle.nq_model.specs.WritesAreAccounted.{IsAtItsClient, HasFate, EachHasItsFateInEveryRun}
-use Rattle.nq_model.specs.Client.{Client}
-use Rattle.nq_model.specs.Journal.{Exists, AtEachPlace, Covers, IsStored, IsLost}
-use Rattle.nq_model.specs.JournalTest.{exists, covers}
-use Rattle.nq_model.specs.World.{World, run}
+use Rattle.nq_model.specs.laws.WritesAreAccounted.{AccountedInEveryRun, Encloses, UnderWayEncloses, StillHas, IsDelayedBy, WaitingAreUnsavedInEveryRun}
+use Rattle.nq_model.specs.laws.WritesAreAccounted.{IsAtItsClient, HasFate, EachHasItsFateInEveryRun}
+use Rattle.nq_model.specs.protocol.Client.{Client}
+use Rattle.nq_model.specs.laws.Journal.{Exists, AtEachPlace, Covers, IsStored, IsLost}
+use Rattle.nq_model.specs.laws.JournalTest.{exists, covers}
+use Rattle.nq_model.specs.protocol.World.{World, run}
 use Rattle.walk_steps.proofs.Members.{in-exists, each-in}
 use Rattle.walk_steps.proofs.Packets.{In}
 

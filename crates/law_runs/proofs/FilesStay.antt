@@ -7,18 +7,19 @@ use Rattle.nq_base.specs.declared.Event.{Event}
 use Rattle.nq_base.specs.declared.Party.{Party}
 use Rattle.nq_base.specs.declared.Request.{Request}
 use Rattle.nq_base.specs.declared.Who.{Who}
-use Rattle.nq_model.specs.Client.{Client, ClientStep}
-use Rattle.nq_model.specs.ClientStep.{client_call, client_tick, restart}
-use Rattle.nq_model.specs.Decide.{Decision, decides, creates, writes_through, stores, wrote, stores_recovering, resizes, removes, puts_off, commits}
-use Rattle.nq_model.specs.Hear.{hear}
-use Rattle.nq_model.specs.Journal.{Exists}
-use Rattle.nq_model.specs.Kept.{File, Kept, find_file, replace_file, drop_file, new_file, written_file, resized_file, fenced_file, with_files}
-use Rattle.nq_model.specs.Kept.{with_new_file, with_row}
-use Rattle.nq_model.specs.Message.{Datagram, Message, Packet, datagram_of}
-use Rattle.nq_model.specs.Server.{Server, ServerStep, quiet, drops, says, keeping, keeping_with, with_table, after_notices}
-use Rattle.nq_model.specs.ServerStep.{receive, tick, crash, boot, booted, fence, at_time, opens, ends_writing, attaches, vacates, tells_later, serves, leases}
-use Rattle.nq_model.specs.World.{Head, World, after_server, after_client, at_client, after_hearing, sending_host, deliver_to_client, deliver_to}
-use Rattle.nq_model.specs.World.{deliver, step, run}
+use Rattle.nq_model.specs.protocol.Client.{Client, ClientStep}
+use Rattle.nq_model.specs.protocol.ClientStep.{client_call, client_tick, restart}
+use Rattle.nq_model.specs.protocol.Decide.{Decision, decides, creates, writes_through, stores, wrote, stores_recovering, resizes, removes, puts_off, commits}
+use Rattle.nq_model.specs.protocol.Hear.{hear}
+use Rattle.nq_model.specs.laws.Journal.{Exists}
+use Rattle.nq_model.specs.protocol.Kept.{File, Kept, find_file, replace_file, drop_file, new_file, written_file, resized_file, fenced_file, with_files}
+use Rattle.nq_model.specs.protocol.Kept.{with_new_file, with_row}
+use Rattle.nq_model.specs.protocol.Message.{Datagram, Message, Packet, datagram_of}
+use Rattle.nq_model.specs.protocol.Server.{Server, ServerStep, quiet, drops, says, keeping, keeping_with, with_table, after_notices}
+use Rattle.nq_model.specs.protocol.ServerStep.{receive, tick, crash, boot, booted, fence, at_time, opens, ends_writing, attaches, vacates, tells_later, serves}
+use Rattle.nq_model.specs.protocol.ServerStep.{leases}
+use Rattle.nq_model.specs.protocol.World.{Head, World, after_server, after_client, at_client, after_hearing, sending_host, deliver_to_client, deliver_to}
+use Rattle.nq_model.specs.protocol.World.{deliver, step, run}
 use Rattle.walk_steps.proofs.KeptChanges.{find-own-replaced, find-other-replaced, find-not-removed, find-added}
 use Rattle.walk_steps.proofs.Rows.{same-number, number-same}
 use Rattle.walk_steps.proofs.ServerCases.{found-file, server-hears, server-ticks}

@@ -9,17 +9,17 @@ use Rattle.nq_base.specs.declared.Request.{Request}
 use Rattle.nq_base.specs.declared.Tag.{Tag}
 use Rattle.law_runs.proofs.EachOf.{each-filter}
 use Rattle.nq_model.proofs.Lists.{each-append}
-use Rattle.nq_model.specs.Client.{Client, ClientStep, Notice, Ticket, UnderWay, begun, is_push_of, notice_on}
-use Rattle.nq_model.specs.ClientStep.{begins_call, is_called, sends_unless_cached, says_busy, client_call, at_time, sends_again, client_tick}
-use Rattle.nq_model.specs.ClientStep.{fresh_client, starts, restart}
-use Rattle.nq_model.specs.Hear.{vacates_lease, vacates_noticed, loses, reports, without_lease, push_refused, breaks_chain, if_broken, holds}
-use Rattle.nq_model.specs.Hear.{takes_grant, takes_optional, answers_call, caches_block, purges, knows_revision, then_caches, read_done, with_through}
-use Rattle.nq_model.specs.Hear.{marks_through, caches_write, write_done, ends_push, caches_push, push_done, answer_of, spends, attached, pauses}
-use Rattle.nq_model.specs.Hear.{replied, reply_counts, cancels, notes_notice, evicted, hear, other_push}
-use Rattle.nq_model.specs.Message.{Message}
-use Rattle.nq_model.specs.Send.{send_next}
-use Rattle.nq_model.specs.Settle.{settle}
-use Rattle.nq_model.specs.BodiesAreFilled.{IsFilled, BringsFilled, AsksFilled, TellsFilled, HasFilledBody, HasFilledBodies}
+use Rattle.nq_model.specs.protocol.Client.{Client, ClientStep, Notice, Ticket, UnderWay, begun, is_push_of, notice_on}
+use Rattle.nq_model.specs.protocol.ClientStep.{begins_call, is_called, sends_unless_cached, says_busy, client_call, at_time, sends_again, client_tick}
+use Rattle.nq_model.specs.protocol.ClientStep.{fresh_client, starts, restart}
+use Rattle.nq_model.specs.protocol.Hear.{vacates_lease, vacates_noticed, loses, reports, without_lease, push_refused, breaks_chain, if_broken, holds}
+use Rattle.nq_model.specs.protocol.Hear.{takes_grant, takes_optional, answers_call, caches_block, purges, knows_revision, then_caches, read_done, with_through}
+use Rattle.nq_model.specs.protocol.Hear.{marks_through, caches_write, write_done, ends_push, caches_push, push_done, answer_of, spends, attached, pauses}
+use Rattle.nq_model.specs.protocol.Hear.{replied, reply_counts, cancels, notes_notice, evicted, hear, other_push}
+use Rattle.nq_model.specs.protocol.Message.{Message}
+use Rattle.nq_model.specs.protocol.Send.{send_next}
+use Rattle.nq_model.specs.protocol.Settle.{settle}
+use Rattle.nq_model.specs.laws.BodiesAreFilled.{IsFilled, BringsFilled, AsksFilled, TellsFilled, HasFilledBody, HasFilledBodies}
 use Rattle.walk_steps.proofs.ClientFacts.{Alone, fits_job}
 use Rattle.walk_steps.proofs.ClientMoves.{some-same, none-some, keeps-or-cancels}
 use Rattle.walk_steps.proofs.PartCases.{answers-call-cases, vacates-noticed-cases, reports-cases, if-broken-cases, takes-optional-cases}

@@ -7,16 +7,16 @@ use Rattle.nq_base.specs.declared.Request.{Request}
 use Rattle.nq_base.specs.declared.Value.{Value}
 use Rattle.law_runs.proofs.EachOf.{each-find, each-filter, each-through, each-most}
 use Rattle.nq_model.proofs.Lists.{each-append}
-use Rattle.nq_model.specs.Client.{Client, ClientStep, Clean, Job, Revision, Ticket, UnderWay, begun, is_clean_at, clean_at, drop_clean, dirty_at}
-use Rattle.nq_model.specs.Client.{is_push_at, is_push_of, first_dirty, purge, put_clean, revision_of, is_revision, for_call}
-use Rattle.nq_model.specs.Hear.{clean_at_revision}
-use Rattle.nq_model.specs.Journal.{Each}
-use Rattle.nq_model.specs.Message.{Message}
-use Rattle.nq_model.specs.Profile.{most_clean}
-use Rattle.nq_model.specs.Send.{sends_request, after_seq, after_number, takes_push, sends_write, gives_up, send_next}
-use Rattle.nq_model.specs.Settle.{answers, names_losses, reads_cached, after_read, looked_up, touched, reads_clean_in, clean_after_read, overwritten}
-use Rattle.nq_model.specs.Settle.{overwritten_at, with_write, delays, after_write, marks_written, settle}
-use Rattle.nq_model.specs.BodiesAreFilled.{IsFilled, BringsFilled, AsksFilled, HasFilledBody, HasFilledBodies}
+use Rattle.nq_model.specs.protocol.Client.{Client, ClientStep, Clean, Job, Revision, Ticket, UnderWay, begun, is_clean_at, clean_at, drop_clean, dirty_at}
+use Rattle.nq_model.specs.protocol.Client.{is_push_at, is_push_of, first_dirty, purge, put_clean, revision_of, is_revision, for_call}
+use Rattle.nq_model.specs.protocol.Hear.{clean_at_revision}
+use Rattle.nq_model.specs.laws.Journal.{Each}
+use Rattle.nq_model.specs.protocol.Message.{Message}
+use Rattle.nq_model.specs.protocol.Profile.{most_clean}
+use Rattle.nq_model.specs.protocol.Send.{sends_request, after_seq, after_number, takes_push, sends_write, gives_up, send_next}
+use Rattle.nq_model.specs.protocol.Settle.{answers, names_losses, reads_cached, after_read, looked_up, touched, reads_clean_in, clean_after_read, overwritten}
+use Rattle.nq_model.specs.protocol.Settle.{overwritten_at, with_write, delays, after_write, marks_written, settle}
+use Rattle.nq_model.specs.laws.BodiesAreFilled.{IsFilled, BringsFilled, AsksFilled, HasFilledBody, HasFilledBodies}
 use Rattle.walk_steps.proofs.ClientMoves.{some-same, none-some}
 use Rattle.walk_steps.proofs.SendCases.{pushed, send-cases}
 use Rattle.walk_steps.proofs.SettleCases.{settle-cases}

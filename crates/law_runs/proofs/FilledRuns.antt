@@ -9,16 +9,16 @@ use Rattle.law_runs.proofs.FilledParts.{FitsIn, step-filled}
 use Rattle.law_runs.proofs.FilledClient.{call-fits, tick-fits, hear-fits, restart-fits}
 use Rattle.law_runs.proofs.FilledServer.{FileFilled, PacketFilled, StepFilled, new-filled, received, ticked, crashed}
 use Rattle.nq_model.proofs.Lists.{each-append}
-use Rattle.nq_model.specs.Client.{Client, ClientStep}
-use Rattle.nq_model.specs.ClientStep.{client_call, client_tick, restart, fresh_client, attached_client}
-use Rattle.nq_model.specs.Hear.{hear}
-use Rattle.nq_model.specs.Journal.{Each}
-use Rattle.nq_model.specs.Message.{Message, call, reply, error, Packet, request, datagram_of, datagram_of_call}
-use Rattle.nq_model.specs.Server.{ServerStep}
-use Rattle.nq_model.specs.ServerStep.{boot}
-use Rattle.nq_model.specs.World.{Head, World, from_host, after_server, after_client, at_client, after_hearing, sending_host, deliver_to_client}
-use Rattle.nq_model.specs.World.{deliver_to, deliver, first_files, first_clients, start, step, run}
-use Rattle.nq_model.specs.BodiesAreFilled.{AsksFilled, HasFilledBody, HasFilledBodies, BringsFilledBody, BodiesAreFilled, BodiesAreFilledInEveryRun}
+use Rattle.nq_model.specs.protocol.Client.{Client, ClientStep}
+use Rattle.nq_model.specs.protocol.ClientStep.{client_call, client_tick, restart, fresh_client, attached_client}
+use Rattle.nq_model.specs.protocol.Hear.{hear}
+use Rattle.nq_model.specs.laws.Journal.{Each}
+use Rattle.nq_model.specs.protocol.Message.{Message, call, reply, error, Packet, request, datagram_of, datagram_of_call}
+use Rattle.nq_model.specs.protocol.Server.{ServerStep}
+use Rattle.nq_model.specs.protocol.ServerStep.{boot}
+use Rattle.nq_model.specs.protocol.World.{Head, World, from_host, after_server, after_client, at_client, after_hearing, sending_host, deliver_to_client}
+use Rattle.nq_model.specs.protocol.World.{deliver_to, deliver, first_files, first_clients, start, step, run}
+use Rattle.nq_model.specs.laws.BodiesAreFilled.{AsksFilled, HasFilledBody, HasFilledBodies, BringsFilledBody, BodiesAreFilled, BodiesAreFilledInEveryRun}
 use Rattle.walk_steps.proofs.ClientMoves.{none-some}
 use Rattle.walk_steps.proofs.Worlds.{Holds, run-holds}
 

@@ -11,16 +11,17 @@ use Rattle.nq_base.specs.declared.Verdict.{Verdict}
 use Rattle.nq_base.specs.declared.Who.{Who}
 use Rattle.law_runs.proofs.EachOf.{each-get, each-find, each-filter, each-through, each-set, each-take, each-replicate}
 use Rattle.nq_model.proofs.Lists.{each-append}
-use Rattle.nq_model.specs.Decide.{Decision, decides, creates, writes_through, stores, wrote, stores_recovering, resizes, removes, puts_off}
-use Rattle.nq_model.specs.Decide.{verdict_reply, commits}
-use Rattle.nq_model.specs.Journal.{Each}
-use Rattle.nq_model.specs.Kept.{File, find_file, replace_file, new_file, written_file, resized_file, fenced_file, with_row, with_files, with_new_file}
-use Rattle.nq_model.specs.Message.{Message, Packet, Datagram, other_rpc, other_program, other_version, unknown_procedure, garbage, request, Reason}
-use Rattle.nq_model.specs.Profile.{xid_end}
-use Rattle.nq_model.specs.Server.{Server, ServerStep, says, quiet, drops, keeping, keeping_with, with_table, after_notices, notices}
-use Rattle.nq_model.specs.ServerStep.{attaches, vacates, tells_later, serves, leases, receive, tick, crash, boot, booted, opens, ends_writing, fence, at_time}
-use Rattle.nq_model.specs.Table.{Table, with_rows}
-use Rattle.nq_model.specs.BodiesAreFilled.{IsFilled, AsksFilled, TellsFilled, HasFilledBody}
+use Rattle.nq_model.specs.protocol.Decide.{Decision, decides, creates, writes_through, stores, wrote, stores_recovering, resizes, removes, puts_off}
+use Rattle.nq_model.specs.protocol.Decide.{verdict_reply, commits}
+use Rattle.nq_model.specs.laws.Journal.{Each}
+use Rattle.nq_model.specs.protocol.Kept.{File, find_file, replace_file, new_file, written_file, resized_file, fenced_file, with_row, with_files, with_new_file}
+use Rattle.nq_model.specs.protocol.Message.{Message, Packet, Datagram, other_rpc, other_program, other_version, unknown_procedure, garbage, request, Reason}
+use Rattle.nq_model.specs.protocol.Profile.{xid_end}
+use Rattle.nq_model.specs.protocol.Server.{Server, ServerStep, says, quiet, drops, keeping, keeping_with, with_table, after_notices, notices}
+use Rattle.nq_model.specs.protocol.ServerStep.{attaches, vacates, tells_later, serves, leases, receive, tick, crash, boot, booted, opens, ends_writing, fence}
+use Rattle.nq_model.specs.protocol.ServerStep.{at_time}
+use Rattle.nq_model.specs.protocol.Table.{Table, with_rows}
+use Rattle.nq_model.specs.laws.BodiesAreFilled.{IsFilled, AsksFilled, TellsFilled, HasFilledBody}
 use Rattle.walk_steps.proofs.ClientMoves.{some-same, none-some}
 use Rattle.walk_steps.proofs.ServerCases.{server-hears, server-ticks}
 use Rattle.walk_steps.proofs.ServerOutcomes.{error_for, IsPlain, unattached, attached_again, not_yet, no_entry, entry, no_attributes, attributes}

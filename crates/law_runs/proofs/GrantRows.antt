@@ -15,16 +15,17 @@ use Rattle.walk_steps.proofs.RowChanges.{find-put-same}
 use Rattle.walk_steps.proofs.ServerCases.{server-hears}
 use Rattle.walk_steps.proofs.ServerOutcomes.{error_for}
 use Rattle.walk_steps.proofs.ServerSays.{plain-grant, verdict-grant}
-use Rattle.nq_model.specs.Ask.{grant_of}
-use Rattle.nq_model.specs.Decide.{Decision, decides, creates, writes_through, stores, stores_recovering, resizes, removes, puts_off, verdict_reply, commits}
-use Rattle.nq_model.specs.Kept.{File}
-use Rattle.nq_model.specs.LeaseInterval.{grant_in}
-use Rattle.nq_model.specs.Message.{Message, Packet, call, reply, error, RpcError, Reason, Datagram, request, too_long, no_message, no_call, other_rpc}
-use Rattle.nq_model.specs.Message.{other_program, other_version, unknown_procedure, garbage_vacated, garbage}
-use Rattle.nq_model.specs.Profile.{xid_end}
-use Rattle.nq_model.specs.Server.{serving, Server, ServerStep, to_host, says, quiet, drops, notices, with_table}
-use Rattle.nq_model.specs.ServerStep.{to_read, attaches, vacates, tells_later, serves, leases, receive}
-use Rattle.nq_model.specs.Table.{Table, find_row, put_row, after_draw}
+use Rattle.nq_model.specs.protocol.Ask.{grant_of}
+use Rattle.nq_model.specs.protocol.Decide.{Decision, decides, creates, writes_through, stores, stores_recovering, resizes, removes, puts_off, verdict_reply}
+use Rattle.nq_model.specs.protocol.Decide.{commits}
+use Rattle.nq_model.specs.protocol.Kept.{File}
+use Rattle.nq_model.specs.laws.LeaseInterval.{grant_in}
+use Rattle.nq_model.specs.protocol.Message.{Message, Packet, call, reply, error, RpcError, Reason, Datagram, request, too_long, no_message, no_call, other_rpc}
+use Rattle.nq_model.specs.protocol.Message.{other_program, other_version, unknown_procedure, garbage_vacated, garbage}
+use Rattle.nq_model.specs.protocol.Profile.{xid_end}
+use Rattle.nq_model.specs.protocol.Server.{serving, Server, ServerStep, to_host, says, quiet, drops, notices, with_table}
+use Rattle.nq_model.specs.protocol.ServerStep.{to_read, attaches, vacates, tells_later, serves, leases, receive}
+use Rattle.nq_model.specs.protocol.Table.{Table, find_row, put_row, after_draw}
 
 -- a row with the tags of a grant
 pub record StandsFor (t : Server) (g : Grant) : Type 0 where

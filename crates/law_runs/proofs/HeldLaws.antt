@@ -1,6 +1,6 @@
 -- The law: in every run kept blocks are held.
 use Rattle.law_runs.proofs.HeldRuns.{run-held}
-use Rattle.nq_model.specs.BlocksAreHeld.{KeptBlocksAreHeldInEveryRun}
+use Rattle.nq_model.specs.laws.BlocksAreHeld.{KeptBlocksAreHeldInEveryRun}
 use Rattle.law_runs.proofs.KnownRuns.{run-known}
 
 pub held-in-every-run : KeptBlocksAreHeldInEveryRun

@@ -5,18 +5,18 @@ use Rattle.std.specs.Prelude.{slice_get}
 use Rattle.nq_base.specs.Block.{value_of}
 use Rattle.nq_base.specs.declared.Event.{Event}
 use Rattle.law_runs.proofs.RunContents.{run-fits}
-use Rattle.nq_model.specs.RevisionsHaveOneContent.{first_length}
+use Rattle.nq_model.specs.laws.RevisionsHaveOneContent.{first_length}
 use Rattle.walk_files.proofs.ServerDoes.{get-mapped}
-use Rattle.nq_model.specs.Contents.{content_at}
-use Rattle.nq_model.specs.Bounds.{KeepsBounds}
+use Rattle.nq_model.specs.laws.Contents.{content_at}
+use Rattle.nq_model.specs.laws.Bounds.{KeepsBounds}
 use Rattle.law_runs.proofs.RestingRuns.{rests-on}
-use Rattle.nq_model.specs.BlocksAreHeld.{KeptBlocksAreHeld}
+use Rattle.nq_model.specs.laws.BlocksAreHeld.{KeptBlocksAreHeld}
 use Rattle.walk_files.proofs.Held.{HasHeld, held-is}
 use Rattle.walk_files.proofs.HeldContents.{HeldBlocks, content}
 use Rattle.walk_files.proofs.HeldFiles.{held-contents, content-length}
-use Rattle.nq_model.specs.Kept.{File, blocks_of, find_file}
-use Rattle.nq_model.specs.Skew.{IsWithinSkew}
-use Rattle.nq_model.specs.World.{Head, run}
+use Rattle.nq_model.specs.protocol.Kept.{File, blocks_of, find_file}
+use Rattle.nq_model.specs.protocol.Skew.{IsWithinSkew}
+use Rattle.nq_model.specs.protocol.World.{Head, run}
 use Rattle.walk_files.proofs.Holders.{KnownOf}
 
 module _ (most : ℕ) (head : Head)

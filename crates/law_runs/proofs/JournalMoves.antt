@@ -15,17 +15,17 @@ use Rattle.nq_base.specs.declared.Who.{Who}
 use Rattle.nq_model.proofs.Lists.{exists-map}
 use Rattle.walk_steps.proofs.Incarnations.{who-same}
 use Rattle.walk_steps.proofs.Rows.{same-number, number-same}
-use Rattle.nq_model.specs.LossesAreReported.{IsLossOf}
+use Rattle.nq_model.specs.laws.LossesAreReported.{IsLossOf}
 use Rattle.law_runs.proofs.Tallies.{IsOne, one-passed, one-passes, tally, tally-cons, tally-split}
 use Rattle.law_runs.proofs.Told.{IsExcused, IsNamedIn, IsToldAt, IsCalled, Grows, grows, some-names-back}
 use Rattle.law_runs.proofs.Journals.{same-who, IsPast, Journals, journals-add, told-none, call-numbered, call-begun}
-use Rattle.nq_model.specs.Client.{losses_of, other_losses, span_of, span_list}
-use Rattle.nq_model.specs.ClientStep.{changed_file, losses_for}
+use Rattle.nq_model.specs.protocol.Client.{losses_of, other_losses, span_of, span_list}
+use Rattle.nq_model.specs.protocol.ClientStep.{changed_file, losses_for}
 use Rattle.nq_base.specs.Calls.{told}
-use Rattle.nq_model.specs.Hear.{waits_for}
-use Rattle.nq_model.specs.Journal.{Each, Exists, call_of, told_by, SpeaksOf}
-use Rattle.nq_model.specs.Reported.{IsNameOf, Names, IsReporting, IsUnnamed, IsSameSpan, NameLosses}
-use Rattle.nq_model.specs.Table.{same_who}
+use Rattle.nq_model.specs.protocol.Hear.{waits_for}
+use Rattle.nq_model.specs.laws.Journal.{Each, Exists, call_of, told_by, SpeaksOf}
+use Rattle.nq_model.specs.laws.Reported.{IsNameOf, Names, IsReporting, IsUnnamed, IsSameSpan, NameLosses}
+use Rattle.nq_model.specs.protocol.Table.{same_who}
 
 -- ---- an entry that is no C, A or L
 

@@ -10,12 +10,12 @@ use Rattle.nq_base.specs.declared.Who.{Who}
 use Rattle.nq_model.proofs.Lists.{exists-left, exists-right, exists-append, each-map, each-append}
 use Rattle.walk_steps.proofs.Incarnations.{who-same}
 use Rattle.walk_steps.proofs.Rows.{same-number, number-same}
-use Rattle.nq_model.specs.LossesAreReported.{IsLossOf}
+use Rattle.nq_model.specs.laws.LossesAreReported.{IsLossOf}
 use Rattle.law_runs.proofs.Tallies.{IsOne}
 use Rattle.law_runs.proofs.Told.{IsToldAt, IsCalled, Grows, grows, called-more, some-names-back, GoesOn, told-more}
-use Rattle.nq_model.specs.Journal.{Each, Exists, AtEachPlace, call_of, told_by}
-use Rattle.nq_model.specs.Reported.{Names}
-use Rattle.nq_model.specs.Table.{same_who}
+use Rattle.nq_model.specs.laws.Journal.{Each, Exists, AtEachPlace, call_of, told_by}
+use Rattle.nq_model.specs.laws.Reported.{Names}
+use Rattle.nq_model.specs.protocol.Table.{same_who}
 
 -- ---- incarnations
 

@@ -11,11 +11,11 @@ use Rattle.nq_base.specs.declared.Told.TheVariants.{Create, Lookup, Attr, Read, 
 use Rattle.nq_base.specs.declared.Who.{Who}
 use Rattle.walk_files.proofs.Placed.{call-later, call-told}
 use Rattle.nq_model.proofs.Lists.{exists-map, each-map, exists-right}
-use Rattle.nq_model.specs.Journal.{Exists, Throughout, Somewhere, IsOpen, SpeaksOf, call_of, IsWriteBy, IsStored}
-use Rattle.nq_model.specs.Reported.{Names, loss_told}
-use Rattle.nq_model.specs.BusyIsSaidAtOnce.{IsBusyCall, IsBusyAtOnce, BusyIsSaidAtOnce}
-use Rattle.nq_model.specs.AnswersAreOfTheirCalls.{IsFormOf, IsAnswerOfCall, AnswersAreOfTheirCalls}
-use Rattle.nq_model.specs.Synchronized.{IsDelayedOn, IsNamedLoss, IsStoredOrTold, IsSettledResize, IsKept, IsKeptAt, IsSynchronized}
+use Rattle.nq_model.specs.laws.Journal.{Exists, Throughout, Somewhere, IsOpen, SpeaksOf, call_of, IsWriteBy, IsStored}
+use Rattle.nq_model.specs.laws.Reported.{Names, loss_told}
+use Rattle.nq_model.specs.laws.BusyIsSaidAtOnce.{IsBusyCall, IsBusyAtOnce, BusyIsSaidAtOnce}
+use Rattle.nq_model.specs.laws.AnswersAreOfTheirCalls.{IsFormOf, IsAnswerOfCall, AnswersAreOfTheirCalls}
+use Rattle.nq_model.specs.laws.Synchronized.{IsDelayedOn, IsNamedLoss, IsStoredOrTold, IsSettledResize, IsKept, IsKeptAt, IsSynchronized}
 
 -- ---- lists
 

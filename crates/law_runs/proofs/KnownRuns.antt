@@ -4,9 +4,9 @@ use Rattle.nq_base.specs.declared.Event.{Event}
 use Rattle.law_runs.proofs.ChainWorlds.{chain-fits, pushes-fit}
 use Rattle.law_runs.proofs.WorldWrites.{writes-fit}
 use Rattle.walk_steps.proofs.LeaseIntervals.{run-runs, kept-in-every-run}
-use Rattle.nq_model.specs.Bounds.{KeepsBounds}
-use Rattle.nq_model.specs.Skew.{IsWithinSkew}
-use Rattle.nq_model.specs.World.{Head, run}
+use Rattle.nq_model.specs.laws.Bounds.{KeepsBounds}
+use Rattle.nq_model.specs.protocol.Skew.{IsWithinSkew}
+use Rattle.nq_model.specs.protocol.World.{Head, run}
 use Rattle.walk_steps.proofs.OneRequests.{one-open-in-every-run}
 use Rattle.walk_steps.proofs.Worlds.{run-holds}
 use Rattle.walk_files.proofs.Holders.{KnownOf}

@@ -12,15 +12,15 @@ use Rattle.walk_files.proofs.ClientParts.{IsOverKnown}
 use Rattle.walk_files.proofs.Facts.{History, SetsBlock, Changed, GrantTells, Tells, LineTells}
 use Rattle.law_runs.proofs.RunContents.{run-fits}
 use Rattle.law_runs.proofs.WorldFacts.{history_now, Fits}
-use Rattle.nq_model.specs.Told.{GrantFits, SetsOne, TellsContents, HasChanged, IsDoneAs}
-use Rattle.nq_model.specs.RevisionsHaveOneContent.{first_length, FilesAreTheirHistoryInEveryRun, CleanBlocksHaveTheirRevisionInEveryRun}
-use Rattle.nq_model.specs.RevisionsHaveOneContent.{DoneRequestsAreChangesInEveryRun, PushesCarryTheirLastWriteInEveryRun}
-use Rattle.nq_model.specs.Contents.{delayed_value}
-use Rattle.nq_model.specs.Client.{Client, Ticket, is_push_at}
-use Rattle.nq_model.specs.Kept.{host_row}
-use Rattle.nq_model.specs.Message.{call, reply, sequence_of}
-use Rattle.nq_model.specs.Server.{to_host}
-use Rattle.nq_model.specs.World.{World, from_host, run}
+use Rattle.nq_model.specs.laws.Told.{GrantFits, SetsOne, TellsContents, HasChanged, IsDoneAs}
+use Rattle.nq_model.specs.laws.RevisionsHaveOneContent.{first_length, FilesAreTheirHistoryInEveryRun, CleanBlocksHaveTheirRevisionInEveryRun}
+use Rattle.nq_model.specs.laws.RevisionsHaveOneContent.{DoneRequestsAreChangesInEveryRun, PushesCarryTheirLastWriteInEveryRun}
+use Rattle.nq_model.specs.laws.Contents.{delayed_value}
+use Rattle.nq_model.specs.protocol.Client.{Client, Ticket, is_push_at}
+use Rattle.nq_model.specs.protocol.Kept.{host_row}
+use Rattle.nq_model.specs.protocol.Message.{call, reply, sequence_of}
+use Rattle.nq_model.specs.protocol.Server.{to_host}
+use Rattle.nq_model.specs.protocol.World.{World, from_host, run}
 use Rattle.walk_steps.proofs.WorldSequences.{Draws, run-draws}
 use Rattle.walk_steps.proofs.Members.{find-in}
 use Rattle.walk_steps.proofs.Packets.{Asked, Told, in-get}

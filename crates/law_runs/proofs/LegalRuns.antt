@@ -10,16 +10,16 @@ use Rattle.nq_base.specs.declared.Told.TheVariants.{Read, Fetch}
 use Rattle.nq_base.specs.declared.Who.{Who}
 use Rattle.walk_files.proofs.Placed.{ordered, of-their-call}
 use Rattle.law_runs.proofs.RunCalls.{calls-known}
-use Rattle.nq_model.specs.Bounds.{KeepsBounds}
+use Rattle.nq_model.specs.laws.Bounds.{KeepsBounds}
 use Rattle.walk_files.proofs.ReadFacts.{IsBacked, reads_nothing, counted_read, IsGood}
 use Rattle.law_runs.proofs.ReadRuns.{run-reads}
 use Rattle.walk_files.proofs.Places.{IsPlaced, placed-in, throughout-of}
-use Rattle.nq_model.specs.Journal.{Each, Exists, AtMostOne, AtEachPlace, IsCounted, call_of}
-use Rattle.nq_model.specs.Legal.{IsReading, GivesValue, IsCountedBy, IsCountedWith, IsLegalRead, IsLegalAnswer, IsLegalAt, IsLegal}
-use Rattle.nq_model.specs.OfTheirCall.{Reads, IsOfItsCall, AreOfTheirCall}
-use Rattle.nq_model.specs.Ordered.{IsReadInOrder, IsInOrder, IsOrdered}
-use Rattle.nq_model.specs.Skew.{IsWithinSkew}
-use Rattle.nq_model.specs.World.{Head, run}
+use Rattle.nq_model.specs.laws.Journal.{Each, Exists, AtMostOne, AtEachPlace, IsCounted, call_of}
+use Rattle.nq_model.specs.laws.Legal.{IsReading, GivesValue, IsCountedBy, IsCountedWith, IsLegalRead, IsLegalAnswer, IsLegalAt, IsLegal}
+use Rattle.nq_model.specs.laws.OfTheirCall.{Reads, IsOfItsCall, AreOfTheirCall}
+use Rattle.nq_model.specs.laws.Ordered.{IsReadInOrder, IsInOrder, IsOrdered}
+use Rattle.nq_model.specs.protocol.Skew.{IsWithinSkew}
+use Rattle.nq_model.specs.protocol.World.{Head, run}
 use Rattle.walk_steps.proofs.Packets.{In}
 use Rattle.walk_files.proofs.Holders.{KnownOf}
 

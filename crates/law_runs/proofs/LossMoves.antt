@@ -13,15 +13,15 @@ use Rattle.nq_base.specs.declared.Told.{Told}
 use Rattle.nq_base.specs.declared.Who.{Who}
 use Rattle.nq_model.proofs.Lists.{exists-left, exists-right, exists-append}
 use Rattle.walk_steps.proofs.Rows.{number-same}
-use Rattle.nq_model.specs.LossesAreReported.{IsLossOf}
+use Rattle.nq_model.specs.laws.LossesAreReported.{IsLossOf}
 use Rattle.law_runs.proofs.Tallies.{IsOne, tally, tally-cons}
 use Rattle.law_runs.proofs.Told.{IsToldAt, Grows, grows, some-names-back}
 use Rattle.law_runs.proofs.Journals.{same-who, Journals, journals-add, told-none}
 use Rattle.law_runs.proofs.JournalMoves.{loss_at}
-use Rattle.nq_model.specs.Hear.{loss_of, loss_entry}
-use Rattle.nq_model.specs.Journal.{Exists, AtEachPlace, call_of}
-use Rattle.nq_model.specs.Reported.{loss_told, IsNameOf, Names, IsUnnamed, NameLosses}
-use Rattle.nq_model.specs.Table.{same_who}
+use Rattle.nq_model.specs.protocol.Hear.{loss_of, loss_entry}
+use Rattle.nq_model.specs.laws.Journal.{Exists, AtEachPlace, call_of}
+use Rattle.nq_model.specs.laws.Reported.{loss_told, IsNameOf, Names, IsUnnamed, NameLosses}
+use Rattle.nq_model.specs.protocol.Table.{same_who}
 
 -- ---- an L
 

@@ -12,13 +12,13 @@ use Rattle.nq_base.specs.declared.Said.{Said}
 use Rattle.nq_base.specs.declared.Said.TheVariants.{Ok}
 use Rattle.nq_base.specs.declared.Told.{Told}
 use Rattle.nq_base.specs.declared.Who.{Who}
-use Rattle.nq_model.specs.Client.{UnderWay, is_push_of, push_passes, losses_of, is_clean_in}
+use Rattle.nq_model.specs.protocol.Client.{UnderWay, is_push_of, push_passes, losses_of, is_clean_in}
 use Rattle.nq_base.specs.Calls.{told}
-use Rattle.nq_model.specs.Journal.{Exists, Somewhere, Stores, IsStored}
-use Rattle.nq_model.specs.Reported.{Names, loss_told}
-use Rattle.nq_model.specs.Synchronized.{IsDelayedOn, IsNamedLoss, IsStoredOrTold, AreStoredOrTold, IsPutKept, IsKept}
-use Rattle.nq_model.specs.AnswersAreOfTheirCalls.{IsFormOf}
-use Rattle.nq_model.specs.LossesAreReported.{IsLossOf, IsOneOf}
+use Rattle.nq_model.specs.laws.Journal.{Exists, Somewhere, Stores, IsStored}
+use Rattle.nq_model.specs.laws.Reported.{Names, loss_told}
+use Rattle.nq_model.specs.laws.Synchronized.{IsDelayedOn, IsNamedLoss, IsStoredOrTold, AreStoredOrTold, IsPutKept, IsKept}
+use Rattle.nq_model.specs.laws.AnswersAreOfTheirCalls.{IsFormOf}
+use Rattle.nq_model.specs.laws.LossesAreReported.{IsLossOf, IsOneOf}
 use Rattle.walk_steps.proofs.Members.{each-in, in-exists}
 use Rattle.walk_steps.proofs.Packets.{In}
 use Rattle.walk_steps.proofs.Rows.{number-same}

@@ -16,20 +16,20 @@ use Rattle.walk_steps.proofs.StepCases.{call-cases, unless-cached-cases, tick-ca
 use Rattle.walk_steps.proofs.ClientFacts.{Alone}
 use Rattle.walk_steps.proofs.ClientMoves.{some-same, none-some}
 use Rattle.walk_files.proofs.ServerTells.{Tells}
-use Rattle.nq_model.specs.Client.{Client, ClientStep, for_call, Ticket, UnderWay, begun, losses_of}
-use Rattle.nq_model.specs.ClientStep.{begins_call, is_called, sends_unless_cached, says_busy, losses_for, changed_file, client_call, at_time}
-use Rattle.nq_model.specs.ClientStep.{sends_again, client_tick, fresh_client, starts, next_incarnation, restart}
+use Rattle.nq_model.specs.protocol.Client.{Client, ClientStep, for_call, Ticket, UnderWay, begun, losses_of}
+use Rattle.nq_model.specs.protocol.ClientStep.{begins_call, is_called, sends_unless_cached, says_busy, losses_for, changed_file, client_call, at_time}
+use Rattle.nq_model.specs.protocol.ClientStep.{sends_again, client_tick, fresh_client, starts, next_incarnation, restart}
 use Rattle.nq_base.specs.Calls.{told}
-use Rattle.nq_model.specs.Hear.{inc_of, replied, cancels, evicted, hear}
-use Rattle.nq_model.specs.Ordered.{HasOpen, IsOpenCall}
-use Rattle.nq_model.specs.BusyIsSaidAtOnce.{IsStarting}
+use Rattle.nq_model.specs.protocol.Hear.{inc_of, replied, cancels, evicted, hear}
+use Rattle.nq_model.specs.laws.Ordered.{HasOpen, IsOpenCall}
+use Rattle.nq_model.specs.laws.BusyIsSaidAtOnce.{IsStarting}
 use Rattle.nq_model.proofs.Lists.{exists-map}
-use Rattle.nq_model.specs.Journal.{Exists, Throughout, IsCall, IsAnswer, IsOpen, call_of, told_by}
-use Rattle.nq_model.specs.Message.{Message, reply, sequence_of}
-use Rattle.nq_model.specs.Send.{send_next}
-use Rattle.nq_model.specs.Settle.{names_losses, settle}
-use Rattle.nq_model.specs.AnswersAreOfTheirCalls.{IsChanging}
-use Rattle.nq_model.specs.LossesAreReported.{cleans}
+use Rattle.nq_model.specs.laws.Journal.{Exists, Throughout, IsCall, IsAnswer, IsOpen, call_of, told_by}
+use Rattle.nq_model.specs.protocol.Message.{Message, reply, sequence_of}
+use Rattle.nq_model.specs.protocol.Send.{send_next}
+use Rattle.nq_model.specs.protocol.Settle.{names_losses, settle}
+use Rattle.nq_model.specs.laws.AnswersAreOfTheirCalls.{IsChanging}
+use Rattle.nq_model.specs.laws.LossesAreReported.{cleans}
 use Rattle.walk_steps.proofs.Packets.{In}
 use Rattle.walk_steps.proofs.Incarnations.{who-same}
 use Rattle.walk_steps.proofs.Rows.{same-number, number-same}
@@ -38,7 +38,7 @@ use Rattle.law_runs.proofs.OkFacts.{Made, IsOpenAs, IsFor, KeepsOf, All, book_of
 use Rattle.law_runs.proofs.OkMoves.{open-more, put-more, made-more, numbered-more}
 use Rattle.law_runs.proofs.OkReplies.{mid-replied, mid-evicted}
 use Rattle.law_runs.proofs.OkSettle.{own-more, mid-names, mid-settles, End, mid-end, mid-sends, after-before}
-use Rattle.nq_model.specs.Table.{same_who}
+use Rattle.nq_model.specs.protocol.Table.{same_who}
 
 -- what is known of a client before its step
 pub record Ready (line : HostRow) (c : Client) (journal : List Entry) : Type 0 where

@@ -12,13 +12,14 @@ use Rattle.law_runs.proofs.Places.{in-placed, placed-order, told-whole, fact-who
 use Rattle.law_runs.proofs.LegalLaws.{legal-in-every-run}
 use Rattle.law_runs.proofs.KeptPlaces.{KeptHere, IsMadeOpen, HasWritten, OkAt, somewhere-more}
 use Rattle.law_runs.proofs.Standings.{answered-in-every-run}
-use Rattle.nq_model.specs.Journal.{Exists, Throughout, Somewhere, IsAnswer, IsAnswerBy, IsOpen, call_of}
-use Rattle.nq_model.specs.Legal.{IsReading, IsCountedWith, IsLegalAt, IsLegalAnswer}
-use Rattle.nq_model.specs.OfTheirCall.{Reads}
-use Rattle.nq_model.specs.Ordered.{Writes, Resizes}
-use Rattle.nq_model.specs.Synchronized.{IsPutKept, IsSettledResize, IsKept}
-use Rattle.nq_model.specs.World.{run}
-use Rattle.nq_model.specs.OksHaveTheirDeeds.{IsWriteOfCall, IsReadOfCall, IsResizeOfCall, HasDeed, HasDeedAt, OksHaveTheirDeeds, OksHaveTheirDeedsInEveryRun}
+use Rattle.nq_model.specs.laws.Journal.{Exists, Throughout, Somewhere, IsAnswer, IsAnswerBy, IsOpen, call_of}
+use Rattle.nq_model.specs.laws.Legal.{IsReading, IsCountedWith, IsLegalAt, IsLegalAnswer}
+use Rattle.nq_model.specs.laws.OfTheirCall.{Reads}
+use Rattle.nq_model.specs.laws.Ordered.{Writes, Resizes}
+use Rattle.nq_model.specs.laws.Synchronized.{IsPutKept, IsSettledResize, IsKept}
+use Rattle.nq_model.specs.protocol.World.{run}
+use Rattle.nq_model.specs.laws.OksHaveTheirDeeds.{IsWriteOfCall, IsReadOfCall, IsResizeOfCall, HasDeed, HasDeedAt, OksHaveTheirDeeds}
+use Rattle.nq_model.specs.laws.OksHaveTheirDeeds.{OksHaveTheirDeedsInEveryRun}
 use Rattle.walk_files.proofs.Placed.{IsCachedBy, Placed, call-told}
 use Rattle.walk_steps.proofs.ClientMoves.{some-same}
 use Rattle.walk_files.proofs.Places.{IsPlaced, throughout-at, throughout-of}

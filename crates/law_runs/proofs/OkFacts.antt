@@ -13,14 +13,14 @@ use Rattle.nq_base.specs.declared.Who.{Who}
 use Rattle.walk_files.proofs.CallsFit.{entry_who}
 use Rattle.walk_steps.proofs.SettleCases.{IsRead}
 use Rattle.walk_steps.proofs.ClientMoves.{none-some}
-use Rattle.nq_model.specs.Client.{Client, ClientStep, for_call, Ticket, UnderWay, losses_of, is_clean_in}
+use Rattle.nq_model.specs.protocol.Client.{Client, ClientStep, for_call, Ticket, UnderWay, losses_of, is_clean_in}
 use Rattle.nq_base.specs.Calls.{told}
-use Rattle.nq_model.specs.Journal.{Exists, Throughout, Somewhere, IsOpen, call_of, IsWriteBy, IsThrough}
-use Rattle.nq_model.specs.Message.{sequence_of}
-use Rattle.nq_model.specs.Reported.{Names}
-use Rattle.nq_model.specs.Settle.{ticket_is_for_call, is_for_call}
-use Rattle.nq_model.specs.Synchronized.{IsSettledResize}
-use Rattle.nq_model.specs.LossesAreReported.{IsLossOf, IsOneOf, cleans}
+use Rattle.nq_model.specs.laws.Journal.{Exists, Throughout, Somewhere, IsOpen, call_of, IsWriteBy, IsThrough}
+use Rattle.nq_model.specs.protocol.Message.{sequence_of}
+use Rattle.nq_model.specs.laws.Reported.{Names}
+use Rattle.nq_model.specs.protocol.Settle.{ticket_is_for_call, is_for_call}
+use Rattle.nq_model.specs.laws.Synchronized.{IsSettledResize}
+use Rattle.nq_model.specs.laws.LossesAreReported.{IsLossOf, IsOneOf, cleans}
 use Rattle.walk_steps.proofs.Packets.{In}
 use Rattle.law_runs.proofs.KeptPlaces.{KeptHere}
 

@@ -12,10 +12,10 @@ use Rattle.nq_base.specs.declared.Who.{Who}
 use Rattle.walk_files.proofs.CallsFit.{entry_who}
 use Rattle.walk_steps.proofs.ClientMoves.{some-same, none-some}
 use Rattle.nq_model.proofs.ByFile.{of-added}
-use Rattle.nq_model.specs.Client.{Client, ClientStep, Ticket, UnderWay, losses_of, is_push_of, other_dirty, file_of_loss, add_losses}
-use Rattle.nq_model.specs.Hear.{loss_of, loss_entry, all_dirty, other_push, loses, waits_for, with_through, marks_through}
-use Rattle.nq_model.specs.Journal.{Throughout, Each}
-use Rattle.nq_model.specs.LossesAreReported.{cleans}
+use Rattle.nq_model.specs.protocol.Client.{Client, ClientStep, Ticket, UnderWay, losses_of, is_push_of, other_dirty, file_of_loss, add_losses}
+use Rattle.nq_model.specs.protocol.Hear.{loss_of, loss_entry, all_dirty, other_push, loses, waits_for, with_through, marks_through}
+use Rattle.nq_model.specs.laws.Journal.{Throughout, Each}
+use Rattle.nq_model.specs.laws.LossesAreReported.{cleans}
 use Rattle.walk_steps.proofs.Members.{in-filtered}
 use Rattle.walk_steps.proofs.Packets.{In, in-append}
 use Rattle.walk_steps.proofs.Rows.{same-number, number-same}

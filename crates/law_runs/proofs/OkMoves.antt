@@ -12,12 +12,12 @@ use Rattle.walk_files.proofs.Placed.{call-later}
 use Rattle.walk_files.proofs.CallsFit.{entry_who}
 use Rattle.walk_steps.proofs.ClientMoves.{some-same, none-some}
 use Rattle.nq_model.proofs.Lists.{each-map}
-use Rattle.nq_model.specs.Client.{UnderWay, is_push_of, is_push_at, first_dirty, drop_dirty, dirty_at}
+use Rattle.nq_model.specs.protocol.Client.{UnderWay, is_push_of, is_push_at, first_dirty, drop_dirty, dirty_at}
 use Rattle.nq_base.specs.Calls.{told}
-use Rattle.nq_model.specs.Hear.{loss_entry, push_of}
-use Rattle.nq_model.specs.Journal.{Exists, Somewhere, IsAnswer}
-use Rattle.nq_model.specs.Settle.{overwritten, overwritten_at, with_write}
-use Rattle.nq_model.specs.Synchronized.{IsSettledResize, IsDelayedOn}
+use Rattle.nq_model.specs.protocol.Hear.{loss_entry, push_of}
+use Rattle.nq_model.specs.laws.Journal.{Exists, Somewhere, IsAnswer}
+use Rattle.nq_model.specs.protocol.Settle.{overwritten, overwritten_at, with_write}
+use Rattle.nq_model.specs.laws.Synchronized.{IsSettledResize, IsDelayedOn}
 use Rattle.law_runs.proofs.Books.{unsaved_on}
 use Rattle.walk_steps.proofs.Members.{in-filtered, in-filter, in-map, find-in, in-reverse}
 use Rattle.walk_steps.proofs.Packets.{In, in-append, in-last}

@@ -24,18 +24,18 @@ use Rattle.walk_steps.proofs.StepCases.{evicted-cases}
 use Rattle.walk_steps.proofs.ClientFacts.{fits_job}
 use Rattle.walk_steps.proofs.ClientMoves.{some-same, none-some, keeps-or-cancels}
 use Rattle.walk_files.proofs.ServerTells.{Tells, later, decided}
-use Rattle.nq_model.specs.Client.{Client, ClientStep, for_call, Ticket, UnderWay, Notice, begun, notice_on}
+use Rattle.nq_model.specs.protocol.Client.{Client, ClientStep, for_call, Ticket, UnderWay, Notice, begun, notice_on}
 use Rattle.nq_base.specs.Calls.{told}
-use Rattle.nq_model.specs.Decide.{verdict_reply}
-use Rattle.nq_model.specs.Hear.{vacates_lease, vacates_noticed, loses, reports, without_lease, push_refused, breaks_chain, if_broken, holds}
-use Rattle.nq_model.specs.Hear.{takes_grant, takes_optional, answers_call, caches_block, purges, knows_revision, then_caches, read_done}
-use Rattle.nq_model.specs.Hear.{marks_through, lease_done, caches_write, write_done, ends_push, caches_push, push_done, answer_of, spends, attached}
-use Rattle.nq_model.specs.Hear.{pauses, replied, reply_counts, waits_for, counts_for_call, is_put_off, cancels, notes_notice, evicted}
-use Rattle.nq_model.specs.Journal.{Somewhere}
-use Rattle.nq_model.specs.Message.{sequence_of}
-use Rattle.nq_model.specs.Settle.{said, answers, names_losses}
-use Rattle.nq_model.specs.Synchronized.{IsPutKept, IsSettledResize}
-use Rattle.nq_model.specs.AnswersAreOfTheirCalls.{IsNaming, IsChanging, IsFormOf}
+use Rattle.nq_model.specs.protocol.Decide.{verdict_reply}
+use Rattle.nq_model.specs.protocol.Hear.{vacates_lease, vacates_noticed, loses, reports, without_lease, push_refused, breaks_chain, if_broken, holds}
+use Rattle.nq_model.specs.protocol.Hear.{takes_grant, takes_optional, answers_call, caches_block, purges, knows_revision, then_caches, read_done}
+use Rattle.nq_model.specs.protocol.Hear.{marks_through, lease_done, caches_write, write_done, ends_push, caches_push, push_done, answer_of, spends, attached}
+use Rattle.nq_model.specs.protocol.Hear.{pauses, replied, reply_counts, waits_for, counts_for_call, is_put_off, cancels, notes_notice, evicted}
+use Rattle.nq_model.specs.laws.Journal.{Somewhere}
+use Rattle.nq_model.specs.protocol.Message.{sequence_of}
+use Rattle.nq_model.specs.protocol.Settle.{said, answers, names_losses}
+use Rattle.nq_model.specs.laws.Synchronized.{IsPutKept, IsSettledResize}
+use Rattle.nq_model.specs.laws.AnswersAreOfTheirCalls.{IsNaming, IsChanging, IsFormOf}
 use Rattle.law_runs.proofs.KeptPlaces.{KeptHere, IsMadeOpen, OkAt, AnswersOpen, somewhere-more, resize-later}
 use Rattle.law_runs.proofs.OkAnswers.{is_plain, plain-ok, write-ok, answers-open}
 use Rattle.law_runs.proofs.OkFacts.{IsThroughWrite, Made, IsOpenAs, IsFor, IsDone, All, book_of, Mid}

@@ -9,18 +9,18 @@ use Rattle.walk_files.proofs.CallsFit.{entry_who, entry_call}
 use Rattle.walk_steps.proofs.ClientMoves.{none-some}
 use Rattle.law_runs.proofs.AnsweredWorlds.{run-answered}
 use Rattle.walk_steps.proofs.LeaseIntervals.{run-runs}
-use Rattle.nq_model.specs.Bounds.{KeepsBounds, InEveryRun}
-use Rattle.nq_model.specs.Client.{Client, ClientStep, UnderWay}
-use Rattle.nq_model.specs.ClientStep.{client_call, client_tick, restart, starts as starts_client, attached_client, fresh_client}
-use Rattle.nq_model.specs.Hear.{hear}
-use Rattle.nq_model.specs.Journal.{Each, Throughout}
-use Rattle.nq_model.specs.Kept.{host_row}
-use Rattle.nq_model.specs.Message.{Packet, reply, datagram_of}
-use Rattle.nq_model.specs.Server.{ServerStep}
-use Rattle.nq_model.specs.Skew.{IsWithinSkew}
-use Rattle.nq_model.specs.World.{Head, World, after_server, after_client, at_client, after_hearing, sending_host, deliver_to_client, deliver_to}
-use Rattle.nq_model.specs.World.{deliver, start, run}
-use Rattle.nq_model.specs.BusyIsSaidAtOnce.{IsBusyOnly, IsStarting}
+use Rattle.nq_model.specs.laws.Bounds.{KeepsBounds, InEveryRun}
+use Rattle.nq_model.specs.protocol.Client.{Client, ClientStep, UnderWay}
+use Rattle.nq_model.specs.protocol.ClientStep.{client_call, client_tick, restart, starts as starts_client, attached_client, fresh_client}
+use Rattle.nq_model.specs.protocol.Hear.{hear}
+use Rattle.nq_model.specs.laws.Journal.{Each, Throughout}
+use Rattle.nq_model.specs.protocol.Kept.{host_row}
+use Rattle.nq_model.specs.protocol.Message.{Packet, reply, datagram_of}
+use Rattle.nq_model.specs.protocol.Server.{ServerStep}
+use Rattle.nq_model.specs.protocol.Skew.{IsWithinSkew}
+use Rattle.nq_model.specs.protocol.World.{Head, World, after_server, after_client, at_client, after_hearing, sending_host, deliver_to_client, deliver_to}
+use Rattle.nq_model.specs.protocol.World.{deliver, start, run}
+use Rattle.nq_model.specs.laws.BusyIsSaidAtOnce.{IsBusyOnly, IsStarting}
 use Rattle.walk_steps.proofs.WorldClocks.{StillOf, StillIf, call-still, tick-still, hear-still}
 use Rattle.walk_steps.proofs.RunCases.{During, client_at, Keeps, run-keeps, OfClients, clients-after}
 use Rattle.walk_steps.proofs.Packets.{In, in-get, Told}
@@ -32,7 +32,7 @@ use Rattle.law_runs.proofs.OkMoves.{IsMild, foreign-mild}
 use Rattle.law_runs.proofs.OkServer.{Standing, all-mild, all-kept, server-keeps}
 use Rattle.law_runs.proofs.OkSettle.{End}
 use Rattle.law_runs.proofs.ServerMakes.{ServerMakes, LineMoves, hears-makes, tick-makes, crash-makes}
-use Rattle.nq_model.specs.OksAreKept.{SynchronizedInEveryRun}
+use Rattle.nq_model.specs.laws.OksAreKept.{SynchronizedInEveryRun}
 use Rattle.law_runs.proofs.Starting.{all-idle, still-starting, next-idle, call-idles, tick-idles, hear-idles}
 
 -- what is known of the delayed writes and losses of each client, in every run

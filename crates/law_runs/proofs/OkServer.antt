@@ -9,12 +9,12 @@ use Rattle.nq_base.specs.declared.Who.{Who}
 use Rattle.walk_steps.proofs.ClientFacts.{Alone}
 use Rattle.walk_steps.proofs.ClientMoves.{some-same}
 use Rattle.nq_model.proofs.Lists.{exists-map}
-use Rattle.nq_model.specs.Client.{Client, for_call, attaching, Ticket, UnderWay, is_clean_in}
-use Rattle.nq_model.specs.Journal.{Exists, Throughout, Somewhere}
-use Rattle.nq_model.specs.Message.{Packet, sequence_of}
-use Rattle.nq_model.specs.Reported.{Names}
-use Rattle.nq_model.specs.Synchronized.{IsSettledResize}
-use Rattle.nq_model.specs.LossesAreReported.{IsLossOf, IsOneOf, cleans}
+use Rattle.nq_model.specs.protocol.Client.{Client, for_call, attaching, Ticket, UnderWay, is_clean_in}
+use Rattle.nq_model.specs.laws.Journal.{Exists, Throughout, Somewhere}
+use Rattle.nq_model.specs.protocol.Message.{Packet, sequence_of}
+use Rattle.nq_model.specs.laws.Reported.{Names}
+use Rattle.nq_model.specs.laws.Synchronized.{IsSettledResize}
+use Rattle.nq_model.specs.laws.LossesAreReported.{IsLossOf, IsOneOf, cleans}
 use Rattle.walk_steps.proofs.HostLine.{LineFits, IsSettled}
 use Rattle.walk_steps.proofs.Packets.{In, Mail}
 use Rattle.walk_steps.proofs.Rows.{number-same}

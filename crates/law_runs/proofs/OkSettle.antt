@@ -16,15 +16,16 @@ use Rattle.walk_files.proofs.CallsFit.{entry_who}
 use Rattle.walk_steps.proofs.SendCases.{pushed, send-cases}
 use Rattle.walk_steps.proofs.SettleCases.{IsSettling, IsRead, IsWrite, IsSync, of_sync, of_put, settle-cases}
 use Rattle.walk_steps.proofs.ClientMoves.{some-same, none-some}
-use Rattle.nq_model.specs.Client.{ClientStep, Job, for_call, renewing, Ticket, UnderWay, first_dirty, drop_dirty, is_clean, is_push_of}
+use Rattle.nq_model.specs.protocol.Client.{ClientStep, Job, for_call, renewing, Ticket, UnderWay, first_dirty, drop_dirty, is_clean, is_push_of}
 use Rattle.nq_base.specs.Calls.{told}
-use Rattle.nq_model.specs.Journal.{Throughout, Somewhere, IsOpen, call_of}
-use Rattle.nq_model.specs.Legal.{IsReading}
-use Rattle.nq_model.specs.Message.{sequence_of}
-use Rattle.nq_model.specs.Send.{sends_request, after_seq, after_number, takes_push, sends_write, gives_up, send_next}
-use Rattle.nq_model.specs.Settle.{said, answers, names_losses, reads_cached, after_read, delays, after_write, marks_written, settle, ticket_is_for_call}
-use Rattle.nq_model.specs.AnswersAreOfTheirCalls.{IsChanging, IsWriting}
-use Rattle.nq_model.specs.LossesAreReported.{cleans}
+use Rattle.nq_model.specs.laws.Journal.{Throughout, Somewhere, IsOpen, call_of}
+use Rattle.nq_model.specs.laws.Legal.{IsReading}
+use Rattle.nq_model.specs.protocol.Message.{sequence_of}
+use Rattle.nq_model.specs.protocol.Send.{sends_request, after_seq, after_number, takes_push, sends_write, gives_up, send_next}
+use Rattle.nq_model.specs.protocol.Settle.{said, answers, names_losses, reads_cached, after_read, delays, after_write, marks_written, settle}
+use Rattle.nq_model.specs.protocol.Settle.{ticket_is_for_call}
+use Rattle.nq_model.specs.laws.AnswersAreOfTheirCalls.{IsChanging, IsWriting}
+use Rattle.nq_model.specs.laws.LossesAreReported.{cleans}
 use Rattle.walk_steps.proofs.Members.{in-filtered, find-in}
 use Rattle.walk_steps.proofs.Packets.{In}
 use Rattle.walk_steps.proofs.Rows.{number-same}

@@ -1,8 +1,8 @@
 -- In every run the calls and what they make stand in order.
-use Rattle.nq_model.specs.CallsAreOrdered.{OrderedInEveryRun, ReadsAreOfTheirCallInEveryRun}
+use Rattle.nq_model.specs.laws.CallsAreOrdered.{OrderedInEveryRun, ReadsAreOfTheirCallInEveryRun}
 use Rattle.walk_files.proofs.Placed.{ordered, of-their-call}
 use Rattle.law_runs.proofs.RunCalls.{calls-known}
-use Rattle.nq_model.specs.World.{run}
+use Rattle.nq_model.specs.protocol.World.{run}
 
 pub ordered-in-every-run : OrderedInEveryRun
 ordered-in-every-run most head events bounds within =

@@ -7,7 +7,7 @@ use Rattle.nq_base.specs.declared.Push.{Push}
 use Rattle.nq_base.specs.declared.Said.TheVariants.{Lost}
 use Rattle.nq_base.specs.declared.Who.{Who}
 use Rattle.nq_model.proofs.Lists.{exists-right, exists-append, each-map, each-append}
-use Rattle.nq_model.specs.LossesAreReported.{IsLossOf}
+use Rattle.nq_model.specs.laws.LossesAreReported.{IsLossOf}
 use Rattle.law_runs.proofs.Books.{Book}
 use Rattle.law_runs.proofs.BookFits.{Counted, Fits, counted-entry, still-called}
 use Rattle.law_runs.proofs.BookNone.{IsBy}
@@ -16,9 +16,9 @@ use Rattle.law_runs.proofs.Journals.{IsPast, Journals, other-who, told-none}
 use Rattle.law_runs.proofs.LossMoves.{lost_at, push_at}
 use Rattle.law_runs.proofs.Tallies.{IsOne, tally, tally-nil, tally-cons}
 use Rattle.law_runs.proofs.Told.{IsToldAt, IsCalled, Grows, grows, called-more, named-more, some-names-back, told-more}
-use Rattle.nq_model.specs.Journal.{Each, Exists, AtEachPlace, call_of, told_by}
-use Rattle.nq_model.specs.Reported.{loss_told, Names}
-use Rattle.nq_model.specs.Table.{same_who}
+use Rattle.nq_model.specs.laws.Journal.{Each, Exists, AtEachPlace, call_of, told_by}
+use Rattle.nq_model.specs.laws.Reported.{loss_told, Names}
+use Rattle.nq_model.specs.protocol.Table.{same_who}
 
 -- a C, A or L is of another incarnation
 abbrev pub IsForeign : Who → Entry → Type 0

@@ -6,7 +6,7 @@ use Rattle.nq_base.specs.declared.Said.{Said}
 use Rattle.nq_base.specs.declared.Said.TheVariants.{OkBy}
 use Rattle.nq_base.specs.declared.Told.{Told}
 use Rattle.nq_base.specs.declared.Who.{Who}
-use Rattle.nq_model.specs.Journal.{Exists, Throughout, IsAnswer, IsAnswerBy, call_of}
+use Rattle.nq_model.specs.laws.Journal.{Exists, Throughout, IsAnswer, IsAnswerBy, call_of}
 use Rattle.walk_files.proofs.Placed.{Placed, call-told}
 use Rattle.walk_files.proofs.Places.{IsPlaced, placed-in, throughout-at}
 use Rattle.walk_steps.proofs.Members.{in-exists, exists-in}

@@ -21,7 +21,7 @@ use Rattle.walk_steps.proofs.ClientMoves.{none-some, some-same}
 use Rattle.walk_files.proofs.ServerDelays.{Never, receive-never, tick-never, crash-never}
 use Rattle.walk_files.proofs.PushLists.{at-is}
 use Rattle.walk_files.proofs.WritesFit.{in_list, under_way, IsRising}
-use Rattle.nq_model.specs.Bounds.{KeepsBounds}
+use Rattle.nq_model.specs.laws.Bounds.{KeepsBounds}
 use Rattle.law_runs.proofs.CachedReads.{cached-stands, none-waits, NoneEncloses, find-none}
 use Rattle.law_runs.proofs.HeldRuns.{kept-held}
 use Rattle.walk_files.proofs.ReadAdds.{step-adds}
@@ -37,20 +37,20 @@ use Rattle.walk_files.proofs.ReadParts.{IsDull, MadeFor}
 use Rattle.walk_files.proofs.ReadSends.{Done, NewRead, IsCachedIn}
 use Rattle.walk_files.proofs.ReadSteps.{ValuedBy, NoneValued, call-done, tick-done, hear-done}
 use Rattle.walk_files.proofs.Stores.{Rests}
-use Rattle.nq_model.specs.Client.{Client, ClientStep, Lease, Ticket, UnderWay, lease_on, lets_read, first_dirty, dirty_at, clean_at, is_push_of}
-use Rattle.nq_model.specs.Client.{is_push_at, push_passes, is_clean, Job, file_of_lease}
-use Rattle.nq_model.specs.ClientStep.{restart, starts, fresh_client, attached_client, next_incarnation}
-use Rattle.nq_model.specs.Journal.{Throughout}
-use Rattle.nq_model.specs.Kept.{host_row}
-use Rattle.nq_model.specs.Message.{Message, call, reply, datagram_of}
-use Rattle.nq_model.specs.Server.{ServerStep, to_host}
-use Rattle.nq_model.specs.Settle.{cached_body, held_body, pushed_body, clean_body}
-use Rattle.nq_model.specs.Profile.{renewal}
-use Rattle.nq_model.specs.Send.{is_to_push, least, least_with}
-use Rattle.nq_model.specs.Skew.{IsWithinSkew}
-use Rattle.nq_model.specs.Table.{caches, is_writing}
-use Rattle.nq_model.specs.Stands.{IsStandingValue}
-use Rattle.nq_model.specs.World.{Head, World, after_server, after_client, sending_host, start, run}
+use Rattle.nq_model.specs.protocol.Client.{Client, ClientStep, Lease, Ticket, UnderWay, lease_on, lets_read, first_dirty, dirty_at, clean_at, is_push_of}
+use Rattle.nq_model.specs.protocol.Client.{is_push_at, push_passes, is_clean, Job, file_of_lease}
+use Rattle.nq_model.specs.protocol.ClientStep.{restart, starts, fresh_client, attached_client, next_incarnation}
+use Rattle.nq_model.specs.laws.Journal.{Throughout}
+use Rattle.nq_model.specs.protocol.Kept.{host_row}
+use Rattle.nq_model.specs.protocol.Message.{Message, call, reply, datagram_of}
+use Rattle.nq_model.specs.protocol.Server.{ServerStep, to_host}
+use Rattle.nq_model.specs.protocol.Settle.{cached_body, held_body, pushed_body, clean_body}
+use Rattle.nq_model.specs.protocol.Profile.{renewal}
+use Rattle.nq_model.specs.protocol.Send.{is_to_push, least, least_with}
+use Rattle.nq_model.specs.protocol.Skew.{IsWithinSkew}
+use Rattle.nq_model.specs.protocol.Table.{caches, is_writing}
+use Rattle.nq_model.specs.laws.Stands.{IsStandingValue}
+use Rattle.nq_model.specs.protocol.World.{Head, World, after_server, after_client, sending_host, start, run}
 use Rattle.walk_steps.proofs.RunCases.{During}
 use Rattle.walk_steps.proofs.Packets.{In, in-get}
 use Rattle.walk_steps.proofs.ServerSays.{AllSaid}

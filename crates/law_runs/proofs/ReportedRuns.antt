@@ -13,7 +13,7 @@ use Rattle.walk_steps.proofs.ClientFacts.{fits_job}
 use Rattle.walk_steps.proofs.ClientMoves.{none-some}
 use Rattle.walk_steps.proofs.Rows.{same-number, number-same}
 use Rattle.walk_steps.proofs.Worlds.{get-set-same, get-set-other, Holds, run-holds, first-client}
-use Rattle.nq_model.specs.LossesAreReported.{IsLossOf, IsOneOf, LossesFitInEveryRun, ReportedInEveryRun}
+use Rattle.nq_model.specs.laws.LossesAreReported.{IsLossOf, IsOneOf, LossesFitInEveryRun, ReportedInEveryRun}
 use Rattle.law_runs.proofs.Books.{book_of, book_at}
 use Rattle.law_runs.proofs.BookFits.{Fits, fits-closed}
 use Rattle.law_runs.proofs.BookSteps.{hear-keeps, tick-keeps, call-keeps}
@@ -22,16 +22,16 @@ use Rattle.law_runs.proofs.BookOrder.{Ordered, order-closed, order-other, order-
 use Rattle.law_runs.proofs.OtherFits.{Places, empty_book, places-quiet, fits-other, fits-quiet, fits-next, fits-start}
 use Rattle.law_runs.proofs.ServerQuiet.{AllQuiet, received-quiet, tick-quiet, crash-quiet}
 use Rattle.law_runs.proofs.Told.{IsNamedIn, IsToldAt, IsCalled, all-reported}
-use Rattle.nq_model.specs.Client.{Client, ClientStep, Ticket}
-use Rattle.nq_model.specs.ClientStep.{client_call, client_tick, restart, starts, fresh_client, attached_client, next_incarnation}
-use Rattle.nq_model.specs.Hear.{hear}
-use Rattle.nq_model.specs.Journal.{Each, Exists, AtEachPlace}
-use Rattle.nq_model.specs.Message.{Message, Packet, datagram_of}
-use Rattle.nq_model.specs.Reported.{loss_told, Names, IsNamedNext}
-use Rattle.nq_model.specs.Server.{ServerStep}
-use Rattle.nq_model.specs.ServerStep.{receive, tick, crash}
-use Rattle.nq_model.specs.World.{Head, World, after_server, after_client, at_client, after_hearing, sending_host, deliver_to_client, deliver_to}
-use Rattle.nq_model.specs.World.{deliver, step, start, run}
+use Rattle.nq_model.specs.protocol.Client.{Client, ClientStep, Ticket}
+use Rattle.nq_model.specs.protocol.ClientStep.{client_call, client_tick, restart, starts, fresh_client, attached_client, next_incarnation}
+use Rattle.nq_model.specs.protocol.Hear.{hear}
+use Rattle.nq_model.specs.laws.Journal.{Each, Exists, AtEachPlace}
+use Rattle.nq_model.specs.protocol.Message.{Message, Packet, datagram_of}
+use Rattle.nq_model.specs.laws.Reported.{loss_told, Names, IsNamedNext}
+use Rattle.nq_model.specs.protocol.Server.{ServerStep}
+use Rattle.nq_model.specs.protocol.ServerStep.{receive, tick, crash}
+use Rattle.nq_model.specs.protocol.World.{Head, World, after_server, after_client, at_client, after_hearing, sending_host, deliver_to_client, deliver_to}
+use Rattle.nq_model.specs.protocol.World.{deliver, step, start, run}
 
 -- ---- what holds after every schedule
 

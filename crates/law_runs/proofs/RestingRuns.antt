@@ -12,13 +12,13 @@ use Rattle.walk_steps.proofs.ClientCases.{core_of}
 use Rattle.walk_steps.proofs.ClientFacts.{push_in}
 use Rattle.walk_steps.proofs.ClientMoves.{attached-with-ticket}
 use Rattle.law_runs.proofs.RunContents.{lengths-first, run-fits}
-use Rattle.nq_model.specs.RevisionsHaveOneContent.{first_length}
-use Rattle.nq_model.specs.Contents.{content_at}
+use Rattle.nq_model.specs.laws.RevisionsHaveOneContent.{first_length}
+use Rattle.nq_model.specs.laws.Contents.{content_at}
 use Rattle.law_runs.proofs.AnsweredWorlds.{received-tells, tick-tells, crash-tells}
 use Rattle.law_runs.proofs.WorldWrites.{no-attach}
 use Rattle.walk_files.proofs.ServerTells.{Moves}
 use Rattle.walk_files.proofs.WritesFit.{IsOpenPush, WritesFit, JournalFits}
-use Rattle.nq_model.specs.Bounds.{KeepsBounds}
+use Rattle.nq_model.specs.laws.Bounds.{KeepsBounds}
 use Rattle.walk_files.proofs.EarlierServer.{Around, earlier-server}
 use Rattle.walk_files.proofs.EarlierStores.{Earlier, Goes, goes_on, begins, earlier-own, earlier-other}
 use Rattle.walk_files.proofs.Entries.{IsIdle, accesses-idle, rests-idle, IsInsideAt, inside-idle, inside-is, inside-later, throughout-weaker, throughout-idle}
@@ -28,16 +28,17 @@ use Rattle.walk_steps.proofs.Steps.{by_server, run-goes}
 use Rattle.walk_files.proofs.HeldContents.{content}
 use Rattle.walk_files.proofs.HeldFiles.{RestsOn}
 use Rattle.walk_files.proofs.Stores.{StoreFits, Rests}
-use Rattle.nq_model.specs.Client.{Client, ClientStep}
-use Rattle.nq_model.specs.ClientStep.{client_call, client_tick, restart, starts, fresh_client}
-use Rattle.nq_model.specs.Decide.{decides, creates, writes_through, stores, stores_recovering, wrote, resizes, removes, puts_off, commits}
-use Rattle.nq_model.specs.Journal.{Throughout, Each}
-use Rattle.nq_model.specs.Kept.{File, blocks_of, find_file, host_row, with_files, with_new_file, with_row}
-use Rattle.nq_model.specs.Message.{Datagram, call, datagram_of, asker}
-use Rattle.nq_model.specs.Server.{Server, ServerStep, quiet, drops, says, keeping, keeping_with, with_table, after_notices, to_host}
-use Rattle.nq_model.specs.ServerStep.{attaches, vacates, tells_later, serves, leases, receive, tick, at_time, opens, ends_writing, fence, crash, boot, booted}
-use Rattle.nq_model.specs.Skew.{IsWithinSkew}
-use Rattle.nq_model.specs.World.{Head, World, from_host, after_server, after_client, sending_host, start, run}
+use Rattle.nq_model.specs.protocol.Client.{Client, ClientStep}
+use Rattle.nq_model.specs.protocol.ClientStep.{client_call, client_tick, restart, starts, fresh_client}
+use Rattle.nq_model.specs.protocol.Decide.{decides, creates, writes_through, stores, stores_recovering, wrote, resizes, removes, puts_off, commits}
+use Rattle.nq_model.specs.laws.Journal.{Throughout, Each}
+use Rattle.nq_model.specs.protocol.Kept.{File, blocks_of, find_file, host_row, with_files, with_new_file, with_row}
+use Rattle.nq_model.specs.protocol.Message.{Datagram, call, datagram_of, asker}
+use Rattle.nq_model.specs.protocol.Server.{Server, ServerStep, quiet, drops, says, keeping, keeping_with, with_table, after_notices, to_host}
+use Rattle.nq_model.specs.protocol.ServerStep.{attaches, vacates, tells_later, serves, leases, receive, tick, at_time, opens, ends_writing, fence, crash, boot}
+use Rattle.nq_model.specs.protocol.ServerStep.{booted}
+use Rattle.nq_model.specs.protocol.Skew.{IsWithinSkew}
+use Rattle.nq_model.specs.protocol.World.{Head, World, from_host, after_server, after_client, sending_host, start, run}
 use Rattle.walk_steps.proofs.OpenAt.{OneOpenAt}
 use Rattle.walk_steps.proofs.OpenRequests.{run-opens}
 use Rattle.walk_steps.proofs.Sequences.{asked-before-server}

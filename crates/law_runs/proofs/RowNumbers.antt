@@ -15,13 +15,13 @@ use Rattle.walk_steps.proofs.Packets.{In}
 use Rattle.walk_steps.proofs.Rows.{choice}
 use Rattle.walk_steps.proofs.ServerMoves.{server-moves, tick-moves}
 use Rattle.law_runs.proofs.TagOrder.{steps-server}
-use Rattle.nq_model.specs.Ask.{conflicts, marked, sharing_row, caching_row, shared_again, renewed_row, term_of}
-use Rattle.nq_model.specs.Kept.{Kept}
-use Rattle.nq_model.specs.Message.{Datagram}
-use Rattle.nq_model.specs.Server.{Phase, serving, recovering, Server, standing, standing_in, last_table, last_in}
-use Rattle.nq_model.specs.ServerStep.{vacated_rows, to_read, receive, is_over, tick, boot, crash}
-use Rattle.nq_model.specs.Table.{Table, same_tag, is_row_of, find_row, row_before, insert_row, drop_row, put_row, with_rows, after_draw, empty_table}
-use Rattle.nq_model.specs.World.{Head, start, run, first_kept}
+use Rattle.nq_model.specs.protocol.Ask.{conflicts, marked, sharing_row, caching_row, shared_again, renewed_row, term_of}
+use Rattle.nq_model.specs.protocol.Kept.{Kept}
+use Rattle.nq_model.specs.protocol.Message.{Datagram}
+use Rattle.nq_model.specs.protocol.Server.{Phase, serving, recovering, Server, standing, standing_in, last_table, last_in}
+use Rattle.nq_model.specs.protocol.ServerStep.{vacated_rows, to_read, receive, is_over, tick, boot, crash}
+use Rattle.nq_model.specs.protocol.Table.{Table, same_tag, is_row_of, find_row, row_before, insert_row, drop_row, put_row, with_rows, after_draw, empty_table}
+use Rattle.nq_model.specs.protocol.World.{Head, start, run, first_kept}
 
 -- the tags of a row are numbered from 1 on
 abbrev IsNumbered : Row → Type 0

@@ -22,17 +22,17 @@ use Rattle.walk_files.proofs.ServerDecides.{received-does}
 use Rattle.walk_steps.proofs.ClientMoves.{some-same, none-some}
 use Rattle.walk_steps.proofs.Runs.{Runs, none-served}
 use Rattle.walk_steps.proofs.LeaseIntervals.{run-runs}
-use Rattle.nq_model.specs.Bounds.{KeepsBounds}
-use Rattle.nq_model.specs.Client.{Client, ClientStep}
-use Rattle.nq_model.specs.ClientStep.{client_call, client_tick, restart, next_incarnation, fresh_client, attached_client}
-use Rattle.nq_model.specs.Hear.{hear}
-use Rattle.nq_model.specs.Kept.{Kept, fresh_row, find_file, host_row}
-use Rattle.nq_model.specs.Message.{Packet, reply, datagram_of}
-use Rattle.nq_model.specs.Server.{serving, ServerStep, to_host, quiet, with_table, keeping_with}
-use Rattle.nq_model.specs.ServerStep.{receive, tick, crash, boot, booted, at_time, is_due, end_reading, ends_writing, opens}
-use Rattle.nq_model.specs.Skew.{IsWithinSkew}
-use Rattle.nq_model.specs.Table.{find_row, with_rows}
-use Rattle.nq_model.specs.World.{Head, World, after_server, after_client, sending_host, first_row, start, run}
+use Rattle.nq_model.specs.laws.Bounds.{KeepsBounds}
+use Rattle.nq_model.specs.protocol.Client.{Client, ClientStep}
+use Rattle.nq_model.specs.protocol.ClientStep.{client_call, client_tick, restart, next_incarnation, fresh_client, attached_client}
+use Rattle.nq_model.specs.protocol.Hear.{hear}
+use Rattle.nq_model.specs.protocol.Kept.{Kept, fresh_row, find_file, host_row}
+use Rattle.nq_model.specs.protocol.Message.{Packet, reply, datagram_of}
+use Rattle.nq_model.specs.protocol.Server.{serving, ServerStep, to_host, quiet, with_table, keeping_with}
+use Rattle.nq_model.specs.protocol.ServerStep.{receive, tick, crash, boot, booted, at_time, is_due, end_reading, ends_writing, opens}
+use Rattle.nq_model.specs.protocol.Skew.{IsWithinSkew}
+use Rattle.nq_model.specs.protocol.Table.{find_row, with_rows}
+use Rattle.nq_model.specs.protocol.World.{Head, World, after_server, after_client, sending_host, first_row, start, run}
 use Rattle.walk_steps.proofs.OpenAt.{Opens}
 use Rattle.walk_steps.proofs.OpenRequests.{run-opens}
 use Rattle.walk_steps.proofs.Sequences.{DrewIf, call-draws, tick-draws, restart-draws, hear-draws}

@@ -20,21 +20,21 @@ use Rattle.walk_files.proofs.ServerContents.{IsFirst, Hearing, hears}
 use Rattle.walk_files.proofs.ServerDelays.{receive-never, tick-never, crash-never}
 use Rattle.walk_files.proofs.ServerTimes.{Standing, ticks, crashes}
 use Rattle.law_runs.proofs.WorldFacts.{ClientFits, begun-mid, fits-follows, history_now, Fits, client-fits, server-fits}
-use Rattle.nq_model.specs.RevisionsHaveOneContent.{length_of, first_length}
+use Rattle.nq_model.specs.laws.RevisionsHaveOneContent.{length_of, first_length}
 use Rattle.walk_steps.proofs.Runs.{Runs}
 use Rattle.walk_steps.proofs.LeaseIntervals.{run-runs}
 use Rattle.walk_steps.proofs.NoCrash.{bounds-before}
-use Rattle.nq_model.specs.Bounds.{KeepsBounds}
-use Rattle.nq_model.specs.Client.{Client, ClientStep, attaching, Ticket, begun}
-use Rattle.nq_model.specs.ClientStep.{client_call, client_tick, restart, starts, fresh_client, attached_client, next_incarnation}
-use Rattle.nq_model.specs.Hear.{hear}
-use Rattle.nq_model.specs.Kept.{File, blocks_of, find_file, host_row, fresh_row, new_file}
-use Rattle.nq_model.specs.Message.{Message, Packet, Datagram, call, datagram_of, asker, sequence_of}
-use Rattle.nq_model.specs.Profile.{most_hosts}
-use Rattle.nq_model.specs.ServerStep.{receive, tick, crash, boot}
-use Rattle.nq_model.specs.Skew.{IsWithinSkew}
-use Rattle.nq_model.specs.World.{Head, World, after_server, after_client, at_client, after_hearing, sending_host, deliver_to_client, deliver_to}
-use Rattle.nq_model.specs.World.{deliver, step, first_files, first_row, start, run}
+use Rattle.nq_model.specs.laws.Bounds.{KeepsBounds}
+use Rattle.nq_model.specs.protocol.Client.{Client, ClientStep, attaching, Ticket, begun}
+use Rattle.nq_model.specs.protocol.ClientStep.{client_call, client_tick, restart, starts, fresh_client, attached_client, next_incarnation}
+use Rattle.nq_model.specs.protocol.Hear.{hear}
+use Rattle.nq_model.specs.protocol.Kept.{File, blocks_of, find_file, host_row, fresh_row, new_file}
+use Rattle.nq_model.specs.protocol.Message.{Message, Packet, Datagram, call, datagram_of, asker, sequence_of}
+use Rattle.nq_model.specs.protocol.Profile.{most_hosts}
+use Rattle.nq_model.specs.protocol.ServerStep.{receive, tick, crash, boot}
+use Rattle.nq_model.specs.protocol.Skew.{IsWithinSkew}
+use Rattle.nq_model.specs.protocol.World.{Head, World, after_server, after_client, at_client, after_hearing, sending_host, deliver_to_client, deliver_to}
+use Rattle.nq_model.specs.protocol.World.{deliver, step, first_files, first_row, start, run}
 use Rattle.walk_steps.proofs.WorldSequences.{Draws, run-draws}
 use Rattle.walk_steps.proofs.Clocks.{within-before}
 use Rattle.walk_steps.proofs.Packets.{In, in-get, Asked, Told, call-same, Mail}

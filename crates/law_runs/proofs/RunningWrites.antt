@@ -10,16 +10,16 @@ use Rattle.law_runs.proofs.AnsweredWorlds.{received-tells, tick-tells, crash-tel
 use Rattle.law_runs.proofs.WorldWrites.{hear-same, replies-known, writes-fit}
 use Rattle.walk_steps.proofs.LeaseIntervals.{run-runs}
 use Rattle.nq_model.proofs.Lists.{exists-left, exists-right}
-use Rattle.nq_model.specs.Client.{Client, ClientStep, begun}
-use Rattle.nq_model.specs.ClientStep.{client_call, client_tick, restart, starts, fresh_client, next_incarnation}
-use Rattle.nq_model.specs.Fate.{Restarts}
-use Rattle.nq_model.specs.Journal.{Exists, AtEachPlace}
-use Rattle.nq_model.specs.Kept.{host_row}
-use Rattle.nq_model.specs.Message.{Packet}
-use Rattle.nq_model.specs.Server.{Server, ServerStep}
-use Rattle.nq_model.specs.Skew.{IsWithinSkew}
-use Rattle.nq_model.specs.World.{Head, World, after_server, after_client, start, run}
-use Rattle.nq_model.specs.Bounds.{KeepsBounds}
+use Rattle.nq_model.specs.protocol.Client.{Client, ClientStep, begun}
+use Rattle.nq_model.specs.protocol.ClientStep.{client_call, client_tick, restart, starts, fresh_client, next_incarnation}
+use Rattle.nq_model.specs.laws.Fate.{Restarts}
+use Rattle.nq_model.specs.laws.Journal.{Exists, AtEachPlace}
+use Rattle.nq_model.specs.protocol.Kept.{host_row}
+use Rattle.nq_model.specs.protocol.Message.{Packet}
+use Rattle.nq_model.specs.protocol.Server.{Server, ServerStep}
+use Rattle.nq_model.specs.protocol.Skew.{IsWithinSkew}
+use Rattle.nq_model.specs.protocol.World.{Head, World, after_server, after_client, start, run}
+use Rattle.nq_model.specs.laws.Bounds.{KeepsBounds}
 use Rattle.walk_files.proofs.ClientFates.{IsOwn, Mid}
 use Rattle.walk_files.proofs.ServerTells.{IsQuiet, Effects, without, goes_through, pushes, Moves, same_lines, attaches_one, decides_one, ServerTells}
 use Rattle.walk_files.proofs.StepFates.{mid-begins, mid-hears, mid-call-step, mid-tick-step}

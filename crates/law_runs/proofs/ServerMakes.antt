@@ -12,13 +12,14 @@ use Rattle.nq_base.specs.declared.Row.{Row}
 use Rattle.nq_base.specs.declared.Tag.{Tag}
 use Rattle.nq_base.specs.declared.Verdict.{Verdict}
 use Rattle.nq_base.specs.declared.Who.{Who}
-use Rattle.nq_model.specs.Decide.{Decision, decides, creates, writes_through, stores, wrote, stores_recovering, resizes, removes, puts_off, commits, row_after}
-use Rattle.nq_model.specs.Kept.{File, Kept, find_file, host_row, with_row, with_files, with_new_file}
-use Rattle.nq_model.specs.Message.{Message, Packet, asker, Datagram, Reason, request, sequence_of}
-use Rattle.nq_model.specs.Profile.{most_hosts}
-use Rattle.nq_model.specs.Server.{Server, ServerStep, quiet, drops, says, after_notices, keeping, keeping_with, with_table}
-use Rattle.nq_model.specs.ServerStep.{attaches, vacates, tells_later, serves, leases, grants, receive, tick, crash, boot, opens, ends_writing, at_time}
-use Rattle.nq_model.specs.Table.{Table, with_rows}
+use Rattle.nq_model.specs.protocol.Decide.{Decision, decides, creates, writes_through, stores, wrote, stores_recovering, resizes, removes, puts_off, commits}
+use Rattle.nq_model.specs.protocol.Decide.{row_after}
+use Rattle.nq_model.specs.protocol.Kept.{File, Kept, find_file, host_row, with_row, with_files, with_new_file}
+use Rattle.nq_model.specs.protocol.Message.{Message, Packet, asker, Datagram, Reason, request, sequence_of}
+use Rattle.nq_model.specs.protocol.Profile.{most_hosts}
+use Rattle.nq_model.specs.protocol.Server.{Server, ServerStep, quiet, drops, says, after_notices, keeping, keeping_with, with_table}
+use Rattle.nq_model.specs.protocol.ServerStep.{attaches, vacates, tells_later, serves, leases, grants, receive, tick, crash, boot, opens, ends_writing, at_time}
+use Rattle.nq_model.specs.protocol.Table.{Table, with_rows}
 use Rattle.walk_steps.proofs.Packets.{In, Asked}
 use Rattle.walk_steps.proofs.ServerFacts.{fence-lines}
 use Rattle.walk_steps.proofs.ServerNumbers.{LinesFitOf}

@@ -2,10 +2,10 @@
 use Rattle.std.proofs.Common.{ℕ, List}
 use Rattle.nq_base.specs.declared.Entry.{Entry}
 use Rattle.law_runs.proofs.JournalMoves.{IsQuiet}
-use Rattle.nq_model.specs.Journal.{Each}
-use Rattle.nq_model.specs.Message.{Datagram}
-use Rattle.nq_model.specs.Server.{Server}
-use Rattle.nq_model.specs.ServerStep.{receive, tick, crash}
+use Rattle.nq_model.specs.laws.Journal.{Each}
+use Rattle.nq_model.specs.protocol.Message.{Datagram}
+use Rattle.nq_model.specs.protocol.Server.{Server}
+use Rattle.nq_model.specs.protocol.ServerStep.{receive, tick, crash}
 use Rattle.walk_steps.proofs.ServerEntries.{OfServer, receive-each, tick-each}
 
 abbrev pub AllQuiet : List Entry → Type 0

@@ -4,14 +4,14 @@ use Rattle.std.specs.Prelude.{IsTrue}
 use Rattle.std.proofs.lemmas.Bool.{and_parts}
 use Rattle.nq_base.specs.Block.{filled, zeros}
 use Rattle.walk_steps.proofs.NoCrash.{no-crash-within}
-use Rattle.nq_model.specs.World.{Head, run}
+use Rattle.nq_model.specs.protocol.World.{Head, run}
 use Rattle.nq_base.specs.declared.Call.{Call}
 use Rattle.nq_base.specs.declared.Entry.{Entry}
 use Rattle.nq_base.specs.declared.Event.{Event}
 use Rattle.law_runs.specs.CallsMet.{AreMet, went_through, is_resize, is_cached, is_counted_served}
 use Rattle.nq_model.proofs.SkewTest.{skew-test-is-sound}
-use Rattle.nq_model.specs.JournalTest.{exists}
-use Rattle.nq_model.specs.FateTest.{is_delayed}
+use Rattle.nq_model.specs.laws.JournalTest.{exists}
+use Rattle.nq_model.specs.laws.FateTest.{is_delayed}
 use Rattle.walk_steps.proofs.GivenRuns.{given-run}
 
 -- one host, one file of one block

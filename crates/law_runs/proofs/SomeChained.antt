@@ -11,21 +11,21 @@ use Rattle.nq_base.specs.declared.Request.{Request}
 use Rattle.nq_base.specs.declared.Row.{Row}
 use Rattle.nq_base.specs.declared.Tag.{Tag}
 use Rattle.nq_base.specs.declared.Who.{Who}
-use Rattle.nq_model.specs.Chained.{has_done_write}
+use Rattle.nq_model.specs.laws.Chained.{has_done_write}
 use Rattle.law_runs.specs.ChainsMet.{ChainsAreMet}
 use Rattle.walk_steps.proofs.NoCrash.{no-crash-within}
 use Rattle.walk_steps.proofs.SomeLease.{two-hosts}
-use Rattle.nq_model.specs.Bounds.{BootsWithin}
+use Rattle.nq_model.specs.laws.Bounds.{BootsWithin}
 use Rattle.nq_model.proofs.SkewTest.{skew-test-is-sound}
-use Rattle.nq_model.specs.Client.{Client, Lease, Ticket, for_call, lease_on}
-use Rattle.nq_model.specs.Message.{reply}
-use Rattle.nq_model.specs.Skew.{is_within_skew}
-use Rattle.nq_model.specs.Server.{standing, to_host}
-use Rattle.nq_model.specs.ClientStep.{attached_client}
-use Rattle.nq_model.specs.Hear.{is_reply_to}
-use Rattle.nq_model.specs.Kept.{host_row}
-use Rattle.nq_model.specs.Table.{find_row}
-use Rattle.nq_model.specs.World.{run}
+use Rattle.nq_model.specs.protocol.Client.{Client, Lease, Ticket, for_call, lease_on}
+use Rattle.nq_model.specs.protocol.Message.{reply}
+use Rattle.nq_model.specs.protocol.Skew.{is_within_skew}
+use Rattle.nq_model.specs.protocol.Server.{standing, to_host}
+use Rattle.nq_model.specs.protocol.ClientStep.{attached_client}
+use Rattle.nq_model.specs.protocol.Hear.{is_reply_to}
+use Rattle.nq_model.specs.protocol.Kept.{host_row}
+use Rattle.nq_model.specs.protocol.Table.{find_row}
+use Rattle.nq_model.specs.protocol.World.{run}
 use Rattle.walk_steps.proofs.Tests.{some-is}
 use Rattle.walk_steps.proofs.GivenRuns.{given-run}
 

@@ -12,13 +12,13 @@ use Rattle.nq_base.specs.declared.Who.{Who}
 use Rattle.law_runs.specs.ContentsMet.{IsContentSometime}
 use Rattle.walk_steps.proofs.NoCrash.{no-crash-within}
 use Rattle.nq_model.proofs.SkewTest.{skew-test-is-sound}
-use Rattle.nq_model.specs.Client.{Clean, Client, Job, Ticket, clean_at, revision_of}
-use Rattle.nq_model.specs.ClientStep.{fresh_client}
-use Rattle.nq_model.specs.Kept.{File, find_file, host_row}
-use Rattle.nq_model.specs.Message.{reply}
-use Rattle.nq_model.specs.Server.{to_host}
-use Rattle.nq_model.specs.Skew.{is_within_skew}
-use Rattle.nq_model.specs.World.{Head, run}
+use Rattle.nq_model.specs.protocol.Client.{Clean, Client, Job, Ticket, clean_at, revision_of}
+use Rattle.nq_model.specs.protocol.ClientStep.{fresh_client}
+use Rattle.nq_model.specs.protocol.Kept.{File, find_file, host_row}
+use Rattle.nq_model.specs.protocol.Message.{reply}
+use Rattle.nq_model.specs.protocol.Server.{to_host}
+use Rattle.nq_model.specs.protocol.Skew.{is_within_skew}
+use Rattle.nq_model.specs.protocol.World.{Head, run}
 use Rattle.walk_steps.proofs.Tests.{some-is}
 use Rattle.walk_steps.proofs.GivenRuns.{given-run}
 

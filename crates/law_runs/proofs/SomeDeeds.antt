@@ -2,7 +2,7 @@
 use Rattle.std.proofs.Common.{◌≡◌, true, List, [], ◌∷◌, refl, arith}
 use Rattle.nq_base.specs.Block.{filled, zeros}
 use Rattle.walk_steps.proofs.NoCrash.{no-crash-within}
-use Rattle.nq_model.specs.World.{Head, run}
+use Rattle.nq_model.specs.protocol.World.{Head, run}
 use Rattle.nq_base.specs.declared.Call.{Call}
 use Rattle.nq_base.specs.declared.Event.{Event}
 use Rattle.law_runs.specs.DeedsMet.{has_each, DeedsAreMet}

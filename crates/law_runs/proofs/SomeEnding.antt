@@ -3,14 +3,14 @@ use Rattle.std.proofs.Common.{◌≡◌, true, List, [], ◌∷◌, ◌++◌, re
 use Rattle.std.specs.List.{list_any}
 use Rattle.std.specs.Prelude.{All}
 use Rattle.nq_base.specs.declared.Event.{Event}
-use Rattle.nq_model.specs.EndingsComeLate.{was_caching}
+use Rattle.nq_model.specs.laws.EndingsComeLate.{was_caching}
 use Rattle.law_runs.proofs.SomeLost.{delayed, rounds}
 use Rattle.law_runs.specs.EndingsMet.{is_silent_end, ends_recovery, EndsSometime}
 use Rattle.walk_steps.proofs.NoCrash.{one-first, no-crash-within, no-crash-after}
-use Rattle.nq_model.specs.Bounds.{BootsWithin}
+use Rattle.nq_model.specs.laws.Bounds.{BootsWithin}
 use Rattle.nq_model.proofs.SkewTest.{skew-test-is-sound}
-use Rattle.nq_model.specs.Skew.{is_within_skew}
-use Rattle.nq_model.specs.World.{Head, run}
+use Rattle.nq_model.specs.protocol.Skew.{is_within_skew}
+use Rattle.nq_model.specs.protocol.World.{Head, run}
 use Rattle.walk_steps.proofs.GivenRuns.{given-run}
 
 -- one host that wants terms of five ticks, and one file of one block

@@ -9,18 +9,18 @@ use Rattle.nq_base.specs.declared.Mode.{Mode}
 use Rattle.nq_base.specs.declared.Said.{Said}
 use Rattle.nq_base.specs.declared.Told.{Told}
 use Rattle.nq_base.specs.declared.Who.{Who}
-use Rattle.nq_model.specs.WritesAreAccounted.{Encloses, UnderWayEncloses, IsAtItsClient, IsStillUnsaved}
+use Rattle.nq_model.specs.laws.WritesAreAccounted.{Encloses, UnderWayEncloses, IsAtItsClient, IsStillUnsaved}
 use Rattle.law_runs.specs.FatesMet.{AtSomePlace, ShowsEachFate, HasEachFate}
 use Rattle.walk_steps.proofs.NoCrash.{no-crash-within}
 use Rattle.nq_model.proofs.SkewTest.{skew-test-is-sound}
-use Rattle.nq_model.specs.Client.{Client}
-use Rattle.nq_model.specs.ClientStep.{fresh_client}
-use Rattle.nq_model.specs.Journal.{Exists, Covers, IsStored, IsLost}
-use Rattle.nq_model.specs.JournalTest.{exists, covers}
-use Rattle.nq_model.specs.Fate.{IsDelayed, IsEnded, IsWaiting}
+use Rattle.nq_model.specs.protocol.Client.{Client}
+use Rattle.nq_model.specs.protocol.ClientStep.{fresh_client}
+use Rattle.nq_model.specs.laws.Journal.{Exists, Covers, IsStored, IsLost}
+use Rattle.nq_model.specs.laws.JournalTest.{exists, covers}
+use Rattle.nq_model.specs.laws.Fate.{IsDelayed, IsEnded, IsWaiting}
 use Rattle.nq_model.proofs.JournalTests.{tells_exists, tells_covers, tells_stored, tells_lost}
 use Rattle.nq_model.proofs.Telling.{not_told}
-use Rattle.nq_model.specs.World.{Head, run}
+use Rattle.nq_model.specs.protocol.World.{Head, run}
 use Rattle.walk_steps.proofs.GivenRuns.{given-run}
 
 -- one host, one file of one block, and short terms

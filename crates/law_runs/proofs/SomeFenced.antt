@@ -6,21 +6,21 @@ use Rattle.nq_base.specs.declared.Entry.TheVariants.{W}
 use Rattle.nq_base.specs.declared.Push.{Push}
 use Rattle.walk_steps.proofs.ClientMoves.{none-some}
 use Rattle.law_runs.proofs.SomeLost.{one-host, delayed, rounds, writer, there, unsaved, bounds-delayed, within}
-use Rattle.nq_model.specs.LossesAreExcused.{listed, under_way}
+use Rattle.nq_model.specs.laws.LossesAreExcused.{listed, under_way}
 use Rattle.walk_steps.proofs.NoCrash.{no-crash-within}
-use Rattle.nq_model.specs.Bounds.{BootsWithin}
+use Rattle.nq_model.specs.laws.Bounds.{BootsWithin}
 use Rattle.nq_model.proofs.JournalTests.{tells_exists, tells_covers}
 use Rattle.nq_model.proofs.SkewTest.{skew-test-is-sound}
-use Rattle.nq_model.specs.Client.{Client, is_clean}
-use Rattle.nq_model.specs.ClientStep.{attached_client}
-use Rattle.nq_model.specs.JournalTest.{exists, covers}
-use Rattle.nq_model.specs.Server.{standing}
-use Rattle.nq_model.specs.Skew.{is_within_skew}
-use Rattle.nq_model.specs.Table.{find_row}
-use Rattle.nq_model.specs.World.{run}
+use Rattle.nq_model.specs.protocol.Client.{Client, is_clean}
+use Rattle.nq_model.specs.protocol.ClientStep.{attached_client}
+use Rattle.nq_model.specs.laws.JournalTest.{exists, covers}
+use Rattle.nq_model.specs.protocol.Server.{standing}
+use Rattle.nq_model.specs.protocol.Skew.{is_within_skew}
+use Rattle.nq_model.specs.protocol.Table.{find_row}
+use Rattle.nq_model.specs.protocol.World.{run}
 use Rattle.walk_steps.proofs.Tests.{some-is}
 use Rattle.law_runs.proofs.BoundOrFenced.{bound-or-fenced-in-every-run}
-use Rattle.nq_model.specs.WritesAreUndisturbed.{IsBoundAndDue, IsFencedAt, IsUncovered}
+use Rattle.nq_model.specs.laws.WritesAreUndisturbed.{IsBoundAndDue, IsFencedAt, IsUncovered}
 use Rattle.law_runs.specs.UndisturbedMet.{BoundAndFencedAreMet}
 use Rattle.walk_steps.proofs.GivenRuns.{given-run}
 

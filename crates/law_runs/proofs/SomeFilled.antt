@@ -3,9 +3,9 @@ use Rattle.std.proofs.Common.{◌≡◌, List, [], ◌∷◌, map, refl}
 use Rattle.nq_base.specs.Block.{value_of, filled, zeros}
 use Rattle.nq_base.specs.declared.Call.{Call}
 use Rattle.nq_base.specs.declared.Event.{Event}
-use Rattle.nq_model.specs.World.{Head, run}
+use Rattle.nq_model.specs.protocol.World.{Head, run}
 use Rattle.law_runs.specs.FilledMet.{FilledBodiesAreMet}
-use Rattle.nq_model.specs.BodiesAreFilled.{IsFilled}
+use Rattle.nq_model.specs.laws.BodiesAreFilled.{IsFilled}
 use Rattle.walk_steps.proofs.GivenRuns.{given-run}
 
 -- one host, one file of one block

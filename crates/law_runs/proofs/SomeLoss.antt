@@ -6,12 +6,12 @@ use Rattle.nq_base.specs.declared.Call.{Call}
 use Rattle.nq_base.specs.declared.Event.{Event}
 use Rattle.nq_base.specs.declared.Loss.{Loss}
 use Rattle.walk_steps.proofs.NoCrash.{no-crash-within}
-use Rattle.nq_model.specs.LossesAreReported.{IsLossOf}
+use Rattle.nq_model.specs.laws.LossesAreReported.{IsLossOf}
 use Rattle.law_runs.specs.ReportsMet.{untold, IsLostAndNamed}
 use Rattle.nq_model.proofs.SkewTest.{skew-test-is-sound}
-use Rattle.nq_model.specs.Journal.{Exists}
-use Rattle.nq_model.specs.Reported.{Names}
-use Rattle.nq_model.specs.World.{Head, run}
+use Rattle.nq_model.specs.laws.Journal.{Exists}
+use Rattle.nq_model.specs.laws.Reported.{Names}
+use Rattle.nq_model.specs.protocol.World.{Head, run}
 use Rattle.walk_steps.proofs.GivenRuns.{given-run}
 
 -- one host that wants short leases, one file of one block

@@ -7,12 +7,12 @@ use Rattle.nq_base.specs.declared.Call.{Call}
 use Rattle.nq_base.specs.declared.Event.{Event}
 use Rattle.law_runs.specs.ExcusesMet.{tells_loss, IsLostSometime}
 use Rattle.walk_steps.proofs.NoCrash.{no-crash-within}
-use Rattle.nq_model.specs.Bounds.{BootsWithin}
+use Rattle.nq_model.specs.laws.Bounds.{BootsWithin}
 use Rattle.nq_model.proofs.SkewTest.{skew-test-is-sound}
-use Rattle.nq_model.specs.Client.{Client, is_clean}
-use Rattle.nq_model.specs.Skew.{is_within_skew}
-use Rattle.nq_model.specs.World.{Head, run}
-use Rattle.nq_model.specs.ClientStep.{attached_client}
+use Rattle.nq_model.specs.protocol.Client.{Client, is_clean}
+use Rattle.nq_model.specs.protocol.Skew.{is_within_skew}
+use Rattle.nq_model.specs.protocol.World.{Head, run}
+use Rattle.nq_model.specs.protocol.ClientStep.{attached_client}
 use Rattle.walk_steps.proofs.Tests.{some-is}
 use Rattle.walk_steps.proofs.GivenRuns.{given-run}
 

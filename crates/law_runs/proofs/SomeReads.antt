@@ -2,7 +2,7 @@
 use Rattle.std.proofs.Common.{◌≡◌, true, refl}
 use Rattle.nq_base.specs.Block.{filled, zeros}
 use Rattle.law_runs.proofs.SomeHeld.{one-host, some-events, bounds, within}
-use Rattle.nq_model.specs.World.{run}
+use Rattle.nq_model.specs.protocol.World.{run}
 use Rattle.law_runs.specs.LegalMet.{ReadsAreMet, has_reads}
 use Rattle.walk_steps.proofs.GivenRuns.{given-run}
 

@@ -3,9 +3,9 @@ use Rattle.std.proofs.Common.{◌≡◌, List, [], ◌∷◌, ◌++◌, None, re
 use Rattle.nq_base.specs.Block.{filled, zeros}
 use Rattle.nq_base.specs.declared.Call.{Call}
 use Rattle.nq_base.specs.declared.Event.{Event}
-use Rattle.nq_model.specs.Journal.{Exists}
-use Rattle.nq_model.specs.Kept.{find_file}
-use Rattle.nq_model.specs.World.{Head, run}
+use Rattle.nq_model.specs.laws.Journal.{Exists}
+use Rattle.nq_model.specs.protocol.Kept.{find_file}
+use Rattle.nq_model.specs.protocol.World.{Head, run}
 use Rattle.walk_steps.proofs.GivenRuns.{given-run}
 use Rattle.law_runs.specs.Staying.{FilesStayIsMet, IsRemoval, KeepsUnder}
 

@@ -6,8 +6,8 @@ use Rattle.nq_base.specs.declared.Event.{Event}
 use Rattle.nq_base.specs.declared.Told.{Told}
 use Rattle.walk_steps.proofs.NoCrash.{no-crash-within}
 use Rattle.nq_model.proofs.SkewTest.{skew-test-is-sound}
-use Rattle.nq_model.specs.Journal.{Exists, call_of}
-use Rattle.nq_model.specs.World.{Head, run}
+use Rattle.nq_model.specs.laws.Journal.{Exists, call_of}
+use Rattle.nq_model.specs.protocol.World.{Head, run}
 use Rattle.law_runs.specs.OksMet.{IsOk, IsDelayedAndStored, IsSyncedOnce}
 use Rattle.walk_steps.proofs.GivenRuns.{given-run}
 

@@ -12,17 +12,17 @@ use Rattle.nq_base.specs.declared.Tag.{Tag}
 use Rattle.nq_base.specs.declared.Who.{Who}
 use Rattle.walk_steps.proofs.NoCrash.{no-crash-within}
 use Rattle.walk_steps.proofs.SomeLease.{two-hosts}
-use Rattle.nq_model.specs.Bounds.{BootsWithin}
+use Rattle.nq_model.specs.laws.Bounds.{BootsWithin}
 use Rattle.walk_steps.proofs.Tests.{some-is}
 use Rattle.law_runs.specs.TagsMet.{IsPastSometime}
 use Rattle.nq_model.proofs.SkewTest.{skew-test-is-sound}
-use Rattle.nq_model.specs.Client.{Client, Lease, Ticket, for_call, lease_on}
-use Rattle.nq_model.specs.Message.{call, reply}
-use Rattle.nq_model.specs.Skew.{is_within_skew}
-use Rattle.nq_model.specs.Server.{to_host}
-use Rattle.nq_model.specs.World.{from_host, run}
-use Rattle.nq_model.specs.ClientStep.{attached_client}
-use Rattle.nq_model.specs.Hear.{is_reply_to}
+use Rattle.nq_model.specs.protocol.Client.{Client, Lease, Ticket, for_call, lease_on}
+use Rattle.nq_model.specs.protocol.Message.{call, reply}
+use Rattle.nq_model.specs.protocol.Skew.{is_within_skew}
+use Rattle.nq_model.specs.protocol.Server.{to_host}
+use Rattle.nq_model.specs.protocol.World.{from_host, run}
+use Rattle.nq_model.specs.protocol.ClientStep.{attached_client}
+use Rattle.nq_model.specs.protocol.Hear.{is_reply_to}
 use Rattle.walk_steps.proofs.GivenRuns.{given-run}
 
 -- host 0 reads; host 1 wants to cut the file, so host 0 is told to give its lease up, and does; it reads again, and then

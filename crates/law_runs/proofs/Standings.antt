@@ -7,16 +7,16 @@ use Rattle.nq_base.specs.declared.Who.{Who}
 use Rattle.law_runs.proofs.RunCalls.{calls-fit}
 use Rattle.law_runs.proofs.WorldWrites.{writes-fit}
 use Rattle.walk_files.proofs.WritesFit as fits
-use Rattle.nq_model.specs.Journal.{Exists, Throughout, Covers}
-use Rattle.nq_model.specs.World.{run}
+use Rattle.nq_model.specs.laws.Journal.{Exists, Throughout, Covers}
+use Rattle.nq_model.specs.protocol.World.{run}
 use Rattle.law_runs.proofs.ReportedRuns.{losses-fit}
 use Rattle.law_runs.proofs.OkFacts.{CoversNumber, by_store, by_loss, LiesWithin, in_list, under_way}
 use Rattle.law_runs.proofs.KeptPlaces.{KeptHere, answers-are-of-calls, busy-at-once}
 use Rattle.law_runs.proofs.OkRuns.{Oks, oks-runs, StandingInEveryRun, CountedInEveryRun, answered-runs, synchronized-runs}
-use Rattle.nq_model.specs.AnswersAreOfTheirCalls.{AnswersAreOfTheirCallsInEveryRun}
-use Rattle.nq_model.specs.Bounds.{InEveryRun}
-use Rattle.nq_model.specs.BusyIsSaidAtOnce.{BusyIsSaidAtOnceInEveryRun}
-use Rattle.nq_model.specs.OksAreKept.{SynchronizedInEveryRun}
+use Rattle.nq_model.specs.laws.AnswersAreOfTheirCalls.{AnswersAreOfTheirCallsInEveryRun}
+use Rattle.nq_model.specs.laws.Bounds.{InEveryRun}
+use Rattle.nq_model.specs.laws.BusyIsSaidAtOnce.{BusyIsSaidAtOnceInEveryRun}
+use Rattle.nq_model.specs.laws.OksAreKept.{SynchronizedInEveryRun}
 
 more-covers : (e : Entry) (journal : List Entry) (who : Who) (file block n : ℕ) → CoversNumber journal who file block n
     → CoversNumber (e ∷ journal) who file block n

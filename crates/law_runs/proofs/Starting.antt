@@ -5,14 +5,14 @@ use Rattle.nq_base.specs.declared.Call.{Call}
 use Rattle.nq_base.specs.declared.Entry.{Entry}
 use Rattle.nq_base.specs.declared.Tag.{Tag}
 use Rattle.nq_base.specs.declared.Who.{Who}
-use Rattle.nq_model.specs.BusyIsSaidAtOnce.{IsBusyOnly, IsStarting, IsStartOf}
-use Rattle.nq_model.specs.Client.{Client, ClientStep, Job, attaching, begun, UnderWay}
-use Rattle.nq_model.specs.ClientStep.{begins_call, says_busy, client_call, at_time, sends_again, client_tick, next_incarnation}
-use Rattle.nq_model.specs.Hear.{hear, spends, attached, vacates_lease, notes_notice, cancels, evicted, goes_on, replied}
-use Rattle.nq_model.specs.Journal.{Each, Exists}
-use Rattle.nq_model.specs.Message.{Message}
-use Rattle.nq_model.specs.Send.{sends_request, after_seq, after_number, takes_push, gives_up, send_next}
-use Rattle.nq_model.specs.Settle.{settle, settle_under_way}
+use Rattle.nq_model.specs.laws.BusyIsSaidAtOnce.{IsBusyOnly, IsStarting, IsStartOf}
+use Rattle.nq_model.specs.protocol.Client.{Client, ClientStep, Job, attaching, begun, UnderWay}
+use Rattle.nq_model.specs.protocol.ClientStep.{begins_call, says_busy, client_call, at_time, sends_again, client_tick, next_incarnation}
+use Rattle.nq_model.specs.protocol.Hear.{hear, spends, attached, vacates_lease, notes_notice, cancels, evicted, goes_on, replied}
+use Rattle.nq_model.specs.laws.Journal.{Each, Exists}
+use Rattle.nq_model.specs.protocol.Message.{Message}
+use Rattle.nq_model.specs.protocol.Send.{sends_request, after_seq, after_number, takes_push, gives_up, send_next}
+use Rattle.nq_model.specs.protocol.Settle.{settle, settle_under_way}
 use Rattle.nq_model.proofs.Lists.{each-append, exists-right}
 use Rattle.walk_files.proofs.CallsFit.{entry_who}
 use Rattle.walk_steps.proofs.ClientFacts.{Alone, IsWaiting}

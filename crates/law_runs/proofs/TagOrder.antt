@@ -9,17 +9,17 @@ use Rattle.nq_base.specs.declared.Tag.{Tag}
 use Rattle.walk_steps.proofs.ServerMoves.{server-moves, tick-moves}
 use Rattle.walk_steps.proofs.ServerTables.{BootsFit, BootsFitOf, RecoversBoot, boots-receive, boots-tick, boots-crash, boots-boot, standing-boot}
 use Rattle.walk_steps.proofs.ServerTables.{opened-before}
-use Rattle.nq_model.specs.TagsAreInOrder.{IsUpTo, IsNoEarlier, StandingTableGrows}
-use Rattle.nq_model.specs.Client.{Client, ClientStep}
-use Rattle.nq_model.specs.ClientStep.{client_call, client_tick, restart}
-use Rattle.nq_model.specs.Hear.{hear}
-use Rattle.nq_model.specs.Kept.{Kept}
-use Rattle.nq_model.specs.Message.{Message, Packet, Datagram, datagram_of}
-use Rattle.nq_model.specs.Server.{Phase, serving, recovering, Server, standing, standing_in, last_table, last_in}
-use Rattle.nq_model.specs.ServerStep.{receive, tick, crash, boot}
-use Rattle.nq_model.specs.Table.{Table, tag_below, next_tag, with_rows, after_draw, empty_table}
-use Rattle.nq_model.specs.World.{Head, World, after_server, after_client, at_client, after_hearing, deliver_to_client, deliver_to, deliver, step}
-use Rattle.nq_model.specs.World.{start, run, sending_host, first_kept}
+use Rattle.nq_model.specs.laws.TagsAreInOrder.{IsUpTo, IsNoEarlier, StandingTableGrows}
+use Rattle.nq_model.specs.protocol.Client.{Client, ClientStep}
+use Rattle.nq_model.specs.protocol.ClientStep.{client_call, client_tick, restart}
+use Rattle.nq_model.specs.protocol.Hear.{hear}
+use Rattle.nq_model.specs.protocol.Kept.{Kept}
+use Rattle.nq_model.specs.protocol.Message.{Message, Packet, Datagram, datagram_of}
+use Rattle.nq_model.specs.protocol.Server.{Phase, serving, recovering, Server, standing, standing_in, last_table, last_in}
+use Rattle.nq_model.specs.protocol.ServerStep.{receive, tick, crash, boot}
+use Rattle.nq_model.specs.protocol.Table.{Table, tag_below, next_tag, with_rows, after_draw, empty_table}
+use Rattle.nq_model.specs.protocol.World.{Head, World, after_server, after_client, at_client, after_hearing, deliver_to_client, deliver_to, deliver, step}
+use Rattle.nq_model.specs.protocol.World.{start, run, sending_host, first_kept}
 
 -- ---- the table that stands grows
 

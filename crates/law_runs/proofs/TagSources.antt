@@ -16,13 +16,13 @@ use Rattle.walk_steps.proofs.Packets.{In, in-last, Told}
 use Rattle.walk_steps.proofs.Rows.{choice, same-number}
 use Rattle.walk_steps.proofs.TagFacts.{used-from, dropped-from}
 use Rattle.walk_steps.proofs.Worlds.{IsAt}
-use Rattle.nq_model.specs.Client.{Client, ClientStep, begun, Lease, Notice, Ticket, Job, lease_on, drop_lease, put_lease, used_lease, notice_on}
-use Rattle.nq_model.specs.ClientStep.{client_call, client_tick, at_time, restart, starts, fresh_client}
-use Rattle.nq_model.specs.Hear.{inc_of, is_reply_to, reply_counts, hear, hear_reply, hear_notice, hear_call, goes_on, replied, holds_later, evicted}
-use Rattle.nq_model.specs.Hear.{cancels, granted_lease, noticed_tag, with_notice}
-use Rattle.nq_model.specs.LeaseInterval.{grant_in, requested_file}
-use Rattle.nq_model.specs.Message.{Message, Packet, call, reply, error}
-use Rattle.nq_model.specs.Table.{same_who, tag_below}
+use Rattle.nq_model.specs.protocol.Client.{Client, ClientStep, begun, Lease, Notice, Ticket, Job, lease_on, drop_lease, put_lease, used_lease, notice_on}
+use Rattle.nq_model.specs.protocol.ClientStep.{client_call, client_tick, at_time, restart, starts, fresh_client}
+use Rattle.nq_model.specs.protocol.Hear.{inc_of, is_reply_to, reply_counts, hear, hear_reply, hear_notice, hear_call, goes_on, replied, holds_later, evicted}
+use Rattle.nq_model.specs.protocol.Hear.{cancels, granted_lease, noticed_tag, with_notice}
+use Rattle.nq_model.specs.laws.LeaseInterval.{grant_in, requested_file}
+use Rattle.nq_model.specs.protocol.Message.{Message, Packet, call, reply, error}
+use Rattle.nq_model.specs.protocol.Table.{same_who, tag_below}
 
 -- the tags of a message are such
 pub record AllIn (T : Tag → Type 0) (m : Message) : Type 0 where

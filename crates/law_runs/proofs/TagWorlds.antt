@@ -29,20 +29,20 @@ use Rattle.walk_steps.proofs.TagFacts.{TagsFit}
 use Rattle.law_runs.proofs.TagOrder.{standing-grows, drawn-later, below-later}
 use Rattle.law_runs.proofs.TagSources.{AllIn, AllHeld, Leaves, LeavesIf, call-told, tick-told, restart-told, hear-told}
 use Rattle.walk_steps.proofs.Worlds.{IsAt, Holds, IsSent, by_host, by_server, run-holds, to-told, get-set-same, get-set-other, first-client}
-use Rattle.nq_model.specs.Bounds.{KeepsBounds}
-use Rattle.nq_model.specs.TagsAreInOrder.{IsKnown, of_lease, of_notice, of_vacated, of_evicted, of_grant, of_grant_chain, of_row, of_chain, WasDrawn}
-use Rattle.nq_model.specs.TagsAreInOrder.{IsUpTo, TagsAreDrawnInOrder, VacatedTagsArePast}
-use Rattle.nq_model.specs.Client.{Client, ClientStep}
-use Rattle.nq_model.specs.ClientStep.{client_call, client_tick, restart, attached_client, fresh_client}
-use Rattle.nq_model.specs.Hear.{hear}
-use Rattle.nq_model.specs.LeaseInterval.{grant_in}
-use Rattle.nq_model.specs.Message.{Message, Packet, call, reply, error, datagram_of}
-use Rattle.nq_model.specs.Server.{Phase, serving, recovering, Server, ServerStep, standing, standing_in}
-use Rattle.nq_model.specs.ServerStep.{receive, tick, crash}
-use Rattle.nq_model.specs.Skew.{IsWithinSkew}
-use Rattle.nq_model.specs.Table.{Table, find_row}
-use Rattle.nq_model.specs.World.{Head, World, after_server, after_client, at_client, after_hearing, deliver_to_client, deliver_to, deliver, step}
-use Rattle.nq_model.specs.World.{start, run, sending_host, from_host}
+use Rattle.nq_model.specs.laws.Bounds.{KeepsBounds}
+use Rattle.nq_model.specs.laws.TagsAreInOrder.{IsKnown, of_lease, of_notice, of_vacated, of_evicted, of_grant, of_grant_chain, of_row, of_chain, WasDrawn}
+use Rattle.nq_model.specs.laws.TagsAreInOrder.{IsUpTo, TagsAreDrawnInOrder, VacatedTagsArePast}
+use Rattle.nq_model.specs.protocol.Client.{Client, ClientStep}
+use Rattle.nq_model.specs.protocol.ClientStep.{client_call, client_tick, restart, attached_client, fresh_client}
+use Rattle.nq_model.specs.protocol.Hear.{hear}
+use Rattle.nq_model.specs.laws.LeaseInterval.{grant_in}
+use Rattle.nq_model.specs.protocol.Message.{Message, Packet, call, reply, error, datagram_of}
+use Rattle.nq_model.specs.protocol.Server.{Phase, serving, recovering, Server, ServerStep, standing, standing_in}
+use Rattle.nq_model.specs.protocol.ServerStep.{receive, tick, crash}
+use Rattle.nq_model.specs.protocol.Skew.{IsWithinSkew}
+use Rattle.nq_model.specs.protocol.Table.{Table, find_row}
+use Rattle.nq_model.specs.protocol.World.{Head, World, after_server, after_client, at_client, after_hearing, deliver_to_client, deliver_to, deliver, step}
+use Rattle.nq_model.specs.protocol.World.{start, run, sending_host, from_host}
 
 -- ---- all tags of a world's clients and packets
 

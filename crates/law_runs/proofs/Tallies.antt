@@ -3,8 +3,8 @@ use Rattle.std.proofs.Common.{◌≡◌, ◌≤◌, ◌⊎◌, ℕ, ◌+◌, Boo
 use Rattle.std.proofs.Common.{if◌then◌else◌, refl, sym, subst, ap, arith, inl, inr}
 use Rattle.std.proofs.lemmas.Grind.{reverse_onto}
 use Rattle.nq_model.proofs.Lists.{exists-left, exists-right, exists-append, each-append}
-use Rattle.nq_model.specs.ByFile.{up_to, past, add_by}
-use Rattle.nq_model.specs.Journal.{Each, Exists}
+use Rattle.nq_model.specs.protocol.ByFile.{up_to, past, add_by}
+use Rattle.nq_model.specs.laws.Journal.{Each, Exists}
 
 -- ---- sums
 

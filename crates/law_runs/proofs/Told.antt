@@ -9,9 +9,9 @@ use Rattle.nq_base.specs.declared.Told.{Told}
 use Rattle.nq_base.specs.declared.Who.{Who}
 use Rattle.nq_model.proofs.Lists.{exists-map, each-map, each-append}
 use Rattle.law_runs.proofs.Tallies.{IsOne}
-use Rattle.nq_model.specs.Journal.{Each, Exists, AtEachPlace, call_of, SpeaksOf}
-use Rattle.nq_model.specs.Reported.{loss_told, Names, IsReporting, IsBusyAnswer, MustReport, IsNamedNext, IsReportedIn, IsUnnamed, NameLosses}
-use Rattle.nq_model.specs.Reported.{IsReportedAt, IsReported}
+use Rattle.nq_model.specs.laws.Journal.{Each, Exists, AtEachPlace, call_of, SpeaksOf}
+use Rattle.nq_model.specs.laws.Reported.{loss_told, Names, IsReporting, IsBusyAnswer, MustReport, IsNamedNext, IsReportedIn, IsUnnamed, NameLosses}
+use Rattle.nq_model.specs.laws.Reported.{IsReportedAt, IsReported}
 
 -- the entry is no C on the file by the incarnation that has to report losses
 abbrev pub IsExcused : (whole : List Entry) (who : Who) (file : ℕ) → Entry → Type 0

@@ -16,18 +16,18 @@ use Rattle.walk_steps.proofs.BoundBefore.{StandsWriting, only-stood, stood-recei
 use Rattle.walk_files.proofs.BoundRows.{crash-standing}
 use Rattle.law_runs.proofs.AnsweredWorlds.{received-tells, tick-tells, crash-tells}
 use Rattle.walk_steps.proofs.Runs.{none-served}
-use Rattle.nq_model.specs.Bounds.{KeepsBounds}
-use Rattle.nq_model.specs.Client.{Client, ClientStep, Lease, lease_on}
-use Rattle.nq_model.specs.ClientStep.{client_call, client_tick, restart, starts, fresh_client, attached_client, next_incarnation}
-use Rattle.nq_model.specs.Hear.{hear}
-use Rattle.nq_model.specs.Journal.{Each}
-use Rattle.nq_model.specs.Kept.{File, find_file, host_row}
-use Rattle.nq_model.specs.Message.{Message, Packet, call, datagram_of, request, too_long}
-use Rattle.nq_model.specs.Server.{Server, ServerStep, standing}
-use Rattle.nq_model.specs.ServerStep.{receive, tick, crash, boot}
-use Rattle.nq_model.specs.Skew.{IsWithinSkew}
-use Rattle.nq_model.specs.World.{Head, World, after_server, after_client, at_client, after_hearing, sending_host, deliver_to_client, deliver_to}
-use Rattle.nq_model.specs.World.{deliver, start, run, from_host}
+use Rattle.nq_model.specs.laws.Bounds.{KeepsBounds}
+use Rattle.nq_model.specs.protocol.Client.{Client, ClientStep, Lease, lease_on}
+use Rattle.nq_model.specs.protocol.ClientStep.{client_call, client_tick, restart, starts, fresh_client, attached_client, next_incarnation}
+use Rattle.nq_model.specs.protocol.Hear.{hear}
+use Rattle.nq_model.specs.laws.Journal.{Each}
+use Rattle.nq_model.specs.protocol.Kept.{File, find_file, host_row}
+use Rattle.nq_model.specs.protocol.Message.{Message, Packet, call, datagram_of, request, too_long}
+use Rattle.nq_model.specs.protocol.Server.{Server, ServerStep, standing}
+use Rattle.nq_model.specs.protocol.ServerStep.{receive, tick, crash, boot}
+use Rattle.nq_model.specs.protocol.Skew.{IsWithinSkew}
+use Rattle.nq_model.specs.protocol.World.{Head, World, after_server, after_client, at_client, after_hearing, sending_host, deliver_to_client, deliver_to}
+use Rattle.nq_model.specs.protocol.World.{deliver, start, run, from_host}
 use Rattle.walk_steps.proofs.Sequences.{asked-before-server}
 use Rattle.walk_steps.proofs.RunCases.{During, Keeps, client_at, OfClients, run-keeps, clients-after}
 use Rattle.walk_steps.proofs.Packets.{In, in-append, in-get, Asked, Told, message-same, call-same}
@@ -45,7 +45,7 @@ use Rattle.walk_files.proofs.StillClients.{F, step-still}
 use Rattle.walk_files.proofs.StillFits.{StillFits, Takes, push-writes}
 use Rattle.walk_files.proofs.StillServer.{Served, served-still}
 use Rattle.walk_files.proofs.Tags.{IsEntry, Follows, call-follows, tick-follows, hear-follows}
-use Rattle.nq_model.specs.Undisturbed.{LeavesAlone}
+use Rattle.nq_model.specs.laws.Undisturbed.{LeavesAlone}
 
 -- each host that sent a packet has a client
 abbrev pub SendersAreThere : World → Type 0

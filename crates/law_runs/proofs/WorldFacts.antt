@@ -14,13 +14,13 @@ use Rattle.walk_files.proofs.Facts.{History, Follows, follows, Tells, tells-foll
 use Rattle.walk_files.proofs.FileMoves.{files-idle, unused-idle}
 use Rattle.walk_files.proofs.ServerDelays.{Never, never-delayed}
 use Rattle.walk_files.proofs.ServerDoes.{history_after, Shows}
-use Rattle.nq_model.specs.Contents.{delayed_value}
-use Rattle.nq_model.specs.Client.{Clean, Client, ClientStep, Revision, Ticket, begun, clean_at, dirty_at, revision_of}
-use Rattle.nq_model.specs.Hear.{inc_of}
-use Rattle.nq_model.specs.Kept.{host_row}
-use Rattle.nq_model.specs.Message.{Message, Packet, call, reply}
-use Rattle.nq_model.specs.Server.{ServerStep, to_host}
-use Rattle.nq_model.specs.World.{World, from_host, after_server, after_client}
+use Rattle.nq_model.specs.laws.Contents.{delayed_value}
+use Rattle.nq_model.specs.protocol.Client.{Clean, Client, ClientStep, Revision, Ticket, begun, clean_at, dirty_at, revision_of}
+use Rattle.nq_model.specs.protocol.Hear.{inc_of}
+use Rattle.nq_model.specs.protocol.Kept.{host_row}
+use Rattle.nq_model.specs.protocol.Message.{Message, Packet, call, reply}
+use Rattle.nq_model.specs.protocol.Server.{ServerStep, to_host}
+use Rattle.nq_model.specs.protocol.World.{World, from_host, after_server, after_client}
 use Rattle.walk_steps.proofs.RunCases.{clients-after}
 use Rattle.walk_steps.proofs.Mail.{packets_with, old-told}
 use Rattle.walk_steps.proofs.Packets.{In, in-left, in-append, Asked, Told, message-same, Mail}

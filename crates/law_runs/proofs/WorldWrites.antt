@@ -22,15 +22,15 @@ use Rattle.walk_files.proofs.ServerTells.{Effects, without, goes_through, pushes
 use Rattle.walk_files.proofs.StepFates.{Replies, mid-begins, mid-hears, mid-call-step, mid-tick-step}
 use Rattle.walk_files.proofs.WritesFit.{JournalFits, HaveWrites, IsOpenPush, Facts, CoversNumber, IsClear, WritesFit}
 use Rattle.walk_steps.proofs.LeaseIntervals.{run-runs}
-use Rattle.nq_model.specs.Bounds.{KeepsBounds}
-use Rattle.nq_model.specs.Client.{Client, ClientStep, attaching, pushing, Ticket, begun}
-use Rattle.nq_model.specs.ClientStep.{client_call, client_tick, restart, starts, next_incarnation, attached_client, fresh_client}
-use Rattle.nq_model.specs.Hear.{hear, inc_of, reply_counts}
-use Rattle.nq_model.specs.Kept.{host_row}
-use Rattle.nq_model.specs.Message.{Message, Packet, call, reply, sequence_of}
-use Rattle.nq_model.specs.Server.{ServerStep}
-use Rattle.nq_model.specs.Skew.{IsWithinSkew}
-use Rattle.nq_model.specs.World.{Head, World, from_host, after_server, after_client, start, run}
+use Rattle.nq_model.specs.laws.Bounds.{KeepsBounds}
+use Rattle.nq_model.specs.protocol.Client.{Client, ClientStep, attaching, pushing, Ticket, begun}
+use Rattle.nq_model.specs.protocol.ClientStep.{client_call, client_tick, restart, starts, next_incarnation, attached_client, fresh_client}
+use Rattle.nq_model.specs.protocol.Hear.{hear, inc_of, reply_counts}
+use Rattle.nq_model.specs.protocol.Kept.{host_row}
+use Rattle.nq_model.specs.protocol.Message.{Message, Packet, call, reply, sequence_of}
+use Rattle.nq_model.specs.protocol.Server.{ServerStep}
+use Rattle.nq_model.specs.protocol.Skew.{IsWithinSkew}
+use Rattle.nq_model.specs.protocol.World.{Head, World, from_host, after_server, after_client, start, run}
 use Rattle.walk_steps.proofs.OpenAt.{OneOpenAt}
 use Rattle.walk_steps.proofs.OpenRequests.{run-opens}
 use Rattle.walk_steps.proofs.WorldSequences.{run-draws}

@@ -7,11 +7,11 @@ use Rattle.nq_base.specs.Block.{zeros}
 use Rattle.nq_base.specs.declared.Entry.{Entry}
 use Rattle.nq_base.specs.declared.Entry.TheVariants.{Z}
 use Rattle.nq_base.specs.declared.Who.{Who}
-use Rattle.nq_model.specs.UntouchedAreZeros.{touches, AreZeros}
+use Rattle.nq_model.specs.laws.UntouchedAreZeros.{touches, AreZeros}
 use Rattle.nq_model.proofs.Finding.{same-number, number-other, is-other}
-use Rattle.nq_model.specs.Journal.{Each, cuts, since_cut}
-use Rattle.nq_model.specs.JournalTest.{exists}
-use Rattle.nq_model.specs.Kept.{File, find_file, replace_file, drop_file, new_file, written_file, resized, resized_file, fenced_file}
+use Rattle.nq_model.specs.laws.Journal.{Each, cuts, since_cut}
+use Rattle.nq_model.specs.laws.JournalTest.{exists}
+use Rattle.nq_model.specs.protocol.Kept.{File, find_file, replace_file, drop_file, new_file, written_file, resized, resized_file, fenced_file}
 use Rattle.walk_steps.proofs.ClientMoves.{some-same, none-some}
 use Rattle.walk_steps.proofs.Worlds.{get-set-other}
 use Rattle.walk_steps.proofs.KeptChanges.{found-replaced, find-removed, find-not-removed, found-added}

@@ -5,18 +5,18 @@ use Rattle.nq_base.specs.Block.{zeros}
 use Rattle.nq_base.specs.declared.Event.{Event}
 use Rattle.nq_base.specs.declared.Party.{Party}
 use Rattle.law_runs.proofs.BookSteps.{hear-keeps, tick-keeps, call-keeps}
-use Rattle.nq_model.specs.UntouchedAreZeros.{AreZeros, UntouchedAreZerosInEveryRun}
+use Rattle.nq_model.specs.laws.UntouchedAreZeros.{AreZeros, UntouchedAreZerosInEveryRun}
 use Rattle.law_runs.proofs.ZeroFiles.{Untouched, get-replicate}
 use Rattle.law_runs.proofs.ZeroSteps.{received, ticked, crashed, was-closed}
-use Rattle.nq_model.specs.Client.{Client, ClientStep}
-use Rattle.nq_model.specs.ClientStep.{client_call, client_tick, restart, starts}
-use Rattle.nq_model.specs.Hear.{hear}
-use Rattle.nq_model.specs.Kept.{File, find_file, new_file}
-use Rattle.nq_model.specs.Message.{Message, Packet, datagram_of}
-use Rattle.nq_model.specs.Server.{ServerStep}
-use Rattle.nq_model.specs.ServerStep.{boot}
-use Rattle.nq_model.specs.World.{Head, World, after_server, after_client, at_client, after_hearing, sending_host, deliver_to_client, deliver_to}
-use Rattle.nq_model.specs.World.{deliver, first_files, start, step, run}
+use Rattle.nq_model.specs.protocol.Client.{Client, ClientStep}
+use Rattle.nq_model.specs.protocol.ClientStep.{client_call, client_tick, restart, starts}
+use Rattle.nq_model.specs.protocol.Hear.{hear}
+use Rattle.nq_model.specs.protocol.Kept.{File, find_file, new_file}
+use Rattle.nq_model.specs.protocol.Message.{Message, Packet, datagram_of}
+use Rattle.nq_model.specs.protocol.Server.{ServerStep}
+use Rattle.nq_model.specs.protocol.ServerStep.{boot}
+use Rattle.nq_model.specs.protocol.World.{Head, World, after_server, after_client, at_client, after_hearing, sending_host, deliver_to_client, deliver_to}
+use Rattle.nq_model.specs.protocol.World.{deliver, first_files, start, step, run}
 use Rattle.walk_steps.proofs.ClientMoves.{some-same, none-some}
 use Rattle.walk_steps.proofs.Worlds.{Holds, run-holds}
 

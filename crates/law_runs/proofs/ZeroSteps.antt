@@ -11,19 +11,19 @@ use Rattle.nq_base.specs.declared.Tag.{Tag}
 use Rattle.nq_base.specs.declared.Verdict.{Verdict}
 use Rattle.nq_base.specs.declared.Who.{Who}
 use Rattle.law_runs.proofs.Books.{Book, unsaved_on, after_loss, after_names, after_report, Closed}
-use Rattle.nq_model.specs.UntouchedAreZeros.{AreZeros}
+use Rattle.nq_model.specs.laws.UntouchedAreZeros.{AreZeros}
 use Rattle.law_runs.proofs.ZeroFiles.{NoCut, Untouched, zeros-idle, zeros-written, zeros-fenced, zeros-resized, zeros-made, zeros-removed}
 use Rattle.nq_model.proofs.Finding.{number-same}
-use Rattle.nq_model.specs.Client.{UnderWay}
-use Rattle.nq_model.specs.Decide.{Decision, decides, creates, writes_through, stores, wrote, stores_recovering, resizes, removes, puts_off, commits}
-use Rattle.nq_model.specs.Hear.{loss_entry, waits_for}
-use Rattle.nq_model.specs.Journal.{Each}
-use Rattle.nq_model.specs.Kept.{File, find_file, with_row, with_files, with_new_file}
-use Rattle.nq_model.specs.Message.{Message, Datagram, Reason}
-use Rattle.nq_model.specs.Server.{Server, ServerStep, says, quiet, drops, keeping, keeping_with, with_table, after_notices}
-use Rattle.nq_model.specs.ServerStep.{attaches, vacates, tells_later, grants, serves, leases, receive, tick, crash, boot, booted, opens, ends_writing}
-use Rattle.nq_model.specs.ServerStep.{fence, at_time}
-use Rattle.nq_model.specs.Table.{Table, with_rows}
+use Rattle.nq_model.specs.protocol.Client.{UnderWay}
+use Rattle.nq_model.specs.protocol.Decide.{Decision, decides, creates, writes_through, stores, wrote, stores_recovering, resizes, removes, puts_off, commits}
+use Rattle.nq_model.specs.protocol.Hear.{loss_entry, waits_for}
+use Rattle.nq_model.specs.laws.Journal.{Each}
+use Rattle.nq_model.specs.protocol.Kept.{File, find_file, with_row, with_files, with_new_file}
+use Rattle.nq_model.specs.protocol.Message.{Message, Datagram, Reason}
+use Rattle.nq_model.specs.protocol.Server.{Server, ServerStep, says, quiet, drops, keeping, keeping_with, with_table, after_notices}
+use Rattle.nq_model.specs.protocol.ServerStep.{attaches, vacates, tells_later, grants, serves, leases, receive, tick, crash, boot, booted, opens, ends_writing}
+use Rattle.nq_model.specs.protocol.ServerStep.{fence, at_time}
+use Rattle.nq_model.specs.protocol.Table.{Table, with_rows}
 use Rattle.walk_steps.proofs.Rows.{choice}
 use Rattle.walk_steps.proofs.ServerCases.{found-file, server-hears, server-ticks}
 

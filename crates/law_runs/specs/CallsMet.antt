@@ -3,11 +3,11 @@ use Rattle.std.specs.Prelude.{ℕ, Bool, true, false, List, Some, None, IsTrue}
 use Rattle.nq_base.specs.declared.Entry.{Entry}
 use Rattle.nq_base.specs.declared.Entry.TheVariants.{W, R, Z}
 use Rattle.nq_base.specs.declared.Event.{Event}
-use Rattle.nq_model.specs.Bounds.{KeepsBounds}
-use Rattle.nq_model.specs.FateTest.{is_delayed}
-use Rattle.nq_model.specs.JournalTest.{exists, is_counted}
-use Rattle.nq_model.specs.Skew.{IsWithinSkew}
-use Rattle.nq_model.specs.World.{Head, run}
+use Rattle.nq_model.specs.laws.Bounds.{KeepsBounds}
+use Rattle.nq_model.specs.laws.FateTest.{is_delayed}
+use Rattle.nq_model.specs.laws.JournalTest.{exists, is_counted}
+use Rattle.nq_model.specs.protocol.Skew.{IsWithinSkew}
+use Rattle.nq_model.specs.protocol.World.{Head, run}
 
 -- whether an entry is a write that went through
 abbrev pub went_through : Entry → Bool

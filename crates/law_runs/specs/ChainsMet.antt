@@ -3,15 +3,15 @@ use Rattle.std.specs.Prelude.{◌≡◌, ℕ, true, List, ◌++◌, Some, slice_
 use Rattle.nq_base.specs.declared.Event.{Event}
 use Rattle.nq_base.specs.declared.Grant.{Grant}
 use Rattle.nq_base.specs.declared.Row.{Row}
-use Rattle.nq_model.specs.Chained.{IsChained, has_done_write}
-use Rattle.nq_model.specs.Bounds.{KeepsBounds}
-use Rattle.nq_model.specs.Client.{Client, Lease, Ticket, lease_on}
-use Rattle.nq_model.specs.Kept.{host_row}
-use Rattle.nq_model.specs.LeaseInterval.{CanTake}
-use Rattle.nq_model.specs.Server.{standing}
-use Rattle.nq_model.specs.Skew.{IsWithinSkew}
-use Rattle.nq_model.specs.Table.{caches}
-use Rattle.nq_model.specs.World.{Head, World, run}
+use Rattle.nq_model.specs.laws.Chained.{IsChained, has_done_write}
+use Rattle.nq_model.specs.laws.Bounds.{KeepsBounds}
+use Rattle.nq_model.specs.protocol.Client.{Client, Lease, Ticket, lease_on}
+use Rattle.nq_model.specs.protocol.Kept.{host_row}
+use Rattle.nq_model.specs.laws.LeaseInterval.{CanTake}
+use Rattle.nq_model.specs.protocol.Server.{standing}
+use Rattle.nq_model.specs.protocol.Skew.{IsWithinSkew}
+use Rattle.nq_model.specs.protocol.Table.{caches}
+use Rattle.nq_model.specs.protocol.World.{Head, World, run}
 
 -- a client holds a caching lease that is chained, while its own write was done and it was not told yet
 pub record IsHeldDone (w : World) (host : ℕ) : Type 0 where

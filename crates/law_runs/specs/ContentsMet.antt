@@ -6,13 +6,13 @@ use Rattle.nq_base.specs.declared.PushBase.{PushBase}
 use Rattle.nq_base.specs.declared.Reply.{Reply}
 use Rattle.nq_base.specs.declared.Request.TheVariants.{Write}
 use Rattle.nq_base.specs.declared.Verdict.{Verdict}
-use Rattle.nq_model.specs.Bounds.{KeepsBounds}
-use Rattle.nq_model.specs.Client.{Client, Clean, Ticket, clean_at, revision_of}
-use Rattle.nq_model.specs.Kept.{File, find_file, host_row}
-use Rattle.nq_model.specs.Message.{reply}
-use Rattle.nq_model.specs.Server.{to_host}
-use Rattle.nq_model.specs.Skew.{IsWithinSkew}
-use Rattle.nq_model.specs.World.{Head, run}
+use Rattle.nq_model.specs.laws.Bounds.{KeepsBounds}
+use Rattle.nq_model.specs.protocol.Client.{Client, Clean, Ticket, clean_at, revision_of}
+use Rattle.nq_model.specs.protocol.Kept.{File, find_file, host_row}
+use Rattle.nq_model.specs.protocol.Message.{reply}
+use Rattle.nq_model.specs.protocol.Server.{to_host}
+use Rattle.nq_model.specs.protocol.Skew.{IsWithinSkew}
+use Rattle.nq_model.specs.protocol.World.{Head, run}
 
 -- after some schedule within skew a client's push under way was decided and done; its kept value is the revision of the
 -- kept file, and its reply can be taken; once it was, the block is clean at that revision, with the value of the last write

@@ -2,12 +2,12 @@
 use Rattle.std.specs.Prelude.{◌⊎◌, ℕ, List, [], ◌∷◌}
 use Rattle.nq_base.specs.declared.Entry.{Entry}
 use Rattle.nq_base.specs.declared.Event.{Event}
-use Rattle.nq_model.specs.Fate.{IsDelayed, IsEnded, IsWaiting}
-use Rattle.nq_model.specs.Journal.{IsStored, IsLost}
-use Rattle.nq_model.specs.Skew.{IsWithinSkew}
-use Rattle.nq_model.specs.World.{Head, World, run}
-use Rattle.nq_model.specs.Bounds.{KeepsBounds}
-use Rattle.nq_model.specs.WritesAreAccounted.{IsStillUnsaved}
+use Rattle.nq_model.specs.laws.Fate.{IsDelayed, IsEnded, IsWaiting}
+use Rattle.nq_model.specs.laws.Journal.{IsStored, IsLost}
+use Rattle.nq_model.specs.protocol.Skew.{IsWithinSkew}
+use Rattle.nq_model.specs.protocol.World.{Head, World, run}
+use Rattle.nq_model.specs.laws.Bounds.{KeepsBounds}
+use Rattle.nq_model.specs.laws.WritesAreAccounted.{IsStillUnsaved}
 
 -- a fact of some entry, of what stands before it, and of what stands after it in the order of time
 abbrev pub AtSomePlace : (List Entry → Entry → List Entry → Type 0) → (after : List Entry) → List Entry → Type 0

@@ -2,9 +2,9 @@
 use Rattle.std.specs.Prelude.{◌≡◌, List, [], ◌∷◌, map}
 use Rattle.nq_base.specs.Block.{value_of}
 use Rattle.nq_base.specs.declared.Event.{Event}
-use Rattle.nq_model.specs.Journal.{Each}
-use Rattle.nq_model.specs.World.{Head, run}
-use Rattle.nq_model.specs.BodiesAreFilled.{BringsFilledBody}
+use Rattle.nq_model.specs.laws.Journal.{Each}
+use Rattle.nq_model.specs.protocol.World.{Head, run}
+use Rattle.nq_model.specs.laws.BodiesAreFilled.{BringsFilledBody}
 
 -- the premise is met, and not in vain: after some schedule the server keeps one file, whose only block has the value 7
 pub record FilledBodiesAreMet : Type 0 where

@@ -3,13 +3,13 @@ use Rattle.std.specs.Prelude.{◌≡◌, ℕ, Bool, true, false, ◌&&◌, ◌==
 use Rattle.nq_base.specs.Block.{value_of}
 use Rattle.nq_base.specs.declared.Event.{Event}
 use Rattle.nq_base.specs.declared.Who.{Who}
-use Rattle.nq_model.specs.Bounds.{KeepsBounds}
-use Rattle.nq_model.specs.Witnesses.{is_store}
-use Rattle.nq_model.specs.JournalTest.{exists}
-use Rattle.nq_model.specs.Kept.{File, find_file}
-use Rattle.nq_model.specs.Skew.{IsWithinSkew}
-use Rattle.nq_model.specs.Synchronized.{held_value, last_length}
-use Rattle.nq_model.specs.World.{Head, World, run}
+use Rattle.nq_model.specs.laws.Bounds.{KeepsBounds}
+use Rattle.nq_model.specs.laws.Witnesses.{is_store}
+use Rattle.nq_model.specs.laws.JournalTest.{exists}
+use Rattle.nq_model.specs.protocol.Kept.{File, find_file}
+use Rattle.nq_model.specs.protocol.Skew.{IsWithinSkew}
+use Rattle.nq_model.specs.laws.Synchronized.{held_value, last_length}
+use Rattle.nq_model.specs.protocol.World.{Head, World, run}
 
 -- the incarnation that writes
 abbrev pub writer : Who

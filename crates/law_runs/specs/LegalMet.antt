@@ -3,10 +3,10 @@ use Rattle.std.specs.Prelude.{◌≡◌, ℕ, Bool, true, List, [], ◌∷◌}
 use Rattle.nq_base.specs.declared.Entry.{Entry}
 use Rattle.nq_base.specs.declared.Event.{Event}
 use Rattle.law_runs.specs.HeldMet.{writer}
-use Rattle.nq_model.specs.Witnesses.{in_order, is_delayed_write, is_store, is_cached_read, is_served_read}
-use Rattle.nq_model.specs.Bounds.{KeepsBounds}
-use Rattle.nq_model.specs.Skew.{IsWithinSkew}
-use Rattle.nq_model.specs.World.{Head, run}
+use Rattle.nq_model.specs.laws.Witnesses.{in_order, is_delayed_write, is_store, is_cached_read, is_served_read}
+use Rattle.nq_model.specs.laws.Bounds.{KeepsBounds}
+use Rattle.nq_model.specs.protocol.Skew.{IsWithinSkew}
+use Rattle.nq_model.specs.protocol.World.{Head, run}
 
 -- whether a client delayed a write of the value 7, read it from what it has, and had it stored, and after that a call of the
 -- same client read it from the server and was answered so

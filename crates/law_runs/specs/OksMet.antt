@@ -6,10 +6,10 @@ use Rattle.nq_base.specs.declared.Event.{Event}
 use Rattle.nq_base.specs.declared.Said.TheVariants.{Ok}
 use Rattle.nq_base.specs.declared.Told.TheVariants.{Sync}
 use Rattle.nq_base.specs.declared.Who.{Who}
-use Rattle.nq_model.specs.Bounds.{KeepsBounds}
-use Rattle.nq_model.specs.Journal.{Exists, IsStored, call_of}
-use Rattle.nq_model.specs.Skew.{IsWithinSkew}
-use Rattle.nq_model.specs.World.{Head, run}
+use Rattle.nq_model.specs.laws.Bounds.{KeepsBounds}
+use Rattle.nq_model.specs.laws.Journal.{Exists, IsStored, call_of}
+use Rattle.nq_model.specs.protocol.Skew.{IsWithinSkew}
+use Rattle.nq_model.specs.protocol.World.{Head, run}
 
 -- the entry is an A ok to call q of an incarnation
 abbrev pub IsOk : (who : Who) (q : ℕ) → Entry → Type 0

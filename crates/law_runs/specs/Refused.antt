@@ -3,17 +3,17 @@ use Rattle.std.specs.Prelude.{◌&&◌, Bool, List, [], ◌∷◌, None, IsTrue}
 use Rattle.nq_base.specs.declared.Entry.{Entry}
 use Rattle.nq_base.specs.declared.Said.{Said}
 use Rattle.nq_base.specs.declared.Told.{Told}
-use Rattle.nq_model.specs.CutOffTest.{is_excused}
-use Rattle.nq_model.specs.FateTest.{is_accounted}
-use Rattle.nq_model.specs.LegalTest.{is_legal}
-use Rattle.nq_model.specs.OfTheirCallTest.{are_of_their_call}
-use Rattle.nq_model.specs.OrderedTest.{is_ordered}
-use Rattle.nq_model.specs.ReportedTest.{is_reported}
-use Rattle.nq_model.specs.SynchronizedTest.{is_synchronized}
-use Rattle.nq_model.specs.AnswersAreOfTheirCalls.{AnswersAreOfTheirCalls}
-use Rattle.nq_model.specs.BusyIsSaidAtOnce.{BusyIsSaidAtOnce}
-use Rattle.nq_model.specs.OksHaveTheirDeeds.{OksHaveTheirDeeds}
-use Rattle.nq_model.specs.RefusalsAreOfTheirCalls.{RefusalsAreOfTheirCalls}
+use Rattle.nq_model.specs.laws.CutOffTest.{is_excused}
+use Rattle.nq_model.specs.laws.FateTest.{is_accounted}
+use Rattle.nq_model.specs.laws.LegalTest.{is_legal}
+use Rattle.nq_model.specs.laws.OfTheirCallTest.{are_of_their_call}
+use Rattle.nq_model.specs.laws.OrderedTest.{is_ordered}
+use Rattle.nq_model.specs.laws.ReportedTest.{is_reported}
+use Rattle.nq_model.specs.laws.SynchronizedTest.{is_synchronized}
+use Rattle.nq_model.specs.laws.AnswersAreOfTheirCalls.{AnswersAreOfTheirCalls}
+use Rattle.nq_model.specs.laws.BusyIsSaidAtOnce.{BusyIsSaidAtOnce}
+use Rattle.nq_model.specs.laws.OksHaveTheirDeeds.{OksHaveTheirDeeds}
+use Rattle.nq_model.specs.laws.RefusalsAreOfTheirCalls.{RefusalsAreOfTheirCalls}
 
 -- whether a journal passes the tests of all other laws of journals
 abbrev pub passes : (journal : List Entry) → Bool

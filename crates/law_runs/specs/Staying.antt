@@ -2,9 +2,9 @@
 use Rattle.std.specs.Prelude.{◌≡◌, ◌⊎◌, ◌++◌, ℕ, List, Some, None}
 use Rattle.nq_base.specs.declared.Entry.{Entry}
 use Rattle.nq_base.specs.declared.Event.{Event}
-use Rattle.nq_model.specs.Journal.{Exists}
-use Rattle.nq_model.specs.Kept.{File, find_file}
-use Rattle.nq_model.specs.World.{Head, run}
+use Rattle.nq_model.specs.laws.Journal.{Exists}
+use Rattle.nq_model.specs.protocol.Kept.{File, find_file}
+use Rattle.nq_model.specs.protocol.World.{Head, run}
 
 -- a file of this id is kept, under this name
 pub record KeepsUnder (id : ℕ) (name : List ℕ) (files : List File) : Type 0 where

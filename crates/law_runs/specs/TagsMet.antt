@@ -3,12 +3,12 @@ use Rattle.std.specs.Prelude.{◌≡◌, ℕ, List, Some, slice_get}
 use Rattle.nq_base.specs.declared.Event.{Event}
 use Rattle.nq_base.specs.declared.Grant.{Grant}
 use Rattle.nq_base.specs.declared.Tag.{Tag}
-use Rattle.nq_model.specs.Client.{Client, Lease, Ticket, lease_on}
-use Rattle.nq_model.specs.LeaseInterval.{CanTake}
-use Rattle.nq_model.specs.Skew.{IsWithinSkew}
-use Rattle.nq_model.specs.World.{Head, run}
-use Rattle.nq_model.specs.Bounds.{KeepsBounds}
-use Rattle.nq_model.specs.TagsAreInOrder.{GaveUp}
+use Rattle.nq_model.specs.protocol.Client.{Client, Lease, Ticket, lease_on}
+use Rattle.nq_model.specs.laws.LeaseInterval.{CanTake}
+use Rattle.nq_model.specs.protocol.Skew.{IsWithinSkew}
+use Rattle.nq_model.specs.protocol.World.{Head, run}
+use Rattle.nq_model.specs.laws.Bounds.{KeepsBounds}
+use Rattle.nq_model.specs.laws.TagsAreInOrder.{GaveUp}
 
 -- the premises are met, and not in vain: after some schedule a client gave up a tag on a file, holds a lease on it again,
 -- and can take a further grant on it

@@ -2,12 +2,12 @@
 use Rattle.std.specs.Prelude.{◌≡◌, ℕ, false, List, Some, slice_get, ◌++◌}
 use Rattle.nq_base.specs.declared.Event.{Event}
 use Rattle.nq_base.specs.declared.Push.{Push}
-use Rattle.nq_model.specs.LossesAreExcused.{IsUnsaved}
-use Rattle.nq_model.specs.Bounds.{KeepsBounds}
-use Rattle.nq_model.specs.Client.{Client, is_clean}
-use Rattle.nq_model.specs.Skew.{IsWithinSkew}
-use Rattle.nq_model.specs.World.{Head, run}
-use Rattle.nq_model.specs.WritesAreUndisturbed.{IsBoundAndDue, IsFencedAt, IsUncovered}
+use Rattle.nq_model.specs.laws.LossesAreExcused.{IsUnsaved}
+use Rattle.nq_model.specs.laws.Bounds.{KeepsBounds}
+use Rattle.nq_model.specs.protocol.Client.{Client, is_clean}
+use Rattle.nq_model.specs.protocol.Skew.{IsWithinSkew}
+use Rattle.nq_model.specs.protocol.World.{Head, run}
+use Rattle.nq_model.specs.laws.WritesAreUndisturbed.{IsBoundAndDue, IsFencedAt, IsUncovered}
 
 -- after some schedule within skew a client has delayed writes of a bound file, none of them stored or lost; and after further
 -- events it still has them, and the file is fenced for them

@@ -1,9 +1,9 @@
 -- A call leaves a client that has no delayed writes, and no running lease to write, without them.
 use Rattle.std.proofs.Common.{false}
 use Rattle.nq_base.specs.declared.Call.{Call}
-use Rattle.nq_model.specs.Client.{Client}
-use Rattle.nq_model.specs.ClientStep.{begins_call, is_called, says_busy, client_call}
-use Rattle.nq_model.specs.Settle.{answers, settle}
+use Rattle.nq_model.specs.protocol.Client.{Client}
+use Rattle.nq_model.specs.protocol.ClientStep.{begins_call, is_called, says_busy, client_call}
+use Rattle.nq_model.specs.protocol.Settle.{answers, settle}
 use Rattle.walk_steps.proofs.StepCases.{call-cases, unless-cached-cases}
 use Rattle.law_rounds.proofs.Sleeping.{Asleep, Rest, settles, sends}
 

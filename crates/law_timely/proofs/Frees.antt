@@ -12,17 +12,17 @@ use Rattle.nq_base.specs.declared.Reply.{Reply}
 use Rattle.nq_base.specs.declared.Request.{Request}
 use Rattle.nq_base.specs.declared.Verdict.{Verdict}
 use Rattle.nq_base.specs.declared.Who.{Who}
-use Rattle.nq_model.specs.Client.{Client, ClientStep, Ticket}
-use Rattle.nq_model.specs.ClientStep.{client_call}
-use Rattle.nq_model.specs.Hear.{is_put_off}
-use Rattle.nq_model.specs.Kept.{host_row}
-use Rattle.nq_model.specs.Lines.{Play, play}
-use Rattle.nq_model.specs.Message.{Message, Packet, call, reply, request, datagram_of, asker, sequence_of}
-use Rattle.nq_model.specs.OneRequestPerSequence.{IsUnderWay}
-use Rattle.nq_model.specs.Profile.{most_hosts}
-use Rattle.nq_model.specs.Server.{Server, to_host}
-use Rattle.nq_model.specs.ServerStep.{receive}
-use Rattle.nq_model.specs.World.{Head, World, from_host, after_client, after_server, at_client, sending_host, step, run}
+use Rattle.nq_model.specs.protocol.Client.{Client, ClientStep, Ticket}
+use Rattle.nq_model.specs.protocol.ClientStep.{client_call}
+use Rattle.nq_model.specs.protocol.Hear.{is_put_off}
+use Rattle.nq_model.specs.protocol.Kept.{host_row}
+use Rattle.nq_model.specs.protocol.Lines.{Play, play}
+use Rattle.nq_model.specs.protocol.Message.{Message, Packet, call, reply, request, datagram_of, asker, sequence_of}
+use Rattle.nq_model.specs.laws.OneRequestPerSequence.{IsUnderWay}
+use Rattle.nq_model.specs.protocol.Profile.{most_hosts}
+use Rattle.nq_model.specs.protocol.Server.{Server, to_host}
+use Rattle.nq_model.specs.protocol.ServerStep.{receive}
+use Rattle.nq_model.specs.protocol.World.{Head, World, from_host, after_client, after_server, at_client, sending_host, step, run}
 use Rattle.walk_steps.proofs.ClientMoves.{some-same}
 use Rattle.walk_steps.proofs.Incarnations.{who-same}
 use Rattle.walk_steps.proofs.LeaseIntervals.{run-runs}

@@ -6,11 +6,12 @@ use Rattle.nq_base.specs.declared.Reply.{Reply}
 use Rattle.nq_base.specs.declared.Request.{Request}
 use Rattle.nq_base.specs.declared.Row.{Row}
 use Rattle.nq_base.specs.declared.Who.{Who}
-use Rattle.nq_model.specs.Decide.{verdict_reply, decides, creates, writes_through, stores, stores_recovering, wrote, resizes, removes, puts_off, commits}
-use Rattle.nq_model.specs.Hear.{inc_of}
-use Rattle.nq_model.specs.Message.{Message, Packet, reply, Datagram, request, asker}
-use Rattle.nq_model.specs.Server.{Server, to_host, notices, after_notices, keeping, keeping_with, with_table, quiet, drops, says}
-use Rattle.nq_model.specs.ServerStep.{attaches, vacates, tells_later, serves, leases, receive}
+use Rattle.nq_model.specs.protocol.Decide.{verdict_reply, decides, creates, writes_through, stores, stores_recovering, wrote, resizes, removes, puts_off}
+use Rattle.nq_model.specs.protocol.Decide.{commits}
+use Rattle.nq_model.specs.protocol.Hear.{inc_of}
+use Rattle.nq_model.specs.protocol.Message.{Message, Packet, reply, Datagram, request, asker}
+use Rattle.nq_model.specs.protocol.Server.{Server, to_host, notices, after_notices, keeping, keeping_with, with_table, quiet, drops, says}
+use Rattle.nq_model.specs.protocol.ServerStep.{attaches, vacates, tells_later, serves, leases, receive}
 use Rattle.walk_steps.proofs.Packets.{In, in-last, reply-same, told-same}
 use Rattle.walk_steps.proofs.ServerCases.{server-hears}
 use Rattle.walk_steps.proofs.ServerOutcomes.{error-no-reply}

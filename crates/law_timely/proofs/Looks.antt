@@ -6,12 +6,12 @@ use Rattle.nq_base.specs.declared.Call.{Call}
 use Rattle.nq_base.specs.declared.Refusal.{Refusal}
 use Rattle.nq_base.specs.declared.Reply.{Reply}
 use Rattle.nq_base.specs.declared.Request.{Request}
-use Rattle.nq_model.specs.Client.{Client, ClientStep, Job, attaching, for_call, renewing, pushing, Ticket, UnderWay, begun}
-use Rattle.nq_model.specs.ClientStep.{client_tick, sends_again, at_time}
-use Rattle.nq_model.specs.Hear.{hear, inc_of, is_put_off, refusal_counts, reply_counts, replied, cancels, vacates_lease, notes_notice, evicted}
-use Rattle.nq_model.specs.Message.{Message, call, reply}
-use Rattle.nq_model.specs.Send.{is_asking, sends_request, after_seq, after_number, takes_push, gives_up, send_next}
-use Rattle.nq_model.specs.Settle.{answers, reads_cached, after_read, after_write, marks_written, settle}
+use Rattle.nq_model.specs.protocol.Client.{Client, ClientStep, Job, attaching, for_call, renewing, pushing, Ticket, UnderWay, begun}
+use Rattle.nq_model.specs.protocol.ClientStep.{client_tick, sends_again, at_time}
+use Rattle.nq_model.specs.protocol.Hear.{hear, inc_of, is_put_off, refusal_counts, reply_counts, replied, cancels, vacates_lease, notes_notice, evicted}
+use Rattle.nq_model.specs.protocol.Message.{Message, call, reply}
+use Rattle.nq_model.specs.protocol.Send.{is_asking, sends_request, after_seq, after_number, takes_push, gives_up, send_next}
+use Rattle.nq_model.specs.protocol.Settle.{answers, reads_cached, after_read, after_write, marks_written, settle}
 use Rattle.walk_steps.proofs.ClientFacts.{Alone}
 use Rattle.walk_steps.proofs.ClientMoves.{some-same, none-some, keeps-or-cancels}
 use Rattle.walk_steps.proofs.SendCases.{send-cases}

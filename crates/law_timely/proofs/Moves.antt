@@ -6,17 +6,17 @@ use Rattle.nq_base.specs.declared.Event.{Event}
 use Rattle.nq_base.specs.declared.Party.{Party}
 use Rattle.nq_base.specs.declared.Who.{Who}
 use Rattle.nq_model.proofs.Lists.{exists-right}
-use Rattle.nq_model.specs.Client.{Client, ClientStep, UnderWay}
-use Rattle.nq_model.specs.ClientStep.{begins_call, is_called, says_busy, client_call, client_tick, at_time}
-use Rattle.nq_model.specs.Hear.{hear}
-use Rattle.nq_model.specs.Journal.{Exists, IsCall}
-use Rattle.nq_model.specs.Lines.{Play}
-use Rattle.nq_model.specs.Message.{Packet, datagram_of}
-use Rattle.nq_model.specs.Send.{send_next}
-use Rattle.nq_model.specs.Server.{to_host}
-use Rattle.nq_model.specs.Settle.{answers, settle}
-use Rattle.nq_model.specs.ServerStep.{receive}
-use Rattle.nq_model.specs.World.{Head, World, after_client, after_server, at_client, sending_host, step, run}
+use Rattle.nq_model.specs.protocol.Client.{Client, ClientStep, UnderWay}
+use Rattle.nq_model.specs.protocol.ClientStep.{begins_call, is_called, says_busy, client_call, client_tick, at_time}
+use Rattle.nq_model.specs.protocol.Hear.{hear}
+use Rattle.nq_model.specs.laws.Journal.{Exists, IsCall}
+use Rattle.nq_model.specs.protocol.Lines.{Play}
+use Rattle.nq_model.specs.protocol.Message.{Packet, datagram_of}
+use Rattle.nq_model.specs.protocol.Send.{send_next}
+use Rattle.nq_model.specs.protocol.Server.{to_host}
+use Rattle.nq_model.specs.protocol.Settle.{answers, settle}
+use Rattle.nq_model.specs.protocol.ServerStep.{receive}
+use Rattle.nq_model.specs.protocol.World.{Head, World, after_client, after_server, at_client, sending_host, step, run}
 use Rattle.law_runs.proofs.RunCalls.{calls-known}
 use Rattle.walk_files.proofs.CallFacts.{called-below}
 use Rattle.walk_steps.proofs.ClientMoves.{some-same, none-some}

@@ -2,8 +2,8 @@
 use Rattle.std.proofs.Common.{◌≡◌, ℕ, true, List, [], ◌∷◌, sym, subst, ap}
 use Rattle.std.proofs.lemmas.Bool.{and_parts}
 use Rattle.nq_base.specs.declared.Event.{Event}
-use Rattle.nq_model.specs.Lines.{Play, play}
-use Rattle.nq_model.specs.World.{Head, step, run}
+use Rattle.nq_model.specs.protocol.Lines.{Play, play}
+use Rattle.nq_model.specs.protocol.World.{Head, step, run}
 use Rattle.walk_steps.proofs.Clocks.{within-before}
 use Rattle.walk_steps.proofs.NoCrash.{bounds-before}
 use Rattle.law_rounds.specs.CalmRoundsAreLawful.{IsLawful}

@@ -1,7 +1,7 @@
 -- Schedules in which one premise is missing, computed.
 use Rattle.std.proofs.Common.{◌≡◌, ◌++◌, true, false, [], ◌∷◌, refl}
 use Rattle.nq_base.specs.Block.{filled, zeros}
-use Rattle.nq_model.specs.Skew.{is_within_skew}
+use Rattle.nq_model.specs.protocol.Skew.{is_within_skew}
 use Rattle.walk_steps.proofs.GivenRuns.{given-run}
 use Rattle.law_rounds.specs.DeliveryEnds.{calmed}
 use Rattle.law_rounds.specs.QuietDeliveries.{recovers}

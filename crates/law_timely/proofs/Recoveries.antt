@@ -5,16 +5,16 @@ use Rattle.std.specs.Prelude.{slice_get}
 use Rattle.std.proofs.lemmas.Bool.{and_parts}
 use Rattle.nq_base.specs.declared.Call.{Call}
 use Rattle.nq_base.specs.declared.Event.{Event}
-use Rattle.nq_model.specs.Client.{Client, ClientStep}
-use Rattle.nq_model.specs.ClientStep.{client_call, client_tick}
-use Rattle.nq_model.specs.Lines.{Play, play}
-use Rattle.nq_model.specs.Message.{Packet, Datagram, datagram_of}
-use Rattle.nq_model.specs.Profile.{skew, write_slack}
-use Rattle.nq_model.specs.Server.{Phase, serving, recovering, Server, ServerStep, quiet, keeping_with, with_table}
-use Rattle.nq_model.specs.ServerStep.{receive, tick, at_time as at_server_time, opens, ends_writing}
-use Rattle.nq_model.specs.Skew.{server_ticks, ticks_of}
-use Rattle.nq_model.specs.Table.{Table}
-use Rattle.nq_model.specs.World.{Head, World, after_client, after_server, at_client, sending_host, step, run}
+use Rattle.nq_model.specs.protocol.Client.{Client, ClientStep}
+use Rattle.nq_model.specs.protocol.ClientStep.{client_call, client_tick}
+use Rattle.nq_model.specs.protocol.Lines.{Play, play}
+use Rattle.nq_model.specs.protocol.Message.{Packet, Datagram, datagram_of}
+use Rattle.nq_model.specs.protocol.Profile.{skew, write_slack}
+use Rattle.nq_model.specs.protocol.Server.{Phase, serving, recovering, Server, ServerStep, quiet, keeping_with, with_table}
+use Rattle.nq_model.specs.protocol.ServerStep.{receive, tick, at_time as at_server_time, opens, ends_writing}
+use Rattle.nq_model.specs.protocol.Skew.{server_ticks, ticks_of}
+use Rattle.nq_model.specs.protocol.Table.{Table}
+use Rattle.nq_model.specs.protocol.World.{Head, World, after_client, after_server, at_client, sending_host, step, run}
 use Rattle.walk_steps.proofs.LeaseIntervals.{run-runs}
 use Rattle.walk_steps.proofs.Packets.{in-get}
 use Rattle.walk_steps.proofs.ServerCases.{server-ticks}

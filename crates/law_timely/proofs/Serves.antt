@@ -7,13 +7,14 @@ use Rattle.nq_base.specs.declared.Reply.{Reply}
 use Rattle.nq_base.specs.declared.Request.{Request}
 use Rattle.nq_base.specs.declared.Verdict.{Verdict}
 use Rattle.nq_base.specs.declared.Who.{Who}
-use Rattle.nq_model.specs.Decide.{Decision, decides, creates, decide_create, decide_in, decide, verdict_reply, row_after, commits, commits_within, decided_once}
-use Rattle.nq_model.specs.Hear.{is_put_off}
-use Rattle.nq_model.specs.Kept.{File, blocks_of, blocks_in_all, find_file, find_name, can_be_kept, host_row, with_row, with_new_file}
-use Rattle.nq_model.specs.Message.{Packet, Reason, request, reply, asker, sequence_of, old_incarnation, wrong_host, out_of_bounds}
-use Rattle.nq_model.specs.Profile.{most_hosts, most_files, most_blocks, most_blocks_of_file, most_ids}
-use Rattle.nq_model.specs.Server.{Phase, serving, recovering, Server, ServerStep, to_host, says, drops, replies, refuses, keeping}
-use Rattle.nq_model.specs.ServerStep.{look_up, get_attr, look, perform, not_attached, is_attach, admit, answer_request, receive}
+use Rattle.nq_model.specs.protocol.Decide.{Decision, decides, creates, decide_create, decide_in, decide, verdict_reply, row_after, commits, commits_within}
+use Rattle.nq_model.specs.protocol.Decide.{decided_once}
+use Rattle.nq_model.specs.protocol.Hear.{is_put_off}
+use Rattle.nq_model.specs.protocol.Kept.{File, blocks_of, blocks_in_all, find_file, find_name, can_be_kept, host_row, with_row, with_new_file}
+use Rattle.nq_model.specs.protocol.Message.{Packet, Reason, request, reply, asker, sequence_of, old_incarnation, wrong_host, out_of_bounds}
+use Rattle.nq_model.specs.protocol.Profile.{most_hosts, most_files, most_blocks, most_blocks_of_file, most_ids}
+use Rattle.nq_model.specs.protocol.Server.{Phase, serving, recovering, Server, ServerStep, to_host, says, drops, replies, refuses, keeping}
+use Rattle.nq_model.specs.protocol.ServerStep.{look_up, get_attr, look, perform, not_attached, is_attach, admit, answer_request, receive}
 use Rattle.walk_steps.proofs.KeptChanges.{own-line}
 use Rattle.walk_steps.proofs.Packets.{In, reply-same}
 use Rattle.walk_steps.proofs.Rows.{choice, same-number}

@@ -1,9 +1,9 @@
 -- Five ticks of the server's clock after the moment each request of a live host that was lost before was sent again.
 use Rattle.std.proofs.Common.{◌≡◌, ◌≤◌, ◌<◌, ℕ, ◌+◌, ◌-◌, ◌++◌, nat_le, Bool, true, false, List, [], ◌∷◌, refl, subst, ap, ◌∙◌, arith}
 use Rattle.nq_base.specs.declared.Event.{Event}
-use Rattle.nq_model.specs.Lines.{Play, play}
-use Rattle.nq_model.specs.Skew.{server_ticks, ticks_of, IsWithinSkew}
-use Rattle.nq_model.specs.World.{Head, World, run}
+use Rattle.nq_model.specs.protocol.Lines.{Play, play}
+use Rattle.nq_model.specs.protocol.Skew.{server_ticks, ticks_of, IsWithinSkew}
+use Rattle.nq_model.specs.protocol.World.{Head, World, run}
 use Rattle.walk_steps.proofs.Tests.{is-at-most, is-not-at-most}
 use Rattle.walk_steps.proofs.WorldClocks.{run-clocked}
 use Rattle.law_rounds.specs.CalmRoundsAreLawful.{IsLawful}

@@ -2,7 +2,7 @@
 use Rattle.std.proofs.Common.{◌≡◌, nat_lt, true, false, refl}
 use Rattle.std.specs.Prelude.{◌+◌, slice_get}
 use Rattle.nq_base.specs.Block.{filled, zeros}
-use Rattle.nq_model.specs.Skew.{is_within_skew}
+use Rattle.nq_model.specs.protocol.Skew.{is_within_skew}
 use Rattle.walk_steps.proofs.GivenRuns.{given-run}
 use Rattle.law_rounds.specs.DeliveryEnds.{calmed}
 use Rattle.law_rounds.specs.QuietDeliveries.{recovers}

@@ -4,11 +4,11 @@ use Rattle.std.proofs.Common.{subst, ap, ◌∙◌, arith, inl, inr}
 use Rattle.std.specs.Prelude.{slice_get}
 use Rattle.nq_base.specs.declared.Event.{Event}
 use Rattle.nq_base.specs.declared.Who.{Who}
-use Rattle.nq_model.specs.Client.{Client, UnderWay}
-use Rattle.nq_model.specs.Journal.{Exists, IsCall, IsOpen}
-use Rattle.nq_model.specs.Lines.{Play, play}
-use Rattle.nq_model.specs.Skew.{server_ticks, ticks_of}
-use Rattle.nq_model.specs.World.{Head, World, run}
+use Rattle.nq_model.specs.protocol.Client.{Client, UnderWay}
+use Rattle.nq_model.specs.laws.Journal.{Exists, IsCall, IsOpen}
+use Rattle.nq_model.specs.protocol.Lines.{Play, play}
+use Rattle.nq_model.specs.protocol.Skew.{server_ticks, ticks_of}
+use Rattle.nq_model.specs.protocol.World.{Head, World, run}
 use Rattle.law_runs.proofs.RunCalls.{calls-known}
 use Rattle.walk_steps.proofs.ClientMoves.{some-same}
 use Rattle.walk_steps.proofs.LeaseIntervals.{run-runs}

@@ -1,8 +1,8 @@
 -- Whenever nothing is under way on a live link its client is quiet.
 use Rattle.std.proofs.Common.{◌≡◌, ◌≤◌, ℕ, ◌+◌, ◌-◌, Some, refl, subst, arith}
 use Rattle.std.specs.Prelude.{slice_get}
-use Rattle.nq_model.specs.Skew.{ticks_of}
-use Rattle.nq_model.specs.World.{World}
+use Rattle.nq_model.specs.protocol.Skew.{ticks_of}
+use Rattle.nq_model.specs.protocol.World.{World}
 use Rattle.walk_steps.proofs.LeaseIntervals.{run-runs}
 use Rattle.law_rounds.specs.DeliveryEnds.{calmed}
 use Rattle.law_rounds.proofs.Flows.{Covered}

@@ -3,9 +3,9 @@ use Rattle.std.proofs.Common.{◌≡◌, ℕ, not, true, false, List, Some, sym,
 use Rattle.std.specs.Prelude.{slice_get}
 use Rattle.std.proofs.lemmas.Bool.{and_parts, not-true}
 use Rattle.nq_base.specs.declared.Party.{Party}
-use Rattle.nq_model.specs.Client.{Client}
-use Rattle.nq_model.specs.Message.{Packet}
-use Rattle.nq_model.specs.World.{World, sending_host}
+use Rattle.nq_model.specs.protocol.Client.{Client}
+use Rattle.nq_model.specs.protocol.Message.{Packet}
+use Rattle.nq_model.specs.protocol.World.{World, sending_host}
 use Rattle.walk_steps.proofs.Worlds.{IsSent, by_host}
 use Rattle.law_rounds.proofs.Sleeping.{Asleep}
 use Rattle.law_timely.specs.Timely.{is_dead, lives, goes_on_live_link}

@@ -5,15 +5,15 @@ use Rattle.std.proofs.Common.{arith, inl, inr}
 use Rattle.std.specs.Prelude.{slice_get}
 use Rattle.nq_base.specs.declared.Event.{Event}
 use Rattle.nq_base.specs.declared.Who.{Who}
-use Rattle.nq_model.specs.Client.{Client, ClientStep, for_call, Ticket, UnderWay}
-use Rattle.nq_model.specs.ClientStep.{client_call, client_tick}
-use Rattle.nq_model.specs.Journal.{Exists, IsCall}
-use Rattle.nq_model.specs.Lines.{Play, play}
-use Rattle.nq_model.specs.Profile.{patience}
-use Rattle.nq_model.specs.Server.{Server, quiet, keeping_with, with_table}
-use Rattle.nq_model.specs.ServerStep.{tick, at_time as at_server_time, opens, ends_writing}
-use Rattle.nq_model.specs.Skew.{is_tick_of, ticks_of}
-use Rattle.nq_model.specs.World.{Head, World, after_client, after_server, at_client, step, run}
+use Rattle.nq_model.specs.protocol.Client.{Client, ClientStep, for_call, Ticket, UnderWay}
+use Rattle.nq_model.specs.protocol.ClientStep.{client_call, client_tick}
+use Rattle.nq_model.specs.laws.Journal.{Exists, IsCall}
+use Rattle.nq_model.specs.protocol.Lines.{Play, play}
+use Rattle.nq_model.specs.protocol.Profile.{patience}
+use Rattle.nq_model.specs.protocol.Server.{Server, quiet, keeping_with, with_table}
+use Rattle.nq_model.specs.protocol.ServerStep.{tick, at_time as at_server_time, opens, ends_writing}
+use Rattle.nq_model.specs.protocol.Skew.{is_tick_of, ticks_of}
+use Rattle.nq_model.specs.protocol.World.{Head, World, after_client, after_server, at_client, step, run}
 use Rattle.walk_steps.proofs.ClientFacts.{Alone}
 use Rattle.walk_steps.proofs.ClientMoves.{none-some}
 use Rattle.walk_steps.proofs.ServerCases.{server-ticks}

@@ -9,15 +9,15 @@ use Rattle.nq_base.specs.declared.Party.{Party}
 use Rattle.nq_base.specs.declared.Refusal.{Refusal}
 use Rattle.nq_base.specs.declared.Reply.{Reply}
 use Rattle.nq_base.specs.declared.Who.{Who}
-use Rattle.nq_model.specs.Client.{Client, ClientStep, for_call, Ticket, UnderWay}
-use Rattle.nq_model.specs.ClientStep.{client_call, client_tick, at_time}
-use Rattle.nq_model.specs.Hear.{hear, is_put_off}
-use Rattle.nq_model.specs.Kept.{host_row}
-use Rattle.nq_model.specs.Lines.{Play, play}
-use Rattle.nq_model.specs.Message.{Packet, reply, sequence_of}
-use Rattle.nq_model.specs.Server.{to_host}
-use Rattle.nq_model.specs.Skew.{ticks_of}
-use Rattle.nq_model.specs.World.{Head, World, from_host, after_client, step}
+use Rattle.nq_model.specs.protocol.Client.{Client, ClientStep, for_call, Ticket, UnderWay}
+use Rattle.nq_model.specs.protocol.ClientStep.{client_call, client_tick, at_time}
+use Rattle.nq_model.specs.protocol.Hear.{hear, is_put_off}
+use Rattle.nq_model.specs.protocol.Kept.{host_row}
+use Rattle.nq_model.specs.protocol.Lines.{Play, play}
+use Rattle.nq_model.specs.protocol.Message.{Packet, reply, sequence_of}
+use Rattle.nq_model.specs.protocol.Server.{to_host}
+use Rattle.nq_model.specs.protocol.Skew.{ticks_of}
+use Rattle.nq_model.specs.protocol.World.{Head, World, from_host, after_client, step}
 use Rattle.walk_steps.proofs.ClientMoves.{none-some}
 use Rattle.walk_steps.proofs.Packets.{In, in-get, Told}
 use Rattle.walk_steps.proofs.Tests.{is-below, is-not-below}

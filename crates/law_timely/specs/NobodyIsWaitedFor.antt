@@ -2,10 +2,10 @@
 use Rattle.std.specs.Prelude.{◌≡◌, ◌≤◌, ◌<◌, ℕ, ◌+◌, Bool, true, false, List, Some, slice_get}
 use Rattle.nq_base.specs.declared.Call.{Call}
 use Rattle.nq_base.specs.declared.Event.{Event}
-use Rattle.nq_model.specs.Client.{Client, UnderWay}
-use Rattle.nq_model.specs.Journal.{IsOpen}
-use Rattle.nq_model.specs.Lines.{Play}
-use Rattle.nq_model.specs.World.{Head, World, run}
+use Rattle.nq_model.specs.protocol.Client.{Client, UnderWay}
+use Rattle.nq_model.specs.laws.Journal.{IsOpen}
+use Rattle.nq_model.specs.protocol.Lines.{Play}
+use Rattle.nq_model.specs.protocol.World.{Head, World, run}
 use Rattle.law_rounds.specs.CalmRoundsAreLawful.{IsLawful}
 use Rattle.law_rounds.specs.DeliveryEnds.{calmed}
 use Rattle.law_rounds.specs.QuietDeliveries.{recovers}

@@ -3,10 +3,10 @@ use Rattle.std.specs.Prelude.{◌≡◌, ℕ, ◌+◌, Bool, true, false, nat_lt
 use Rattle.nq_base.specs.Block.{filled}
 use Rattle.nq_base.specs.declared.Call.{Call}
 use Rattle.nq_base.specs.declared.Event.{Event}
-use Rattle.nq_model.specs.Client.{Client, UnderWay}
-use Rattle.nq_model.specs.Lines.{Play}
-use Rattle.nq_model.specs.Skew.{is_within_skew}
-use Rattle.nq_model.specs.World.{Head}
+use Rattle.nq_model.specs.protocol.Client.{Client, UnderWay}
+use Rattle.nq_model.specs.protocol.Lines.{Play}
+use Rattle.nq_model.specs.protocol.Skew.{is_within_skew}
+use Rattle.nq_model.specs.protocol.World.{Head}
 use Rattle.law_rounds.specs.DeliveryEnds.{calmed}
 use Rattle.law_rounds.specs.QuietDeliveries.{recovers}
 use Rattle.law_timely.specs.NobodyIsWaitedFor.{needs_no_lease, longest_wait}

@@ -5,8 +5,8 @@ use Rattle.nq_base.specs.declared.Event.{Event}
 use Rattle.nq_bend.specs.Bending.{AreTaken, EndsSo, RunsTo}
 use Rattle.nq_bend.specs.Course.{IsClosed, IsEntered, IsPlayed, IsStill, IsWith}
 use Rattle.nq_bend.specs.declared.course.Course.{Course}
-use Rattle.nq_model.specs.Kept.{Kept}
-use Rattle.nq_model.specs.Stepped.{Stepped as Answer, done, stepped}
+use Rattle.nq_model.specs.protocol.Kept.{Kept}
+use Rattle.nq_model.specs.protocol.Stepped.{Stepped as Answer, done, stepped}
 use Rattle.nq_script.specs.declared.heads.Head.{Head}
 use Rattle.nq_world.specs.Answering.{told as answer_of}
 use Rattle.nq_world.specs.Beginning.{beginning}

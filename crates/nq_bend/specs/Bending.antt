@@ -5,8 +5,8 @@ use Rattle.nq_base.specs.declared.Event.{Event}
 use Rattle.nq_bend.specs.declared.bends.Bend.{Bend}
 use Rattle.nq_bend.specs.declared.bends.Bent.{Bent}
 use Rattle.nq_bend.specs.declared.bends.LeftOut.{LeftOut}
-use Rattle.nq_model.specs.Stepped.{done, stepped}
-use Rattle.nq_model.specs.World.{Head as Beginning}
+use Rattle.nq_model.specs.protocol.Stepped.{done, stepped}
+use Rattle.nq_model.specs.protocol.World.{Head as Beginning}
 use Rattle.nq_script.specs.declared.heads.Head.{Head}
 use Rattle.nq_world.specs.Beginning.{beginning}
 

@@ -7,7 +7,7 @@ use Rattle.nq_bend.specs.declared.bends.Bend.{Bend}
 use Rattle.nq_bend.specs.declared.bends.LeftOut.{LeftOut}
 use Rattle.nq_bend.specs.declared.course.Course.{Course}
 use Rattle.nq_bend.specs.declared.plan.Plan.{Plan}
-use Rattle.nq_model.specs.Kept.{Kept}
+use Rattle.nq_model.specs.protocol.Kept.{Kept}
 use Rattle.nq_replay.specs.Texts.{IsTellable}
 use Rattle.nq_script.specs.declared.heads.Head.{Head}
 use Rattle.nq_world.specs.Beginning.{beginning}

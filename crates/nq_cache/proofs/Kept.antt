@@ -14,9 +14,9 @@ use Rattle.lru.specs.LruCache.{LruCache, promoted, put_entries, last_entry}
 use Rattle.lru.proofs.CallerLemmas.{Contains-lookup_entry}
 use Rattle.nq_cache.specs.Entries.{clean_of, clean_blocks, is_of_other, walked, Turns}
 use Rattle.nq_cache.specs.declared.entries.Key.{Key}
-use Rattle.nq_model.specs.Client.{Clean, clean_at, drop_clean, purge}
-use Rattle.nq_model.specs.Settle.{clean_body, touched, looked_up}
-use Rattle.nq_model.specs.Profile.{at_most}
+use Rattle.nq_model.specs.protocol.Client.{Clean, clean_at, drop_clean, purge}
+use Rattle.nq_model.specs.protocol.Settle.{clean_body, touched, looked_up}
+use Rattle.nq_model.specs.protocol.Profile.{at_most}
 
 -- two keys are one where their files and blocks are
 abbrev pub IsKeyEquality : (Key → Key → Bool) → Type 0

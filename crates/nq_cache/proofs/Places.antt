@@ -10,8 +10,8 @@ use Rattle.std.proofs.lemmas.List.{take-append-drop, set_split}
 use Rattle.std.proofs.lemmas.List.Elements.{All-from_recursion, recursion_from_All}
 use Rattle.nq_cache.specs.Revisions.{revision, of_file, Ascends, IsPlace}
 use Rattle.nq_cache.specs.declared.revisions.Known.{Known}
-use Rattle.nq_model.specs.ByFile.{insert_by}
-use Rattle.nq_model.specs.Client.{Revision, revision_of, drop_revision, put_revision, file_of_revision}
+use Rattle.nq_model.specs.protocol.ByFile.{insert_by}
+use Rattle.nq_model.specs.protocol.Client.{Revision, revision_of, drop_revision, put_revision, file_of_revision}
 
 -- ---- in order
 

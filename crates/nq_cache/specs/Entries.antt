@@ -1,7 +1,7 @@
 -- The entries of the cache, as lists of clean blocks.
 use Rattle.std.specs.Prelude.{ℕ, Bool, not, ◌==◌, ◌≡◌, List, [], ◌∷◌, ◌++◌, take, drop, filter, if◌then◌else◌, map}
 use Rattle.nq_cache.specs.declared.entries.Key.{Key}
-use Rattle.nq_model.specs.Client.{Clean, drop_clean, purge}
+use Rattle.nq_model.specs.protocol.Client.{Clean, drop_clean, purge}
 
 -- the clean block of an entry
 abbrev pub clean_of : Key × List ℕ → Clean

@@ -1,9 +1,9 @@
 -- What a grant leaves in the cache, in the steps of the code.
 use Rattle.std.specs.Prelude.{ℕ, List, Option, Some, None, if◌then◌else◌}
 use Rattle.nq_base.specs.declared.Grant.{Grant}
-use Rattle.nq_model.specs.Client.{Clean, Revision, put_clean}
-use Rattle.nq_model.specs.Hear.{clean_at_revision}
-use Rattle.nq_model.specs.Table.{caches}
+use Rattle.nq_model.specs.protocol.Client.{Clean, Revision, put_clean}
+use Rattle.nq_model.specs.protocol.Hear.{clean_at_revision}
+use Rattle.nq_model.specs.protocol.Table.{caches}
 
 -- the clean blocks after a reply to READ: those of another revision than the grant's go, and the block is cached under a
 -- caching grant

@@ -2,7 +2,7 @@
 use Rattle.std.specs.Prelude.{ℕ, ◌<◌, ◌≤◌, List, [], ◌∷◌, take, drop, length, Option, Some, None, ◌==◌, if◌then◌else◌}
 use Rattle.std.specs.List.{AllByRecursion}
 use Rattle.nq_cache.specs.declared.revisions.Known.{Known}
-use Rattle.nq_model.specs.Client.{Revision}
+use Rattle.nq_model.specs.protocol.Client.{Revision}
 
 -- a revision as the model has it
 abbrev pub revision : Known → Revision

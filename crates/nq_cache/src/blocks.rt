@@ -1,8 +1,8 @@
 //! The clean blocks of a client.
 
 ghost use Rattle.std.specs.Prelude.{◌≡◌, [], option_copied, IsSome, IsOk, OnOk, OnErr, IfOk};
-ghost use Rattle.nq_model.specs.Client.{clean_at, drop_clean, purge, put_clean};
-ghost use Rattle.nq_model.specs.Settle.{clean_body, looked_up};
+ghost use Rattle.nq_model.specs.protocol.Client.{clean_at, drop_clean, purge, put_clean};
+ghost use Rattle.nq_model.specs.protocol.Settle.{clean_body, looked_up};
 
 use crate::entries::{
     Entries, Key, MOST, bring_forward, cut, leave_first, put_first, read, take_file, take_out,
@@ -20,7 +20,7 @@ pub(crate) struct Blocks {
 
 impl Model for Blocks {
     ghost use Rattle.std.specs.Prelude.{◌≡◌, ◌≤◌, List, length};
-    ghost use Rattle.nq_model.specs.Client.{Clean};
+    ghost use Rattle.nq_model.specs.protocol.Client.{Clean};
     ghost use Rattle.nq_cache.specs.Entries.{clean_blocks};
 
     ghost Value = { List Clean };

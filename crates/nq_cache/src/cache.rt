@@ -1,8 +1,8 @@
 //! The cache of a client.
 
 ghost use Rattle.std.specs.Prelude.{◌≡◌, ◌≤◌, ◌+◌, [], option_map, true, IsSome, IsOk, OnOk, OnErr, IfOk};
-ghost use Rattle.nq_model.specs.Client.{clean_at, drop_clean, purge, put_clean, revision_of, revision_or_zero, put_revision};
-ghost use Rattle.nq_model.specs.Settle.{clean_body, looked_up};
+ghost use Rattle.nq_model.specs.protocol.Client.{clean_at, drop_clean, purge, put_clean, revision_of, revision_or_zero, put_revision};
+ghost use Rattle.nq_model.specs.protocol.Settle.{clean_body, looked_up};
 
 use crate::blocks::Blocks;
 use crate::entries::Key;

@@ -2,9 +2,9 @@
 //! another goes.
 
 ghost use Rattle.std.specs.Prelude.{◌≡◌, ◌≤◌, ◌<◌, ◌+◌, ◌-◌, ◌∷◌, ◌++◌, [], false, true, length, take, drop, filter, option_copied, option_map, IsSome, IsOk, OnOk, OnErr, IfOk, IsTrue, if◌then◌else◌};
-ghost use Rattle.nq_model.specs.Client.{clean_at, drop_clean, purge, put_clean};
-ghost use Rattle.nq_model.specs.Profile.{most_clean, at_most};
-ghost use Rattle.nq_model.specs.Settle.{clean_body, looked_up};
+ghost use Rattle.nq_model.specs.protocol.Client.{clean_at, drop_clean, purge, put_clean};
+ghost use Rattle.nq_model.specs.protocol.Profile.{most_clean, at_most};
+ghost use Rattle.nq_model.specs.protocol.Settle.{clean_body, looked_up};
 ghost use Rattle.nq_cache.specs.Entries.{clean_blocks, walked, Turns, StaysFirst};
 ghost use Rattle.lru.specs.LruCache.{last_entry};
 

@@ -1,8 +1,8 @@
 //! What replies leave in the cache.
 
 ghost use Rattle.std.specs.Prelude.{◌≡◌, ◌==◌, ◌+◌, ◌&&◌, OnOk, OnErr, if◌then◌else◌};
-ghost use Rattle.nq_model.specs.Client.{is_revision, is_revision_before, purge, put_clean, revision_of};
-ghost use Rattle.nq_model.specs.Hear.{clean_at_revision, grant_caches};
+ghost use Rattle.nq_model.specs.protocol.Client.{is_revision, is_revision_before, purge, put_clean, revision_of};
+ghost use Rattle.nq_model.specs.protocol.Hear.{clean_at_revision, grant_caches};
 ghost use Rattle.nq_cache.specs.Granting.{clean_after_reply};
 
 use crate::cache::Cache;

@@ -2,7 +2,7 @@
 
 ghost use Rattle.std.specs.Prelude.{◌≡◌, ◌≤◌, ◌<◌, ◌+◌, ◌-◌, [], ◌∷◌, map, length, slice_set, slice_get, option_map, vec_len, vec_capacity, IsTrue, ◌↔◌, IsSomeAnd, IsSome, IsOk, IfOk, OnOk, OnErr};
 ghost use Rattle.std.specs.List.{insert};
-ghost use Rattle.nq_model.specs.Client.{revision_of, put_revision};
+ghost use Rattle.nq_model.specs.protocol.Client.{revision_of, put_revision};
 ghost use Rattle.nq_cache.specs.Revisions.{revision, of_file, Ascends, IsPlace};
 
 use nq_base::{FileId, NoMemory, Rev};

@@ -10,7 +10,7 @@ use Rattle.nq_hosts.specs.ClientTurn.{AttendsTurn}
 use Rattle.nq_base.specs.declared.ending.halt.Halt.{Halt}
 use Rattle.nq_link.specs.Links.{LinkTold, Posts}
 use Rattle.nq_link.specs.declared.Sent.{Sent}
-use Rattle.nq_model.specs.ClientStep.{client_call}
+use Rattle.nq_model.specs.protocol.ClientStep.{client_call}
 use Rattle.nq_wire.specs.Outbox.{Datagrams}
 
 -- a call was made of a client with an outbox that was empty at first, and what it pushed was sent, up to the first that the link refused

@@ -10,16 +10,17 @@ use Rattle.nq_base.specs.declared.Said.TheVariants.{Ok, OkValue, OkBy, Lost}
 use Rattle.nq_base.specs.declared.Told.{Told}
 use Rattle.nq_base.specs.declared.Told.TheVariants.{WriteSync}
 use Rattle.nq_base.specs.declared.Who.{Who}
-use Rattle.nq_model.specs.Journal.{Throughout, AtEachPlace, call_of}
-use Rattle.nq_model.specs.JournalTest.{each, exists, number_of, somewhere, throughout, is_answer, is_call, is_counted, is_open, is_read_by, is_stored}
-use Rattle.nq_model.specs.JournalTest.{is_through}
-use Rattle.nq_model.specs.LegalTest.{is_counted_by, is_counted_with, is_legal_answer as is_legal_answer_by_law, is_legal_at as is_legal_at_by_law, is_reading}
-use Rattle.nq_model.specs.OrderedTest.{is_before_call, is_in_order, is_no_other, is_numbered, is_read_in_order, is_write_in_order, is_write_of}
-use Rattle.nq_model.specs.OrderedTest.{open_call, writes}
-use Rattle.nq_model.specs.Reported.{loss_told}
-use Rattle.nq_model.specs.ReportedTest.{is_named_next, is_reported_in, must_report, names, is_reported_at as is_reported_by_law}
-use Rattle.nq_model.specs.SynchronizedTest.{is_kept as is_kept_by_law, is_kept_at as is_kept_at_by_law, is_put_kept as is_put_kept_by_law}
-use Rattle.nq_model.specs.Table.{same_who}
+use Rattle.nq_model.specs.laws.Journal.{Throughout, AtEachPlace, call_of}
+use Rattle.nq_model.specs.laws.JournalTest.{each, exists, number_of, somewhere, throughout, is_answer, is_call, is_counted, is_open, is_read_by, is_stored}
+use Rattle.nq_model.specs.laws.JournalTest.{is_through}
+use Rattle.nq_model.specs.laws.LegalTest.{is_counted_by, is_counted_with, is_legal_answer as is_legal_answer_by_law, is_legal_at as is_legal_at_by_law}
+use Rattle.nq_model.specs.laws.LegalTest.{is_reading}
+use Rattle.nq_model.specs.laws.OrderedTest.{is_before_call, is_in_order, is_no_other, is_numbered, is_read_in_order, is_write_in_order, is_write_of}
+use Rattle.nq_model.specs.laws.OrderedTest.{open_call, writes}
+use Rattle.nq_model.specs.laws.Reported.{loss_told}
+use Rattle.nq_model.specs.laws.ReportedTest.{is_named_next, is_reported_in, must_report, names, is_reported_at as is_reported_by_law}
+use Rattle.nq_model.specs.laws.SynchronizedTest.{is_kept as is_kept_by_law, is_kept_at as is_kept_at_by_law, is_put_kept as is_put_kept_by_law}
+use Rattle.nq_model.specs.protocol.Table.{same_who}
 use Rattle.nq_model.proofs.JournalTests.{tells_answer, tells_who}
 use Rattle.nq_rules.specs.Kept.{is_kept, is_kept_at, is_put_kept}
 use Rattle.nq_check.specs.Legal.{is_legal_answer, is_legal_at}

@@ -20,12 +20,12 @@ use Rattle.nq_rules.specs.Keys.{block_spot, own_spot}
 use Rattle.nq_rules.specs.Marks.{Spot, same_spot, spot}
 use Rattle.nq_rules.specs.Sought.{kind_sought, passes, spot_sought}
 use Rattle.nq_rules.proofs.Places.{taken_here}
-use Rattle.nq_model.specs.Journal.{call_of, cuts, told_by}
-use Rattle.nq_model.specs.JournalTest.{covers, is_answer, is_answer_by, is_call, is_within, loss_covers, store_covers}
-use Rattle.nq_model.specs.LegalTest.{gives_value, is_answer_with}
-use Rattle.nq_model.specs.OrderedTest.{is_resize_by}
-use Rattle.nq_model.specs.ReportedTest.{is_busy_answer}
-use Rattle.nq_model.specs.Table.{same_who}
+use Rattle.nq_model.specs.laws.Journal.{call_of, cuts, told_by}
+use Rattle.nq_model.specs.laws.JournalTest.{covers, is_answer, is_answer_by, is_call, is_within, loss_covers, store_covers}
+use Rattle.nq_model.specs.laws.LegalTest.{gives_value, is_answer_with}
+use Rattle.nq_model.specs.laws.OrderedTest.{is_resize_by}
+use Rattle.nq_model.specs.laws.ReportedTest.{is_busy_answer}
+use Rattle.nq_model.specs.protocol.Table.{same_who}
 
 -- a fact of a journal up to a place holds up to a later one, where each entry between them keeps it
 climb_by : (Q : List Entry → Type 0) (whole : List Entry) (n from : ℕ) → from + n ≤ length whole → Q (reverse (take from whole))

@@ -13,9 +13,9 @@ use Rattle.nq_check.specs.Links.{IsFree, is_link}
 use Rattle.nq_rules.specs.Marks.{Spot, spot}
 use Rattle.nq_check.proofs.Climbs.{climb, link_call}
 use Rattle.nq_check.proofs.Followed.{taken_last}
-use Rattle.nq_model.specs.JournalTest.{is_counted, number_of}
-use Rattle.nq_model.specs.LegalTest.{is_counted_by, is_counted_with}
-use Rattle.nq_model.specs.Table.{same_who}
+use Rattle.nq_model.specs.laws.JournalTest.{is_counted, number_of}
+use Rattle.nq_model.specs.laws.LegalTest.{is_counted_by, is_counted_with}
+use Rattle.nq_model.specs.protocol.Table.{same_who}
 
 false_of : (a b : Bool) → (a ≡ true → b ≡ true) → b ≡ false → a ≡ false
 false_of true b f h = absurd (let t = f refl in cc)

@@ -19,11 +19,11 @@ use Rattle.nq_check.proofs.Climbs.{climb, link_call}
 use Rattle.nq_check.proofs.Followed.{taken_last}
 use Rattle.nq_check.proofs.Spots.{same_self}
 use Rattle.nq_rules.proofs.Places.{taken_here}
-use Rattle.nq_model.specs.CutOff.{Given, last_grant}
-use Rattle.nq_model.specs.CutOffTest.{ends, ends_first, has_passed, is_late_end, is_long_wait, is_store_over}
-use Rattle.nq_model.specs.JournalTest.{each, exists, is_within, loss_covers}
-use Rattle.nq_model.specs.Profile.{write_slack}
-use Rattle.nq_model.specs.Table.{same_who}
+use Rattle.nq_model.specs.laws.CutOff.{Given, last_grant}
+use Rattle.nq_model.specs.laws.CutOffTest.{ends, ends_first, has_passed, is_late_end, is_long_wait, is_store_over}
+use Rattle.nq_model.specs.laws.JournalTest.{each, exists, is_within, loss_covers}
+use Rattle.nq_model.specs.protocol.Profile.{write_slack}
+use Rattle.nq_model.specs.protocol.Table.{same_who}
 use Rattle.nq_model.proofs.JournalTests.{tells_within}
 
 none_of : (b : Bool) → (b ≡ true → ⊥) → b ≡ false

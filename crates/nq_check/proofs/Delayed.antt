@@ -18,13 +18,13 @@ use Rattle.nq_rules.specs.declared.keys.Kind.TheVariants.{Delays}
 use Rattle.nq_check.proofs.Climbs.{climb}
 use Rattle.nq_check.proofs.Followed.{taken_last}
 use Rattle.nq_check.proofs.OwnWrite.{or_here, or_there, somewhere_before}
-use Rattle.nq_model.specs.Journal.{call_of}
-use Rattle.nq_model.specs.JournalTest.{each, exists, is_stored, loss_covers, somewhere, store_covers}
-use Rattle.nq_model.specs.OrderedTest.{is_resize_by}
-use Rattle.nq_model.specs.Reported.{loss_told}
-use Rattle.nq_model.specs.ReportedTest.{names}
-use Rattle.nq_model.specs.SynchronizedTest.{are_stored_or_told, is_delayed_on, is_named_loss, is_settled_resize, is_stored_or_told}
-use Rattle.nq_model.specs.Table.{same_who}
+use Rattle.nq_model.specs.laws.Journal.{call_of}
+use Rattle.nq_model.specs.laws.JournalTest.{each, exists, is_stored, loss_covers, somewhere, store_covers}
+use Rattle.nq_model.specs.laws.OrderedTest.{is_resize_by}
+use Rattle.nq_model.specs.laws.Reported.{loss_told}
+use Rattle.nq_model.specs.laws.ReportedTest.{names}
+use Rattle.nq_model.specs.laws.SynchronizedTest.{are_stored_or_told, is_delayed_on, is_named_loss, is_settled_resize, is_stored_or_told}
+use Rattle.nq_model.specs.protocol.Table.{same_who}
 use Rattle.nq_model.proofs.JournalTests.{tells_who}
 
 -- whether an entry is no delayed write of an incarnation on a file, or is stored or told

@@ -12,8 +12,8 @@ use Rattle.nq_check.specs.declared.rules.Rule.{Rule}
 use Rattle.nq_check.proofs.Delayed.{exists_more}
 use Rattle.nq_check.proofs.OwnWrite.{each_before}
 use Rattle.nq_rules.proofs.Places.{taken_here}
-use Rattle.nq_model.specs.FateTest.{is_accounted_at, is_first_to_cover}
-use Rattle.nq_model.specs.JournalTest.{covers, each, exists, is_lost, is_stored, loss_covers, store_covers}
+use Rattle.nq_model.specs.laws.FateTest.{is_accounted_at, is_first_to_cover}
+use Rattle.nq_model.specs.laws.JournalTest.{covers, each, exists, is_lost, is_stored, loss_covers, store_covers}
 
 not_both : (a b : Bool) → (not a || not b) ≡ true → a ≡ true → b ≡ true → ⊥
 not_both true true h x y = absurd (cc)

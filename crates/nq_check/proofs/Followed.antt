@@ -15,7 +15,7 @@ use Rattle.nq_rules.specs.Marks.{Spot, same_spot, spot}
 use Rattle.nq_check.proofs.Climbs.{climb, skip_told}
 use Rattle.nq_check.proofs.Spots.{same_is}
 use Rattle.nq_rules.proofs.Places.{taken_here}
-use Rattle.nq_model.specs.Journal.{call_of, told_by}
+use Rattle.nq_model.specs.laws.Journal.{call_of, told_by}
 
 -- the link of an entry of a key passes over none of that key
 pub back_free : (kind : Kind) (whole : List Entry) (n : ℕ) (heads : List (Spot × ℕ)) (earlier : List ℕ) (place : ℕ) (entry : Entry) (e : ℕ) (key : Spot)

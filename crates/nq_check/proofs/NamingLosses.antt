@@ -14,11 +14,11 @@ use Rattle.nq_rules.specs.Marks.{IsMarked, Spot, mark_at, same_spot}
 use Rattle.nq_check.specs.Namings.{HasMark, HasNoMark, IsNamed, KeepsMarks, NamesAll, NamesAnew, NamesLost, NamesUpTo, is_lost_as, loss_spot}
 use Rattle.nq_check.proofs.Spots.{marked_there}
 use Rattle.nq_rules.proofs.Places.{drop_here}
-use Rattle.nq_model.specs.Journal.{Each, call_of}
-use Rattle.nq_model.specs.JournalTest.{exists, speaks_of}
-use Rattle.nq_model.specs.Reported.{loss_told}
-use Rattle.nq_model.specs.ReportedTest.{is_name_of, is_same_span, is_unnamed, name_losses, names}
-use Rattle.nq_model.specs.Table.{same_who}
+use Rattle.nq_model.specs.laws.Journal.{Each, call_of}
+use Rattle.nq_model.specs.laws.JournalTest.{exists, speaks_of}
+use Rattle.nq_model.specs.laws.Reported.{loss_told}
+use Rattle.nq_model.specs.laws.ReportedTest.{is_name_of, is_same_span, is_unnamed, name_losses, names}
+use Rattle.nq_model.specs.protocol.Table.{same_who}
 use Rattle.nq_model.proofs.JournalTests.{tells_who}
 
 none_of : (b : Bool) → (b ≡ true → ⊥) → b ≡ false

@@ -5,9 +5,9 @@ use Rattle.std.proofs.lemmas.Bool.{and_from, ltb-true, or_cases}
 use Rattle.nq_base.specs.declared.Entry.{Entry}
 use Rattle.nq_base.specs.declared.Entry.TheVariants.{W, S, L}
 use Rattle.nq_base.specs.declared.Who.{Who}
-use Rattle.nq_model.specs.FateTest.{is_first_to_cover}
-use Rattle.nq_model.specs.Journal.{Covers, Each, Exists, IsWithin}
-use Rattle.nq_model.specs.JournalTest.{covers, each, exists}
+use Rattle.nq_model.specs.laws.FateTest.{is_first_to_cover}
+use Rattle.nq_model.specs.laws.Journal.{Covers, Each, Exists, IsWithin}
+use Rattle.nq_model.specs.laws.JournalTest.{covers, each, exists}
 use Rattle.nq_model.proofs.JournalTests.{tells_covers, tells_exists}
 use Rattle.nq_check.specs.Covered.{Accounts, IsAnew, IsCoveredTo, IsExtended, IsRaised, IsReached, is_outside}
 use Rattle.nq_check.specs.declared.covering.Reach.{Reach}

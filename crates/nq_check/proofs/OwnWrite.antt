@@ -11,10 +11,10 @@ use Rattle.nq_rules.specs.Kept.{is_put_kept, is_write_of_call}
 use Rattle.nq_check.specs.declared.rules.Rule.{Rule}
 use Rattle.nq_check.proofs.Climbs.{climb}
 use Rattle.nq_rules.proofs.Places.{taken_here}
-use Rattle.nq_model.specs.Journal.{call_of}
-use Rattle.nq_model.specs.JournalTest.{each, exists, is_answer, is_call, is_open, is_stored, is_through, is_write_by, somewhere, throughout}
-use Rattle.nq_model.specs.OrderedTest.{is_before_call, is_in_order, is_no_other, is_numbered, is_write_of, open_call, writes}
-use Rattle.nq_model.specs.Table.{same_who}
+use Rattle.nq_model.specs.laws.Journal.{call_of}
+use Rattle.nq_model.specs.laws.JournalTest.{each, exists, is_answer, is_call, is_open, is_stored, is_through, is_write_by, somewhere, throughout}
+use Rattle.nq_model.specs.laws.OrderedTest.{is_before_call, is_in_order, is_no_other, is_numbered, is_write_of, open_call, writes}
+use Rattle.nq_model.specs.protocol.Table.{same_who}
 use Rattle.nq_model.proofs.JournalTests.{tells_who}
 
 -- what keeps a rule below a place keeps it below each earlier one

@@ -10,7 +10,7 @@ use Rattle.nq_check.specs.Fronts.{KeepsBelow, keeps_at}
 use Rattle.nq_check.specs.Losses.{PassBetween, is_ended, is_naming, is_told}
 use Rattle.nq_rules.specs.Named.{is_reported}
 use Rattle.nq_check.specs.declared.rules.Rule.TheVariants.{Reported}
-use Rattle.nq_model.specs.Reported.{loss_told}
+use Rattle.nq_model.specs.laws.Reported.{loss_told}
 
 some_one : {X : Type 0} (x y : X) → Some x ≡ Some y → x ≡ y
 some_one x y e = cc

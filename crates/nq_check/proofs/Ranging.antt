@@ -8,9 +8,9 @@ use Rattle.std.proofs.lemmas.Option.{slice_get_within}
 use Rattle.nq_base.specs.declared.Entry.{Entry}
 use Rattle.nq_base.specs.declared.Entry.TheVariants.{W, S, L}
 use Rattle.nq_base.specs.declared.Who.{Who}
-use Rattle.nq_model.specs.FateTest.{is_accounted_at, is_first_to_cover}
-use Rattle.nq_model.specs.Journal.{Covers, Each, Exists, IsWithin}
-use Rattle.nq_model.specs.JournalTest.{covers, each, exists}
+use Rattle.nq_model.specs.laws.FateTest.{is_accounted_at, is_first_to_cover}
+use Rattle.nq_model.specs.laws.Journal.{Covers, Each, Exists, IsWithin}
+use Rattle.nq_model.specs.laws.JournalTest.{covers, each, exists}
 use Rattle.nq_check.specs.Apart.{AreApart, FollowsAt, IsBelow, IsRanked, IsRankedBelow, Range, is_below, range_of}
 use Rattle.nq_check.specs.Covered.{covers_some}
 use Rattle.nq_check.proofs.Once.{each_of, first_again}

@@ -19,10 +19,10 @@ use Rattle.nq_check.specs.Tables.{NoneBetween}
 use Rattle.nq_check.specs.declared.rules.Rule.TheVariants.{Ordered}
 use Rattle.nq_check.proofs.Spots.{same_self}
 use Rattle.nq_rules.proofs.Places.{drop_here, taken_here}
-use Rattle.nq_model.specs.JournalTest.{exists, is_answer}
-use Rattle.nq_model.specs.OrderedTest.{is_in_order}
-use Rattle.nq_model.specs.ReportedTest.{is_busy_answer, is_reporting, must_report, names}
-use Rattle.nq_model.specs.Table.{same_who}
+use Rattle.nq_model.specs.laws.JournalTest.{exists, is_answer}
+use Rattle.nq_model.specs.laws.OrderedTest.{is_in_order}
+use Rattle.nq_model.specs.laws.ReportedTest.{is_busy_answer, is_reporting, must_report, names}
+use Rattle.nq_model.specs.protocol.Table.{same_who}
 use Rattle.nq_model.proofs.JournalTests.{tells_who}
 
 some_one : {X : Type 0} (x y : X) → Some x ≡ Some y → x ≡ y

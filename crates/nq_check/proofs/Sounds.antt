@@ -6,15 +6,15 @@ use Rattle.std.proofs.lemmas.Bool.{and_parts, and_from}
 use Rattle.nq_base.specs.declared.Entry.{Entry}
 use Rattle.nq_check.specs.declared.rules.Rule.{Rule}
 use Rattle.nq_check.specs.declared.rules.Rule.TheVariants.{Legal, Ordered, Accounted, Reported, Synchronized}
-use Rattle.nq_model.specs.CutOffTest.{is_cut_off}
-use Rattle.nq_model.specs.FateTest.{is_accounted_at}
-use Rattle.nq_model.specs.Journal.{AtEachPlace}
-use Rattle.nq_model.specs.JournalTest.{at_each_place, throughout}
-use Rattle.nq_model.specs.LegalTest.{is_legal_at as is_legal_at_by_law}
-use Rattle.nq_model.specs.OrderedTest.{is_in_order}
-use Rattle.nq_model.specs.ReportedTest.{is_reported_at as is_reported_by_law}
-use Rattle.nq_model.specs.Sound.{IsSound}
-use Rattle.nq_model.specs.SynchronizedTest.{is_kept_at as is_kept_at_by_law}
+use Rattle.nq_model.specs.laws.CutOffTest.{is_cut_off}
+use Rattle.nq_model.specs.laws.FateTest.{is_accounted_at}
+use Rattle.nq_model.specs.laws.Journal.{AtEachPlace}
+use Rattle.nq_model.specs.laws.JournalTest.{at_each_place, throughout}
+use Rattle.nq_model.specs.laws.LegalTest.{is_legal_at as is_legal_at_by_law}
+use Rattle.nq_model.specs.laws.OrderedTest.{is_in_order}
+use Rattle.nq_model.specs.laws.ReportedTest.{is_reported_at as is_reported_by_law}
+use Rattle.nq_model.specs.laws.Sound.{IsSound}
+use Rattle.nq_model.specs.laws.SynchronizedTest.{is_kept_at as is_kept_at_by_law}
 use Rattle.nq_model.proofs.LegalTest.{tells_legal}
 use Rattle.nq_model.proofs.LossTests.{tells_accounted, tells_excused, tells_reported}
 use Rattle.nq_model.proofs.OrderedTest.{tells_ordered}

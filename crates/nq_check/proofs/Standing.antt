@@ -17,9 +17,9 @@ use Rattle.nq_check.specs.Tables.{HasBetween, NoneBetween}
 use Rattle.nq_check.proofs.Climbs.{climb}
 use Rattle.nq_check.proofs.Followed.{taken_last}
 use Rattle.nq_rules.proofs.Places.{drop_here, taken_here}
-use Rattle.nq_model.specs.Journal.{cuts, last_value, since_cut, value_written}
-use Rattle.nq_model.specs.JournalTest.{exists}
-use Rattle.nq_model.specs.StandsTest.{stands}
+use Rattle.nq_model.specs.laws.Journal.{cuts, last_value, since_cut, value_written}
+use Rattle.nq_model.specs.laws.JournalTest.{exists}
+use Rattle.nq_model.specs.laws.StandsTest.{stands}
 
 some_one : {X : Type 0} (x y : X) → Some x ≡ Some y → x ≡ y
 some_one x y e = cc

@@ -3,7 +3,7 @@ use Rattle.std.proofs.Common.{◌≡◌, ℕ, ◌+◌, List, [], ◌∷◌, ◌+
 use Rattle.std.specs.List.{slice_get}
 use Rattle.nq_base.specs.declared.Entry.{Entry}
 use Rattle.nq_base.specs.declared.Entry.TheVariants.{W, S}
-use Rattle.nq_model.specs.JournalTest.{exists, is_stored, store_covers}
+use Rattle.nq_model.specs.laws.JournalTest.{exists, is_stored, store_covers}
 use Rattle.nq_check.specs.Stored.{AreStored, is_delayed}
 use Rattle.nq_check.proofs.Linking.{get_pushed, long_pushed}
 

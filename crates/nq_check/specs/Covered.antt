@@ -5,9 +5,9 @@ use Rattle.nq_base.specs.declared.Entry.{Entry}
 use Rattle.nq_base.specs.declared.Entry.TheVariants.{S, L}
 use Rattle.nq_rules.specs.Marks.{Spot, mark_at, spot}
 use Rattle.nq_check.specs.declared.covering.Reach.{Reach}
-use Rattle.nq_model.specs.FateTest.{is_accounted_at}
-use Rattle.nq_model.specs.Journal.{Each}
-use Rattle.nq_model.specs.JournalTest.{covers, exists}
+use Rattle.nq_model.specs.laws.FateTest.{is_accounted_at}
+use Rattle.nq_model.specs.laws.Journal.{Each}
+use Rattle.nq_model.specs.laws.JournalTest.{covers, exists}
 
 -- numbers from first to last of a block are no higher, and no lower, than what is told
 pub record IsReached (most : ℕ) (reach : Reach) (at : Spot) (first last : ℕ) : Type 0 where

@@ -5,9 +5,9 @@ use Rattle.nq_base.specs.declared.Entry.{Entry}
 use Rattle.nq_base.specs.declared.Entry.TheVariants.{R, A}
 use Rattle.nq_base.specs.declared.Said.TheVariants.{OkValue, OkBy}
 use Rattle.nq_base.specs.declared.Who.{Who}
-use Rattle.nq_model.specs.Journal.{call_of}
-use Rattle.nq_model.specs.JournalTest.{is_counted, number_of}
-use Rattle.nq_model.specs.LegalTest.{is_counted_with, is_legal_read, is_reading}
+use Rattle.nq_model.specs.laws.Journal.{call_of}
+use Rattle.nq_model.specs.laws.JournalTest.{is_counted, number_of}
+use Rattle.nq_model.specs.laws.LegalTest.{is_counted_with, is_legal_read, is_reading}
 
 -- exactly one counted read is of this call and value
 unfoldable pub is_legal_answer : (whole : List Entry) (who : Who) (q value : ℕ) → Bool

@@ -5,10 +5,10 @@ use Rattle.nq_base.specs.declared.Entry.{Entry}
 use Rattle.nq_base.specs.declared.Entry.TheVariants.{L, A}
 use Rattle.nq_base.specs.declared.Said.TheVariants.{Lost}
 use Rattle.nq_rules.specs.Named.{is_reported}
-use Rattle.nq_model.specs.CutOffTest.{is_cut_off}
-use Rattle.nq_model.specs.Journal.{call_of}
-use Rattle.nq_model.specs.Reported.{loss_told}
-use Rattle.nq_model.specs.ReportedTest.{name_losses}
+use Rattle.nq_model.specs.laws.CutOffTest.{is_cut_off}
+use Rattle.nq_model.specs.laws.Journal.{call_of}
+use Rattle.nq_model.specs.laws.Reported.{loss_told}
+use Rattle.nq_model.specs.laws.ReportedTest.{name_losses}
 
 -- each entry from a place on and before another passes a test at its place
 abbrev pub PassBetween : (test : (place : ℕ) → Entry → Bool) (whole : List Entry) (from to : ℕ) → Type 0

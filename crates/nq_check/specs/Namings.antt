@@ -8,11 +8,11 @@ use Rattle.nq_base.specs.declared.Told.{Told}
 use Rattle.nq_base.specs.declared.Who.{Who}
 use Rattle.nq_check.specs.Losses.{is_naming}
 use Rattle.nq_rules.specs.Marks.{IsMarked, Spot, mark_at}
-use Rattle.nq_model.specs.Journal.{Each, call_of}
-use Rattle.nq_model.specs.JournalTest.{exists, speaks_of}
-use Rattle.nq_model.specs.Reported.{loss_told}
-use Rattle.nq_model.specs.ReportedTest.{is_name_of, name_losses}
-use Rattle.nq_model.specs.Table.{same_who}
+use Rattle.nq_model.specs.laws.Journal.{Each, call_of}
+use Rattle.nq_model.specs.laws.JournalTest.{exists, speaks_of}
+use Rattle.nq_model.specs.laws.Reported.{loss_told}
+use Rattle.nq_model.specs.laws.ReportedTest.{is_name_of, name_losses}
+use Rattle.nq_model.specs.protocol.Table.{same_who}
 
 -- the key of a loss: its numbers, as an incarnation counts them
 abbrev pub loss_spot : (who : Who) (first last : ℕ) → Spot

@@ -7,8 +7,8 @@ use Rattle.nq_base.specs.declared.Told.TheVariants.{Write, WriteSync, Sync, Resi
 use Rattle.nq_base.specs.declared.Who.{Who}
 use Rattle.nq_rules.specs.Marks.{Spot, mark_at, spot}
 use Rattle.nq_check.specs.Tables.{NoneBetween}
-use Rattle.nq_model.specs.JournalTest.{is_answer}
-use Rattle.nq_model.specs.ReportedTest.{must_report}
+use Rattle.nq_model.specs.laws.JournalTest.{is_answer}
+use Rattle.nq_model.specs.laws.ReportedTest.{must_report}
 
 -- the incarnation and file whose losses a call reports, where it reports any
 abbrev pub reports_of : (who : Who) → Told → Option Spot

@@ -6,9 +6,9 @@ use Rattle.nq_check.specs.declared.rules.Rule.TheVariants.{Legal, Ordered, Accou
 use Rattle.nq_rules.specs.Kept.{is_kept_at}
 use Rattle.nq_check.specs.Legal.{is_legal_at}
 use Rattle.nq_rules.specs.Named.{is_reported_at}
-use Rattle.nq_model.specs.CutOffTest.{is_cut_off}
-use Rattle.nq_model.specs.FateTest.{is_accounted_at}
-use Rattle.nq_model.specs.OrderedTest.{is_in_order}
+use Rattle.nq_model.specs.laws.CutOffTest.{is_cut_off}
+use Rattle.nq_model.specs.laws.FateTest.{is_accounted_at}
+use Rattle.nq_model.specs.laws.OrderedTest.{is_in_order}
 
 -- whether an entry at its place in a journal keeps a rule
 abbrev pub keeps : Rule → (whole after : List Entry) → Entry → (before : List Entry) → Bool

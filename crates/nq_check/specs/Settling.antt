@@ -6,8 +6,8 @@ use Rattle.nq_base.specs.declared.Said.TheVariants.{Ok}
 use Rattle.nq_base.specs.declared.Told.{Told}
 use Rattle.nq_base.specs.declared.Told.TheVariants.{Sync, Resize, Remove}
 use Rattle.nq_base.specs.declared.Who.{Who}
-use Rattle.nq_model.specs.Journal.{call_of}
-use Rattle.nq_model.specs.Table.{same_who}
+use Rattle.nq_model.specs.laws.Journal.{call_of}
+use Rattle.nq_model.specs.protocol.Table.{same_who}
 
 -- whether a call is a `sync` of a file
 abbrev pub is_sync_of : (file : ℕ) → Option Told → Bool

@@ -3,7 +3,7 @@ use Rattle.std.specs.Prelude.{◌≡◌, ℕ, List, Some, Bool, true, false, rev
 use Rattle.std.specs.List.{slice_get}
 use Rattle.nq_base.specs.declared.Entry.{Entry}
 use Rattle.nq_base.specs.declared.Entry.TheVariants.{W}
-use Rattle.nq_model.specs.JournalTest.{is_stored}
+use Rattle.nq_model.specs.laws.JournalTest.{is_stored}
 
 -- whether an entry is a delayed write
 abbrev pub is_delayed : Entry → Bool

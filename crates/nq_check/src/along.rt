@@ -3,8 +3,8 @@
 ghost use Rattle.std.specs.Prelude.{◌≡◌, ◌<◌, ◌≤◌, ◌+◌, IfSome, IsTrue, Some, drop, false, length, reverse, slice_get, take, true};
 ghost use Rattle.nq_check.specs.Links.{IsFree, IsLinked};
 ghost use Rattle.nq_check.specs.Tables.{HasBetween, NoneBetween};
-ghost use Rattle.nq_model.specs.Journal.{call_of};
-ghost use Rattle.nq_model.specs.JournalTest.{exists, loss_covers};
+ghost use Rattle.nq_model.specs.laws.Journal.{call_of};
+ghost use Rattle.nq_model.specs.laws.JournalTest.{exists, loss_covers};
 ghost use Rattle.nq_rules.specs.Sought.{kind_sought, passes};
 ghost use Rattle.nq_rules.specs.declared.keys.Kind.TheVariants.{Calls, Own};
 

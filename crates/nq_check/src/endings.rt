@@ -8,10 +8,10 @@ ghost use Rattle.nq_check.specs.Links.{IsFree, IsLinked};
 ghost use Rattle.nq_check.specs.Losses.{PassBetween, is_ended};
 ghost use Rattle.nq_check.specs.Rising.{Rises};
 ghost use Rattle.nq_check.specs.Tables.{AreTables};
-ghost use Rattle.nq_model.specs.CutOff.{last_grant};
-ghost use Rattle.nq_model.specs.CutOffTest.{has_passed, is_cut_off, is_store_over};
-ghost use Rattle.nq_model.specs.JournalTest.{each};
-ghost use Rattle.nq_model.specs.Table.{same_who};
+ghost use Rattle.nq_model.specs.laws.CutOff.{last_grant};
+ghost use Rattle.nq_model.specs.laws.CutOffTest.{has_passed, is_cut_off, is_store_over};
+ghost use Rattle.nq_model.specs.laws.JournalTest.{each};
+ghost use Rattle.nq_model.specs.protocol.Table.{same_who};
 
 use crate::along::{back_from, covers_behind};
 use crate::links::{Heads, Links, head_at, set_head};

@@ -7,7 +7,7 @@ ghost use Rattle.nq_rules.specs.Kept.{is_kept, is_kept_at};
 ghost use Rattle.nq_check.specs.Ready.{IsReady};
 ghost use Rattle.nq_check.specs.Tables.{AreTables};
 ghost use Rattle.nq_check.specs.declared.rules.Rule.{Rule};
-ghost use Rattle.nq_model.specs.JournalTest.{is_answer};
+ghost use Rattle.nq_model.specs.laws.JournalTest.{is_answer};
 
 use crate::along::call_near;
 use crate::fates::Fates;

@@ -7,10 +7,10 @@ ghost use Rattle.nq_check.specs.Tables.{AreTables, NoneBetween};
 ghost use Rattle.nq_check.specs.Legal.{is_legal_answer, is_legal_at};
 ghost use Rattle.nq_check.specs.Stored.{AreStored};
 ghost use Rattle.nq_check.specs.declared.rules.Rule.{Rule};
-ghost use Rattle.nq_model.specs.Journal.{call_of};
-ghost use Rattle.nq_model.specs.JournalTest.{is_counted, is_lost};
-ghost use Rattle.nq_model.specs.LegalTest.{is_counted_by, is_counted_with, is_legal_read, is_reading};
-ghost use Rattle.nq_model.specs.StandsTest.{standing_value, stands};
+ghost use Rattle.nq_model.specs.laws.Journal.{call_of};
+ghost use Rattle.nq_model.specs.laws.JournalTest.{is_counted, is_lost};
+ghost use Rattle.nq_model.specs.laws.LegalTest.{is_counted_by, is_counted_with, is_legal_read, is_reading};
+ghost use Rattle.nq_model.specs.laws.StandsTest.{standing_value, stands};
 
 use crate::along::{
     back_from, call_near, is_before_near, is_between, is_somewhere, is_somewhere_near, is_there,

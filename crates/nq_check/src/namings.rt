@@ -4,7 +4,7 @@ ghost use Rattle.std.specs.Prelude.{◌≡◌, ◌+◌, ◌<◌, ◌≤◌, true
 ghost use Rattle.nq_check.specs.Losses.{PassBetween, is_naming};
 ghost use Rattle.nq_check.specs.Namings.{NamesAll, NamesAnew, NamesLost, NamesOn, is_lost_as, loss_spot};
 ghost use Rattle.nq_check.specs.Tables.{AreTables};
-ghost use Rattle.nq_model.specs.JournalTest.{exists};
+ghost use Rattle.nq_model.specs.laws.JournalTest.{exists};
 
 use crate::along::call_along;
 use crate::links::{Heads, head_at, set_head};

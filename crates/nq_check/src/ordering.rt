@@ -6,7 +6,7 @@ ghost use Rattle.nq_check.specs.Fronts.{KeepsBelow};
 ghost use Rattle.nq_rules.specs.InOrder.{IsNext, StandsInOrder, is_else};
 ghost use Rattle.nq_rules.specs.Lines.{line_at, no_line};
 ghost use Rattle.nq_check.specs.Tables.{AreTables};
-ghost use Rattle.nq_model.specs.OrderedTest.{is_busy_next};
+ghost use Rattle.nq_model.specs.laws.OrderedTest.{is_busy_next};
 ghost use Rattle.nq_check.specs.declared.rules.Rule.TheVariants.{Ordered};
 
 use crate::legal::is_counted;

@@ -6,7 +6,7 @@ ghost use Rattle.nq_check.specs.Fronts.{KeepsBelow};
 ghost use Rattle.nq_rules.specs.Kept.{is_put_kept};
 ghost use Rattle.nq_check.specs.Tables.{AreTables};
 ghost use Rattle.nq_check.specs.declared.rules.Rule.TheVariants.{Ordered};
-ghost use Rattle.nq_model.specs.JournalTest.{is_answer, is_stored, is_through, somewhere};
+ghost use Rattle.nq_model.specs.laws.JournalTest.{is_answer, is_stored, is_through, somewhere};
 
 use crate::along::{back_from, is_before_near};
 use crate::fates::{Fates, fate_at};

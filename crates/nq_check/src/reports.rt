@@ -8,7 +8,7 @@ ghost use Rattle.nq_rules.specs.Named.{is_reported};
 ghost use Rattle.nq_check.specs.Reports.{AreNext, IsReportKey, TakesReport, answers, reports_of};
 ghost use Rattle.nq_check.specs.Tables.{AreTables};
 ghost use Rattle.nq_check.specs.declared.rules.Rule.{Rule};
-ghost use Rattle.nq_model.specs.ReportedTest.{names};
+ghost use Rattle.nq_model.specs.laws.ReportedTest.{names};
 
 use crate::along::{call_along, is_there};
 use crate::links::{Heads, head_at, set_head};

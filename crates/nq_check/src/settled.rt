@@ -4,9 +4,9 @@ ghost use Rattle.std.specs.Prelude.{◌≡◌, ◌<◌, ◌≤◌, IsTrue, lengt
 ghost use Rattle.nq_check.specs.Links.{IsLinked};
 ghost use Rattle.nq_check.specs.Tables.{AreTables};
 ghost use Rattle.nq_rules.specs.declared.keys.Kind.TheVariants.{Delays};
-ghost use Rattle.nq_model.specs.JournalTest.{exists};
-ghost use Rattle.nq_model.specs.ReportedTest.{names};
-ghost use Rattle.nq_model.specs.SynchronizedTest.{are_stored_or_told, is_named_loss, is_stored_or_told};
+ghost use Rattle.nq_model.specs.laws.JournalTest.{exists};
+ghost use Rattle.nq_model.specs.laws.ReportedTest.{names};
+ghost use Rattle.nq_model.specs.laws.SynchronizedTest.{are_stored_or_told, is_named_loss, is_stored_or_told};
 
 use crate::along::{back_from, entry_at, is_there};
 use crate::fates::{Fates, fate_at};

@@ -6,7 +6,7 @@ ghost use Rattle.nq_check.specs.Fronts.{KeepsBelow};
 ghost use Rattle.nq_check.specs.Stored.{AreStored, is_delayed};
 ghost use Rattle.nq_check.specs.Tables.{AreTables};
 ghost use Rattle.nq_check.specs.declared.rules.Rule.{Rule};
-ghost use Rattle.nq_model.specs.JournalTest.{is_stored};
+ghost use Rattle.nq_model.specs.laws.JournalTest.{is_stored};
 
 use crate::along::{is_somewhere, is_there};
 use crate::fates::{Fates, fate_at, place_in};

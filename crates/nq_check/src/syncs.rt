@@ -4,8 +4,8 @@ ghost use Rattle.std.specs.Prelude.{◌≡◌, ◌≤◌, IsTrue, reverse, take,
 ghost use Rattle.nq_check.specs.Ready.{IsReady};
 ghost use Rattle.nq_check.specs.Settling.{call_of_ok, is_sizing_of, is_sync_of};
 ghost use Rattle.nq_check.specs.Tables.{AreTables};
-ghost use Rattle.nq_model.specs.JournalTest.{somewhere};
-ghost use Rattle.nq_model.specs.SynchronizedTest.{are_stored_or_told, is_settled_resize};
+ghost use Rattle.nq_model.specs.laws.JournalTest.{somewhere};
+ghost use Rattle.nq_model.specs.laws.SynchronizedTest.{are_stored_or_told, is_settled_resize};
 
 use crate::along::{back_from, call_along};
 use crate::fates::Fates;

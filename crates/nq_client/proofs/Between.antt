@@ -5,8 +5,8 @@ use Rattle.nq_client.proofs.Ties.{tied-none}
 use Rattle.nq_client.specs.Step.{HasNumbers, step_of}
 use Rattle.nq_client.specs.Tied.{Tied}
 use Rattle.nq_client.specs.declared.step.Step.{Step}
-use Rattle.nq_model.specs.Client.{ClientStep}
-use Rattle.nq_model.specs.Settle.{settle}
+use Rattle.nq_model.specs.protocol.Client.{ClientStep}
+use Rattle.nq_model.specs.protocol.Settle.{settle}
 
 none-from : (a : Step) (t s : ClientStep) → step_of a ≡ s → Settled t s → Tied t.client.ticket t.client.push → a.state.asked ≡ None → a.state.dirty.push ≡ None
 none-from a t s e x tied idle =

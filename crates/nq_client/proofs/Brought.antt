@@ -5,8 +5,8 @@ use Rattle.nq_base.specs.declared.Reply.{Reply}
 use Rattle.nq_base.specs.declared.Request.{Request}
 use Rattle.nq_base.specs.declared.Value.{Value}
 use Rattle.nq_client.specs.Done.{brought, changes}
-use Rattle.nq_model.specs.Client.{ClientStep}
-use Rattle.nq_model.specs.Hear.{answers_call, done_for_call}
+use Rattle.nq_model.specs.protocol.Client.{ClientStep}
+use Rattle.nq_model.specs.protocol.Hear.{answers_call, done_for_call}
 
 abbrev after : ClientStep → (number sent : ℕ) → Request → Reply → Option Value → ClientStep
 after t number sent request r None = changes t number sent request r

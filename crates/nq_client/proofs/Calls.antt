@@ -6,12 +6,12 @@ use Rattle.nq_base.specs.declared.Loss.{Loss}
 use Rattle.nq_client.specs.Tied.{Tied}
 use Rattle.nq_client.proofs.Requested.{sends, Sent}
 use Rattle.nq_client.proofs.Settled.{choice, settled, Settled, is_given}
-use Rattle.nq_model.specs.Client.{Ticket, Client, ClientStep, begun}
-use Rattle.nq_model.specs.ClientStep.{changed_file, begins_call, is_called, losses_for, call_freely, tell_losses, call_past_losses, says_busy}
-use Rattle.nq_model.specs.ClientStep.{client_call, at_time, sends_again, tick_asking, client_tick}
-use Rattle.nq_model.specs.Profile.{patience}
-use Rattle.nq_model.specs.Send.{send_next}
-use Rattle.nq_model.specs.Settle.{answers, settle}
+use Rattle.nq_model.specs.protocol.Client.{Ticket, Client, ClientStep, begun}
+use Rattle.nq_model.specs.protocol.ClientStep.{changed_file, begins_call, is_called, losses_for, call_freely, tell_losses, call_past_losses, says_busy}
+use Rattle.nq_model.specs.protocol.ClientStep.{client_call, at_time, sends_again, tick_asking, client_tick}
+use Rattle.nq_model.specs.protocol.Profile.{patience}
+use Rattle.nq_model.specs.protocol.Send.{send_next}
+use Rattle.nq_model.specs.protocol.Settle.{answers, settle}
 
 -- a step of a client in which so many entries are made at most
 pub record Within (entries : ℕ) (c : Client) (s : ClientStep) : Type 0 where

@@ -4,8 +4,8 @@ use Rattle.nq_client.specs.Counted.{IsWithin}
 use Rattle.nq_client.specs.State.{client_of}
 use Rattle.nq_client.specs.Tied.{Tied}
 use Rattle.nq_client.specs.declared.state.State.{State}
-use Rattle.nq_model.specs.Client.{Client}
-use Rattle.nq_model.specs.Profile.{most_taken_by_client}
+use Rattle.nq_model.specs.protocol.Client.{Client}
+use Rattle.nq_model.specs.protocol.Profile.{most_taken_by_client}
 
 -- the state of a client whose numbers are within what it took in
 pub within : (s : State) (c : Client) (taken : ℕ) → client_of s ≡ c → taken ≤ most_taken_by_client → c.now < 2 ^ 62 → c.calls ≤ taken

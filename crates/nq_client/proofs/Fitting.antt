@@ -2,7 +2,7 @@
 use Rattle.std.proofs.Common.{List, [], ◌∷◌, ◌++◌, All}
 use Rattle.std.proofs.lemmas.List.Elements.{All-append, All-cons, All-nil}
 use Rattle.nq_datagrams.specs.Messages.{FitsMessage}
-use Rattle.nq_model.specs.Message.{Message}
+use Rattle.nq_model.specs.protocol.Message.{Message}
 
 -- of none
 pub fit_none : All FitsMessage []

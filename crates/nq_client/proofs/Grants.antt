@@ -4,11 +4,11 @@ use Rattle.nq_base.specs.declared.Grant.{Grant}
 use Rattle.nq_cache.specs.Granting.{clean_after_reply}
 use Rattle.nq_client.specs.Granting.{keeps, with_clean}
 use Rattle.nq_client_parts.specs.Takes.{is_broken, taking}
-use Rattle.nq_model.specs.Client.{Clean, ClientStep, Lease, Notice, Revision, UnderWay, is_clean, lease_on, notice_on}
-use Rattle.nq_model.specs.Hear.{breaks, breaks_chain, caches_block, holds, if_broken, loses, reports_to, takes_optional, then_caches, vacates_lease}
-use Rattle.nq_model.specs.Hear.{vacates_noticed, waits_for}
-use Rattle.nq_model.specs.Settle.{answers, names_losses}
-use Rattle.nq_model.specs.Table.{caches, tag_below}
+use Rattle.nq_model.specs.protocol.Client.{Clean, ClientStep, Lease, Notice, Revision, UnderWay, is_clean, lease_on, notice_on}
+use Rattle.nq_model.specs.protocol.Hear.{breaks, breaks_chain, caches_block, holds, if_broken, loses, reports_to, takes_optional, then_caches, vacates_lease}
+use Rattle.nq_model.specs.protocol.Hear.{vacates_noticed, waits_for}
+use Rattle.nq_model.specs.protocol.Settle.{answers, names_losses}
+use Rattle.nq_model.specs.protocol.Table.{caches, tag_below}
 
 -- how a grant follows tells whether it breaks the chain
 pub broken_as : (g : Grant) (o : Option Lease) → is_broken (taking g o) ≡ breaks g o

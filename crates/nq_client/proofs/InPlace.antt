@@ -8,9 +8,9 @@ use Rattle.nq_client_parts.specs.Calls.{body_of_call}
 use Rattle.nq_client.specs.Settling.{called_body, goes_on_delayed, settles_body, settles_put, settles_read, settles_write, with_written}
 use Rattle.nq_client.specs.State.{under_way}
 use Rattle.nq_client.specs.declared.state.UnderWay as code
-use Rattle.nq_model.specs.Client.{ClientStep, Lease, UnderWay, in_state, lease_on, lets_read, lets_write, notice_on}
-use Rattle.nq_model.specs.Settle.{after_delay, after_write, answers, cached_body, delays, is_full, marks_written, reads_cached, settle, settle_body}
-use Rattle.nq_model.specs.Settle.{settle_call, settle_put, settle_read, settle_under_way, settle_write, ticket_is_for_call}
+use Rattle.nq_model.specs.protocol.Client.{ClientStep, Lease, UnderWay, in_state, lease_on, lets_read, lets_write, notice_on}
+use Rattle.nq_model.specs.protocol.Settle.{after_delay, after_write, answers, cached_body, delays, is_full, marks_written, reads_cached, settle, settle_body}
+use Rattle.nq_model.specs.protocol.Settle.{settle_call, settle_put, settle_read, settle_under_way, settle_write, ticket_is_for_call}
 
 body-in-place : (t : ClientStep) (u : UnderWay) (file block : ℕ) (o : Option (List ℕ)) → settles_body t u.q file block o ≡ settle_body t u file block o
 unfolding reads_cached

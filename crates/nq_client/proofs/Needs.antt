@@ -15,10 +15,10 @@ use Rattle.nq_client.proofs.Requested.{skipped, stays-renews}
 use Rattle.nq_client.specs.Asking.{IsSpelled, change_need, meets, meets_or_renews, need_by, need_of, next, push_due, push_for, put_need, read_need, write_need}
 use Rattle.nq_client.specs.Settling.{called_body}
 use Rattle.nq_client.specs.declared.asking.Need.{Need}
-use Rattle.nq_model.specs.Client.{Client, ClientStep, Ticket, UnderWay, first_dirty, for_call, is_clean_in, is_push_of, lease_on}
-use Rattle.nq_model.specs.Send.{after_seq, asks, ending_file, gives_up, is_asking, next_change, next_of_call, next_of_under_way, next_put}
-use Rattle.nq_model.specs.Send.{noticed_file, pushes, pushes_due, pushes_these, read_want, send_next, sends_request, sends_write, shares_live}
-use Rattle.nq_model.specs.Send.{then_calls, then_ending, then_pushes, then_renews, want_of}
+use Rattle.nq_model.specs.protocol.Client.{Client, ClientStep, Ticket, UnderWay, first_dirty, for_call, is_clean_in, is_push_of, lease_on}
+use Rattle.nq_model.specs.protocol.Send.{after_seq, asks, ending_file, gives_up, is_asking, next_change, next_of_call, next_of_under_way, next_put}
+use Rattle.nq_model.specs.protocol.Send.{noticed_file, pushes, pushes_due, pushes_these, read_want, send_next, sends_request, sends_write, shares_live}
+use Rattle.nq_model.specs.protocol.Send.{then_calls, then_ending, then_pushes, then_renews, want_of}
 use Rattle.nq_wire.specs.Parts.{IsWanted}
 
 -- ---- a file without delayed writes is not pushed

@@ -25,10 +25,10 @@ use Rattle.nq_client.specs.declared.step.Step.{Step}
 use Rattle.nq_client.specs.declared.step.Vacated.{Vacated}
 use Rattle.nq_datagrams.specs.declared.Heard.{Heard}
 use Rattle.nq_base.specs.Entries.{EntryList}
-use Rattle.nq_model.specs.Client.{Client, ClientStep, Ticket, begun}
-use Rattle.nq_model.specs.ClientStep.{at_time, client_call, client_tick}
-use Rattle.nq_model.specs.Message.{Message}
-use Rattle.nq_model.specs.Profile.{most_taken_by_client}
+use Rattle.nq_model.specs.protocol.Client.{Client, ClientStep, Ticket, begun}
+use Rattle.nq_model.specs.protocol.ClientStep.{at_time, client_call, client_tick}
+use Rattle.nq_model.specs.protocol.Message.{Message}
+use Rattle.nq_model.specs.protocol.Profile.{most_taken_by_client}
 use Rattle.nq_wire.specs.Outbox.{Datagrams}
 
 nothing-sent : (who : Who) (v : Option Vacated) (b : Bool) (o : Option Ticket) → v ≡ None → b ≡ false → vacated_message who v ++ request_message b o ≡ []

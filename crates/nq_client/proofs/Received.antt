@@ -16,10 +16,10 @@ use Rattle.nq_client.specs.Step.{HasNumbers, step_of}
 use Rattle.nq_client.specs.Tied.{Tied, TiedFor}
 use Rattle.nq_client.specs.declared.step.Step.{Step}
 use Rattle.nq_datagrams.specs.declared.Heard.{Heard}
-use Rattle.nq_model.specs.Client.{Client, ClientStep, Ticket, begun, is_clean}
-use Rattle.nq_model.specs.Hear.{all_dirty, cancelled, cancels, evicted, goes_on, notes_notice, replied, reply_counts, spends, vacates_lease}
-use Rattle.nq_model.specs.Send.{send_next}
-use Rattle.nq_model.specs.Settle.{settle}
+use Rattle.nq_model.specs.protocol.Client.{Client, ClientStep, Ticket, begun, is_clean}
+use Rattle.nq_model.specs.protocol.Hear.{all_dirty, cancelled, cancels, evicted, goes_on, notes_notice, replied, reply_counts, spends, vacates_lease}
+use Rattle.nq_model.specs.protocol.Send.{send_next}
+use Rattle.nq_model.specs.protocol.Settle.{settle}
 
 -- a reply that counts spends the request, and then the request is answered
 pub replied-answered : (t : ClientStep) (number : ℕ) (ticket : Ticket) (r : Reply) → replied t number ticket r ≡ answered (spends t) number ticket r

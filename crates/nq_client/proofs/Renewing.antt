@@ -2,8 +2,8 @@
 use Rattle.std.proofs.Common.{◌≡◌, ℕ, Bool, true, false, Option, Some, None, nat_le, is_some, IfSome, if◌then◌else◌, refl, ap, subst, ◌∙◌}
 use Rattle.nq_base.specs.declared.Request.{Request}
 use Rattle.nq_client.specs.Asking.{renewal, renewal_of, renewal_on, renews_by}
-use Rattle.nq_model.specs.Client.{ClientStep, Lease, lease_on}
-use Rattle.nq_model.specs.Send.{is_asking, renewed_file, renews, renews_lease, then_renews}
+use Rattle.nq_model.specs.protocol.Client.{ClientStep, Lease, lease_on}
+use Rattle.nq_model.specs.protocol.Send.{is_asking, renewed_file, renews, renews_lease, then_renews}
 use Rattle.nq_wire.specs.Request.{HasSpelling}
 
 of-lease : (t : ClientStep) (o : Option Lease) → renews_by t (renewal_of t.client o) ≡ renews_lease t o

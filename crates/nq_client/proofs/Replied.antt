@@ -16,15 +16,15 @@ use Rattle.nq_client.proofs.Settled.{choice, is_given}
 use Rattle.nq_client_parts.specs.Calls.{file_at_stake}
 use Rattle.nq_client.specs.Receiving.{answered}
 use Rattle.nq_client.specs.Tied.{TiedFor, Stores}
-use Rattle.nq_model.specs.Client.{Notice, UnderWay, Job, attaching, for_call, renewing, pushing, Ticket, ClientStep, is_push_of, push_passes}
-use Rattle.nq_model.specs.Client.{is_clean, lease_on, notice_on, is_revision_before, revision_of, dirty_at}
-use Rattle.nq_model.specs.Hear.{vacates_lease, vacates_noticed, all_dirty, loss_entry, loses, waits_for, reports_to, reports, without_lease}
-use Rattle.nq_model.specs.Hear.{push_refused, breaks, breaks_chain, if_broken, holds, takes_grant, takes_optional, answers_call_of, answers_call}
-use Rattle.nq_model.specs.Hear.{caches_block, purges, knows_revision, grant_caches, then_caches, read_done, marks_through, lease_done, holds_caching}
-use Rattle.nq_model.specs.Hear.{caches_write, write_done, ends_push, caches_push, vacates_if_clean, push_done, answer_of, is_put_off, attached}
-use Rattle.nq_model.specs.Hear.{pauses, done_for_call, done_renewal, done_push, done, refused_push, refused, other_push, is_of_procedure}
-use Rattle.nq_model.specs.Hear.{reply_counts}
-use Rattle.nq_model.specs.Settle.{answers, names_losses}
+use Rattle.nq_model.specs.protocol.Client.{Notice, UnderWay, Job, attaching, for_call, renewing, pushing, Ticket, ClientStep, is_push_of, push_passes}
+use Rattle.nq_model.specs.protocol.Client.{is_clean, lease_on, notice_on, is_revision_before, revision_of, dirty_at}
+use Rattle.nq_model.specs.protocol.Hear.{vacates_lease, vacates_noticed, all_dirty, loss_entry, loses, waits_for, reports_to, reports, without_lease}
+use Rattle.nq_model.specs.protocol.Hear.{push_refused, breaks, breaks_chain, if_broken, holds, takes_grant, takes_optional, answers_call_of, answers_call}
+use Rattle.nq_model.specs.protocol.Hear.{caches_block, purges, knows_revision, grant_caches, then_caches, read_done, marks_through, lease_done, holds_caching}
+use Rattle.nq_model.specs.protocol.Hear.{caches_write, write_done, ends_push, caches_push, vacates_if_clean, push_done, answer_of, is_put_off, attached}
+use Rattle.nq_model.specs.protocol.Hear.{pauses, done_for_call, done_renewal, done_push, done, refused_push, refused, other_push, is_of_procedure}
+use Rattle.nq_model.specs.protocol.Hear.{reply_counts}
+use Rattle.nq_model.specs.protocol.Settle.{answers, names_losses}
 
 -- a part of a step that takes so many numbers of requests and makes so many entries at most
 pub record Kept (xids entries : ℕ) (t s : ClientStep) : Type 0 where

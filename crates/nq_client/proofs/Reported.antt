@@ -3,9 +3,9 @@ use Rattle.std.proofs.Common.{◌≡◌, ℕ, Bool, true, false, not, List, [], 
 use Rattle.std.specs.List.{list_any}
 use Rattle.nq_base.specs.declared.Push.{Push}
 use Rattle.nq_client_parts.specs.Lost.{waiting}
-use Rattle.nq_model.specs.Client.{ClientStep, UnderWay, is_clean_in, is_push_of, other_dirty, push_passes}
-use Rattle.nq_model.specs.Hear.{other_push, reports_to, waits_for}
-use Rattle.nq_model.specs.Settle.{names_losses}
+use Rattle.nq_model.specs.protocol.Client.{ClientStep, UnderWay, is_clean_in, is_push_of, other_dirty, push_passes}
+use Rattle.nq_model.specs.protocol.Hear.{other_push, reports_to, waits_for}
+use Rattle.nq_model.specs.protocol.Settle.{names_losses}
 
 -- a call that waits is told
 pub told : (t : ClientStep) (file q : ℕ) (o : Option UnderWay) → Some q ≡ waiting file o → names_losses t q file ≡ reports_to t file o

@@ -9,11 +9,11 @@ use Rattle.nq_base.specs.declared.Push.{Push}
 use Rattle.nq_base.specs.declared.Request.{Request}
 use Rattle.nq_client.specs.Tied.{TiedFor, Tied}
 use Rattle.nq_client.proofs.Settled.{choice}
-use Rattle.nq_model.specs.Client.{Lease, UnderWay, Job, for_call, renewing, pushing, Ticket, ClientStep, lease_on, first_dirty, is_clean}
-use Rattle.nq_model.specs.Send.{sends_request, after_seq, after_number, base_of, takes_push, pushes_these, noticed_file, ending_file, want_of}
-use Rattle.nq_model.specs.Send.{shares_live, read_want, sends_write, next_write, next_put, gives_up, next_change, asks, next_of_call}
-use Rattle.nq_model.specs.Send.{next_of_under_way, renews_lease, renews, renewed_file, is_asking, then_renews, then_calls, pushes_due, then_pushes}
-use Rattle.nq_model.specs.Send.{then_ending, send_next}
+use Rattle.nq_model.specs.protocol.Client.{Lease, UnderWay, Job, for_call, renewing, pushing, Ticket, ClientStep, lease_on, first_dirty, is_clean}
+use Rattle.nq_model.specs.protocol.Send.{sends_request, after_seq, after_number, base_of, takes_push, pushes_these, noticed_file, ending_file, want_of}
+use Rattle.nq_model.specs.protocol.Send.{shares_live, read_want, sends_write, next_write, next_put, gives_up, next_change, asks, next_of_call}
+use Rattle.nq_model.specs.protocol.Send.{next_of_under_way, renews_lease, renews, renewed_file, is_asking, then_renews, then_calls, pushes_due, then_pushes}
+use Rattle.nq_model.specs.protocol.Send.{then_ending, send_next}
 
 -- no request was under way, and one is now
 record Sends (t s : ClientStep) : Type 0 where

@@ -4,10 +4,10 @@ use Rattle.nq_base.specs.declared.Answer.{Answer}
 use Rattle.nq_base.specs.declared.Call.{Call}
 use Rattle.nq_base.specs.declared.Call.TheVariants.{Create, Lookup, Attr, Read, Fetch, Write, WriteSync, Sync, Resize, Remove}
 use Rattle.nq_base.specs.declared.Value.{Value}
-use Rattle.nq_model.specs.Client.{Lease, UnderWay, ClientStep, lease_on, notice_on, lets_read, lets_write, is_clean}
-use Rattle.nq_model.specs.Settle.{answers, cached_body, reads_cached, after_read, settle_body, settle_read, after_write, delays, marks_written}
-use Rattle.nq_model.specs.Settle.{after_delay, is_full, settle_write_in, settle_write, settle_sync, settle_put, settle_call, ticket_is_for_call}
-use Rattle.nq_model.specs.Settle.{settle_under_way, settle}
+use Rattle.nq_model.specs.protocol.Client.{Lease, UnderWay, ClientStep, lease_on, notice_on, lets_read, lets_write, is_clean}
+use Rattle.nq_model.specs.protocol.Settle.{answers, cached_body, reads_cached, after_read, settle_body, settle_read, after_write, delays, marks_written}
+use Rattle.nq_model.specs.protocol.Settle.{after_delay, is_full, settle_write_in, settle_write, settle_sync, settle_put, settle_call, ticket_is_for_call}
+use Rattle.nq_model.specs.protocol.Settle.{settle_under_way, settle}
 
 -- an answer that a step gives: it tells of no want of memory, and that not all was taken in
 abbrev pub is_given : Option Answer → Bool

@@ -2,9 +2,9 @@
 use Rattle.std.proofs.Common.{◌≡◌, ◌++◌, ℕ, Bool, true, false, List, [], Option, Some, None, refl, sym, ap, ◌∙◌}
 use Rattle.nq_client.specs.Step.{request_message, step_of, vacated_message}
 use Rattle.nq_client.specs.declared.step.Step.{Step}
-use Rattle.nq_model.specs.Client.{ClientStep, Ticket}
-use Rattle.nq_model.specs.Hear.{cancelled, cancels, spends}
-use Rattle.nq_model.specs.Message.{Message}
+use Rattle.nq_model.specs.protocol.Client.{ClientStep, Ticket}
+use Rattle.nq_model.specs.protocol.Hear.{cancelled, cancels, spends}
+use Rattle.nq_model.specs.protocol.Message.{Message}
 
 -- a silent step sends no request
 pub silent : (o : Option Ticket) → request_message false o ≡ []

@@ -4,8 +4,8 @@ use Rattle.nq_base.specs.declared.Push.{Push}
 use Rattle.nq_base.specs.declared.Request.{Request}
 use Rattle.nq_base.specs.declared.Request.TheVariants.{Write}
 use Rattle.nq_client.specs.Tied.{Tied, TiedFor}
-use Rattle.nq_model.specs.Client.{Job, attaching, for_call, renewing, pushing, Ticket}
-use Rattle.nq_model.specs.Hear.{wants_of, cancelled}
+use Rattle.nq_model.specs.protocol.Client.{Job, attaching, for_call, renewing, pushing, Ticket}
+use Rattle.nq_model.specs.protocol.Hear.{wants_of, cancelled}
 
 -- without a request none are under way
 pub tied-none : (o : Option Ticket) (push : Option Push) → o ≡ None → Tied o push → push ≡ None

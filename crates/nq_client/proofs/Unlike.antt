@@ -3,8 +3,8 @@ use Rattle.std.proofs.Common.{◌≡◌, ℕ, refl, ap}
 use Rattle.nq_base.specs.declared.Refusal.{Refusal}
 use Rattle.nq_base.specs.declared.Reply.{Reply}
 use Rattle.nq_client.specs.Receiving.{answered}
-use Rattle.nq_model.specs.Client.{ClientStep, Job, Ticket}
-use Rattle.nq_model.specs.Hear.{done}
+use Rattle.nq_model.specs.protocol.Client.{ClientStep, Job, Ticket}
+use Rattle.nq_model.specs.protocol.Hear.{done}
 
 -- a reply that is no refusal
 pub no_refusal : (t : ClientStep) (number : ℕ) (ticket : Ticket) (job : Job) (r : Reply) → job ≡ ticket.job

@@ -3,9 +3,9 @@ use Rattle.std.proofs.Common.{◌≡◌, ℕ, ◌+◌, ◌==◌, not, List, [], 
 use Rattle.nq_base.specs.declared.Request.{Request}
 use Rattle.nq_base.specs.declared.Tag.{Tag}
 use Rattle.nq_client_parts.proofs.NoticeList.{filter-twice, of-file}
-use Rattle.nq_model.specs.Client.{Notice, ClientStep, in_state, drop_lease, drop_notice, notice_on}
-use Rattle.nq_model.specs.Hear.{vacates_lease, vacates_noticed}
-use Rattle.nq_model.specs.Message.{call}
+use Rattle.nq_model.specs.protocol.Client.{Notice, ClientStep, in_state, drop_lease, drop_notice, notice_on}
+use Rattle.nq_model.specs.protocol.Hear.{vacates_lease, vacates_noticed}
+use Rattle.nq_model.specs.protocol.Message.{call}
 
 -- the step with these notices
 abbrev pub with_notices : ClientStep → List Notice → ClientStep

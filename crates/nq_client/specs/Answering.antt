@@ -3,7 +3,7 @@ use Rattle.std.specs.Prelude.{Option, Some, None}
 use Rattle.nq_base.specs.declared.Answer.{Answer}
 use Rattle.nq_base.specs.declared.Said.{Said}
 use Rattle.nq_client.specs.Settling.{ended}
-use Rattle.nq_model.specs.Client.{ClientStep, UnderWay}
+use Rattle.nq_model.specs.protocol.Client.{ClientStep, UnderWay}
 
 -- an answer, as a journal tells it, ends the call under way, if there is one
 abbrev pub answers_as : ClientStep → Answer → Said → Option UnderWay → ClientStep

@@ -11,9 +11,9 @@ use Rattle.nq_base.specs.declared.Want.{Want}
 use Rattle.nq_base.specs.declared.Who.{Who}
 use Rattle.nq_client.specs.Settling.{called_body}
 use Rattle.nq_client.specs.declared.asking.Need.{Need}
-use Rattle.nq_model.specs.Client.{Client, ClientStep, Lease, UnderWay, for_call, is_clean_in, lease_on, renewing}
-use Rattle.nq_model.specs.Send.{after_seq, ending_file, gives_up, noticed_file, pushes, read_want, renewed_file, sends_request, sends_write}
-use Rattle.nq_model.specs.Send.{shares_live, then_renews, want_of}
+use Rattle.nq_model.specs.protocol.Client.{Client, ClientStep, Lease, UnderWay, for_call, is_clean_in, lease_on, renewing}
+use Rattle.nq_model.specs.protocol.Send.{after_seq, ending_file, gives_up, noticed_file, pushes, read_want, renewed_file, sends_request, sends_write}
+use Rattle.nq_model.specs.protocol.Send.{shares_live, then_renews, want_of}
 use Rattle.nq_wire.specs.Request.{HasSpelling}
 
 -- a file is pushed where it has delayed writes

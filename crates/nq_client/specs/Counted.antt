@@ -3,8 +3,8 @@ use Rattle.std.specs.Prelude.{ℕ, ◌≤◌, ◌<◌, ◌+◌, ◌*◌, ◌^◌
 use Rattle.nq_client.specs.State.{client_of}
 use Rattle.nq_client.specs.Tied.{Tied}
 use Rattle.nq_client.specs.declared.state.State.{State}
-use Rattle.nq_model.specs.Client.{Client}
-use Rattle.nq_model.specs.Profile.{most_taken_by_client}
+use Rattle.nq_model.specs.protocol.Client.{Client}
+use Rattle.nq_model.specs.protocol.Profile.{most_taken_by_client}
 
 -- A client, and how many calls, datagrams and ticks it took in.
 pub record Counted : Type 0 where

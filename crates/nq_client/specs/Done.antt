@@ -4,8 +4,8 @@ use Rattle.nq_base.specs.declared.Answer.{Answer}
 use Rattle.nq_base.specs.declared.Reply.{Reply}
 use Rattle.nq_base.specs.declared.Request.{Request}
 use Rattle.nq_base.specs.declared.Value.{Value}
-use Rattle.nq_model.specs.Client.{ClientStep}
-use Rattle.nq_model.specs.Hear.{answers_call, knows_revision, lease_done, read_done, write_done}
+use Rattle.nq_model.specs.protocol.Client.{ClientStep}
+use Rattle.nq_model.specs.protocol.Hear.{answers_call, knows_revision, lease_done, read_done, write_done}
 
 -- what answers the call where its request brings a value alone
 abbrev pub brought : Request → Reply → Option Value

@@ -11,8 +11,8 @@ use Rattle.nq_client.specs.declared.rooms.Rooms.{Rooms}
 use Rattle.nq_client.specs.declared.step.Step.{Step}
 use Rattle.nq_datagrams.specs.Messages.{FitsMessage, bytes_of}
 use Rattle.nq_base.specs.Entries.{EntryList}
-use Rattle.nq_model.specs.Client.{ClientStep}
-use Rattle.nq_model.specs.Message.{Message}
+use Rattle.nq_model.specs.protocol.Client.{ClientStep}
+use Rattle.nq_model.specs.protocol.Message.{Message}
 use Rattle.nq_wire.specs.Outbox.{Datagrams}
 
 -- a message to the server as a datagram

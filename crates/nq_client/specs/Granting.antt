@@ -1,8 +1,8 @@
 -- What a grant leaves at a client, in the steps of the code.
 use Rattle.std.specs.Prelude.{ℕ, List}
 use Rattle.nq_base.specs.declared.Grant.{Grant}
-use Rattle.nq_model.specs.Client.{Clean, ClientStep, in_state, put_lease, put_revision}
-use Rattle.nq_model.specs.Hear.{granted_lease}
+use Rattle.nq_model.specs.protocol.Client.{Clean, ClientStep, in_state, put_lease, put_revision}
+use Rattle.nq_model.specs.protocol.Hear.{granted_lease}
 
 -- the client with a granted lease and the revision of its file
 abbrev pub keeps : ClientStep → (file : ℕ) → Grant → (sent : ℕ) → ClientStep

@@ -1,8 +1,8 @@
 -- What a client makes of a notice, in the steps of the code.
 use Rattle.std.specs.Prelude.{◌≡◌, ℕ, ◌≤◌, ◌<◌, ◌+◌, ◌^◌, Bool, false, Option, Some, None}
 use Rattle.nq_client.specs.declared.step.Step.{Step}
-use Rattle.nq_model.specs.Client.{Ticket}
-use Rattle.nq_model.specs.Hear.{wants_of}
+use Rattle.nq_model.specs.protocol.Client.{Ticket}
+use Rattle.nq_model.specs.protocol.Hear.{wants_of}
 
 -- whether a request under way wants a lease on the file
 abbrev pub is_wanted : (file : ℕ) → Option Ticket → Bool

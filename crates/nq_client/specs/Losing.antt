@@ -4,7 +4,7 @@ use Rattle.nq_client_parts.specs.Lost.{Loses}
 use Rattle.nq_client_parts.specs.declared.losses.Losing.{Losing}
 use Rattle.nq_client.specs.declared.state.State.{State}
 use Rattle.nq_client.specs.declared.step.Step.{Step}
-use Rattle.nq_model.specs.Hear.{losses_in}
+use Rattle.nq_model.specs.protocol.Hear.{losses_in}
 
 -- the losses are found beside those that no answer named yet
 abbrev pub IsReadyFor : Losing → (file : ℕ) → State → Type 0

@@ -6,7 +6,7 @@ use Rattle.nq_client.specs.Counted.{Counted}
 use Rattle.nq_client.specs.Finishing.{Grows}
 use Rattle.nq_client.specs.declared.heard.Heard.{Heard}
 use Rattle.nq_base.specs.Entries.{EntryList}
-use Rattle.nq_model.specs.Client.{ClientStep}
+use Rattle.nq_model.specs.protocol.Client.{ClientStep}
 use Rattle.nq_wire.specs.Outbox.{Datagrams}
 
 -- a client, an outbox and a journal are those after a step, which was counted

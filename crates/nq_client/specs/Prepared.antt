@@ -2,8 +2,8 @@
 use Rattle.std.specs.Prelude.{◌≡◌, ◌≤◌, ◌<◌, ◌+◌, ◌^◌, ℕ, false, None, length, Result, Ok, Err}
 use Rattle.nq_client.specs.Step.{HasRoom, step_of}
 use Rattle.nq_client.specs.declared.step.Step.{Step}
-use Rattle.nq_model.specs.Client.{ClientStep}
-use Rattle.nq_model.specs.Hear.{all_dirty_in}
+use Rattle.nq_model.specs.protocol.Client.{ClientStep}
+use Rattle.nq_model.specs.protocol.Hear.{all_dirty_in}
 
 -- nothing is sent yet, numbers are left, and there is room: for the loss of all delayed writes of a file and four more
 -- entries, for a block that becomes dirty, for a lease and for a revision

@@ -6,8 +6,8 @@ use Rattle.nq_base.specs.declared.Tag.{Tag}
 use Rattle.nq_client_parts.specs.Calls.{file_at_stake}
 use Rattle.nq_client.specs.declared.step.Step.{Step}
 use Rattle.nq_datagrams.specs.declared.Heard.{Heard}
-use Rattle.nq_model.specs.Client.{Client, ClientStep, Ticket, begun}
-use Rattle.nq_model.specs.Hear.{all_dirty, cancels, done, evicted, goes_on, is_reply_to, refused, replied, reply_counts}
+use Rattle.nq_model.specs.protocol.Client.{Client, ClientStep, Ticket, begun}
+use Rattle.nq_model.specs.protocol.Hear.{all_dirty, cancels, done, evicted, goes_on, is_reply_to, refused, replied, reply_counts}
 
 -- whether a reply counts, by the request under way
 abbrev pub counts : Client → (xid : ℕ) → Reply → Option Ticket → Bool

@@ -6,8 +6,8 @@ use Rattle.nq_base.specs.declared.Entry.{Entry}
 use Rattle.nq_base.specs.declared.Said.{Said}
 use Rattle.nq_base.specs.declared.Value.{Value}
 use Rattle.nq_client_parts.specs.Calls.{body_of_call}
-use Rattle.nq_model.specs.Client.{Lease, ClientStep, UnderWay, in_state, is_clean, lease_on, lets_read, lets_write, notice_on, noting}
-use Rattle.nq_model.specs.Settle.{after_read, answers, cached_body, delays, is_full}
+use Rattle.nq_model.specs.protocol.Client.{Lease, ClientStep, UnderWay, in_state, is_clean, lease_on, lets_read, lets_write, notice_on, noting}
+use Rattle.nq_model.specs.protocol.Settle.{after_read, answers, cached_body, delays, is_full}
 
 -- an answer, as a journal tells it, ends the call under way
 abbrev pub ended : ClientStep → (q : ℕ) → Answer → Said → ClientStep

@@ -3,7 +3,7 @@ use Rattle.std.specs.Option.{option_map}
 use Rattle.nq_base.specs.declared.Call.{Call}
 use Rattle.nq_client.specs.declared.state.State.{State}
 use Rattle.nq_client.specs.declared.state.UnderWay as calls
-use Rattle.nq_model.specs.Client.{Client, UnderWay}
+use Rattle.nq_model.specs.protocol.Client.{Client, UnderWay}
 
 -- the call under way
 abbrev pub under_way : calls.UnderWay → UnderWay

@@ -8,8 +8,8 @@ use Rattle.nq_client.specs.State.{client_of}
 use Rattle.nq_client.specs.declared.state.State.{State}
 use Rattle.nq_client.specs.declared.step.Step.{Step}
 use Rattle.nq_client.specs.declared.step.Vacated.{Vacated}
-use Rattle.nq_model.specs.Client.{ClientStep, Ticket}
-use Rattle.nq_model.specs.Message.{Message, call}
+use Rattle.nq_model.specs.protocol.Client.{ClientStep, Ticket}
+use Rattle.nq_model.specs.protocol.Message.{Message, call}
 
 -- the vacated message, if there is one
 abbrev pub vacated_message : Who → Option Vacated → List Message

@@ -6,8 +6,8 @@ use Rattle.nq_client.specs.Losing.{IsReadyFor}
 use Rattle.nq_client.specs.declared.state.State.{State}
 use Rattle.nq_client.specs.declared.taking.Taking.{Taking}
 use Rattle.nq_client_parts.specs.HoldingLeases.{lease_of}
-use Rattle.nq_model.specs.Client.{is_clean_in, lease_on}
-use Rattle.nq_model.specs.Hear.{breaks, granted_lease}
+use Rattle.nq_model.specs.protocol.Client.{is_clean_in, lease_on}
+use Rattle.nq_model.specs.protocol.Hear.{breaks, granted_lease}
 
 -- whether a grant breaks the chain of a lease over a file with delayed writes
 abbrev pub loses_by : State → (file : ℕ) → Grant → Bool

@@ -1,7 +1,7 @@
 -- When a request is sent again.
 use Rattle.std.specs.Prelude.{ℕ, ◌+◌, Bool, false, Option, Some, None, nat_le}
-use Rattle.nq_model.specs.Client.{Ticket}
-use Rattle.nq_model.specs.Profile.{patience}
+use Rattle.nq_model.specs.protocol.Client.{Ticket}
+use Rattle.nq_model.specs.protocol.Profile.{patience}
 
 -- whether the request under way is due to be sent again
 abbrev pub is_due : (now : ℕ) → Option Ticket → Bool

@@ -3,7 +3,7 @@ use Rattle.std.specs.Prelude.{◌≡◌, Option, Some, None, IsTrue}
 use Rattle.nq_base.specs.declared.Push.{Push}
 use Rattle.nq_base.specs.declared.Request.{Request}
 use Rattle.nq_base.specs.declared.Request.TheVariants.{Write}
-use Rattle.nq_model.specs.Client.{Job, attaching, for_call, renewing, pushing, Ticket, is_push_of, push_passes}
+use Rattle.nq_model.specs.protocol.Client.{Job, attaching, for_call, renewing, pushing, Ticket, is_push_of, push_passes}
 
 -- the request stores the delayed writes that are under way
 abbrev pub Stores : Request → Option Push → Type 0

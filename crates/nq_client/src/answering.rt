@@ -3,7 +3,7 @@
 ghost use Rattle.std.specs.Prelude.{◌≡◌, ◌≤◌, ◌<◌, ◌^◌, None};
 ghost use Rattle.nq_base.specs.Plain.{plain_answer, plain_said};
 ghost use Rattle.nq_base.specs.declared.Answer.TheVariants.{Ok as ok};
-ghost use Rattle.nq_model.specs.Hear.{answer_of, answers_call, marks_through, pauses};
+ghost use Rattle.nq_model.specs.protocol.Hear.{answer_of, answers_call, marks_through, pauses};
 ghost use Rattle.nq_client.specs.Answering.{answers_as};
 ghost use Rattle.nq_client.specs.Prepared.{Leaves};
 ghost use Rattle.nq_client.specs.Step.{step_of};
@@ -32,7 +32,7 @@ impl Step {
     }
 
     /// Answers the call under way with what it brings; the server sent a block in the packet of this number.
-    #[tactic(auto, unfolding(nq_model::specs::Settle::answers))]
+    #[tactic(auto, unfolding(nq_model::specs::protocol::Settle::answers))]
     pub(crate) fn answers_value(&mut self, value: Value, served: Option<u64>)
         requires { 1 ≤ self.old.entries.spare }
         ensures step { step_of self.new ≡ answers_call (step_of self.old) (ok value) served }
@@ -43,7 +43,7 @@ impl Step {
     }
 
     /// Answers the call under way with what a refusal means.
-    #[tactic(auto, unfolding(nq_model::specs::Settle::answers))]
+    #[tactic(auto, unfolding(nq_model::specs::protocol::Settle::answers))]
     pub(crate) fn answers_refusal(&mut self, status: Refusal)
         requires { 1 ≤ self.old.entries.spare }
         ensures step { step_of self.new ≡ answers_call (step_of self.old) (answer_of status) None }
@@ -54,7 +54,7 @@ impl Step {
     }
 
     /// The write of the call under way is to go through, or not.
-    #[tactic(auto, unfolding(nq_model::specs::Hear::marks_through))]
+    #[tactic(auto, unfolding(nq_model::specs::protocol::Hear::marks_through))]
     pub(crate) fn marks_through(&mut self, on: bool)
         ensures step { step_of self.new ≡ marks_through on (step_of self.old) }
         ensures left { Leaves 0 self.old self.new }
@@ -66,7 +66,7 @@ impl Step {
     }
 
     /// A request was put off: the client pauses, and a write is not to go through any more.
-    #[tactic(auto, unfolding(nq_model::specs::Hear::pauses))]
+    #[tactic(auto, unfolding(nq_model::specs::protocol::Hear::pauses))]
     pub(crate) fn pauses(&mut self)
         requires { self.old.state.time < 2 ^ 62 }
         ensures step { step_of self.new ≡ pauses (step_of self.old) }

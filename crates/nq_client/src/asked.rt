@@ -2,7 +2,7 @@
 
 ghost use Rattle.std.specs.Prelude.{◌≡◌, ◌<◌, ◌+◌, ◌^◌, nat_le, Some};
 ghost use Rattle.nq_client_parts.specs.Jobs.{job_of};
-ghost use Rattle.nq_model.specs.Profile.{patience};
+ghost use Rattle.nq_model.specs.protocol.Profile.{patience};
 ghost use Rattle.nq_wire.specs.Request.{HasSpelling};
 
 use nq_base::{Request, Ticks};
@@ -25,7 +25,7 @@ pub(crate) struct Asked {
 impl Model for Asked {
     ghost use Rattle.std.specs.Prelude.{◌<◌, ◌^◌};
     ghost use Rattle.nq_client_parts.specs.Jobs.{job_of};
-    ghost use Rattle.nq_model.specs.Client.{Ticket};
+    ghost use Rattle.nq_model.specs.protocol.Client.{Ticket};
     ghost use Rattle.nq_wire.specs.Request.{HasSpelling};
 
     ghost Value = { Ticket };

@@ -3,9 +3,9 @@
 ghost use Rattle.std.specs.Prelude.{◌≡◌, ◌<◌, ◌^◌, nat_le, true, Some, IfSome};
 ghost use Rattle.nq_base.specs.declared.Request.{Request};
 ghost use Rattle.nq_client_parts.specs.HoldingLeases.{lease_of};
-ghost use Rattle.nq_model.specs.Client.{lease_on};
-ghost use Rattle.nq_model.specs.Hear.{holds_caching};
-ghost use Rattle.nq_model.specs.Send.{read_want, shares_live, want_of};
+ghost use Rattle.nq_model.specs.protocol.Client.{lease_on};
+ghost use Rattle.nq_model.specs.protocol.Hear.{holds_caching};
+ghost use Rattle.nq_model.specs.protocol.Send.{read_want, shares_live, want_of};
 ghost use Rattle.nq_client.specs.Asking.{change_need, need_by, need_of, next, push_due, push_for, put_need, read_need, renewal, renewal_of, write_need};
 ghost use Rattle.nq_wire.specs.Request.{HasSpelling};
 ghost use Rattle.nq_client.specs.State.{client_of, under_way};

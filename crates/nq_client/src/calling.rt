@@ -1,10 +1,10 @@
 //! A call of a user.
 
 ghost use Rattle.std.specs.Prelude.{◌≡◌, ◌≤◌, ◌<◌, ◌+◌, ◌^◌, false};
-ghost use Rattle.nq_model.specs.Client.{begun, losses_of};
-ghost use Rattle.nq_model.specs.ClientStep.{begins_call, call_freely, changed_file, client_call, losses_for, says_busy, tell_losses};
+ghost use Rattle.nq_model.specs.protocol.Client.{begun, losses_of};
+ghost use Rattle.nq_model.specs.protocol.ClientStep.{begins_call, call_freely, changed_file, client_call, losses_for, says_busy, tell_losses};
 ghost use Rattle.nq_base.specs.Calls.{told};
-ghost use Rattle.nq_model.specs.Settle.{names_losses};
+ghost use Rattle.nq_model.specs.protocol.Settle.{names_losses};
 ghost use Rattle.nq_client.specs.Finishing.{HasRooms};
 ghost use Rattle.nq_client.specs.Step.{HasNumbers, HasRoom, step_of};
 ghost use Rattle.nq_client.specs.Losing.{Uses};
@@ -41,7 +41,7 @@ impl Step {
     }
 
     /// A call begins: it takes the next number.
-    #[tactic(auto, unfolding(nq_model::specs::ClientStep::begins_call))]
+    #[tactic(auto, unfolding(nq_model::specs::protocol::ClientStep::begins_call))]
     fn begins_call(&mut self, call: &Call)
         requires room { HasRoomToCall self.old }
         requires numbers { HasNumbers 2 self.old.state }
@@ -63,7 +63,7 @@ impl Step {
     }
 
     /// The call is answered at once, and the other one goes on.
-    #[tactic(auto, unfolding(nq_model::specs::ClientStep::says_busy))]
+    #[tactic(auto, unfolding(nq_model::specs::protocol::ClientStep::says_busy))]
     fn says_busy(&mut self)
         requires { HasRoom self.old }
         ensures { step_of self.new ≡ says_busy (step_of self.old) }
@@ -89,7 +89,7 @@ impl Step {
     }
 
     /// The answer that names all losses of a file, which are then named.
-    #[tactic(auto, unfolding(nq_model::specs::Settle::answers))]
+    #[tactic(auto, unfolding(nq_model::specs::protocol::Settle::answers))]
     pub(crate) fn names_losses(&mut self, q: u64, file: FileId, named: Named)
         requires room { 1 ≤ self.old.entries.spare }
         requires named { named ≡ losses_of file self.old.state.losses.items }
@@ -102,7 +102,7 @@ impl Step {
     }
 
     /// A call of a client that has none under way, and that is told of no losses: it is under way.
-    #[tactic(auto, unfolding(nq_model::specs::ClientStep::is_called))]
+    #[tactic(auto, unfolding(nq_model::specs::protocol::ClientStep::is_called))]
     fn call_freely(&mut self, call: Call, rooms: &mut Rooms)
         requires rooms { HasRooms rooms.old }
         requires room { HasRoom self.old }

@@ -5,11 +5,11 @@ ghost use Rattle.nq_base.specs.Plain.{plain_answer};
 ghost use Rattle.nq_datagrams.specs.Incoming.{hears_in};
 ghost use Rattle.nq_datagrams.specs.Messages.{FitsMessage};
 ghost use Rattle.nq_client_parts.specs.HoldingLeases.{lease_of};
-ghost use Rattle.nq_model.specs.CachedAtOnce.{has_cached};
-ghost use Rattle.nq_model.specs.Client.{lease_on};
-ghost use Rattle.nq_model.specs.ClientStep.{attached_client, client_call, client_tick, starts};
-ghost use Rattle.nq_model.specs.Profile.{most_taken_by_client};
-ghost use Rattle.nq_model.specs.Settle.{after_read};
+ghost use Rattle.nq_model.specs.laws.CachedAtOnce.{has_cached};
+ghost use Rattle.nq_model.specs.protocol.Client.{lease_on};
+ghost use Rattle.nq_model.specs.protocol.ClientStep.{attached_client, client_call, client_tick, starts};
+ghost use Rattle.nq_model.specs.protocol.Profile.{most_taken_by_client};
+ghost use Rattle.nq_model.specs.protocol.Settle.{after_read};
 ghost use Rattle.nq_client.specs.Finishing.{to_server};
 ghost use Rattle.nq_client.specs.Outcome.{Called, Heeded, Received};
 ghost use Rattle.nq_client.specs.State.{call_of};
@@ -66,7 +66,7 @@ impl Client {
     /// # Errors
     ///
     /// Only want of memory.
-    #[tactic(auto, unfolding(nq_model::specs::ClientStep::attached_client, nq_model::specs::ClientStep::fresh_client))]
+    #[tactic(auto, unfolding(nq_model::specs::protocol::ClientStep::attached_client, nq_model::specs::protocol::ClientStep::fresh_client))]
     pub fn attached(
         alloc: Global,
         host: Host,
@@ -213,7 +213,7 @@ impl Client {
     /// room that the caller has, so it wants no memory.
     /// It does so exactly where no call is under way, the client is attached, and a caching lease runs under which it has
     /// the block.
-    #[tactic(auto, unfolding(nq_model::specs::Settle::after_read))]
+    #[tactic(auto, unfolding(nq_model::specs::protocol::Settle::after_read))]
     pub fn read_cached(&mut self, file: FileId, block: BlockNo, room: &mut Spare) -> Option<Block>
         requires { room.old ≡ true }
         ensures body { result ≡ has_cached self.old.client file block }

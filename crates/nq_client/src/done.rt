@@ -3,7 +3,7 @@
 ghost use Rattle.std.specs.Prelude.{◌≡◌, ◌≤◌, ◌<◌, ◌^◌, None};
 ghost use Rattle.nq_base.specs.declared.Answer.TheVariants.{Ok as ok};
 ghost use Rattle.nq_base.specs.declared.Value.{Value};
-ghost use Rattle.nq_model.specs.Hear.{answers_call, done_for_call, knows_revision, lease_done, read_done};
+ghost use Rattle.nq_model.specs.protocol.Hear.{answers_call, done_for_call, knows_revision, lease_done, read_done};
 ghost use Rattle.nq_client.specs.Done.{brought, changes};
 ghost use Rattle.nq_client.specs.Prepared.{Comes, IsPrepared, Leaves};
 ghost use Rattle.nq_client_parts.specs.Calls.{file_at_stake};
@@ -85,7 +85,7 @@ impl Step {
     }
 
     /// RESIZE was done: the file has this revision, and the call is answered.
-    #[tactic(auto, unfolding(nq_model::specs::Hear::knows_revision))]
+    #[tactic(auto, unfolding(nq_model::specs::protocol::Hear::knows_revision))]
     fn resized(&mut self, file: FileId, rev: Rev)
         requires entries { 1 ≤ self.old.entries.spare }
         requires revision { 1 ≤ self.old.state.cache.spare }

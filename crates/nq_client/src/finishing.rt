@@ -2,7 +2,7 @@
 
 ghost use Rattle.std.specs.Prelude.{◌≡◌, ◌≤◌, ◌∷◌, [], None, length, option_map, OnOk};
 ghost use Rattle.nq_base.specs.Plain.{plain_answer};
-ghost use Rattle.nq_model.specs.Message.{call};
+ghost use Rattle.nq_model.specs.protocol.Message.{call};
 ghost use Rattle.nq_wire.specs.Request.{HasSpelling};
 ghost use Rattle.nq_client.specs.Finishing.{Finishes, HasLetters, HasRooms, Posts, longest_call};
 ghost use Rattle.nq_client.specs.Outcome.{IsHeard, or_pending};

@@ -1,10 +1,10 @@
 //! What a client makes of a notice.
 
 ghost use Rattle.std.specs.Prelude.{◌≡◌, ◌≤◌, OnErr, OnOk};
-ghost use Rattle.nq_model.specs.Hear.{cancelled};
-ghost use Rattle.nq_model.specs.Send.{send_next};
-ghost use Rattle.nq_model.specs.Settle.{settle};
-ghost use Rattle.nq_model.specs.Table.{same_who};
+ghost use Rattle.nq_model.specs.protocol.Hear.{cancelled};
+ghost use Rattle.nq_model.specs.protocol.Send.{send_next};
+ghost use Rattle.nq_model.specs.protocol.Settle.{settle};
+ghost use Rattle.nq_model.specs.protocol.Table.{same_who};
 ghost use Rattle.nq_client.specs.Finishing.{HasRooms};
 ghost use Rattle.nq_client.specs.Hearing.{is_wanted};
 ghost use Rattle.nq_client.specs.Prepared.{IsPrepared};

@@ -2,8 +2,8 @@
 
 ghost use Rattle.std.specs.Prelude.{◌≡◌, ◌≤◌, Some, IfSome};
 ghost use Rattle.nq_client_parts.specs.HoldingLeases.{lease_of};
-ghost use Rattle.nq_model.specs.Client.{put_lease};
-ghost use Rattle.nq_model.specs.Hear.{granted_lease, holds};
+ghost use Rattle.nq_model.specs.protocol.Client.{put_lease};
+ghost use Rattle.nq_model.specs.protocol.Hear.{granted_lease, holds};
 ghost use Rattle.nq_client.specs.Granting.{keeps};
 ghost use Rattle.nq_client.specs.Step.{step_of};
 
@@ -28,7 +28,7 @@ fn put_held(leases: &mut Leases, held: Held)
 
 impl Step {
     /// Holds a lease whose request was first sent at `sent`. Clean blocks of another revision go.
-    #[tactic(auto, unfolding(nq_model::specs::Hear::holds))]
+    #[tactic(auto, unfolding(nq_model::specs::protocol::Hear::holds))]
     pub(crate) fn holds(&mut self, file: FileId, grant: &Grant, sent: Ticks, held: Held)
         requires held { lease_of held ≡ Some (granted_lease file grant.now sent) }
         requires lease { 1 ≤ self.old.state.leases.spare }

@@ -2,7 +2,7 @@
 
 ghost use Rattle.std.specs.Prelude.{◌≡◌, ◌≤◌, OnOk};
 ghost use Rattle.nq_datagrams.specs.Messages.{FitsMessage, bytes_of};
-ghost use Rattle.nq_model.specs.Message.{call};
+ghost use Rattle.nq_model.specs.protocol.Message.{call};
 ghost use Rattle.nq_wire.specs.Request.{HasSpelling};
 ghost use Rattle.nq_client.specs.Finishing.{longest_call};
 

@@ -2,8 +2,8 @@
 
 ghost use Rattle.std.specs.Prelude.{◌≡◌, ◌≤◌, length, is_some, option_map, if◌then◌else◌, IsTrue, IfOk};
 ghost use Rattle.std.specs.Option.{ForSome};
-ghost use Rattle.nq_model.specs.Client.{is_clean_in, losses_of, notice_on};
-ghost use Rattle.nq_model.specs.Hear.{all_dirty_in, breaks_chain, loses, push_refused, reports, vacates_noticed};
+ghost use Rattle.nq_model.specs.protocol.Client.{is_clean_in, losses_of, notice_on};
+ghost use Rattle.nq_model.specs.protocol.Hear.{all_dirty_in, breaks_chain, loses, push_refused, reports, vacates_noticed};
 ghost use Rattle.nq_client.specs.Hearing.{IsSilent};
 ghost use Rattle.nq_client.specs.Losing.{IsReadyFor, Keeps, SendsNothing, Uses};
 ghost use Rattle.nq_client_parts.specs.Lost.{waiting};
@@ -36,7 +36,7 @@ pub(crate) fn ready_to_lose(state: &State, file: FileId) -> Result<Losing, NoMem
 
 impl Step {
     /// All delayed writes of a file are lost; no answer named them yet. What a call that waits is told comes back.
-    #[tactic(auto, using(nq_client_parts::proofs::Found::told_all, crate::proofs::Reported::clean_after), unfolding(nq_model::specs::Hear::loses))]
+    #[tactic(auto, using(nq_client_parts::proofs::Found::told_all, crate::proofs::Reported::clean_after), unfolding(nq_model::specs::protocol::Hear::loses))]
     fn loses(&mut self, file: FileId, ready: Losing) -> Named
         requires ready { IsReadyFor ready file self.old.state }
         requires entries { length (all_dirty_in file self.old.state.dirty.dirty self.old.state.dirty.push) ≤ self.old.entries.spare }
@@ -75,7 +75,7 @@ impl Step {
     /// # Errors
     ///
     /// Only want of memory, and then nothing changed.
-    #[tactic(auto, unfolding(nq_model::specs::Hear::without_lease))]
+    #[tactic(auto, unfolding(nq_model::specs::protocol::Hear::without_lease))]
     pub(crate) fn push_refused(&mut self, file: FileId) -> Result<(), NoMemory>
         requires { IsPrepared file self.old }
         ensures { Comes result (push_refused (step_of self.old) file) self.old self.new }

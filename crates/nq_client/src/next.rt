@@ -1,7 +1,7 @@
 //! The next request: what a client sends where none is under way.
 
 ghost use Rattle.std.specs.Prelude.{◌≡◌, None, true};
-ghost use Rattle.nq_model.specs.Send.{send_next, then_renews};
+ghost use Rattle.nq_model.specs.protocol.Send.{send_next, then_renews};
 ghost use Rattle.nq_client.specs.Asking.{IsSpelled, meets};
 ghost use Rattle.nq_client.specs.Step.{HasNumbers, step_of};
 

@@ -1,8 +1,8 @@
 //! Reads that are answered from what a client has.
 
 ghost use Rattle.std.specs.Prelude.{◌≡◌, is_some, true, if◌then◌else◌};
-ghost use Rattle.nq_model.specs.CachedAtOnce.{has_cached};
-ghost use Rattle.nq_model.specs.Settle.{after_read, body_in, clean_after_read};
+ghost use Rattle.nq_model.specs.laws.CachedAtOnce.{has_cached};
+ghost use Rattle.nq_model.specs.protocol.Settle.{after_read, body_in, clean_after_read};
 ghost use Rattle.nq_client.specs.State.{client_of};
 
 use crate::state::State;
@@ -29,7 +29,7 @@ pub(crate) fn read_held(
 }
 
 /// Reads a block from what a client has, where no call is under way and a lease lets it. The copy is made in room that is there.
-#[tactic(auto, unfolding(nq_model::specs::Settle::after_read))]
+#[tactic(auto, unfolding(nq_model::specs::protocol::Settle::after_read))]
 pub(crate) fn read_cached(
     state: &mut State,
     file: FileId,

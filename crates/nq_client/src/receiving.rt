@@ -3,7 +3,7 @@
 ghost use Rattle.std.specs.Prelude.{◌≡◌, ℕ, Some, None, IfSome, IsTrue, if◌then◌else◌, option_map};
 ghost use Rattle.nq_datagrams.specs.Incoming.{awaited_of, hears_in};
 ghost use Rattle.nq_datagrams.specs.Told.{owned, told_message};
-ghost use Rattle.nq_model.specs.Hear.{hear, hear_call, inc_of, reply_counts};
+ghost use Rattle.nq_model.specs.protocol.Hear.{hear, hear_call, inc_of, reply_counts};
 ghost use Rattle.nq_wire.specs.Lent.{lent_reply};
 ghost use Rattle.nq_client.specs.Receiving.{IsHeeded, at_stake, counts, most_entries, on_call, on_heard};
 ghost use Rattle.nq_client.specs.State.{client_of};

@@ -2,8 +2,8 @@
 
 ghost use Rattle.std.specs.Prelude.{◌≡◌, ◌<◌, ◌^◌, OnOk, OnErr};
 ghost use Rattle.std.specs.Option.{ForSome};
-ghost use Rattle.nq_model.specs.Client.{pushing};
-ghost use Rattle.nq_model.specs.Hear.{done, done_push, done_renewal, refused, replied};
+ghost use Rattle.nq_model.specs.protocol.Client.{pushing};
+ghost use Rattle.nq_model.specs.protocol.Hear.{done, done_push, done_renewal, refused, replied};
 ghost use Rattle.nq_client_parts.specs.Jobs.{job_of};
 ghost use Rattle.nq_client.specs.Prepared.{Comes, IsPrepared};
 ghost use Rattle.nq_client_parts.specs.Calls.{file_at_stake};
@@ -58,7 +58,7 @@ impl Step {
     }
 
     /// A request was done, by what it was for.
-    #[tactic(auto, unfolding(nq_model::specs::Hear::attached))]
+    #[tactic(auto, unfolding(nq_model::specs::protocol::Hear::attached))]
     fn done(&mut self, job: Job, asked: &Asked, packet: u64, reply: &Reply) -> Result<(), NoMemory>
         requires prepared { IsPrepared (file_at_stake asked.now.request) self.old }
         requires tied { TiedFor (job_of job) asked.now.request self.old.state.dirty.push }

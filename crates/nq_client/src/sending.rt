@@ -2,8 +2,8 @@
 
 ghost use Rattle.std.specs.Prelude.{◌≡◌, ◌+◌, ◌<◌, ◌^◌, Some, None, true};
 ghost use Rattle.nq_base.specs.declared.Request.{Request};
-ghost use Rattle.nq_model.specs.Client.{for_call};
-ghost use Rattle.nq_model.specs.Send.{after_seq, base_in, gives_up, pushes, sends_request, sends_write};
+ghost use Rattle.nq_model.specs.protocol.Client.{for_call};
+ghost use Rattle.nq_model.specs.protocol.Send.{after_seq, base_in, gives_up, pushes, sends_request, sends_write};
 ghost use Rattle.nq_wire.specs.Request.{HasSpelling};
 ghost use Rattle.nq_client_parts.specs.Jobs.{job_of};
 ghost use Rattle.nq_client.specs.Settling.{called_body};
@@ -28,7 +28,7 @@ fn base_of(leases: &Leases, cache: &Cache, file: FileId) -> PushBase
 
 impl Step {
     /// Sends a request. It takes no memory.
-    #[tactic(auto, unfolding(nq_model::specs::Send::sends_request))]
+    #[tactic(auto, unfolding(nq_model::specs::protocol::Send::sends_request))]
     pub(crate) fn sends_request(&mut self, job: Job, request: Request)
         requires idle { self.old.state.asked ≡ None }
         requires time { self.old.state.time < 2 ^ 62 }
@@ -44,7 +44,7 @@ impl Step {
     }
 
     /// Pushes the first delayed writes of a file, if it has some, with a copy of their block in room that is there.
-    #[tactic(auto, unfolding(nq_model::specs::Send::after_seq, nq_model::specs::Send::takes_push))]
+    #[tactic(auto, unfolding(nq_model::specs::protocol::Send::after_seq, nq_model::specs::protocol::Send::takes_push))]
     pub(crate) fn pushes(&mut self, file: FileId, room: &mut Spare)
         requires block { room.old ≡ true }
         requires idle { self.old.state.asked ≡ None }
@@ -74,7 +74,7 @@ impl Step {
     }
 
     /// Sends a request of the call under way that takes the next sequence.
-    #[tactic(auto, unfolding(nq_model::specs::Send::after_seq))]
+    #[tactic(auto, unfolding(nq_model::specs::protocol::Send::after_seq))]
     pub(crate) fn sends_in_order(&mut self, request: Request)
         requires idle { self.old.state.asked ≡ None }
         requires time { self.old.state.time < 2 ^ 62 }
@@ -88,7 +88,7 @@ impl Step {
     }
 
     /// Sends a WRITE of the block of the call under way, which goes through.
-    #[tactic(auto, unfolding(nq_model::specs::Send::after_seq, nq_model::specs::Send::after_number))]
+    #[tactic(auto, unfolding(nq_model::specs::protocol::Send::after_seq, nq_model::specs::protocol::Send::after_number))]
     pub(crate) fn sends_write(&mut self, file: FileId, block: BlockNo, room: &mut Spare)
         requires block { room.old ≡ true }
         requires idle { self.old.state.asked ≡ None }
@@ -112,7 +112,7 @@ impl Step {
     }
 
     /// Gives the lease on a file up, with its clean blocks, and sends a request that changes the file.
-    #[tactic(auto, unfolding(nq_model::specs::Send::gives_up))]
+    #[tactic(auto, unfolding(nq_model::specs::protocol::Send::gives_up))]
     pub(crate) fn sends_change(&mut self, file: FileId, request: Request)
         requires idle { self.old.state.asked ≡ None }
         requires numbers { HasNumbers 1 self.old.state }

@@ -5,8 +5,8 @@ ghost use Rattle.nq_base.specs.Plain.{plain_answer, plain_said};
 ghost use Rattle.nq_base.specs.declared.Answer.{Answer};
 ghost use Rattle.nq_base.specs.declared.Answer.TheVariants.{Ok as ok};
 ghost use Rattle.nq_base.specs.declared.Value.{Value};
-ghost use Rattle.nq_model.specs.Client.{lease_on};
-ghost use Rattle.nq_model.specs.Settle.{body_in, delays, is_full_in, settle, ticket_is_for_call};
+ghost use Rattle.nq_model.specs.protocol.Client.{lease_on};
+ghost use Rattle.nq_model.specs.protocol.Settle.{body_in, delays, is_full_in, settle, ticket_is_for_call};
 ghost use Rattle.nq_client.specs.Losing.{Uses};
 ghost use Rattle.nq_client.specs.Settling.{called_body, ended, goes_on_delayed, settles_body, settles_put, settles_read, settles_sync, settles_write, writes};
 ghost use Rattle.nq_client.specs.State.{under_way};
@@ -99,7 +99,7 @@ impl Step {
     }
 
     /// A read, by the lease that is held.
-    #[tactic(auto, unfolding(nq_model::specs::Settle::answers))]
+    #[tactic(auto, unfolding(nq_model::specs::protocol::Settle::answers))]
     fn settle_read(&mut self, q: u64, file: FileId, block: BlockNo, room: &mut Spare)
         requires room { HasRoom self.old }
         requires block { room.old ≡ true }
@@ -117,7 +117,7 @@ impl Step {
     }
 
     /// A read under a lease that lets it: it is answered with the block, if the client has it, and the lease was used.
-    #[tactic(auto, unfolding(nq_model::specs::Settle::answers, nq_model::specs::Settle::after_read))]
+    #[tactic(auto, unfolding(nq_model::specs::protocol::Settle::answers, nq_model::specs::protocol::Settle::after_read))]
     fn settle_body(&mut self, q: u64, file: FileId, block: BlockNo, room: &mut Spare)
         requires room { HasRoom self.old }
         requires block { room.old ≡ true }
@@ -164,7 +164,7 @@ impl Step {
     }
 
     /// A write, by the lease that is held: it is delayed, unless it is to go through or a notice waits.
-    #[tactic(auto, unfolding(nq_model::specs::Settle::answers))]
+    #[tactic(auto, unfolding(nq_model::specs::protocol::Settle::answers))]
     fn settle_write(
         &mut self,
         q: u64,
@@ -194,7 +194,7 @@ impl Step {
     }
 
     /// A write under a lease that lets it, where there is room for it.
-    #[tactic(auto, unfolding(nq_model::specs::Settle::answers))]
+    #[tactic(auto, unfolding(nq_model::specs::protocol::Settle::answers))]
     fn writes(&mut self, q: u64, sync: bool, file: FileId, block: BlockNo, room: &mut Spare)
         requires room { HasRoom self.old }
         requires block { room.old ≡ true }
@@ -210,7 +210,7 @@ impl Step {
     }
 
     /// Delays the write of the call under way.
-    #[tactic(auto, unfolding(nq_model::specs::Settle::after_write))]
+    #[tactic(auto, unfolding(nq_model::specs::protocol::Settle::after_write))]
     fn delays(&mut self, file: FileId, block: BlockNo, room: &mut Spare)
         requires room { HasRoom self.old }
         requires block { room.old ≡ true }
@@ -237,7 +237,7 @@ impl Step {
     }
 
     /// What comes after the write of the call under way was delayed: a write is answered, a put waits until it is stored.
-    #[tactic(auto, unfolding(nq_model::specs::Settle::answers))]
+    #[tactic(auto, unfolding(nq_model::specs::protocol::Settle::answers))]
     fn after_delay(&mut self, q: u64, sync: bool)
         requires { 1 ≤ self.old.entries.spare }
         ensures { step_of self.new ≡ goes_on_delayed (step_of self.old) q sync }
@@ -253,7 +253,7 @@ impl Step {
     }
 
     /// A sync, or a put whose write was delayed: it is answered once the file is clean.
-    #[tactic(auto, unfolding(nq_model::specs::Settle::answers))]
+    #[tactic(auto, unfolding(nq_model::specs::protocol::Settle::answers))]
     fn settle_sync(&mut self, q: u64, file: FileId)
         requires room { HasRoom self.old }
         ensures { step_of self.new ≡ settles_sync (step_of self.old) q file }

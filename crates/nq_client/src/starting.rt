@@ -2,9 +2,9 @@
 
 ghost use Rattle.std.specs.Prelude.{◌≡◌, ◌+◌, ◌<◌, ◌≤◌, ◌^◌, None, IfOk, OnOk};
 ghost use Rattle.nq_base.specs.declared.Request.{Request};
-ghost use Rattle.nq_model.specs.Client.{attaching};
-ghost use Rattle.nq_model.specs.ClientStep.{starts};
-ghost use Rattle.nq_model.specs.Send.{sends_request};
+ghost use Rattle.nq_model.specs.protocol.Client.{attaching};
+ghost use Rattle.nq_model.specs.protocol.ClientStep.{starts};
+ghost use Rattle.nq_model.specs.protocol.Send.{sends_request};
 ghost use Rattle.nq_client.specs.Finishing.{Begins, HasLetters, IsUnsent};
 ghost use Rattle.nq_client.specs.Step.{step_of};
 
@@ -30,7 +30,7 @@ impl Step {
 }
 
 /// The first step of an incarnation, which asks to be attached.
-#[tactic(auto, unfolding(nq_model::specs::ClientStep::starts, nq_model::specs::ClientStep::fresh_client, nq_model::specs::Send::sends_request))]
+#[tactic(auto, unfolding(nq_model::specs::protocol::ClientStep::starts, nq_model::specs::protocol::ClientStep::fresh_client, nq_model::specs::protocol::Send::sends_request))]
 fn first_step(alloc: Global, who: Who, term: u32, time: Ticks) -> Result<Step, NoMemory>
     requires { time < 2 ^ 62 }
     ensures { IfOk result (λ s. step_of s ≡ starts who term time) }

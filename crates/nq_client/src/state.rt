@@ -1,7 +1,7 @@
 //! What a client knows.
 
 ghost use Rattle.std.specs.Prelude.{◌≡◌, IfOk};
-ghost use Rattle.nq_model.specs.ClientStep.{fresh_client};
+ghost use Rattle.nq_model.specs.protocol.ClientStep.{fresh_client};
 ghost use Rattle.nq_client.specs.State.{client_of};
 
 use crate::asked::Asked;
@@ -54,7 +54,7 @@ pub(crate) struct State {
 
 impl State {
     /// A client that knows nothing.
-    #[tactic(auto, unfolding(nq_model::specs::ClientStep::fresh_client))]
+    #[tactic(auto, unfolding(nq_model::specs::protocol::ClientStep::fresh_client))]
     pub(crate) fn fresh(alloc: Global, who: Who, term: u32, time: Ticks) -> Result<State, NoMemory>
         ensures { IfOk result (λ s. client_of s ≡ fresh_client who term time) }
     {

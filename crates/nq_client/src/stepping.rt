@@ -1,7 +1,7 @@
 //! Whole steps of a client: memory is taken first, then the step is made, then its outcome is given.
 
 ghost use Rattle.std.specs.Prelude.{◌≡◌, ◌≤◌, ◌<◌, ◌+◌, ◌^◌, IfOk, OnOk};
-ghost use Rattle.nq_model.specs.ClientStep.{changed_file, client_call, client_tick, losses_for};
+ghost use Rattle.nq_model.specs.protocol.ClientStep.{changed_file, client_call, client_tick, losses_for};
 ghost use Rattle.nq_client.specs.Finishing.{Hears, IsKept, IsSupplied, Makes};
 ghost use Rattle.nq_client.specs.Receiving.{HasRoomForFiles, IsHeeded, most_entries, on_heard};
 ghost use Rattle.nq_client.specs.State.{client_of};

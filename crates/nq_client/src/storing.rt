@@ -1,8 +1,8 @@
 //! Replies to writes.
 
 ghost use Rattle.std.specs.Prelude.{◌≡◌, is_some, IsTrue, OnOk, OnErr, if◌then◌else◌};
-ghost use Rattle.nq_model.specs.Client.{dirty_at, is_push_of, push_passes, put_clean};
-ghost use Rattle.nq_model.specs.Hear.{push_done, write_done};
+ghost use Rattle.nq_model.specs.protocol.Client.{dirty_at, is_push_of, push_passes, put_clean};
+ghost use Rattle.nq_model.specs.protocol.Hear.{push_done, write_done};
 ghost use Rattle.nq_client.specs.Prepared.{Comes, IsPrepared};
 ghost use Rattle.nq_client.specs.Step.{step_of};
 
@@ -36,7 +36,7 @@ impl Step {
     /// # Errors
     ///
     /// Only want of memory, and then nothing changed.
-    #[tactic(auto, unfolding(nq_model::specs::Hear::caches_block, nq_model::specs::Hear::purges, nq_model::specs::Hear::knows_revision))]
+    #[tactic(auto, unfolding(nq_model::specs::protocol::Hear::caches_block, nq_model::specs::protocol::Hear::purges, nq_model::specs::protocol::Hear::knows_revision))]
     pub(crate) fn write_done(
         &mut self,
         file: FileId,
@@ -60,7 +60,7 @@ impl Step {
     /// # Errors
     ///
     /// Only want of memory, and then nothing changed.
-    #[tactic(auto, unfolding(nq_model::specs::Hear::caches_block, nq_model::specs::Hear::knows_revision, nq_model::specs::Hear::ends_push))]
+    #[tactic(auto, unfolding(nq_model::specs::protocol::Hear::caches_block, nq_model::specs::protocol::Hear::knows_revision, nq_model::specs::protocol::Hear::ends_push))]
     pub(crate) fn push_done(
         &mut self,
         file: FileId,

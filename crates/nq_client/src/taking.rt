@@ -1,7 +1,7 @@
 //! Grants that are taken.
 
 ghost use Rattle.std.specs.Prelude.{◌<◌, ◌^◌, IfOk};
-ghost use Rattle.nq_model.specs.Hear.{takes_optional, then_caches};
+ghost use Rattle.nq_model.specs.protocol.Hear.{takes_optional, then_caches};
 ghost use Rattle.nq_client.specs.Prepared.{Comes, IsPrepared, Takes};
 ghost use Rattle.nq_client.specs.Step.{step_of};
 ghost use Rattle.nq_client.specs.Taking.{IsTaking};

@@ -1,8 +1,8 @@
 //! A tick of a client's clock.
 
 ghost use Rattle.std.specs.Prelude.{◌≡◌, ◌≤◌, ◌<◌, ◌+◌, ◌^◌, false, nat_le, option_map, if◌then◌else◌};
-ghost use Rattle.nq_model.specs.Client.{begun};
-ghost use Rattle.nq_model.specs.ClientStep.{client_tick};
+ghost use Rattle.nq_model.specs.protocol.Client.{begun};
+ghost use Rattle.nq_model.specs.protocol.ClientStep.{client_tick};
 ghost use Rattle.nq_client.specs.Finishing.{HasRooms};
 ghost use Rattle.nq_client.specs.Step.{HasNumbers, HasRoom, step_of};
 ghost use Rattle.nq_client.specs.Ticking.{is_due, sent_at};
@@ -32,7 +32,7 @@ impl Step {
     /// A tick of the client's clock, which now shows this time.
     ///
     /// The request under way is sent again where it is due; where there is none, the call goes on.
-    #[tactic(auto, unfolding(nq_model::specs::ClientStep::at_time, nq_model::specs::ClientStep::sends_again))]
+    #[tactic(auto, unfolding(nq_model::specs::protocol::ClientStep::at_time, nq_model::specs::protocol::ClientStep::sends_again))]
     pub(crate) fn tick(&mut self, now: Ticks, rooms: &mut Rooms)
         requires rooms { HasRooms rooms.old }
         requires room { HasRoom self.old }

@@ -1,8 +1,8 @@
 //! Leases that are given up for a notice.
 
 ghost use Rattle.std.specs.Prelude.{◌≡◌, ◌≤◌, IsTrue};
-ghost use Rattle.nq_model.specs.Client.{is_clean_in, notice_on};
-ghost use Rattle.nq_model.specs.Hear.{evicted, notes_notice, vacates_if_clean, vacates_lease, vacates_noticed};
+ghost use Rattle.nq_model.specs.protocol.Client.{is_clean_in, notice_on};
+ghost use Rattle.nq_model.specs.protocol.Hear.{evicted, notes_notice, vacates_if_clean, vacates_lease, vacates_noticed};
 ghost use Rattle.nq_client.specs.Hearing.{GivesUp, IsSilent};
 ghost use Rattle.nq_client.specs.Step.{step_of};
 
@@ -30,7 +30,7 @@ fn forget(notice: Option<Notice>) {
 
 impl Step {
     /// Gives the lease on a clean file up: VACATED takes the next number.
-    #[tactic(auto, unfolding(nq_model::specs::Hear::vacates_lease))]
+    #[tactic(auto, unfolding(nq_model::specs::protocol::Hear::vacates_lease))]
     pub(crate) fn vacates_lease(&mut self, notice: Notice)
         requires silent { IsSilent self.old }
         requires clean { IsTrue (is_clean_in notice.file self.old.state.dirty.dirty self.old.state.dirty.push) }
@@ -71,7 +71,7 @@ impl Step {
     }
 
     /// Takes a notice in: a clean file's lease is given up at once, and another notice waits until its file is clean.
-    #[tactic(auto, unfolding(nq_model::specs::Hear::notes_notice))]
+    #[tactic(auto, unfolding(nq_model::specs::protocol::Hear::notes_notice))]
     pub(crate) fn evicted(&mut self, file: FileId, tag: Tag)
         requires silent { IsSilent self.old }
         requires room { 1 ≤ self.old.state.notices.spare }

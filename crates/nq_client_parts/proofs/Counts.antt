@@ -2,9 +2,9 @@
 use Rattle.std.proofs.Common.{◌≡◌, ◌≤◌, ℕ, ◌+◌, Bool, true, false, cond, List, [], ◌∷◌, length, filter, Option, Some, None, is_some, if◌then◌else◌}
 use Rattle.std.proofs.Common.{refl, arith, length-append, add-one}
 use Rattle.nq_base.specs.declared.Push.{Push}
-use Rattle.nq_model.specs.Client.{is_push_of, push_passes}
-use Rattle.nq_model.specs.Hear.{push_of, all_dirty_in}
-use Rattle.nq_model.specs.Settle.{pending_in}
+use Rattle.nq_model.specs.protocol.Client.{is_push_of, push_passes}
+use Rattle.nq_model.specs.protocol.Hear.{push_of, all_dirty_in}
+use Rattle.nq_model.specs.protocol.Settle.{pending_in}
 
 one-or-none : (b : Bool) (p : Push) → length (cond b (p ∷ []) []) ≡ (if b then 1 else 0)
 one-or-none true p = refl

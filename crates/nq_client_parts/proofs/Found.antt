@@ -8,7 +8,7 @@ use Rattle.nq_base.specs.declared.Loss.{Loss}
 use Rattle.nq_base.specs.declared.Push.{Push}
 use Rattle.nq_base.specs.declared.Who.{Who}
 use Rattle.nq_client_parts.specs.Lost.{lost_entry}
-use Rattle.nq_model.specs.Hear.{loss_entry, loss_of}
+use Rattle.nq_model.specs.protocol.Hear.{loss_entry, loss_of}
 
 -- one more loss was copied
 pub taken_more : (xs : List Loss) (i : ℕ) (x : Loss) → slice_get xs i ≡ Some x → take (i + 1) xs ≡ take i xs ++ x ∷ []

@@ -4,7 +4,7 @@ use Rattle.std.proofs.Common.{◌∙◌, arith}
 use Rattle.std.specs.List.{filter, find, AllByRecursion}
 use Rattle.std.proofs.lemmas.Bool.Decides.{nat_tests}
 use Rattle.nq_client_parts.specs.ByFile.{Ascends}
-use Rattle.nq_model.specs.Send.{least, least_with}
+use Rattle.nq_model.specs.protocol.Send.{least, least_with}
 
 module _ {A B : Type 0} (file_of : B → ℕ) (view : A → B) where
   -- the file of a row

@@ -3,7 +3,7 @@ use Rattle.std.proofs.Common.{◌≡◌, ℕ, ◌==◌, true, refl, arith}
 use Rattle.std.proofs.lemmas.Bool.Decides.{nat_tests}
 use Rattle.nq_client_parts.specs.Leases.{lease_in}
 use Rattle.nq_client_parts.proofs.Places.{IsOfFile}
-use Rattle.nq_model.specs.Client.{Lease, file_of_lease, marked_used}
+use Rattle.nq_model.specs.protocol.Client.{Lease, file_of_lease, marked_used}
 
 pub marks_own : (file : ℕ) → IsOfFile file_of_lease lease_in file (marked_used file)
 marks_own file l away = rw away refl

@@ -7,10 +7,10 @@ use Rattle.std.proofs.lemmas.Bool.Decides.{nat_tests}
 use Rattle.nq_client_parts.specs.ByFile.{Ascends, IsPlace, of_file}
 use Rattle.nq_client_parts.proofs.Least.{least-of_all}
 use Rattle.nq_client_parts.proofs.Places.{found-place, taken, none_taken, inserted, of_file-none, there_at}
-use Rattle.nq_model.specs.ByFile.{insert_by}
-use Rattle.nq_model.specs.Hear.{noticed_tag, with_notice}
-use Rattle.nq_model.specs.Send.{least, noticed_in}
-use Rattle.nq_model.specs.Client.{Notice, file_of_notice, notice_on, drop_notice, put_notice}
+use Rattle.nq_model.specs.protocol.ByFile.{insert_by}
+use Rattle.nq_model.specs.protocol.Hear.{noticed_tag, with_notice}
+use Rattle.nq_model.specs.protocol.Send.{least, noticed_in}
+use Rattle.nq_model.specs.protocol.Client.{Notice, file_of_notice, notice_on, drop_notice, put_notice}
 
 -- a list as it is
 pub same_list : {X : Type 0} (xs : List X) → map (λ x. x) xs ≡ xs

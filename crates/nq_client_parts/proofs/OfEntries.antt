@@ -16,9 +16,9 @@ use Rattle.nq_client_parts.specs.DirtyEntries.{push_of, delayed, is_of_other}
 use Rattle.nq_client_parts.specs.declared.dirty.entries.Key.{Key}
 use Rattle.nq_client_parts.specs.declared.dirty.entries.Writes.{Writes}
 use Rattle.nq_client_parts.proofs.DirtyKeyLaws.{same, same_key}
-use Rattle.nq_model.specs.Client.{is_push_of, dirty_at, first_dirty, drop_dirty, other_dirty}
-use Rattle.nq_model.specs.Hear.{loss_of}
-use Rattle.nq_model.specs.Settle.{overwritten_at, with_write, write_in}
+use Rattle.nq_model.specs.protocol.Client.{is_push_of, dirty_at, first_dirty, drop_dirty, other_dirty}
+use Rattle.nq_model.specs.protocol.Hear.{loss_of}
+use Rattle.nq_model.specs.protocol.Settle.{overwritten_at, with_write, write_in}
 
 -- the delayed writes have one of the file where there is a first key of it
 pub any_of_file : (file : ℕ) (es : List (Key × Writes)) → list_any (is_push_of file) (delayed es) ≡ is_some (find (λ k. k.file == file) (keys_of es))

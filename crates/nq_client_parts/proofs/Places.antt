@@ -9,7 +9,7 @@ use Rattle.std.proofs.lemmas.Bool.Decides.{nat_tests}
 use Rattle.std.proofs.lemmas.List.{take-append-drop, set_split, map-append}
 use Rattle.std.proofs.lemmas.List.Elements.{All-from_recursion, recursion_from_All}
 use Rattle.nq_client_parts.specs.ByFile.{Ascends, IsPlace, of_file}
-use Rattle.nq_model.specs.ByFile.{insert_by}
+use Rattle.nq_model.specs.protocol.ByFile.{insert_by}
 
 earlier : (m n file : ℕ) → m < n → nat_lt n file ≡ true → nat_lt m file ≡ true
 earlier m n file lt h = grind (arith, nat_tests)

@@ -5,11 +5,11 @@ use Rattle.nq_client_parts.specs.ByFile.{Ascends}
 use Rattle.nq_client_parts.specs.Leases.{lease_in, file_of_row}
 use Rattle.nq_client_parts.specs.declared.leases.Row.{Row}
 use Rattle.nq_client_parts.proofs.Least.{least-passes, passes}
-use Rattle.nq_model.specs.Client.{Lease, Notice, file_of_lease, is_clean_in, is_live, lease_on, notice_on}
-use Rattle.nq_model.specs.Hear.{holds_caching}
-use Rattle.nq_model.specs.Profile.{renewal}
-use Rattle.nq_model.specs.Send.{is_to_renew_in, renewed_in}
-use Rattle.nq_model.specs.Table.{caches}
+use Rattle.nq_model.specs.protocol.Client.{Lease, Notice, file_of_lease, is_clean_in, is_live, lease_on, notice_on}
+use Rattle.nq_model.specs.protocol.Hear.{holds_caching}
+use Rattle.nq_model.specs.protocol.Profile.{renewal}
+use Rattle.nq_model.specs.protocol.Send.{is_to_renew_in, renewed_in}
+use Rattle.nq_model.specs.protocol.Table.{caches}
 
 first : (a b c d e f : Bool) → (((((a && b) && c) && d) && e) && f) ≡ true → a ≡ true
 first true b c d e f h = refl

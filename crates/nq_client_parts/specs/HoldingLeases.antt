@@ -5,7 +5,7 @@ use Rattle.nq_base.specs.declared.Mode.TheVariants as modes
 use Rattle.nq_client_parts.specs.declared.holding.held.Held.{Held}
 use Rattle.nq_client_parts.specs.declared.holding.held.Held.TheVariants.{Nothing, NonCaching, Reading, Writing}
 use Rattle.nq_client_parts.specs.declared.holding.lease.Lease as code
-use Rattle.nq_model.specs.Client.{Lease}
+use Rattle.nq_model.specs.protocol.Client.{Lease}
 
 -- a lease of a kind, as the model has it
 abbrev pub of_kind : Mode → code.Lease → Lease

@@ -1,7 +1,7 @@
 -- What a request is for.
 use Rattle.nq_client_parts.specs.declared.job.Job as code
 use Rattle.nq_client_parts.specs.declared.job.Job.TheVariants.{Attaching, ForCall, Renewing, Pushing}
-use Rattle.nq_model.specs.Client.{Job, attaching, for_call, renewing, pushing}
+use Rattle.nq_model.specs.protocol.Client.{Job, attaching, for_call, renewing, pushing}
 
 -- what a request is for
 abbrev pub job_of : code.Job → Job

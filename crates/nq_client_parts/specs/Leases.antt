@@ -2,7 +2,7 @@
 use Rattle.std.specs.Prelude.{ℕ, List}
 use Rattle.nq_client_parts.specs.declared.leases.Row.{Row}
 use Rattle.nq_client_parts.specs.HoldingLeases.{of_kind}
-use Rattle.nq_model.specs.Client.{Lease}
+use Rattle.nq_model.specs.protocol.Client.{Lease}
 
 -- the lease of a row
 abbrev pub lease_in : Row → Lease

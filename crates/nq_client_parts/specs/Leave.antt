@@ -1,7 +1,7 @@
 -- What the lease on a file lets its holder do.
 use Rattle.std.specs.Prelude.{ℕ, Bool, false, ◌&&◌, Option, Some, None, nat_le, nat_lt, if◌then◌else◌}
 use Rattle.nq_client_parts.specs.declared.leave.Leave.{Leave}
-use Rattle.nq_model.specs.Client.{Lease, lets_read, lets_write}
+use Rattle.nq_model.specs.protocol.Client.{Lease, lets_read, lets_write}
 
 -- whether a block is below a length
 abbrev pub within : (blocks block : ℕ) → Leave

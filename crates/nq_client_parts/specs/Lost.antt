@@ -4,8 +4,8 @@ use Rattle.nq_base.specs.declared.Entry.{Entry}
 use Rattle.nq_base.specs.declared.Loss.{Loss}
 use Rattle.nq_base.specs.declared.Who.{Who}
 use Rattle.nq_client_parts.specs.declared.losses.Losing.{Losing}
-use Rattle.nq_model.specs.Client.{UnderWay, add_losses, losses_of}
-use Rattle.nq_model.specs.Hear.{waits_for}
+use Rattle.nq_model.specs.protocol.Client.{UnderWay, add_losses, losses_of}
+use Rattle.nq_model.specs.protocol.Hear.{waits_for}
 
 -- the entry of a loss
 abbrev pub lost_entry : Who → Loss → Entry

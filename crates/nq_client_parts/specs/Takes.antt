@@ -3,8 +3,8 @@ use Rattle.std.specs.Prelude.{Bool, true, false, Option, Some, None, if◌then�
 use Rattle.nq_base.specs.declared.Grant.{Grant}
 use Rattle.nq_client_parts.specs.declared.holding.taken.Take.{Take}
 use Rattle.nq_client_parts.specs.declared.holding.taken.Take.TheVariants.{First, Same, Broken}
-use Rattle.nq_model.specs.Client.{Lease}
-use Rattle.nq_model.specs.Hear.{breaks}
+use Rattle.nq_model.specs.protocol.Client.{Lease}
+use Rattle.nq_model.specs.protocol.Hear.{breaks}
 
 -- a grant is the first where nothing was held; else it breaks the chain or goes on in it
 abbrev pub taking : Grant → Option Lease → Take

@@ -2,8 +2,8 @@
 
 ghost use Rattle.std.specs.Prelude.{◌≡◌, None};
 ghost use Rattle.nq_base.specs.Plain.{plain_answer, plain_said};
-ghost use Rattle.nq_model.specs.Hear.{answer_of};
-ghost use Rattle.nq_model.specs.Settle.{said, said_body, said_value};
+ghost use Rattle.nq_model.specs.protocol.Hear.{answer_of};
+ghost use Rattle.nq_model.specs.protocol.Settle.{said, said_body, said_value};
 
 use nq_base::{Answer, Block, Refusal, Said, Value};
 

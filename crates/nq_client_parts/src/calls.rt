@@ -1,8 +1,8 @@
 //! What a client looks up in a call, or in the request under way.
 
 ghost use Rattle.std.specs.Prelude.{◌≡◌, true};
-ghost use Rattle.nq_model.specs.ClientStep.{changed_file};
-ghost use Rattle.nq_model.specs.Hear.{waits_for};
+ghost use Rattle.nq_model.specs.protocol.ClientStep.{changed_file};
+ghost use Rattle.nq_model.specs.protocol.Hear.{waits_for};
 ghost use Rattle.nq_client_parts.specs.Calls.{body_of_call, file_at_stake};
 
 use nq_base::{Block, Call, FileId, Request, Spare};

@@ -3,7 +3,7 @@
 ghost use Rattle.std.specs.Prelude.{◌≡◌, ◌≤◌, ◌<◌, ◌+◌, ◌-◌, [], map, slice_get, slice_set, option_map, vec_len, vec_capacity, Some, IsSome, IsOk, OnOk, OnErr, true};
 ghost use Rattle.std.specs.List.{insert, remove};
 ghost use Rattle.nq_client_parts.specs.HoldingLeases.{lease_of, of_kind};
-ghost use Rattle.nq_model.specs.Client.{lease_on, drop_lease, put_lease, used_lease};
+ghost use Rattle.nq_model.specs.protocol.Client.{lease_on, drop_lease, put_lease, used_lease};
 ghost use Rattle.nq_client_parts.specs.ByFile.{Ascends, IsPlace, of_file};
 ghost use Rattle.nq_client_parts.specs.Leases.{lease_in, file_of_row};
 

@@ -1,9 +1,9 @@
 //! What the lease on a file lets its holder do.
 
 ghost use Rattle.std.specs.Prelude.{◌≡◌};
-ghost use Rattle.nq_model.specs.Client.{lease_on};
-ghost use Rattle.nq_model.specs.Hear.{holds_caching};
-ghost use Rattle.nq_model.specs.Send.{boot_of, shares_live};
+ghost use Rattle.nq_model.specs.protocol.Client.{lease_on};
+ghost use Rattle.nq_model.specs.protocol.Hear.{holds_caching};
+ghost use Rattle.nq_model.specs.protocol.Send.{boot_of, shares_live};
 ghost use Rattle.nq_client_parts.specs.HoldingLeases.{lease_of};
 ghost use Rattle.nq_client_parts.specs.Leave.{leave_to_read, leave_to_write, lets_read_block, within};
 

@@ -1,8 +1,8 @@
 //! Losses that no answer named yet.
 
 ghost use Rattle.std.specs.Prelude.{◌≡◌, ◌++◌, ◌∷◌, ◌↔◌, [], filter, map, IfOk, OnOk, IsTrue};
-ghost use Rattle.nq_model.specs.Client.{add_losses, losses_of, other_losses, span_of};
-ghost use Rattle.nq_model.specs.ClientStep.{changed_file, losses_for};
+ghost use Rattle.nq_model.specs.protocol.Client.{add_losses, losses_of, other_losses, span_of};
+ghost use Rattle.nq_model.specs.protocol.ClientStep.{changed_file, losses_for};
 ghost use Rattle.nq_client_parts.specs.Lost.{Loses, is_beside};
 
 use crate::calls::changed_file;
@@ -87,7 +87,7 @@ pub struct Named {
 impl Model for Named {
     ghost use Rattle.std.specs.Prelude.{◌≡◌, List, map};
     ghost use Rattle.nq_base.specs.declared.Loss.{Loss};
-    ghost use Rattle.nq_model.specs.Client.{span_of};
+    ghost use Rattle.nq_model.specs.protocol.Client.{span_of};
 
     ghost Value = { List Loss };
 

@@ -3,9 +3,9 @@
 ghost use Rattle.std.specs.Prelude.{◌≡◌, ◌≤◌, ◌<◌, ◌+◌, [], is_some, slice_get, vec_len, vec_capacity, Some, None, IsOk, OnOk, OnErr, IfNone};
 ghost use Rattle.std.specs.Option.{ForSome};
 ghost use Rattle.std.specs.List.{insert, remove};
-ghost use Rattle.nq_model.specs.Client.{file_of_notice, notice_on, drop_notice, put_notice};
-ghost use Rattle.nq_model.specs.Hear.{noticed_tag, with_notice};
-ghost use Rattle.nq_model.specs.Send.{noticed_in};
+ghost use Rattle.nq_model.specs.protocol.Client.{file_of_notice, notice_on, drop_notice, put_notice};
+ghost use Rattle.nq_model.specs.protocol.Hear.{noticed_tag, with_notice};
+ghost use Rattle.nq_model.specs.protocol.Send.{noticed_in};
 ghost use Rattle.nq_client_parts.specs.ByFile.{Ascends, IsPlace};
 
 use crate::holding::Notice;
@@ -21,7 +21,7 @@ pub struct Notices {
 
 impl Model for Notices {
     ghost use Rattle.std.specs.Prelude.{◌-◌, vec_len, vec_capacity};
-    ghost use Rattle.nq_model.specs.Client.{file_of_notice};
+    ghost use Rattle.nq_model.specs.protocol.Client.{file_of_notice};
     ghost use Rattle.nq_client_parts.specs.ByFile.{Ascends};
     ghost use Rattle.nq_client_parts.specs.Notices.{NoticeList};
 

@@ -1,8 +1,8 @@
 -- What the counts of the test of skew mean, over a history of events. Histories are told with the newest event first.
 use Rattle.std.specs.Prelude.{◌≡◌, ℕ, ◌+◌, ◌<◌, ◌≤◌, List, ◌∷◌, Option, Some, length, slice_get}
 use Rattle.nq_base.specs.declared.Event.{Event}
-use Rattle.nq_model.specs.Skew.{IsWithinSkew, is_server_tick, is_tick_of, server_ticks, ticks_of}
-use Rattle.nq_model.specs.SkewBroken.{EndsNow}
+use Rattle.nq_model.specs.protocol.Skew.{IsWithinSkew, is_server_tick, is_tick_of, server_ticks, ticks_of}
+use Rattle.nq_model.specs.protocol.SkewBroken.{EndsNow}
 use Rattle.nq_clock.specs.Counts.{Counts, SkewCounts}
 
 -- a part ends now, has at most the window's number of the host's ticks, and in it the server's clock ticks at least so

@@ -2,8 +2,8 @@
 
 ghost use Rattle.std.specs.Prelude.{◌≡◌, ◌+◌, ◌<◌, ◌≤◌, ◌↔◌, List, [], ◌∷◌, length, map, replicate, Some, IsOk, IsTrue, IfOk, IfErr, OnOk, OnErr};
 ghost use Rattle.nq_base.specs.declared.Event.{Event};
-ghost use Rattle.nq_model.specs.Skew.{IsWithinSkew};
-ghost use Rattle.nq_model.specs.SkewBroken.{skew_broken};
+ghost use Rattle.nq_model.specs.protocol.Skew.{IsWithinSkew};
+ghost use Rattle.nq_model.specs.protocol.SkewBroken.{skew_broken};
 ghost use Rattle.nq_clock.specs.Counts.{after_server_tick, first_broken, host_ticked, no_counts};
 ghost use Rattle.nq_clock.specs.Tracks.{Follows};
 

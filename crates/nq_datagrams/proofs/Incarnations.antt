@@ -5,7 +5,7 @@ use mathlib.Core.Logic.{inl, inr}
 use Rattle.std.proofs.lemmas.Bool.{ne_eqb}
 use Rattle.nq_base.specs.declared.Reply.{Reply}
 use Rattle.nq_base.specs.declared.Reply.TheVariants as reply
-use Rattle.nq_model.specs.Hear.{inc_of}
+use Rattle.nq_model.specs.protocol.Hear.{inc_of}
 use Rattle.nq_xdr.specs.Item.{word, hyper, opaque}
 use Rattle.nq_xdr.specs.Reading.{◌>>=◌, word_at, hyper_at}
 use Rattle.nq_xdr.proofs.Numbers.{word_again, word_at-short}

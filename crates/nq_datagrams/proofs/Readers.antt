@@ -7,10 +7,10 @@ use mathlib.Core.Logic.{inl, inr}
 use Rattle.nq_base.specs.declared.Reply.{Reply}
 use Rattle.nq_base.specs.declared.Request.{Request}
 use Rattle.nq_base.specs.declared.Request.TheVariants.{Null, Attach, Lookup, Create, GetAttr, Read, Write, GetLease, Vacated, Evicted, Resize, Remove}
-use Rattle.nq_model.specs.Client.{Client, Ticket, begun}
-use Rattle.nq_model.specs.Hear.{hear, hear_reply, hear_call, inc_of, reply_counts, goes_on, replied}
-use Rattle.nq_model.specs.Message.{Message, call, reply, error, RpcError, rpc_mismatch, program_unavailable, program_mismatch, procedure_unavailable}
-use Rattle.nq_model.specs.Message.{garbage_arguments, too_long, datagram_of}
+use Rattle.nq_model.specs.protocol.Client.{Client, Ticket, begun}
+use Rattle.nq_model.specs.protocol.Hear.{hear, hear_reply, hear_call, inc_of, reply_counts, goes_on, replied}
+use Rattle.nq_model.specs.protocol.Message.{Message, call, reply, error, RpcError, rpc_mismatch, program_unavailable, program_mismatch, procedure_unavailable}
+use Rattle.nq_model.specs.protocol.Message.{garbage_arguments, too_long, datagram_of}
 use Rattle.nq_xdr.specs.declared.rpc.message.Outcome.TheVariants as outcome
 use Rattle.nq_xdr.specs.RpcReading.{message_at}
 use Rattle.nq_wire.specs.declared.WireFault.{WireFault}

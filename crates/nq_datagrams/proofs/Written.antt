@@ -2,8 +2,8 @@
 use Rattle.std.proofs.Common.{◌≡◌, ◌≤◌, length, Ok, refl, arith}
 use Rattle.nq_base.specs.declared.Reply.{Reply}
 use Rattle.nq_base.specs.declared.Request.{Request}
-use Rattle.nq_model.specs.Message.{Message, call, reply, error, RpcError, rpc_mismatch, program_unavailable, program_mismatch, procedure_unavailable}
-use Rattle.nq_model.specs.Message.{garbage_arguments}
+use Rattle.nq_model.specs.protocol.Message.{Message, call, reply, error, RpcError, rpc_mismatch, program_unavailable, program_mismatch, procedure_unavailable}
+use Rattle.nq_model.specs.protocol.Message.{garbage_arguments}
 use Rattle.nq_xdr.specs.Message.{spelling_len, null, IsMessage, IsOutcome}
 use Rattle.nq_xdr.specs.RpcReading.{message_at}
 use Rattle.nq_xdr.proofs.Messages.{message_again, null_fits}

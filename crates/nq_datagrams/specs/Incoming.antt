@@ -2,10 +2,10 @@
 use Rattle.std.specs.Prelude.{ℕ, ◌==◌, ◌||◌, ◌&&◌, not, List, length, Option, Some, None, Result, Ok, Err, nat_lt, if◌then◌else◌}
 use Rattle.nq_base.specs.declared.Reply.{Reply}
 use Rattle.nq_base.specs.declared.Request.{Request}
-use Rattle.nq_model.specs.Client.{Client, ClientStep, Ticket}
-use Rattle.nq_model.specs.Hear.{hear}
-use Rattle.nq_model.specs.Message.{Message, call, reply, Datagram, too_long, no_message, no_call, other_rpc, other_program, other_version}
-use Rattle.nq_model.specs.Message.{unknown_procedure, garbage_vacated, garbage, request}
+use Rattle.nq_model.specs.protocol.Client.{Client, ClientStep, Ticket}
+use Rattle.nq_model.specs.protocol.Hear.{hear}
+use Rattle.nq_model.specs.protocol.Message.{Message, call, reply, Datagram, too_long, no_message, no_call, other_rpc, other_program, other_version}
+use Rattle.nq_model.specs.protocol.Message.{unknown_procedure, garbage_vacated, garbage, request}
 use Rattle.nq_xdr.specs.declared.rpc.message.CallMessage.{CallMessage}
 use Rattle.nq_xdr.specs.declared.rpc.message.Message.{Message as Said}
 use Rattle.nq_xdr.specs.declared.rpc.message.Message.TheVariants as said

@@ -1,8 +1,8 @@
 -- What is said of the bytes of messages, and of those of datagrams.
 use Rattle.std.specs.Prelude.{◌≡◌, ℕ, Some}
-use Rattle.nq_model.specs.Client.{Client, Ticket}
-use Rattle.nq_model.specs.Hear.{hear, inc_of}
-use Rattle.nq_model.specs.Message.{Message, call, reply, error, datagram_of}
+use Rattle.nq_model.specs.protocol.Client.{Client, Ticket}
+use Rattle.nq_model.specs.protocol.Hear.{hear, inc_of}
+use Rattle.nq_model.specs.protocol.Message.{Message, call, reply, error, datagram_of}
 use Rattle.nq_wire.specs.Reply.{Answers}
 use Rattle.nq_wire.specs.Request.{procedure_of}
 use Rattle.nq_datagrams.specs.Incoming.{datagram_in, hears_in}

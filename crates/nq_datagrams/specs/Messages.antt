@@ -2,8 +2,8 @@
 use Rattle.std.specs.Prelude.{ℕ, ◌^◌, ◌<◌, List}
 use Rattle.nq_base.specs.declared.Reply.{Reply}
 use Rattle.nq_base.specs.declared.Request.{Request}
-use Rattle.nq_model.specs.Message.{Message, call, reply, error, RpcError, rpc_mismatch, program_unavailable, program_mismatch, procedure_unavailable}
-use Rattle.nq_model.specs.Message.{garbage_arguments}
+use Rattle.nq_model.specs.protocol.Message.{Message, call, reply, error, RpcError, rpc_mismatch, program_unavailable, program_mismatch, procedure_unavailable}
+use Rattle.nq_model.specs.protocol.Message.{garbage_arguments}
 use Rattle.nq_xdr.specs.declared.rpc.message.Message.{Message as Said}
 use Rattle.nq_xdr.specs.declared.rpc.message.Message.TheVariants as said
 use Rattle.nq_xdr.specs.declared.rpc.message.Outcome.{Outcome}

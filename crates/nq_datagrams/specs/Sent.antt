@@ -1,7 +1,7 @@
 -- What is sent: packets as datagrams, and a reply of which the front is written.
 use Rattle.std.specs.Prelude.{ℕ, List}
 use Rattle.nq_base.specs.declared.Party.{Party}
-use Rattle.nq_model.specs.Message.{Packet}
+use Rattle.nq_model.specs.protocol.Message.{Packet}
 use Rattle.nq_datagrams.specs.Messages.{FitsMessage, bytes_of}
 
 -- a packet as it is sent: to whom, and the bytes of its message

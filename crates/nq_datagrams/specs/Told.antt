@@ -1,8 +1,8 @@
 -- What the code makes of a datagram, as the protocol's definitions see it.
 use Rattle.std.specs.Prelude.{Option, Some, None}
-use Rattle.nq_model.specs.Message.{Message, call, reply, RpcError, rpc_mismatch, program_unavailable, program_mismatch, procedure_unavailable}
-use Rattle.nq_model.specs.Message.{garbage_arguments, Datagram, too_long, no_message, no_call, other_rpc, other_program, other_version}
-use Rattle.nq_model.specs.Message.{unknown_procedure, garbage_vacated, garbage, request}
+use Rattle.nq_model.specs.protocol.Message.{Message, call, reply, RpcError, rpc_mismatch, program_unavailable, program_mismatch, procedure_unavailable}
+use Rattle.nq_model.specs.protocol.Message.{garbage_arguments, Datagram, too_long, no_message, no_call, other_rpc, other_program, other_version}
+use Rattle.nq_model.specs.protocol.Message.{unknown_procedure, garbage_vacated, garbage, request}
 use Rattle.nq_xdr.specs.RpcFault.{fault_number}
 use Rattle.nq_wire.specs.Lent.{lent_reply}
 use Rattle.nq_datagrams.specs.declared.to_client.Heard.{Heard}

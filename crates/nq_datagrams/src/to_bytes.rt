@@ -1,7 +1,7 @@
 //! Writing messages.
 
 ghost use Rattle.std.specs.Prelude.{◌≡◌, ◌+◌, ◌≤◌, ◌++◌, IsOk, OnOk, OnErr};
-ghost use Rattle.nq_model.specs.Message.{call};
+ghost use Rattle.nq_model.specs.protocol.Message.{call};
 ghost use Rattle.nq_wire.specs.Request.{HasSpelling, procedure_of};
 ghost use Rattle.nq_wire.specs.Procedure.{number_of};
 ghost use Rattle.nq_datagrams.specs.Messages.{FitsMessage, bytes_of, program, version};

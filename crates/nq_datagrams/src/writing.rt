@@ -1,7 +1,7 @@
 //! Messages as datagrams.
 
 ghost use Rattle.std.specs.Prelude.{◌≡◌, ◌≤◌, IfOk, OnOk};
-ghost use Rattle.nq_model.specs.Message.{call, reply as reply_to, error};
+ghost use Rattle.nq_model.specs.protocol.Message.{call, reply as reply_to, error};
 ghost use Rattle.nq_datagrams.specs.Messages.{FitsMessage, bytes_of, error_outcome};
 ghost use Rattle.nq_datagrams.specs.Told.{told_error};
 ghost use Rattle.nq_wire.specs.Reply.{results_len};

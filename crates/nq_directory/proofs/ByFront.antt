@@ -6,7 +6,7 @@ use Rattle.std.specs.List.Sorted.{IsNonDecreasing}
 use Rattle.std.specs.Prelude.{nat_lt}
 use Rattle.std.proofs.lemmas.Bool.{ltb-true, ltb-false}
 use Rattle.std.proofs.lemmas.List.Sorted.{IsNonDecreasingBy-drop}
-use Rattle.nq_model.specs.Profile.{same_bytes}
+use Rattle.nq_model.specs.protocol.Profile.{same_bytes}
 use Rattle.nq_directory.specs.Fronts.{front, fronts_of}
 use Rattle.nq_directory.specs.Names.{file_if, file_of, is_named, named}
 use Rattle.nq_directory.specs.declared.names.FileName.{FileName}

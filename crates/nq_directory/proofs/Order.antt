@@ -12,7 +12,7 @@ use Rattle.std.proofs.lemmas.List.Sorted.{IsPartitionPoint-from_clause}
 use Rattle.std.proofs.lemmas.List.Sums.{prefix_len_is}
 use denote.Param.Members.{Mut}
 use denote.Ref.{Bor}
-use Rattle.nq_model.specs.Profile.{same_bytes}
+use Rattle.nq_model.specs.protocol.Profile.{same_bytes}
 use Rattle.nq_directory.specs.declared.names.FileName.{FileName}
 use Rattle.nq_directory.specs.Names.{file_if, file_of, named, name_before, is_before, is_named, put_name, put_names, NoneBefore, AreInOrder}
 use Rattle.nq_directory.proofs.Called.{same-name, same-self}

@@ -5,8 +5,8 @@ use Rattle.nq_base.specs.declared.Grant.{Grant}
 use Rattle.nq_client_parts.specs.Takes.{taking, is_broken}
 use Rattle.nq_client_parts.specs.declared.holding.taken.Take.TheVariants.{Same, Broken}
 use Rattle.nq_directory.specs.declared.names.FileName.{FileName}
-use Rattle.nq_model.specs.Client.{Lease}
-use Rattle.nq_model.specs.Hear.{breaks}
+use Rattle.nq_model.specs.protocol.Client.{Lease}
+use Rattle.nq_model.specs.protocol.Hear.{breaks}
 use Rattle.nq_directory.specs.Asking.{last_id}
 
 -- a chain is broken where the grant breaks it

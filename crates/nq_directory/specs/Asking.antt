@@ -10,10 +10,10 @@ use Rattle.nq_directory.specs.declared.listing.messages.DirTag.{DirTag}
 use Rattle.nq_directory.specs.declared.listing.messages.ReadDir.{ReadDir}
 use Rattle.nq_directory.specs.Messages.{Listing, Answer, page, wait, read_dir_bytes, dir_vacated_bytes}
 use Rattle.nq_directory.specs.Reading.{dir_evicted_in, told_in}
-use Rattle.nq_model.specs.Client.{Lease}
-use Rattle.nq_model.specs.Hear.{breaks, granted_lease}
-use Rattle.nq_model.specs.Profile.{same_bytes}
-use Rattle.nq_model.specs.Table.{same_who, tag_below}
+use Rattle.nq_model.specs.protocol.Client.{Lease}
+use Rattle.nq_model.specs.protocol.Hear.{breaks, granted_lease}
+use Rattle.nq_model.specs.protocol.Profile.{same_bytes}
+use Rattle.nq_model.specs.protocol.Table.{same_who, tag_below}
 use Rattle.nq_directory.specs.NameCacheNames.{DirList, Request, Names, most_lists, empty_list, number_after, list_of, other_lists, forgets}
 
 -- what a host keeps then, and the bytes that it sends, if any

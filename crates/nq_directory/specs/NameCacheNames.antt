@@ -6,8 +6,8 @@ use Rattle.nq_client_parts.specs.HoldingLeases.{passes}
 use Rattle.nq_directory.specs.declared.names.FileName.{FileName}
 use Rattle.nq_directory.specs.Names.{named}
 use Rattle.nq_directory.specs.Prefix.{directory}
-use Rattle.nq_model.specs.Client.{Lease, is_live}
-use Rattle.nq_model.specs.Profile.{same_bytes, xid_end}
+use Rattle.nq_model.specs.protocol.Client.{Lease, is_live}
+use Rattle.nq_model.specs.protocol.Profile.{same_bytes, xid_end}
 use Rattle.nq_directory.specs.declared.name_cache.found.Found.{Found}
 
 -- the names of a directory: its prefix, the lease under which they are held, and the files with their names, in order of the names

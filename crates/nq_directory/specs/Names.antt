@@ -2,7 +2,7 @@
 use Rattle.std.specs.Prelude.{◌≡◌, ℕ, Bool, false, List, [], ◌∷◌, Option, Some, None, find, if◌then◌else◌}
 use Rattle.std.specs.Cmp.Lexicographic.{slice_cmp}
 use Rattle.std.specs.Ordering.{is_lt, nat_cmp}
-use Rattle.nq_model.specs.Profile.{same_bytes}
+use Rattle.nq_model.specs.protocol.Profile.{same_bytes}
 use Rattle.nq_directory.specs.declared.names.FileName.{FileName}
 
 -- whether a name stands before another: by the first byte in which they differ

@@ -2,7 +2,7 @@
 
 ghost use Rattle.std.specs.Prelude.{◌≡◌, ◌≤◌, ◌-◌, ◌++◌, ◌↔◌, length, replicate, take, IsSome, IfSome, IsTrue};
 ghost use Rattle.nq_directory.specs.Prefix.{IsPrefix, directory};
-ghost use Rattle.nq_model.specs.Profile.{same_bytes};
+ghost use Rattle.nq_model.specs.protocol.Profile.{same_bytes};
 
 use nq_base::Name;
 use std::marker::Model;

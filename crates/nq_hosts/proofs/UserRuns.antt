@@ -4,7 +4,7 @@ use Rattle.nq_base.specs.declared.Who.{Who}
 use Rattle.nq_client.specs.Finishing.{to_server}
 use Rattle.nq_base.specs.declared.ending.halt.Halt.{Halt}
 use Rattle.nq_link.specs.Link.{Letters}
-use Rattle.nq_model.specs.ClientStep.{starts}
+use Rattle.nq_model.specs.protocol.ClientStep.{starts}
 use Rattle.nq_link.specs.Links.{LinkTold}
 use Rattle.nq_hosts.specs.Calling.{SendsOut, Waits}
 use Rattle.nq_hosts.specs.Running.{Begins, term_wanted}

@@ -8,8 +8,8 @@ use Rattle.nq_base.specs.declared.ending.halt.Halt.{Halt}
 use Rattle.nq_base.specs.Entries.{EntryList}
 use Rattle.nq_link.specs.Link.{Letters}
 use Rattle.nq_link.specs.declared.Sent.{Sent}
-use Rattle.nq_model.specs.ClientStep.{client_call}
-use Rattle.nq_model.specs.Profile.{most_taken_by_client}
+use Rattle.nq_model.specs.protocol.ClientStep.{client_call}
+use Rattle.nq_model.specs.protocol.Profile.{most_taken_by_client}
 use Rattle.nq_link.specs.Links.{LinkTold, Posts}
 use Rattle.nq_hosts.specs.UserTurning.{Between, TakesTurns, reached}
 use Rattle.nq_hosts.specs.declared.user.aims.Aim.{Aim}

@@ -11,8 +11,8 @@ use Rattle.nq_io.specs.Faults.{Rose}
 use Rattle.nq_base.specs.Entries.{EntryList}
 use Rattle.nq_link.specs.Link.{Letters}
 use Rattle.nq_link.specs.declared.Sent.{Sent}
-use Rattle.nq_model.specs.ClientStep.{client_tick}
-use Rattle.nq_model.specs.Profile.{most_taken_by_client}
+use Rattle.nq_model.specs.protocol.ClientStep.{client_tick}
+use Rattle.nq_model.specs.protocol.Profile.{most_taken_by_client}
 use Rattle.nq_clock.specs.Clocks.{ClockTold, ReadsOnce}
 use Rattle.nq_link.specs.Links.{Hears, Letter, LinkTold, Posts, ReceivesOnce, most_bytes}
 use Rattle.nq_wire.specs.Outbox.{Datagrams}

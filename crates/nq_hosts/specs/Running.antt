@@ -8,7 +8,7 @@ use Rattle.nq_client.specs.Counted.{Counted}
 use Rattle.nq_client.specs.Finishing.{to_server}
 use Rattle.nq_base.specs.declared.ending.halt.Halt.{Halt}
 use Rattle.nq_base.specs.Entries.{EntryList}
-use Rattle.nq_model.specs.ClientStep.{starts}
+use Rattle.nq_model.specs.protocol.ClientStep.{starts}
 use Rattle.nq_clock.specs.Clocks.{ClockTold, ReadsOnce}
 use Rattle.nq_link.specs.Links.{LinkTold}
 use Rattle.nq_script.specs.Calls.{SpellsCall}

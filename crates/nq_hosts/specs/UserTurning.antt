@@ -4,7 +4,7 @@ use Rattle.nq_base.specs.declared.Answer.{Answer}
 use Rattle.nq_client.specs.Counted.{Counted}
 use Rattle.nq_base.specs.declared.ending.halt.Halt.{Halt}
 use Rattle.nq_base.specs.Entries.{EntryList}
-use Rattle.nq_model.specs.Client.{Client}
+use Rattle.nq_model.specs.protocol.Client.{Client}
 use Rattle.nq_hosts.specs.ClientTurn.{AttendsTurn}
 use Rattle.nq_clock.specs.Clocks.{ClockTold}
 use Rattle.nq_link.specs.Links.{LinkTold}

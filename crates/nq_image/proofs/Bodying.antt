@@ -7,8 +7,8 @@ use Rattle.std.proofs.lemmas.Bool.Decides.{nat_tests}
 use Rattle.std.proofs.lemmas.List.{append_assoc, append-nil, take_at, drop_at}
 use Rattle.std.proofs.lemmas.List.Elements.{All-append, All-cons, All-nil, All-head, All-tail}
 use Rattle.std.proofs.lemmas.List.Sums.{sum_by-cons}
-use Rattle.nq_model.specs.Change.{AreApart, IsBody, IsFileWithin}
-use Rattle.nq_model.specs.Kept.{File, blocks_in_all, blocks_of as length_of}
+use Rattle.nq_model.specs.protocol.Change.{AreApart, IsBody, IsFileWithin}
+use Rattle.nq_model.specs.protocol.Kept.{File, blocks_in_all, blocks_of as length_of}
 use Rattle.nq_image.specs.Kept.{body_in, file_in, files_of, found_file, numbers_from}
 use Rattle.nq_image.specs.Layout.{block_place}
 use Rattle.nq_image.specs.Writing.{bodies_of}

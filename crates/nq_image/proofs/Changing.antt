@@ -8,8 +8,8 @@ use Rattle.std.proofs.lemmas.List.{drop-drop, drop_at, length-take-le}
 use Rattle.std.proofs.lemmas.Nat.{from_be_bytes-to_be_bytes_4}
 use Rattle.nq_base.specs.declared.Heads.{Heads}
 use Rattle.nq_base.specs.declared.HostRow.{HostRow}
-use Rattle.nq_model.specs.Change.{AreHeadsWithin, IsHostWithin, kept_as}
-use Rattle.nq_model.specs.Kept.{File, Kept, with_row}
+use Rattle.nq_model.specs.protocol.Change.{AreHeadsWithin, IsHostWithin, kept_as}
+use Rattle.nq_model.specs.protocol.Kept.{File, Kept, with_row}
 use Rattle.nq_image.specs.Heads.{front_checks, front_of}
 use Rattle.nq_image.specs.Hosts.{host_checks, host_of, hosts_checks, hosts_of}
 use Rattle.nq_image.specs.Image.{no_marks}

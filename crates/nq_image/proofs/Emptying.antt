@@ -3,8 +3,8 @@ use Rattle.std.proofs.Common.{◌≡◌, ◌+◌, ◌*◌, ◌++◌, ℕ, zero, 
 use Rattle.std.specs.Prelude.{replicate}
 use Rattle.std.proofs.lemmas.List.{append_assoc, length-replicate, replicate-append-replicate}
 use Rattle.std.proofs.lemmas.List.Elements.{All-nil, All-replicate}
-use Rattle.nq_model.specs.Change.{IsFileWithin, IsHostWithin, IsWithinBounds}
-use Rattle.nq_model.specs.Kept.{fresh_row}
+use Rattle.nq_model.specs.protocol.Change.{IsFileWithin, IsHostWithin, IsWithinBounds}
+use Rattle.nq_model.specs.protocol.Kept.{fresh_row}
 use Rattle.nq_image.specs.Kept.{opened}
 use Rattle.nq_image.specs.Nothing.{first_of_nothing, nothing_kept}
 use Rattle.nq_image.specs.Writing.{bodies_of, front_bytes, host_bytes, hosts_bytes, ids_bytes, image_of, rows_bytes, tables_bytes, zeros_of}

@@ -14,9 +14,9 @@ use Rattle.std.proofs.lemmas.Nat.{from_be_bytes-to_be_bytes_4, from_be_bytes-to_
 use Rattle.std.proofs.lemmas.Slice.Eq.{bytes_eq-Decides}
 use Rattle.nq_base.specs.Name.{IsName, is_name}
 use Rattle.nq_base.proofs.NameTests.{name_decides}
-use Rattle.nq_model.specs.Change.{AreApart, IsFileWithin}
-use Rattle.nq_model.specs.Kept.{File, blocks_in_all, blocks_of as length_of, find_name}
-use Rattle.nq_model.specs.Profile.{same_bytes}
+use Rattle.nq_model.specs.protocol.Change.{AreApart, IsFileWithin}
+use Rattle.nq_model.specs.protocol.Kept.{File, blocks_in_all, blocks_of as length_of, find_name}
+use Rattle.nq_model.specs.protocol.Profile.{same_bytes}
 use Rattle.nq_image.specs.Layout.{piece, word_in, hyper_in, are_zeros}
 use Rattle.nq_image.specs.Rows.{behind_name, blocks_of, has_name, is_named, name_holds, name_in, row_checks, rows_checks, slot_of, slots_of}
 use Rattle.nq_image.specs.Rows.{used_checks, used_slot}

@@ -3,7 +3,7 @@ use Rattle.std.proofs.Common.{◌≡◌, ◌+◌, ◌==◌, ◌&&◌, ℕ, Bool,
 use Rattle.std.proofs.Common.{if◌then◌else◌, refl, sym, ap, subst, ◌∙◌, arith}
 use Rattle.std.specs.Prelude.{nat_le, slice_index_or}
 use Rattle.std.proofs.lemmas.Bool.Decides.{nat_tests}
-use Rattle.nq_model.specs.Kept.{Kept}
+use Rattle.nq_model.specs.protocol.Kept.{Kept}
 use Rattle.nq_image.specs.Heads.{version_of}
 use Rattle.nq_image.specs.Image.{FoundTwo, ◌>>=◌, image_two, no_marks}
 use Rattle.nq_image.specs.Kept.{opened, stands_for}

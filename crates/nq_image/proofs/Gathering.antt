@@ -4,7 +4,7 @@ use Rattle.std.proofs.Common.{if◌then◌else◌, refl, sym, ap, ◌∙◌, ari
 use Rattle.std.specs.List.{insert}
 use Rattle.std.specs.Prelude.{nat_lt}
 use Rattle.std.proofs.lemmas.List.{append_assoc, drop_at, take_at}
-use Rattle.nq_model.specs.Kept.{File, Kept}
+use Rattle.nq_model.specs.protocol.Kept.{File, Kept}
 use Rattle.nq_image.specs.Kept.{body_in, file_in, files_of, found_file, kept_in, kept_two, opened, place_of, stands_for}
 use Rattle.nq_image.specs.Standing.{PlacedFile, Standing, Stands, blocks_in, file_at, found_of, kept_at, put_file, row_id, row_slot, with_rows}
 use Rattle.nq_image.specs.Whole.{Found}

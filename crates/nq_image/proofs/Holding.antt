@@ -9,7 +9,7 @@ use Rattle.std.proofs.lemmas.List.{get_or_past}
 use Rattle.std.proofs.lemmas.List.Elements.{All-cons, All-nil, All-head, All-tail, All-take, All-drop}
 use Rattle.nq_base.proofs.NameTests.{name_decides}
 use Rattle.nq_base.specs.Name.{IsName, is_name}
-use Rattle.nq_model.specs.Change.{IsHostWithin}
+use Rattle.nq_model.specs.protocol.Change.{IsHostWithin}
 use Rattle.nq_image.specs.Bounds.{AreBytes}
 use Rattle.nq_image.specs.Check.{Check, check, tested}
 use Rattle.nq_image.specs.Hosts.{host_checks, host_of, hosts_checks, hosts_of}

@@ -11,8 +11,8 @@ use Rattle.std.proofs.lemmas.List.Folds.{list_any-append}
 use Rattle.std.proofs.lemmas.Slice.Eq.{bytes_eq-Decides}
 use Rattle.nq_base.specs.Name.{IsName, is_name}
 use Rattle.nq_base.proofs.NameTests.{name_decides}
-use Rattle.nq_model.specs.Change.{with_block, with_file}
-use Rattle.nq_model.specs.Kept.{drop_file, with_files}
+use Rattle.nq_model.specs.protocol.Change.{with_block, with_file}
+use Rattle.nq_model.specs.protocol.Kept.{drop_file, with_files}
 use Rattle.nq_image.specs.Heads.{front_checks, front_of}
 use Rattle.nq_image.specs.Image.{no_marks}
 use Rattle.nq_image.specs.Layout.{are_zeros, block_place, hyper_in, piece, word_in}

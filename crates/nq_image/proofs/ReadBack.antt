@@ -10,7 +10,7 @@ use Rattle.std.proofs.lemmas.List.Elements.{All-head, All-tail}
 use Rattle.std.proofs.lemmas.Nat.{from_be_bytes-to_be_bytes_4, from_be_bytes-to_be_bytes_8}
 use Rattle.nq_base.specs.declared.HostRow.{HostRow}
 use Rattle.nq_base.specs.declared.Verdict.{Verdict}
-use Rattle.nq_model.specs.Change.{IsHostWithin}
+use Rattle.nq_model.specs.protocol.Change.{IsHostWithin}
 use Rattle.nq_image.specs.Check.{Check, tested}
 use Rattle.nq_image.specs.Hosts.{host_checks, host_of, hosts_checks, hosts_of, verdict_of}
 use Rattle.nq_image.specs.Layout.{piece, word_in, hyper_in, are_zeros}

@@ -7,8 +7,8 @@ use Rattle.std.proofs.lemmas.Bool.Decides.{nat_tests}
 use Rattle.std.proofs.lemmas.List.{map-append, set_split}
 use Rattle.std.proofs.lemmas.List.Elements.{All-append, All-nil, All-head, All-tail, All-weaker}
 use Rattle.nq_base.specs.declared.BlockChange.{BlockChange}
-use Rattle.nq_model.specs.Change.{file_of, with_body, with_block, with_block_in, with_file, with_file_at}
-use Rattle.nq_model.specs.Kept.{File, Kept, drop_file, find_file, replace_file, with_files}
+use Rattle.nq_model.specs.protocol.Change.{file_of, with_body, with_block, with_block_in, with_file, with_file_at}
+use Rattle.nq_model.specs.protocol.Kept.{File, Kept, drop_file, find_file, replace_file, with_files}
 use Rattle.nq_image.specs.Kept.{body_in}
 use Rattle.nq_image.specs.Standing.{AreDistinct, HasBodies, IsApartFrom, IsNoneOf, PlacedFile, Standing, blocks_in, file_at, files_in, kept_at}
 use Rattle.nq_image.specs.Standing.{others, put_file, row_at, row_blocks, row_for, with_placed, with_rows}

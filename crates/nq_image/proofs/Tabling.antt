@@ -11,8 +11,8 @@ use Rattle.std.proofs.lemmas.List.Elements.{All-append, All-cons, All-nil, All-h
 use Rattle.std.proofs.lemmas.List.Folds.{list_any_none}
 use Rattle.std.proofs.lemmas.List.Sums.{sum_by-cons}
 use Rattle.std.proofs.lemmas.Nat.{from_be_bytes-to_be_bytes_4}
-use Rattle.nq_model.specs.Change.{AreApart, IsFileWithin}
-use Rattle.nq_model.specs.Kept.{File, blocks_in_all, blocks_of as length_of}
+use Rattle.nq_model.specs.protocol.Change.{AreApart, IsFileWithin}
+use Rattle.nq_model.specs.protocol.Kept.{File, blocks_in_all, blocks_of as length_of}
 use Rattle.nq_image.specs.Check.{check}
 use Rattle.nq_image.specs.Kept.{numbers_from}
 use Rattle.nq_image.specs.Layout.{piece, word_in, whole_blocks}

@@ -9,9 +9,9 @@ use Rattle.std.proofs.lemmas.List.Elements.{All-append, All-cons, All-nil, All-h
 use Rattle.std.proofs.lemmas.List.Folds.{list_any_none}
 use Rattle.std.proofs.lemmas.List.Sums.{sum_by-append, sum_by-cons}
 use Rattle.nq_base.specs.declared.HostRow.{HostRow}
-use Rattle.nq_model.specs.Change.{AreApart, IsBody, IsFileWithin, IsHostWithin, IsWithinBounds}
-use Rattle.nq_model.specs.Kept.{File, Kept, blocks_in_all, blocks_of as length_of, find_name}
-use Rattle.nq_model.specs.Profile.{same_bytes}
+use Rattle.nq_model.specs.protocol.Change.{AreApart, IsBody, IsFileWithin, IsHostWithin, IsWithinBounds}
+use Rattle.nq_model.specs.protocol.Kept.{File, Kept, blocks_in_all, blocks_of as length_of, find_name}
+use Rattle.nq_model.specs.protocol.Profile.{same_bytes}
 use Rattle.nq_image.specs.Bounds.{AreBytes}
 use Rattle.nq_image.specs.Check.{check, tested}
 use Rattle.nq_image.specs.Heads.{boots_checks, boots_of, front_checks, front_of, version_of}

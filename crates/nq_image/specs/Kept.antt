@@ -4,7 +4,7 @@ use Rattle.std.specs.Prelude.{slice_index_or, sum_by, unwrap_or, zero, suc}
 use Rattle.std.specs.List.{insert}
 use Rattle.nq_base.specs.declared.Heads.{Heads}
 use Rattle.nq_base.specs.declared.HostRow.{HostRow}
-use Rattle.nq_model.specs.Kept.{File, Kept}
+use Rattle.nq_model.specs.protocol.Kept.{File, Kept}
 use Rattle.nq_image.specs.declared.heads.Boots.{Boots}
 use Rattle.nq_image.specs.declared.heads.Front.{Front}
 use Rattle.nq_image.specs.declared.kept.FoundFile.{FoundFile}

@@ -1,6 +1,6 @@
 -- The image in which nothing is kept.
 use Rattle.std.specs.Prelude.{ℕ, List, [], ◌∷◌, replicate}
-use Rattle.nq_model.specs.Kept.{Kept, fresh_row}
+use Rattle.nq_model.specs.protocol.Kept.{Kept, fresh_row}
 
 -- what a server keeps that never booted
 unfoldable pub nothing_kept : Kept

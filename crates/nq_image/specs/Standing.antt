@@ -7,7 +7,7 @@ use Rattle.nq_base.specs.Name.{IsName}
 use Rattle.nq_base.specs.declared.FileRow.{FileRow}
 use Rattle.nq_base.specs.declared.Heads.{Heads}
 use Rattle.nq_base.specs.declared.HostRow.{HostRow}
-use Rattle.nq_model.specs.Kept.{File, Kept, resized}
+use Rattle.nq_model.specs.protocol.Kept.{File, Kept, resized}
 use Rattle.nq_image.specs.declared.heads.Front.{Front}
 use Rattle.nq_image.specs.declared.rows.Slot.{Slot}
 use Rattle.nq_image.specs.Image.{FoundTwo, no_marks}

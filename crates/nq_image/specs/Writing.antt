@@ -6,7 +6,7 @@ use Rattle.std.specs.Int.{w32, w64, to_be_bytes}
 use Rattle.nq_base.specs.declared.Heads.{Heads}
 use Rattle.nq_base.specs.declared.HostRow.{HostRow}
 use Rattle.nq_base.specs.declared.Verdict.{Verdict}
-use Rattle.nq_model.specs.Kept.{File, Kept, blocks_in_all, blocks_of}
+use Rattle.nq_model.specs.protocol.Kept.{File, Kept, blocks_in_all, blocks_of}
 
 -- so many zeros
 unfoldable pub zeros_of : (count : ℕ) → List ℕ

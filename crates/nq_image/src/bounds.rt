@@ -1,8 +1,8 @@
 //! What opens is within the bounds of a kept state.
 
 ghost use Rattle.std.specs.Prelude.{◌≡◌, ℕ, List, Some, Ok};
-ghost use Rattle.nq_model.specs.Change.{IsWithinBounds};
-ghost use Rattle.nq_model.specs.Kept.{Kept};
+ghost use Rattle.nq_model.specs.protocol.Change.{IsWithinBounds};
+ghost use Rattle.nq_model.specs.protocol.Kept.{Kept};
 ghost use Rattle.nq_image.specs.Bounds.{AreBytes};
 ghost use Rattle.nq_image.specs.Kept.{opened};
 

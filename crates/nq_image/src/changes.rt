@@ -4,8 +4,8 @@
 ghost use Rattle.std.specs.Prelude.{◌≡◌, ◌+◌, ◌*◌, ◌<◌, ℕ, List, Some, None, All, length, slice_index_or};
 ghost use Rattle.nq_base.specs.declared.Heads.{Heads};
 ghost use Rattle.nq_base.specs.declared.HostRow.{HostRow};
-ghost use Rattle.nq_model.specs.Change.{AreHeadsWithin, IsHostWithin, kept_as, with_block, with_file};
-ghost use Rattle.nq_model.specs.Kept.{drop_file, with_files, with_row};
+ghost use Rattle.nq_model.specs.protocol.Change.{AreHeadsWithin, IsHostWithin, kept_as, with_block, with_file};
+ghost use Rattle.nq_model.specs.protocol.Kept.{drop_file, with_files, with_row};
 ghost use Rattle.nq_image.specs.Kept.{body_in};
 ghost use Rattle.nq_image.specs.Standing.{
   AgreeBut,

@@ -1,7 +1,7 @@
 //! What stands in an image of version 2, wherever its files stand.
 
 ghost use Rattle.std.specs.Prelude.{◌≡◌, ◌<◌, ℕ, List, Some, Ok, slice_index};
-ghost use Rattle.nq_model.specs.Kept.{Kept};
+ghost use Rattle.nq_model.specs.protocol.Kept.{Kept};
 ghost use Rattle.nq_image.specs.Image.{FoundTwo};
 ghost use Rattle.nq_image.specs.Kept.{opened};
 ghost use Rattle.nq_image.specs.Standing.{Agree, CanStand, PlacedFile, Standing, Stands, kept_at, row_at, standing_in};

@@ -4,8 +4,8 @@ ghost use Rattle.std.specs.Prelude.{◌≡◌, ◌++◌, ℕ, List, Some, Ok};
 ghost use Rattle.nq_image.specs.Kept.{opened};
 ghost use Rattle.nq_image.specs.Nothing.{first_of_nothing, nothing_kept};
 ghost use Rattle.nq_image.specs.Writing.{image_of, zeros_of};
-ghost use Rattle.nq_model.specs.Change.{IsWithinBounds};
-ghost use Rattle.nq_model.specs.Kept.{Kept};
+ghost use Rattle.nq_model.specs.protocol.Change.{IsWithinBounds};
+ghost use Rattle.nq_model.specs.protocol.Kept.{Kept};
 
 /// Each kept state within its bounds has an image, which opens as that state, whatever stands behind it.
 pub fn each_kept_state_has_an_image()

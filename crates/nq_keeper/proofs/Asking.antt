@@ -10,9 +10,9 @@ use Rattle.nq_base.specs.declared.Verdict.{Verdict}
 use Rattle.nq_base.specs.declared.Who.{Who}
 use Rattle.nq_keeper.specs.declared.keeper.KeepFault.{KeepFault}
 use Rattle.nq_keeper.specs.Asking.{Asks}
-use Rattle.nq_model.specs.Change.{row_of_found}
-use Rattle.nq_model.specs.Decided.{effect_of, no_effect}
-use Rattle.nq_model.specs.Kept.{File, Kept}
+use Rattle.nq_model.specs.protocol.Change.{row_of_found}
+use Rattle.nq_model.specs.protocol.Decided.{effect_of, no_effect}
+use Rattle.nq_model.specs.protocol.Kept.{File, Kept}
 
 pub asks-as : {X : Type 0} (f h : Kept → X) (result : Result X KeepFault) (told tells : Option Kept) (before now : ℕ) (goes : Type 0)
     (left : Option Kept → Type 0) → ((kept : Kept) → f kept ≡ h kept) → Asks f result told tells before now goes left → Asks h result told tells

@@ -10,9 +10,9 @@ use Rattle.nq_keeper.specs.declared.keeper.KeepFault.TheVariants.{Failed}
 use Rattle.nq_keeper.specs.Keeping.{LeavesTwo}
 use Rattle.nq_keeper.specs.StoredKeeper.{StoredKeeper, LeavesEither, answer_of, empty_kept, told_of}
 use Rattle.nq_keeper.specs.Bounds.{told-kept}
-use Rattle.nq_model.specs.Change.{Fits, IsChangeWithin, IsWithinBounds, applied, kept_as}
-use Rattle.nq_model.specs.Kept.{File, Kept, fresh_row}
-use Rattle.nq_model.specs.Profile.{most_hosts}
+use Rattle.nq_model.specs.protocol.Change.{Fits, IsChangeWithin, IsWithinBounds, applied, kept_as}
+use Rattle.nq_model.specs.protocol.Kept.{File, Kept, fresh_row}
+use Rattle.nq_model.specs.protocol.Profile.{most_hosts}
 use Rattle.nq_model.proofs.WithinBounds.{within-applied}
 
 -- what holds of what is kept holds of what is told

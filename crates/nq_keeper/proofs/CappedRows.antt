@@ -6,9 +6,9 @@ use Rattle.std.proofs.lemmas.List.Sums.{sum_by-append}
 use Rattle.nq_base.specs.declared.BlockChange.{BlockChange}
 use Rattle.nq_base.specs.declared.FileRow.{FileRow}
 use Rattle.nq_base.specs.declared.Heads.{Heads}
-use Rattle.nq_model.specs.Change.{FitsFile, IsRowOf, HasBlock, file_of, with_file, with_file_at, files_with}
-use Rattle.nq_model.specs.Kept.{File, Kept, blocks_of, blocks_in_all, find_file, replace_file}
-use Rattle.nq_model.specs.Profile.{most_files, most_blocks, most_blocks_of_file}
+use Rattle.nq_model.specs.protocol.Change.{FitsFile, IsRowOf, HasBlock, file_of, with_file, with_file_at, files_with}
+use Rattle.nq_model.specs.protocol.Kept.{File, Kept, blocks_of, blocks_in_all, find_file, replace_file}
+use Rattle.nq_model.specs.protocol.Profile.{most_files, most_blocks, most_blocks_of_file}
 use Rattle.nq_model.proofs.FreshFits.{blocks-first, length-replaced}
 use Rattle.nq_keeper.specs.Capped.{last_number, capped_row, capped_file}
 

@@ -13,11 +13,11 @@ use Rattle.nq_base.specs.declared.Request.{Request}
 use Rattle.nq_base.specs.declared.Request.TheVariants.{Attach, Create, Write, Resize, Remove}
 use Rattle.nq_base.specs.declared.Verdict.{Verdict}
 use Rattle.nq_base.specs.declared.Who.{Who}
-use Rattle.nq_model.specs.Change.{Fits, FitsRemoval, IsFileWithin, IsWithinBounds, raised_row, row_of, row_of_found, heads_of, space_of}
-use Rattle.nq_model.specs.Decided.{no_effect, creation, block_write, length_change, removal, effect_of_create, effect_of_push, effect_of_write_in}
-use Rattle.nq_model.specs.Decided.{effect_of_write, effect_of_write_recovering, effect_of_resize, effect_of_remove, effect_of, change_with}
-use Rattle.nq_model.specs.Kept.{File, Kept, blocks_of, blocks_in_all, find_file, find_name}
-use Rattle.nq_model.specs.Profile.{most_files, most_blocks, most_blocks_of_file, most_ids}
+use Rattle.nq_model.specs.protocol.Change.{Fits, FitsRemoval, IsFileWithin, IsWithinBounds, raised_row, row_of, row_of_found, heads_of, space_of}
+use Rattle.nq_model.specs.protocol.Decided.{no_effect, creation, block_write, length_change, removal, effect_of_create, effect_of_push, effect_of_write_in}
+use Rattle.nq_model.specs.protocol.Decided.{effect_of_write, effect_of_write_recovering, effect_of_resize, effect_of_remove, effect_of, change_with}
+use Rattle.nq_model.specs.protocol.Kept.{File, Kept, blocks_of, blocks_in_all, find_file, find_name}
+use Rattle.nq_model.specs.protocol.Profile.{most_files, most_blocks, most_blocks_of_file, most_ids}
 use Rattle.nq_model.proofs.Finding.{choice}
 use Rattle.nq_model.proofs.FreshFits.{found-has}
 use Rattle.nq_keeper.specs.Capped.{last_number, capped_row, capped_file}

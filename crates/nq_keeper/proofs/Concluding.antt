@@ -20,11 +20,11 @@ use Rattle.nq_io.specs.Faults.{Rose}
 use Rattle.nq_keeper.specs.declared.keeper.KeepFault.{KeepFault}
 use Rattle.nq_keeper.specs.declared.keeper.KeepFault.TheVariants.{Failed, Memory}
 use Rattle.nq_keeper.specs.Keeping.{Commits, LeavesTwo, StaysOrEnds, told_after}
-use Rattle.nq_model.specs.Change.{Fits, IsChangeWithin, IsWithinBounds, applied, applied_if}
-use Rattle.nq_model.specs.Decided.{HasText, attach_decided, change_with, decided, decided_before, effect_of, fresh_change, fresh_decided, if_fresh}
-use Rattle.nq_model.specs.Decided.{no_effect, or_fresh, row_with}
-use Rattle.nq_model.specs.Kept.{Kept, can_be_kept, host_row}
-use Rattle.nq_model.specs.Profile.{most_hosts}
+use Rattle.nq_model.specs.protocol.Change.{Fits, IsChangeWithin, IsWithinBounds, applied, applied_if}
+use Rattle.nq_model.specs.protocol.Decided.{HasText, attach_decided, change_with, decided, decided_before, effect_of, fresh_change, fresh_decided, if_fresh}
+use Rattle.nq_model.specs.protocol.Decided.{no_effect, or_fresh, row_with}
+use Rattle.nq_model.specs.protocol.Kept.{Kept, can_be_kept, host_row}
+use Rattle.nq_model.specs.protocol.Profile.{most_hosts}
 use Rattle.nq_model.proofs.FreshFits.{effect-fits, orderly-within}
 use Rattle.nq_model.proofs.FreshWithin.{fresh-within}
 use Rattle.nq_keeper.specs.RequestsCapped.{capped}

@@ -11,8 +11,8 @@ use Rattle.nq_base.specs.declared.BlockChange.{BlockChange}
 use Rattle.nq_base.specs.declared.FileRow.{FileRow}
 use Rattle.nq_keeper.proofs.MadeFiles.{made-id, made-blocks}
 use Rattle.nq_keeper.proofs.Places.{replace-at, drop-at}
-use Rattle.nq_model.specs.Change.{AreApart, file_of, row_of, with_block, with_block_in, with_body, with_file, with_file_at}
-use Rattle.nq_model.specs.Kept.{File, blocks_of, blocks_in_all, find_file, replace_file, drop_file, resized}
+use Rattle.nq_model.specs.protocol.Change.{AreApart, file_of, row_of, with_block, with_block_in, with_body, with_file, with_file_at}
+use Rattle.nq_model.specs.protocol.Kept.{File, blocks_of, blocks_in_all, find_file, replace_file, drop_file, resized}
 use Rattle.std.proofs.lemmas.List.Sums.{sum_by-append}
 use Rattle.nq_model.proofs.Files.{found-id}
 use Rattle.nq_model.proofs.FreshFits.{blocks-first, blocks-replaced}

@@ -10,8 +10,9 @@ use Rattle.nq_keeper.specs.declared.keeper.KeepFault.{KeepFault}
 use Rattle.nq_keeper.specs.declared.keeper.KeepFault.TheVariants.{Failed}
 use Rattle.nq_keeper.specs.InOrder.{FitsAmong, IsRowAmong}
 use Rattle.nq_keeper.specs.StoredKeeper.{asked}
-use Rattle.nq_model.specs.Change.{FitsFile, FitsRemoval, IsOrderly, IsRowOf, applied, blocks_with, files_with, files_without, heads_with, hosts_with, kept_as}
-use Rattle.nq_model.specs.Kept.{File, Kept, find_file}
+use Rattle.nq_model.specs.protocol.Change.{FitsFile, FitsRemoval, IsOrderly, IsRowOf, applied, blocks_with, files_with, files_without, heads_with, hosts_with}
+use Rattle.nq_model.specs.protocol.Change.{kept_as}
+use Rattle.nq_model.specs.protocol.Kept.{File, Kept, find_file}
 
 pub if-some : {X : Type 0} (o : Option X) (x : X) (P : X → Type 0) → IfSome o P → o ≡ Some x → P x
 if-some None x P holds e = cc

@@ -7,11 +7,11 @@ use Rattle.nq_base.specs.declared.HostChange.{HostChange}
 use Rattle.nq_io.specs.Faults.{Rose}
 use Rattle.nq_keeper.specs.declared.keeper.KeepFault.{KeepFault}
 use Rattle.nq_keeper.specs.Keeping.{Commits, StaysOrEnds, told_after}
-use Rattle.nq_model.specs.Change.{AreHeadsWithin, IsChangeWithin, IsWithinBounds, applied, change_of_heads, heads_of, opened_heads}
-use Rattle.nq_model.specs.Kept.{Kept}
-use Rattle.nq_model.specs.ServerStep.{booted}
+use Rattle.nq_model.specs.protocol.Change.{AreHeadsWithin, IsChangeWithin, IsWithinBounds, applied, change_of_heads, heads_of, opened_heads}
+use Rattle.nq_model.specs.protocol.Kept.{Kept}
+use Rattle.nq_model.specs.protocol.ServerStep.{booted}
 use Rattle.nq_model.proofs.AppliedChanges.{applied-boot, applied-opening}
-use Rattle.nq_model.specs.Profile.{most_hosts}
+use Rattle.nq_model.specs.protocol.Profile.{most_hosts}
 use Rattle.nq_model.proofs.FreshWithin.{booted-within, opened-within}
 use Rattle.nq_keeper.specs.Booting.{Opens, heads_after_boot, last_boot, opened_by}
 use Rattle.nq_keeper.specs.Recovery.{IsTerm}

@@ -1,6 +1,6 @@
 -- What a stop may leave, over two parts of the time.
 use Rattle.std.proofs.Common.{◌≡◌, ◌⊎◌, Option, Some, inl, inr}
-use Rattle.nq_model.specs.Kept.{Kept}
+use Rattle.nq_model.specs.protocol.Kept.{Kept}
 
 -- what each part leaves as it was is left as it was
 pub one-of : (found : Option Kept) (kept : Kept) (A B : Type 0) → A ⊎ B → (A → found ≡ Some kept) → (B → found ≡ Some kept) → found ≡ Some kept

@@ -1,8 +1,8 @@
 -- What the file of a row has.
 use Rattle.std.proofs.Common.{◌≡◌, ℕ, List, refl}
 use Rattle.nq_base.specs.declared.FileRow.{FileRow}
-use Rattle.nq_model.specs.Change.{file_of}
-use Rattle.nq_model.specs.Kept.{blocks_of}
+use Rattle.nq_model.specs.protocol.Change.{file_of}
+use Rattle.nq_model.specs.protocol.Kept.{blocks_of}
 use Rattle.nq_model.proofs.FreshFits.{resized-length}
 
 pub made-id : (row : FileRow) (bodies : List (List ℕ)) → (file_of row bodies).id ≡ row.id

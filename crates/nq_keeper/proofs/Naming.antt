@@ -14,9 +14,9 @@ use Rattle.nq_keeper.specs.Named.{AreNamed, StandsAt, id_found, id_of}
 use Rattle.nq_keeper.proofs.Called.{same-self, other-name}
 use Rattle.nq_keeper.proofs.Edits.{some-at}
 use Rattle.nq_keeper.proofs.MadeFiles.{made-id, made-name}
-use Rattle.nq_model.specs.Change.{AreApart, HasBlock, file_of, with_block, with_block_in, with_body, with_file, with_file_at}
-use Rattle.nq_model.specs.Kept.{File, find_file, find_name, drop_file, replace_file}
-use Rattle.nq_model.specs.Profile.{same_bytes}
+use Rattle.nq_model.specs.protocol.Change.{AreApart, HasBlock, file_of, with_block, with_block_in, with_body, with_file, with_file_at}
+use Rattle.nq_model.specs.protocol.Kept.{File, find_file, find_name, drop_file, replace_file}
+use Rattle.nq_model.specs.protocol.Profile.{same_bytes}
 use Rattle.nq_model.proofs.Files.{found-id}
 use Rattle.nq_model.proofs.FreshFits.{found-has}
 use Rattle.nq_model.proofs.WithinBounds.{named-as-found}

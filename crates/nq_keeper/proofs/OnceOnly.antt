@@ -19,12 +19,12 @@ use Rattle.nq_base.specs.declared.Who.{Who}
 use Rattle.nq_keeper.specs.Deciding.{IsOfHost}
 use Rattle.nq_keeper.specs.Repeats.{Coming, Key, Execution, key_of, execution_of, kept_after, kept_after_all, executed, is_of, IsRepeat}
 use Rattle.nq_keeper.specs.Repeats.{IsAttachedAgain, AtMostOnce, KeptIsSaid}
-use Rattle.nq_model.specs.Change.{applied, applied_if, kept_as}
-use Rattle.nq_model.specs.Decided.{no_effect, decided, decided_before, attach_decided, or_fresh, fresh_decided, if_fresh, effect_of, change_of}
-use Rattle.nq_model.specs.Decided.{change_with, row_with}
-use Rattle.nq_model.specs.Kept.{Kept, can_be_kept, host_row, fresh_row}
-use Rattle.nq_model.specs.Message.{sequence_of}
-use Rattle.nq_model.specs.Profile.{most_hosts}
+use Rattle.nq_model.specs.protocol.Change.{applied, applied_if, kept_as}
+use Rattle.nq_model.specs.protocol.Decided.{no_effect, decided, decided_before, attach_decided, or_fresh, fresh_decided, if_fresh, effect_of, change_of}
+use Rattle.nq_model.specs.protocol.Decided.{change_with, row_with}
+use Rattle.nq_model.specs.protocol.Kept.{Kept, can_be_kept, host_row, fresh_row}
+use Rattle.nq_model.specs.protocol.Message.{sequence_of}
+use Rattle.nq_model.specs.protocol.Profile.{most_hosts}
 use Rattle.nq_model.proofs.Finding.{decided as cases_of, same-number, number-same}
 
 -- ---- rows of hosts

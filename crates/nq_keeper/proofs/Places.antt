@@ -10,8 +10,8 @@ use denote.Param.Members.{Mut}
 use denote.Ref.{Bor}
 use Rattle.std.specs.Prelude.{nat_lt, nat_le, is_some}
 use Rattle.std.proofs.lemmas.Bool.Decides.{nat_tests}
-use Rattle.nq_model.specs.Change.{AreApart, file_after}
-use Rattle.nq_model.specs.Kept.{File, find_file, replace_file, drop_file}
+use Rattle.nq_model.specs.protocol.Change.{AreApart, file_after}
+use Rattle.nq_model.specs.protocol.Kept.{File, find_file, replace_file, drop_file}
 use Rattle.nq_keeper.specs.InOrder.{is_below, is_upto, of_id}
 use Rattle.nq_model.proofs.Finding.{decided, number-same, number-other}
 

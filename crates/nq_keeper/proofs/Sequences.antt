@@ -11,9 +11,10 @@ use Rattle.nq_base.specs.declared.Request.{Request}
 use Rattle.nq_base.specs.declared.Verdict.{Verdict}
 use Rattle.nq_base.specs.declared.Who.{Who}
 use Rattle.nq_keeper.specs.Deciding.{IsOfSequence}
-use Rattle.nq_model.specs.Change.{applied_if}
-use Rattle.nq_model.specs.Decided.{change_of, change_with, decided_before, effect_of, fresh_change, fresh_decided, or_fresh, if_fresh, sequence_decided}
-use Rattle.nq_model.specs.Kept.{Kept, host_row}
+use Rattle.nq_model.specs.protocol.Change.{applied_if}
+use Rattle.nq_model.specs.protocol.Decided.{change_of, change_with, decided_before, effect_of, fresh_change, fresh_decided, or_fresh, if_fresh}
+use Rattle.nq_model.specs.protocol.Decided.{sequence_decided}
+use Rattle.nq_model.specs.protocol.Kept.{Kept, host_row}
 
 -- the change that is committed where nothing is said
 abbrev pub changed : Who → (seq : ℕ) → Effect → Change → Kept → Option Change

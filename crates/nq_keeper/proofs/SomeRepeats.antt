@@ -8,10 +8,10 @@ use Rattle.nq_base.specs.declared.Request.{Request}
 use Rattle.nq_base.specs.declared.Who.{Who}
 use Rattle.nq_keeper.specs.Deciding.{IsOfHost}
 use Rattle.nq_keeper.specs.Repeats.{Coming, RepeatsAreMet}
-use Rattle.nq_model.specs.Change.{raised_row, file_of, with_body, kept_as}
-use Rattle.nq_model.specs.Decided.{block_write, change_with, no_effect}
-use Rattle.nq_model.specs.Kept.{Kept, new_file}
-use Rattle.nq_model.specs.World.{first_kept}
+use Rattle.nq_model.specs.protocol.Change.{raised_row, file_of, with_body, kept_as}
+use Rattle.nq_model.specs.protocol.Decided.{block_write, change_with, no_effect}
+use Rattle.nq_model.specs.protocol.Kept.{Kept, new_file}
+use Rattle.nq_model.specs.protocol.World.{first_kept}
 
 abbrev kept : Kept
 kept = first_kept (record { hosts = 1; term = 30; longest = 60; files = (97 ∷ [], 1) ∷ [] })

@@ -6,9 +6,9 @@ use Rattle.nq_base.specs.declared.BlockChange.{BlockChange}
 use Rattle.nq_base.specs.declared.FileRow.{FileRow}
 use Rattle.nq_keeper.specs.InOrder.{AreStored, FitsAmong, IsRowAmong}
 use Rattle.nq_keeper.proofs.MadeFiles.{made-id, made-name}
-use Rattle.nq_model.specs.Change.{AreApart, HasBlock, file_of, with_block, with_block_in, with_body, with_file, with_file_at}
-use Rattle.nq_model.specs.Kept.{File, blocks_of, blocks_in_all, find_file, find_name, drop_file}
-use Rattle.nq_model.specs.Profile.{most_files, most_blocks}
+use Rattle.nq_model.specs.protocol.Change.{AreApart, HasBlock, file_of, with_block, with_block_in, with_body, with_file, with_file_at}
+use Rattle.nq_model.specs.protocol.Kept.{File, blocks_of, blocks_in_all, find_file, find_name, drop_file}
+use Rattle.nq_model.specs.protocol.Profile.{most_files, most_blocks}
 use Rattle.nq_model.proofs.Files.{found-id}
 use Rattle.nq_model.proofs.FreshFits.{blocks-replaced, length-replaced}
 use Rattle.nq_model.proofs.WithinBounds.{named-as-found, apart-replaced, apart-filtered, apart-added, fewer-files, fewer-blocks}

@@ -5,7 +5,7 @@ use Rattle.std.specs.Prelude.{◌≡◌, ℕ, Option, Result, IfOk}
 use Rattle.std.specs.Option.{ForSome}
 use Rattle.nq_keeper.specs.declared.keeper.KeepFault.{KeepFault}
 use Rattle.nq_keeper.specs.Keeping.{Reads, LeavesOne}
-use Rattle.nq_model.specs.Kept.{Kept}
+use Rattle.nq_model.specs.protocol.Kept.{Kept}
 
 -- it answers this of what is kept
 pub record Asks {X : Type 0} (answer : Kept → X) (result : Result X KeepFault) (told tells : Option Kept) (before now : ℕ) (goes : Type 0)

@@ -10,9 +10,10 @@ use Rattle.nq_base.specs.declared.HostRow.{HostRow}
 use Rattle.nq_base.specs.Name.{is_name}
 use Rattle.nq_base.proofs.NameTests.{name_decides}
 use Rattle.nq_keeper.specs.StoredKeeper.{empty_kept, are_apart, are_heads_within, is_body, is_file_within, is_host_within, is_within, told_of}
-use Rattle.nq_model.specs.Change.{AreApart, IsBody, IsFileWithin, IsHostWithin, IsWithinBounds}
-use Rattle.nq_model.specs.Kept.{File, Kept, blocks_of, blocks_in_all, find_name, fresh_row}
-use Rattle.nq_model.specs.Profile.{shortest_term, longest_term, most_hosts, most_files, most_blocks, most_blocks_of_file, most_ids, inc_end, seq_end, rev_end}
+use Rattle.nq_model.specs.protocol.Change.{AreApart, IsBody, IsFileWithin, IsHostWithin, IsWithinBounds}
+use Rattle.nq_model.specs.protocol.Kept.{File, Kept, blocks_of, blocks_in_all, find_name, fresh_row}
+use Rattle.nq_model.specs.protocol.Profile.{shortest_term, longest_term, most_hosts, most_files, most_blocks, most_blocks_of_file, most_ids, inc_end, seq_end}
+use Rattle.nq_model.specs.protocol.Profile.{rev_end}
 
 none-decides : {X : Type 0} (o : Option X) → Decides (is_none o) (o ≡ None)
 none-decides None = (λ e. refl, λ e. refl)

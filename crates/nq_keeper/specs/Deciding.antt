@@ -11,11 +11,11 @@ use Rattle.nq_io.specs.Faults.{Rose}
 use Rattle.nq_keeper.specs.declared.keeper.KeepFault.{KeepFault}
 use Rattle.nq_keeper.specs.declared.keeper.KeepFault.TheVariants.{Failed, Memory}
 use Rattle.nq_keeper.specs.Keeping.{StaysOrEnds}
-use Rattle.nq_model.specs.Change.{applied_if}
-use Rattle.nq_model.specs.Decided.{change_with, decided, effect_of, fresh_change, sequence_decided}
-use Rattle.nq_model.specs.Kept.{Kept, host_row}
-use Rattle.nq_model.specs.Message.{asker}
-use Rattle.nq_model.specs.Profile.{most_hosts}
+use Rattle.nq_model.specs.protocol.Change.{applied_if}
+use Rattle.nq_model.specs.protocol.Decided.{change_with, decided, effect_of, fresh_change, sequence_decided}
+use Rattle.nq_model.specs.protocol.Kept.{Kept, host_row}
+use Rattle.nq_model.specs.protocol.Message.{asker}
+use Rattle.nq_model.specs.protocol.Profile.{most_hosts}
 
 -- a call gives this decision and keeps this change, if there is one. After a fault nothing is kept, and the keeper may tell
 -- nothing from then on

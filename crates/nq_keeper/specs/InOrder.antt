@@ -1,9 +1,9 @@
 -- Files in order of their ids, as a keeper in memory has them.
 use Rattle.std.specs.Prelude.{◌≡◌, ◌≤◌, ◌<◌, ℕ, Bool, List, Option, Some, None, All, nat_lt, nat_le, length, ◌==◌, if◌then◌else◌}
 use Rattle.nq_base.specs.declared.FileRow.{FileRow}
-use Rattle.nq_model.specs.Change.{AreApart, with_file}
-use Rattle.nq_model.specs.Kept.{File, blocks_in_all, find_file, find_name}
-use Rattle.nq_model.specs.Profile.{most_files, most_blocks, most_blocks_of_file}
+use Rattle.nq_model.specs.protocol.Change.{AreApart, with_file}
+use Rattle.nq_model.specs.protocol.Kept.{File, blocks_in_all, find_file, find_name}
+use Rattle.nq_model.specs.protocol.Profile.{most_files, most_blocks, most_blocks_of_file}
 
 -- whether a file stands before the place of an id
 abbrev pub is_below : (id : ℕ) → File → Bool

@@ -2,8 +2,8 @@
 use Rattle.std.proofs.Common.{◌≤◌, ◌≡◌, ◌⊎◌, Option, Some, refl, sym, subst, ◌∙◌, inl, inr, arith}
 use Rattle.nq_keeper.specs.StoredKeeper.{StoredKeeper, GoesOn, LeavesEither, told_of}
 use Rattle.nq_keeper.specs.Bounds.{told-within}
-use Rattle.nq_model.specs.Change.{IsWithinBounds}
-use Rattle.nq_model.specs.Kept.{Kept}
+use Rattle.nq_model.specs.protocol.Change.{IsWithinBounds}
+use Rattle.nq_model.specs.protocol.Kept.{Kept}
 
 pub told-is-within : (keeper : StoredKeeper) (kept : Kept) → Some (told_of keeper.kept) ≡ Some kept → IsWithinBounds kept
 told-is-within keeper kept e = let same : told_of keeper.kept ≡ kept = cc in subst IsWithinBounds same (told-within keeper.kept)

@@ -6,9 +6,9 @@ use Rattle.nq_base.specs.declared.Change.{Change}
 use Rattle.nq_io.specs.Faults.{Rose}
 use Rattle.nq_keeper.specs.declared.keeper.KeepFault.{KeepFault}
 use Rattle.nq_keeper.specs.declared.keeper.KeepFault.TheVariants.{Failed, Memory}
-use Rattle.nq_model.specs.Change.{applied}
-use Rattle.nq_model.specs.Kept.{File, Kept}
-use Rattle.nq_model.specs.Profile.{most_hosts}
+use Rattle.nq_model.specs.protocol.Change.{applied}
+use Rattle.nq_model.specs.protocol.Kept.{File, Kept}
+use Rattle.nq_model.specs.protocol.Profile.{most_hosts}
 
 -- what is told stays, or nothing is told any more
 abbrev pub StaysOrEnds : (told tells : Option Kept) → Type 0

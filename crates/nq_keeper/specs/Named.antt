@@ -3,7 +3,7 @@ use Rattle.std.specs.Prelude.{◌≡◌, ℕ, List, Option, Some, None, Vec, nat
 use Rattle.std.specs.Global.{Global}
 use Rattle.std.specs.Cmp.Lexicographic.{pointwise}
 use Rattle.std.specs.Map.{lookup}
-use Rattle.nq_model.specs.Kept.{File, find_name}
+use Rattle.nq_model.specs.protocol.Kept.{File, find_name}
 
 -- the id that stands at a name
 abbrev pub id_of : (name : List ℕ) → List (Vec ℕ Global × ℕ) → Option ℕ

@@ -1,8 +1,8 @@
 -- What is read of a block.
 use Rattle.std.specs.Prelude.{ℕ, List, Option, Some, None, slice_get}
 use Rattle.nq_keeper.specs.declared.requests.reading.ReadOut.{ReadOut}
-use Rattle.nq_model.specs.Change.{row_of}
-use Rattle.nq_model.specs.Kept.{File}
+use Rattle.nq_model.specs.protocol.Change.{row_of}
+use Rattle.nq_model.specs.protocol.Kept.{File}
 
 -- what a read of a file's block answers: its row and the body, or that the file has no such block
 abbrev pub read_in : File → (body : Option (List ℕ)) → ReadOut

@@ -1,6 +1,6 @@
 -- A boot that recovers.
 use Rattle.std.specs.Prelude.{ℕ, ◌+◌, ◌≤◌, max}
-use Rattle.nq_model.specs.Profile.{shortest_term, longest_term, write_slack}
+use Rattle.nq_model.specs.protocol.Profile.{shortest_term, longest_term, write_slack}
 
 -- a longest term is one that a server can be told to grant
 pub record IsTerm (longest : ℕ) : Type 0 where

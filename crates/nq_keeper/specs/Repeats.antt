@@ -10,11 +10,11 @@ use Rattle.nq_base.specs.declared.Verdict.{Verdict}
 use Rattle.nq_base.specs.declared.Verdict.TheVariants.{Done}
 use Rattle.nq_base.specs.declared.Who.{Who}
 use Rattle.nq_keeper.specs.Deciding.{IsOfHost}
-use Rattle.nq_model.specs.Change.{applied_if}
-use Rattle.nq_model.specs.Decided.{decided, change_of}
-use Rattle.nq_model.specs.Kept.{Kept, host_row}
-use Rattle.nq_model.specs.Message.{sequence_of}
-use Rattle.nq_model.specs.Profile.{most_hosts}
+use Rattle.nq_model.specs.protocol.Change.{applied_if}
+use Rattle.nq_model.specs.protocol.Decided.{decided, change_of}
+use Rattle.nq_model.specs.protocol.Kept.{Kept, host_row}
+use Rattle.nq_model.specs.protocol.Message.{sequence_of}
+use Rattle.nq_model.specs.protocol.Profile.{most_hosts}
 
 -- a request, and the gate under which it comes
 pub record Coming : Type 0 where

@@ -8,9 +8,10 @@ use Rattle.nq_base.specs.declared.HostRow.{HostRow}
 use Rattle.nq_io.specs.Calls.{CallCounts, is_next_listed, after_call, after_fault}
 use Rattle.nq_keeper.specs.declared.keeper.KeepFault.{KeepFault}
 use Rattle.nq_keeper.specs.declared.keeper.KeepFault.TheVariants.{Failed}
-use Rattle.nq_model.specs.Change.{applied}
-use Rattle.nq_model.specs.Kept.{File, Kept, blocks_of, blocks_in_all, find_name, fresh_row}
-use Rattle.nq_model.specs.Profile.{shortest_term, longest_term, most_hosts, most_files, most_blocks, most_blocks_of_file, most_ids, inc_end, seq_end, rev_end}
+use Rattle.nq_model.specs.protocol.Change.{applied}
+use Rattle.nq_model.specs.protocol.Kept.{File, Kept, blocks_of, blocks_in_all, find_name, fresh_row}
+use Rattle.nq_model.specs.protocol.Profile.{shortest_term, longest_term, most_hosts, most_files, most_blocks, most_blocks_of_file, most_ids, inc_end, seq_end}
+use Rattle.nq_model.specs.protocol.Profile.{rev_end}
 
 -- what is kept, and the calls
 pub record StoredKeeper : Type 0 where

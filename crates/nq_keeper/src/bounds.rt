@@ -1,8 +1,8 @@
 //! The ends of the numbers that can be kept.
 
 ghost use Rattle.std.specs.Prelude.{◌≡◌, ◌+◌, nat_lt};
-ghost use Rattle.nq_model.specs.Kept.{can_be_kept as row_can_be_kept};
-ghost use Rattle.nq_model.specs.Profile.{rev_end};
+ghost use Rattle.nq_model.specs.protocol.Kept.{can_be_kept as row_can_be_kept};
+ghost use Rattle.nq_model.specs.protocol.Profile.{rev_end};
 
 use nq_base::{FileRow, HostRow};
 

@@ -6,9 +6,9 @@ ghost use Rattle.std.specs.Option.{ForSome};
 ghost use Rattle.nq_keeper.specs.InOrder.{is_below, is_upto, of_id, IsRowAmong, FitsAmong};
 ghost use Rattle.nq_keeper.specs.Keeping.{body_at};
 ghost use Rattle.nq_keeper.specs.Named.{AreNamed, StandsAt};
-ghost use Rattle.nq_model.specs.Change.{AreApart, HasBlock, blocks_with, file_after, file_of, files_with, files_without, row_of_found, with_block, with_body, with_file};
-ghost use Rattle.nq_model.specs.Kept.{blocks_of, blocks_in_all, find_file, find_name, drop_file};
-ghost use Rattle.nq_model.specs.Profile.{most_blocks_of_file};
+ghost use Rattle.nq_model.specs.protocol.Change.{AreApart, HasBlock, blocks_with, file_after, file_of, files_with, files_without, row_of_found, with_block, with_body, with_file};
+ghost use Rattle.nq_model.specs.protocol.Kept.{blocks_of, blocks_in_all, find_file, find_name, drop_file};
+ghost use Rattle.nq_model.specs.protocol.Profile.{most_blocks_of_file};
 
 use crate::names::{self, Names};
 use crate::stored_file::StoredFile;
@@ -29,7 +29,7 @@ impl Model for Files {
     ghost use Rattle.std.specs.Prelude.{List};
     ghost use Rattle.nq_keeper.specs.InOrder.{AreStored};
     ghost use Rattle.nq_keeper.specs.Named.{AreNamed};
-    ghost use Rattle.nq_model.specs.Kept.{File};
+    ghost use Rattle.nq_model.specs.protocol.Kept.{File};
 
     ghost Value = { List File };
 

@@ -2,9 +2,9 @@
 
 ghost use Rattle.std.specs.Prelude.{◌≡◌, ◌⊎◌, ◌<◌, ◌≤◌, ℕ, Option, Some, IfOk};
 ghost use Rattle.std.specs.Option.{ForSome};
-ghost use Rattle.nq_model.specs.Change.{Fits, HasBlock, IsChangeWithin, IsWithinBounds, row_of_found, file_after, heads_of, space_of};
-ghost use Rattle.nq_model.specs.Kept.{Kept, find_file, find_name, host_row};
-ghost use Rattle.nq_model.specs.Profile.{most_hosts};
+ghost use Rattle.nq_model.specs.protocol.Change.{Fits, HasBlock, IsChangeWithin, IsWithinBounds, row_of_found, file_after, heads_of, space_of};
+ghost use Rattle.nq_model.specs.protocol.Kept.{Kept, find_file, find_name, host_row};
+ghost use Rattle.nq_model.specs.protocol.Profile.{most_hosts};
 ghost use Rattle.nq_keeper.specs.Keeping.{Reads, Commits, LeavesOne, LeavesTwo, NamesHost, body_at};
 
 use nq_base::{Block, BlockNo, Change, FileId, FileRow, Heads, Host, HostRow, Name, Space};

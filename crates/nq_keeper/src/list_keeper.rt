@@ -6,9 +6,9 @@ ghost use Rattle.nq_io.specs.Calls.{fresh, is_next_listed};
 ghost use Rattle.nq_io.specs.Faults.{Rose};
 ghost use Rattle.nq_keeper.specs.Keeping.{Reads, Commits, LeavesOne, LeavesTwo, NamesHost, body_at};
 ghost use Rattle.nq_keeper.specs.StoredKeeper.{GoesOn, LeavesEither, after_commit, after_reading, answer_of, asked, empty_kept, told_of};
-ghost use Rattle.nq_model.specs.Change.{Fits, HasBlock, IsChangeWithin, file_after, heads_of, heads_with, hosts_with, row_of_found, space_of};
-ghost use Rattle.nq_model.specs.Kept.{find_file, find_name, fresh_row, host_row};
-ghost use Rattle.nq_model.specs.Profile.{most_hosts};
+ghost use Rattle.nq_model.specs.protocol.Change.{Fits, HasBlock, IsChangeWithin, file_after, heads_of, heads_with, hosts_with, row_of_found, space_of};
+ghost use Rattle.nq_model.specs.protocol.Kept.{find_file, find_name, fresh_row, host_row};
+ghost use Rattle.nq_model.specs.protocol.Profile.{most_hosts};
 ghost use Rattle.nq_keeper.specs.KeeperLaws.{told-is-within, goes-on-itself, goes-on-further, faults-rise, may-leave, leaves-parts};
 
 use crate::files::Files;
@@ -48,7 +48,7 @@ pub struct ListKeeper {
 
 impl Model for ListKeeper {
     ghost use Rattle.nq_keeper.specs.StoredKeeper.{StoredKeeper};
-    ghost use Rattle.nq_model.specs.Change.{IsWithinBounds, kept_as};
+    ghost use Rattle.nq_model.specs.protocol.Change.{IsWithinBounds, kept_as};
 
     ghost Value = { StoredKeeper };
 
@@ -150,7 +150,7 @@ impl ListKeeper {
     }
 }
 
-#[tactic(auto, unfolding(nq_model::specs::Change::kept_as))]
+#[tactic(auto, unfolding(nq_model::specs::protocol::Change::kept_as))]
 impl Keeper for ListKeeper {
     ghost content = { λ k. Some (told_of k.kept) };
 

@@ -2,9 +2,9 @@
 
 ghost use Rattle.std.specs.Prelude.{[], ◌≡◌, ◌+◌, ◌-◌, ◌<◌, ◌≤◌, ◌++◌, replicate, slice_set, slice_get, Some, IfOk, OnOk, OnErr, vec_len, vec_capacity};
 ghost use Rattle.nq_base.specs.Block.{zeros};
-ghost use Rattle.nq_model.specs.Change.{file_of, row_of, with_body};
-ghost use Rattle.nq_model.specs.Kept.{blocks_of, resized};
-ghost use Rattle.nq_model.specs.Profile.{most_blocks_of_file};
+ghost use Rattle.nq_model.specs.protocol.Change.{file_of, row_of, with_body};
+ghost use Rattle.nq_model.specs.protocol.Kept.{blocks_of, resized};
+ghost use Rattle.nq_model.specs.protocol.Profile.{most_blocks_of_file};
 
 use nq_base::{Block, BlockNo, FileId, FileRow, Name, NoMemory, Rev};
 use std::alloc::Global;
@@ -21,8 +21,8 @@ pub(crate) struct StoredFile {
 
 impl Model for StoredFile {
     ghost use Rattle.std.specs.Prelude.{◌≤◌, vec_len};
-    ghost use Rattle.nq_model.specs.Kept.{File};
-    ghost use Rattle.nq_model.specs.Profile.{most_blocks_of_file};
+    ghost use Rattle.nq_model.specs.protocol.Kept.{File};
+    ghost use Rattle.nq_model.specs.protocol.Profile.{most_blocks_of_file};
 
     ghost Value = { File };
 
@@ -68,7 +68,7 @@ fn write_over(blocks: &mut Vec<Block>, place: usize, body: Block)
     blocks[place] = body;
 }
 
-#[tactic(auto, unfolding(nq_model::specs::Change::file_of, nq_model::specs::Change::with_body))]
+#[tactic(auto, unfolding(nq_model::specs::protocol::Change::file_of, nq_model::specs::protocol::Change::with_body))]
 impl StoredFile {
     /// The new file of a row: its blocks are zeros.
     pub(crate) fn new(alloc: Global, row: &FileRow) -> Result<StoredFile, NoMemory>

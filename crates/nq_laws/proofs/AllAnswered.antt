@@ -2,10 +2,10 @@
 use Rattle.std.proofs.Common.{◌≡◌, ◌≤◌, ◌<◌, ◌⊎◌, ℕ, ◌+◌, ◌*◌, ◌++◌, false, List, [], ◌∷◌, Some, length, refl, subst, ap, ◌∙◌, arith, inl, inr}
 use Rattle.std.specs.Prelude.{slice_get}
 use Rattle.std.proofs.lemmas.List.{length-append}
-use Rattle.nq_model.specs.Client.{Client}
-use Rattle.nq_model.specs.Lines.{Play}
-use Rattle.nq_model.specs.Profile.{skew, write_slack}
-use Rattle.nq_model.specs.World.{Head}
+use Rattle.nq_model.specs.protocol.Client.{Client}
+use Rattle.nq_model.specs.protocol.Lines.{Play}
+use Rattle.nq_model.specs.protocol.Profile.{skew, write_slack}
+use Rattle.nq_model.specs.protocol.World.{Head}
 use Rattle.law_rounds.specs.DeliveryEnds.{calmed}
 use Rattle.law_rounds.specs.AtRest.{IsAnswered}
 use Rattle.law_rounds.specs.CalmRoundsAreLawful.{IsLawful}

@@ -9,17 +9,17 @@ use Rattle.nq_base.specs.declared.Request.{Request}
 use Rattle.nq_base.specs.declared.Said.{Said}
 use Rattle.nq_base.specs.declared.Who.{Who}
 use Rattle.nq_model.proofs.Lists.{exists-append, exists-right}
-use Rattle.nq_model.specs.AnswersTellWhatWas.{Meanwhile}
-use Rattle.nq_model.specs.Bounds.{KeepsBounds}
-use Rattle.nq_model.specs.Client.{Client, ClientStep, UnderWay, Ticket, for_call}
-use Rattle.nq_model.specs.ClientStep.{client_call, client_tick, restart, begins_call, says_busy, starts, fresh_client}
-use Rattle.nq_model.specs.Hear.{hear}
-use Rattle.nq_model.specs.Journal.{Exists, IsCall, IsAnswer, IsOpen}
-use Rattle.nq_model.specs.Message.{Message, Packet, call, asker}
-use Rattle.nq_model.specs.RepliesTellWhatWas.{Once}
-use Rattle.nq_model.specs.Settle.{said}
-use Rattle.nq_model.specs.Skew.{IsWithinSkew}
-use Rattle.nq_model.specs.World.{Head, World, after_server, after_client, from_host, start, run}
+use Rattle.nq_model.specs.laws.AnswersTellWhatWas.{Meanwhile}
+use Rattle.nq_model.specs.laws.Bounds.{KeepsBounds}
+use Rattle.nq_model.specs.protocol.Client.{Client, ClientStep, UnderWay, Ticket, for_call}
+use Rattle.nq_model.specs.protocol.ClientStep.{client_call, client_tick, restart, begins_call, says_busy, starts, fresh_client}
+use Rattle.nq_model.specs.protocol.Hear.{hear}
+use Rattle.nq_model.specs.laws.Journal.{Exists, IsCall, IsAnswer, IsOpen}
+use Rattle.nq_model.specs.protocol.Message.{Message, Packet, call, asker}
+use Rattle.nq_model.specs.laws.RepliesTellWhatWas.{Once}
+use Rattle.nq_model.specs.protocol.Settle.{said}
+use Rattle.nq_model.specs.protocol.Skew.{IsWithinSkew}
+use Rattle.nq_model.specs.protocol.World.{Head, World, after_server, after_client, from_host, start, run}
 use Rattle.law_runs.proofs.RunCalls.{calls-known}
 use Rattle.law_rounds.proofs.TicketNumbers.{IsOldOrNew, Numbered, call-numbers, tick-numbers, hear-numbers}
 use Rattle.walk_files.proofs.CallFacts.{CallsAt}

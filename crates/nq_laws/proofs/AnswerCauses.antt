@@ -13,14 +13,14 @@ use Rattle.nq_base.specs.declared.Request.{Request}
 use Rattle.nq_base.specs.declared.Said.{Said}
 use Rattle.nq_base.specs.declared.Told.{Told}
 use Rattle.nq_base.specs.declared.Who.{Who}
-use Rattle.nq_model.specs.Client.{UnderWay}
-use Rattle.nq_model.specs.Hear.{answer_of, inc_of}
-use Rattle.nq_model.specs.Journal.{SpeaksOf, call_of}
-use Rattle.nq_model.specs.Settle.{said}
-use Rattle.nq_model.specs.World.{Head, World}
-use Rattle.nq_model.specs.AnswersHaveCauses.{LacksName, HasName, LacksFile, HasNoRoom, CannotGrow, LacksBlock, IsNoLength, HadNoBlock, IsAnsweredSo}
-use Rattle.nq_model.specs.AnswersTellWhatWas.{Meanwhile, HasNamed, HasLength, ToldSo}
-use Rattle.nq_model.specs.RepliesTellWhatWas.{KeepsNamed}
+use Rattle.nq_model.specs.protocol.Client.{UnderWay}
+use Rattle.nq_model.specs.protocol.Hear.{answer_of, inc_of}
+use Rattle.nq_model.specs.laws.Journal.{SpeaksOf, call_of}
+use Rattle.nq_model.specs.protocol.Settle.{said}
+use Rattle.nq_model.specs.protocol.World.{Head, World}
+use Rattle.nq_model.specs.laws.AnswersHaveCauses.{LacksName, HasName, LacksFile, HasNoRoom, CannotGrow, LacksBlock, IsNoLength, HadNoBlock, IsAnsweredSo}
+use Rattle.nq_model.specs.laws.AnswersTellWhatWas.{Meanwhile, HasNamed, HasLength, ToldSo}
+use Rattle.nq_model.specs.laws.RepliesTellWhatWas.{KeepsNamed}
 use Rattle.law_rounds.specs.RequestsAreMeant.{IsWriteTo}
 use Rattle.law_runs.proofs.OkFacts.{IsFor}
 use Rattle.nq_laws.proofs.Anchors.{meanwhile-map}

@@ -6,19 +6,19 @@ use Rattle.nq_base.specs.declared.Asked.{Asked}
 use Rattle.nq_base.specs.declared.Question.{Question}
 use Rattle.nq_base.specs.declared.Row.{Row}
 use Rattle.nq_base.specs.declared.Want.{Want}
-use Rattle.nq_model.specs.Ask.{Reply, ask}
-use Rattle.nq_model.specs.Server.{quiet}
-use Rattle.nq_model.specs.Table.{is_writing, find_row, with_rows}
+use Rattle.nq_model.specs.protocol.Ask.{Reply, ask}
+use Rattle.nq_model.specs.protocol.Server.{quiet}
+use Rattle.nq_model.specs.protocol.Table.{is_writing, find_row, with_rows}
 use Rattle.walk_steps.proofs.ClientMoves.{some-same}
 use Rattle.walk_steps.proofs.Tests.{is-not-below}
 use Rattle.nq_base.specs.declared.Grant.{Grant}
-use Rattle.nq_model.specs.Profile.{shortest_term, most_rows}
-use Rattle.nq_model.specs.Ask.{sharing_row, caching_row, shared_again, renewed_row, grant_of, free as free_reply, put_off_by_own, granted, no_lease}
-use Rattle.nq_model.specs.Ask.{term_of, marked}
+use Rattle.nq_model.specs.protocol.Profile.{shortest_term, most_rows}
+use Rattle.nq_model.specs.protocol.Ask.{sharing_row, caching_row, shared_again, renewed_row, grant_of, free as free_reply, put_off_by_own, granted, no_lease}
+use Rattle.nq_model.specs.protocol.Ask.{term_of, marked}
 use Rattle.std.specs.Prelude.{max, min}
 use Rattle.nq_base.specs.declared.Mode.{Mode}
-use Rattle.nq_model.specs.Profile.{skew}
-use Rattle.nq_model.specs.Table.{Table, caches, greater_mode, put_row, after_draw}
+use Rattle.nq_model.specs.protocol.Profile.{skew}
+use Rattle.nq_model.specs.protocol.Table.{Table, caches, greater_mode, put_row, after_draw}
 use Rattle.walk_steps.proofs.ClientMoves.{none-some}
 use Rattle.walk_steps.proofs.AskCases.{with_marked, asks, IsGranted, shares_again, begins_sharing, begins_caching, renews_row}
 use Rattle.walk_steps.proofs.RowChanges.{mark-is, found-marked, find-put-same}

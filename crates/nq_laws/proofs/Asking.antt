@@ -6,12 +6,12 @@ use Rattle.nq_base.specs.declared.Refusal.{Refusal}
 use Rattle.nq_base.specs.declared.Reply.{Reply}
 use Rattle.nq_base.specs.declared.Request.{Request}
 use Rattle.nq_base.specs.declared.Row.{Row}
-use Rattle.nq_model.specs.Client.{Client, Job, attaching, for_call, renewing, pushing, Ticket, UnderWay, lease_on}
-use Rattle.nq_model.specs.Hear.{holds_later, is_put_off, refusal_counts, wants_of}
-use Rattle.nq_model.specs.Message.{Packet, call, reply}
-use Rattle.nq_model.specs.Server.{to_host}
-use Rattle.nq_model.specs.Table.{find_row}
-use Rattle.nq_model.specs.World.{from_host}
+use Rattle.nq_model.specs.protocol.Client.{Client, Job, attaching, for_call, renewing, pushing, Ticket, UnderWay, lease_on}
+use Rattle.nq_model.specs.protocol.Hear.{holds_later, is_put_off, refusal_counts, wants_of}
+use Rattle.nq_model.specs.protocol.Message.{Packet, call, reply}
+use Rattle.nq_model.specs.protocol.Server.{to_host}
+use Rattle.nq_model.specs.protocol.Table.{find_row}
+use Rattle.nq_model.specs.protocol.World.{from_host}
 use Rattle.walk_steps.proofs.ClientMoves.{some-same, none-some}
 use Rattle.walk_steps.proofs.Packets.{In, in-left, message-same, not-both, call-same}
 use Rattle.walk_steps.proofs.Rows.{same-number, number-same}

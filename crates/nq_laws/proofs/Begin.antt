@@ -7,16 +7,16 @@ use Rattle.nq_base.specs.declared.Mode.{Mode}
 use Rattle.nq_base.specs.declared.Request.{Request}
 use Rattle.nq_base.specs.declared.Row.{Row}
 use Rattle.nq_base.specs.declared.Want.{Want}
-use Rattle.nq_model.specs.Client.{Client, Job, attaching, for_call, renewing, pushing, Lease, Ticket, UnderWay, lease_on}
-use Rattle.nq_model.specs.ClientStep.{client_tick}
-use Rattle.nq_model.specs.LeaseInterval.{HasFitting, IsCovered, claim_of, cover_end, is_at_least}
-use Rattle.nq_model.specs.Lines.{Play, play, play_hosts, play_rounds}
-use Rattle.nq_model.specs.Message.{Message, Packet, call}
-use Rattle.nq_model.specs.Send.{want_of}
-use Rattle.nq_model.specs.Server.{serving, Server, ServerStep, quiet, keeping_with, with_table}
-use Rattle.nq_model.specs.ServerStep.{tick, at_time, opens, ends_writing}
-use Rattle.nq_model.specs.Table.{caches, greater_mode, find_row}
-use Rattle.nq_model.specs.World.{Head, World, from_host, after_client, after_server, at_client, step, run}
+use Rattle.nq_model.specs.protocol.Client.{Client, Job, attaching, for_call, renewing, pushing, Lease, Ticket, UnderWay, lease_on}
+use Rattle.nq_model.specs.protocol.ClientStep.{client_tick}
+use Rattle.nq_model.specs.laws.LeaseInterval.{HasFitting, IsCovered, claim_of, cover_end, is_at_least}
+use Rattle.nq_model.specs.protocol.Lines.{Play, play, play_hosts, play_rounds}
+use Rattle.nq_model.specs.protocol.Message.{Message, Packet, call}
+use Rattle.nq_model.specs.protocol.Send.{want_of}
+use Rattle.nq_model.specs.protocol.Server.{serving, Server, ServerStep, quiet, keeping_with, with_table}
+use Rattle.nq_model.specs.protocol.ServerStep.{tick, at_time, opens, ends_writing}
+use Rattle.nq_model.specs.protocol.Table.{caches, greater_mode, find_row}
+use Rattle.nq_model.specs.protocol.World.{Head, World, from_host, after_client, after_server, at_client, step, run}
 use Rattle.law_rounds.specs.RequestsAreMeant.{wanted, IsMeant}
 use Rattle.law_rounds.proofs.ClientCount.{client-count}
 use Rattle.law_rounds.proofs.Meant.{requests-are-meant}

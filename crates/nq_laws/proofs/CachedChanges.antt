@@ -10,12 +10,12 @@ use Rattle.nq_laws.proofs.CachedReads.{cached-in-every-run}
 use Rattle.nq_model.proofs.ClientLists.{used-lease-found, lease-file}
 use Rattle.walk_steps.proofs.Rows.{find-passes, find-filter, same-number, number-same, choice}
 use Rattle.walk_steps.proofs.Worlds.{get-set-other, set-there}
-use Rattle.nq_model.specs.CachedReadsChangeLittle.{ReadsBlock, IsAsItWas, ChangesNothingElse, CachedReadsChangeNothingElse}
-use Rattle.nq_model.specs.CachedAtOnce.{HasCached, AnswersAtOnce, after_cached}
-use Rattle.nq_model.specs.Client.{Client, Clean, Lease, lease_on, clean_at, drop_clean, is_clean_at, marked_used, used_lease}
-use Rattle.nq_model.specs.ClientStep.{client_call}
-use Rattle.nq_model.specs.Settle.{after_read, touched, reads_clean}
-use Rattle.nq_model.specs.World.{World, after_client, at_client, run}
+use Rattle.nq_model.specs.laws.CachedReadsChangeLittle.{ReadsBlock, IsAsItWas, ChangesNothingElse, CachedReadsChangeNothingElse}
+use Rattle.nq_model.specs.laws.CachedAtOnce.{HasCached, AnswersAtOnce, after_cached}
+use Rattle.nq_model.specs.protocol.Client.{Client, Clean, Lease, lease_on, clean_at, drop_clean, is_clean_at, marked_used, used_lease}
+use Rattle.nq_model.specs.protocol.ClientStep.{client_call}
+use Rattle.nq_model.specs.protocol.Settle.{after_read, touched, reads_clean}
+use Rattle.nq_model.specs.protocol.World.{World, after_client, at_client, run}
 use Rattle.nq_model.proofs.Finding.{number-other}
 
 -- ---- the clean blocks

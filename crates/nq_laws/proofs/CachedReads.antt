@@ -3,10 +3,10 @@
 use Rattle.std.proofs.Common.{◌≡◌, Bool, true, false, Option, Some, None, is_some, refl, ap}
 use Rattle.walk_steps.proofs.ClientFacts.{Alone}
 use Rattle.walk_steps.proofs.Worlds.{run-holds}
-use Rattle.nq_model.specs.CachedReadsAreAtOnce.{CachedAtOnceInEveryRun}
+use Rattle.nq_model.specs.laws.CachedReadsAreAtOnce.{CachedAtOnceInEveryRun}
 use Rattle.nq_model.proofs.CachedReads.{cached-at-once}
-use Rattle.nq_model.specs.Client.{Client, Job, attaching, for_call, renewing, pushing, Ticket}
-use Rattle.nq_model.specs.Settle.{is_for_call, ticket_is_for_call}
+use Rattle.nq_model.specs.protocol.Client.{Client, Job, attaching, for_call, renewing, pushing, Ticket}
+use Rattle.nq_model.specs.protocol.Settle.{is_for_call, ticket_is_for_call}
 
 for-call : (job : Job) → is_for_call job ≡ true → job ≡ for_call
 for-call for_call h = refl

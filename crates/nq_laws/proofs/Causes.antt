@@ -9,12 +9,12 @@ use Rattle.nq_base.specs.declared.Reply.{Reply}
 use Rattle.nq_base.specs.declared.Request.{Request}
 use Rattle.nq_base.specs.declared.Verdict.{Verdict}
 use Rattle.nq_base.specs.declared.Who.{Who}
-use Rattle.nq_model.specs.Decide.{verdict_reply}
-use Rattle.nq_model.specs.Kept.{File, blocks_of, blocks_in_all, find_file}
-use Rattle.nq_model.specs.LeaseInterval.{requested_file}
-use Rattle.nq_model.specs.Profile.{most_blocks, most_blocks_of_file, most_files, most_ids}
-use Rattle.nq_model.specs.Server.{Server}
-use Rattle.nq_model.specs.RepliesTellWhatWas.{IsSo, KeepsAt}
+use Rattle.nq_model.specs.protocol.Decide.{verdict_reply}
+use Rattle.nq_model.specs.protocol.Kept.{File, blocks_of, blocks_in_all, find_file}
+use Rattle.nq_model.specs.laws.LeaseInterval.{requested_file}
+use Rattle.nq_model.specs.protocol.Profile.{most_blocks, most_blocks_of_file, most_files, most_ids}
+use Rattle.nq_model.specs.protocol.Server.{Server}
+use Rattle.nq_model.specs.laws.RepliesTellWhatWas.{IsSo, KeepsAt}
 use Rattle.nq_laws.specs.RefusalsHaveCauses.{LacksNamed, IsCause, file_named}
 use Rattle.walk_steps.proofs.ClientMoves.{some-same}
 use Rattle.walk_steps.proofs.ServerOutcomes.{file_changed_by, IsDeclined, bad_length, name_taken, no_room, not_kept, outside, no_row, not_under}

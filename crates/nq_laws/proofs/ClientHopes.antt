@@ -5,12 +5,12 @@ use Rattle.nq_base.specs.declared.Mode.{Mode}
 use Rattle.nq_base.specs.declared.Request.{Request}
 use Rattle.nq_base.specs.declared.Row.{Row}
 use Rattle.nq_base.specs.declared.Tag.{Tag}
-use Rattle.nq_model.specs.Client.{Client, ClientStep, Notice, Ticket, UnderWay, lease_on, notice_on}
-use Rattle.nq_model.specs.Hear.{holds_later, wants_of}
-use Rattle.nq_model.specs.Message.{Message, Packet, call}
-use Rattle.nq_model.specs.Server.{to_host}
-use Rattle.nq_model.specs.Table.{find_row}
-use Rattle.nq_model.specs.World.{from_host}
+use Rattle.nq_model.specs.protocol.Client.{Client, ClientStep, Notice, Ticket, UnderWay, lease_on, notice_on}
+use Rattle.nq_model.specs.protocol.Hear.{holds_later, wants_of}
+use Rattle.nq_model.specs.protocol.Message.{Message, Packet, call}
+use Rattle.nq_model.specs.protocol.Server.{to_host}
+use Rattle.nq_model.specs.protocol.Table.{find_row}
+use Rattle.nq_model.specs.protocol.World.{from_host}
 use Rattle.walk_steps.proofs.ClientMoves.{some-same}
 use Rattle.walk_steps.proofs.Packets.{In, in-left, in-right, told-same, not-both}
 use Rattle.walk_steps.proofs.Worlds.{set-there, get-set-other}

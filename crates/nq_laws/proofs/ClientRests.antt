@@ -10,12 +10,12 @@ use Rattle.nq_base.specs.declared.Grant.{Grant}
 use Rattle.nq_base.specs.declared.Reply.{Reply}
 use Rattle.nq_base.specs.declared.Said.{Said}
 use Rattle.nq_base.specs.declared.Who.{Who}
-use Rattle.nq_model.specs.Client.{Client, ClientStep, for_call, Ticket, UnderWay}
-use Rattle.nq_model.specs.ClientStep.{client_call, client_tick, next_incarnation, restart}
-use Rattle.nq_model.specs.Hear.{hear, inc_of}
-use Rattle.nq_model.specs.Journal.{call_of}
-use Rattle.nq_model.specs.Message.{Message, reply}
-use Rattle.nq_model.specs.Settle.{said}
+use Rattle.nq_model.specs.protocol.Client.{Client, ClientStep, for_call, Ticket, UnderWay}
+use Rattle.nq_model.specs.protocol.ClientStep.{client_call, client_tick, next_incarnation, restart}
+use Rattle.nq_model.specs.protocol.Hear.{hear, inc_of}
+use Rattle.nq_model.specs.laws.Journal.{call_of}
+use Rattle.nq_model.specs.protocol.Message.{Message, reply}
+use Rattle.nq_model.specs.protocol.Settle.{said}
 use Rattle.walk_files.proofs.CallFacts.{CallsAt, called-below, asks-told}
 use Rattle.walk_files.proofs.Placed.{call-told}
 use Rattle.walk_steps.proofs.ClientFacts.{fits_job}

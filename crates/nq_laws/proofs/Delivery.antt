@@ -12,16 +12,16 @@ use Rattle.nq_base.specs.declared.Request.{Request}
 use Rattle.nq_base.specs.declared.Row.{Row}
 use Rattle.nq_base.specs.declared.Tag.{Tag}
 use Rattle.nq_base.specs.declared.Want.{Want}
-use Rattle.nq_model.specs.Client.{Client, ClientStep, Job, attaching, for_call, renewing, pushing, Ticket, UnderWay, begun, lease_on}
-use Rattle.nq_model.specs.Hear.{hear, refusal_counts, holds_later, cancels, evicted, goes_on}
-use Rattle.nq_model.specs.Kept.{host_row}
-use Rattle.nq_model.specs.Lines.{Play, play}
-use Rattle.nq_model.specs.Message.{Message, Packet, call, reply, datagram_of}
-use Rattle.nq_model.specs.Server.{serving, ServerStep, to_host}
-use Rattle.nq_model.specs.ServerStep.{receive}
-use Rattle.nq_model.specs.Table.{caches, greater_mode, same_who, find_row}
-use Rattle.nq_model.specs.World.{Head, World, from_host, after_client, after_server, sending_host, step, run}
-use Rattle.nq_model.specs.RowsStandApart.{WritesAlone}
+use Rattle.nq_model.specs.protocol.Client.{Client, ClientStep, Job, attaching, for_call, renewing, pushing, Ticket, UnderWay, begun, lease_on}
+use Rattle.nq_model.specs.protocol.Hear.{hear, refusal_counts, holds_later, cancels, evicted, goes_on}
+use Rattle.nq_model.specs.protocol.Kept.{host_row}
+use Rattle.nq_model.specs.protocol.Lines.{Play, play}
+use Rattle.nq_model.specs.protocol.Message.{Message, Packet, call, reply, datagram_of}
+use Rattle.nq_model.specs.protocol.Server.{serving, ServerStep, to_host}
+use Rattle.nq_model.specs.protocol.ServerStep.{receive}
+use Rattle.nq_model.specs.protocol.Table.{caches, greater_mode, same_who, find_row}
+use Rattle.nq_model.specs.protocol.World.{Head, World, from_host, after_client, after_server, sending_host, step, run}
+use Rattle.nq_model.specs.laws.RowsStandApart.{WritesAlone}
 use Rattle.law_rounds.specs.RequestsAreMeant.{wanted, IsMeant}
 use Rattle.law_rounds.proofs.ClientCount.{client-count}
 use Rattle.law_rounds.proofs.HostsBelow.{run-local, stands-apart}

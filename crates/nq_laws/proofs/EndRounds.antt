@@ -7,14 +7,14 @@ use Rattle.nq_base.specs.declared.Mode.TheVariants.{NonCaching, Reading, Writing
 use Rattle.nq_base.specs.declared.Push.{Push}
 use Rattle.nq_base.specs.declared.Tag.{Tag}
 use Rattle.nq_base.specs.declared.Who.{Who}
-use Rattle.nq_model.specs.Client.{Client, Lease, lease_on, is_clean}
-use Rattle.nq_model.specs.LeaseInterval.{claim_of, IsCovered, cover_end}
-use Rattle.nq_model.specs.Lines.{Play}
-use Rattle.nq_model.specs.Server.{Phase, serving, recovering, Server}
-use Rattle.nq_model.specs.Skew.{IsWithinSkew}
-use Rattle.nq_model.specs.Table.{caches, is_writing}
-use Rattle.nq_model.specs.World.{Head, World, run}
-use Rattle.nq_model.specs.Bounds.{KeepsBounds}
+use Rattle.nq_model.specs.protocol.Client.{Client, Lease, lease_on, is_clean}
+use Rattle.nq_model.specs.laws.LeaseInterval.{claim_of, IsCovered, cover_end}
+use Rattle.nq_model.specs.protocol.Lines.{Play}
+use Rattle.nq_model.specs.protocol.Server.{Phase, serving, recovering, Server}
+use Rattle.nq_model.specs.protocol.Skew.{IsWithinSkew}
+use Rattle.nq_model.specs.protocol.Table.{caches, is_writing}
+use Rattle.nq_model.specs.protocol.World.{Head, World, run}
+use Rattle.nq_model.specs.laws.Bounds.{KeepsBounds}
 use Rattle.walk_steps.proofs.LeaseIntervals.{run-runs}
 use Rattle.law_rounds.specs.AtRest.{HasStored}
 use Rattle.law_rounds.specs.CalmRoundsAreLawful.{IsLawful}

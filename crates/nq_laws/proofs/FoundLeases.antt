@@ -7,12 +7,12 @@ use Rattle.nq_base.specs.declared.Event.{Event}
 use Rattle.nq_base.specs.declared.Grant.{Grant}
 use Rattle.nq_base.specs.declared.Tag.{Tag}
 use Rattle.nq_model.proofs.ClientLists.{used-lease-found, other-lease-dropped, put-lease-found, other-lease-put}
-use Rattle.nq_model.specs.ByFile.{insert_by}
-use Rattle.nq_model.specs.Client.{Client, ClientStep, Lease, file_of_lease, lease_on, drop_lease, put_lease, used_lease, marked_used}
-use Rattle.nq_model.specs.ClientStep.{client_tick, at_time, starts, fresh_client, attached_client}
-use Rattle.nq_model.specs.Hear.{hear, granted_lease}
-use Rattle.nq_model.specs.Message.{Message, reply}
-use Rattle.nq_model.specs.World.{Head, World, after_client, after_server, start, run}
+use Rattle.nq_model.specs.protocol.ByFile.{insert_by}
+use Rattle.nq_model.specs.protocol.Client.{Client, ClientStep, Lease, file_of_lease, lease_on, drop_lease, put_lease, used_lease, marked_used}
+use Rattle.nq_model.specs.protocol.ClientStep.{client_tick, at_time, starts, fresh_client, attached_client}
+use Rattle.nq_model.specs.protocol.Hear.{hear, granted_lease}
+use Rattle.nq_model.specs.protocol.Message.{Message, reply}
+use Rattle.nq_model.specs.protocol.World.{Head, World, after_client, after_server, start, run}
 use Rattle.walk_steps.proofs.ClientCases.{Core, Closed}
 use Rattle.walk_steps.proofs.ClientFacts.{Alone}
 use Rattle.walk_steps.proofs.ClientWalk.{reply-keeps, notice-keeps, call-keeps, tick-keeps}

@@ -1,9 +1,9 @@
 -- A packet that is the next of its link may as well stand first of all: who hopes goes on to hope, and what is clear stays clear.
 use Rattle.std.proofs.Common.{◌⊎◌, ◌≡◌, ℕ, ◌++◌, Bool, false, List, [], ◌∷◌, refl, sym, ap, ◌∙◌, inl, inr}
 use Rattle.nq_base.specs.declared.Row.{Row}
-use Rattle.nq_model.specs.Client.{Client, Ticket}
-use Rattle.nq_model.specs.Message.{Packet}
-use Rattle.nq_model.specs.World.{World}
+use Rattle.nq_model.specs.protocol.Client.{Client, Ticket}
+use Rattle.nq_model.specs.protocol.Message.{Packet}
+use Rattle.nq_model.specs.protocol.World.{World}
 use Rattle.law_rounds.proofs.Next.{OneLink}
 use Rattle.walk_steps.proofs.Packets.{In, in-append, in-left, in-right}
 use Rattle.nq_laws.proofs.Hope.{Cancels, PutsOff, Safe, Hopeful, Goes, told, waits, vacated, Passes, goes, hoped, Clear}

@@ -9,15 +9,15 @@ use Rattle.law_runs.proofs.Standings.{answers-in-every-run}
 use Rattle.nq_laws.proofs.FullSteps.{IsWell, call-well, tick-well, hear-well, restart-well}
 use Rattle.nq_laws.proofs.Pushing.{HasPush, pushes-are-had}
 use Rattle.nq_laws.proofs.ServerEntries.{IsNoAnswer, NoneAnswers, receive-answers-none, tick-answers-none, crash-answers-none}
-use Rattle.nq_model.specs.LossesAreNamed.{IsLostNaming, LossesAreNamed, LossesAreNamedInEveryRun}
+use Rattle.nq_model.specs.laws.LossesAreNamed.{IsLostNaming, LossesAreNamed, LossesAreNamedInEveryRun}
 use Rattle.nq_model.proofs.Lists.{each-map, each-append, exists-right}
-use Rattle.nq_model.specs.AnswersAreOfTheirCalls.{IsAnswerOfCall}
-use Rattle.nq_model.specs.Client.{Client, ClientStep}
-use Rattle.nq_model.specs.FullHasItsCause.{IsFull, IsFullSo, FullHasItsCause}
-use Rattle.nq_model.specs.Journal.{Each, Exists, Throughout, IsCall, IsAnswer}
-use Rattle.nq_model.specs.Message.{datagram_of}
-use Rattle.nq_model.specs.Server.{ServerStep}
-use Rattle.nq_model.specs.World.{Head, World, after_server, after_client, sending_host, start, run}
+use Rattle.nq_model.specs.laws.AnswersAreOfTheirCalls.{IsAnswerOfCall}
+use Rattle.nq_model.specs.protocol.Client.{Client, ClientStep}
+use Rattle.nq_model.specs.laws.FullHasItsCause.{IsFull, IsFullSo, FullHasItsCause}
+use Rattle.nq_model.specs.laws.Journal.{Each, Exists, Throughout, IsCall, IsAnswer}
+use Rattle.nq_model.specs.protocol.Message.{datagram_of}
+use Rattle.nq_model.specs.protocol.Server.{ServerStep}
+use Rattle.nq_model.specs.protocol.World.{Head, World, after_server, after_client, sending_host, start, run}
 use Rattle.walk_steps.proofs.ClientFacts.{Alone}
 use Rattle.walk_steps.proofs.RunCases.{During}
 use Rattle.walk_steps.proofs.Steps.{Changes, nothing, by_client, by_server, ClientActs, called, ticked, restarted, heard, ServerActs, received, ticks}

@@ -19,22 +19,23 @@ use Rattle.nq_base.specs.declared.Said.{Said}
 use Rattle.nq_base.specs.declared.Tag.{Tag}
 use Rattle.nq_base.specs.declared.Value.{Value}
 use Rattle.nq_base.specs.declared.Who.{Who}
-use Rattle.nq_model.specs.Client.{Client, ClientStep, Notice, Ticket, pushing, begun, is_push_of, notice_on, losses_of, add_losses, file_of_loss}
-use Rattle.nq_model.specs.Client.{span_of, is_clean_in}
-use Rattle.nq_model.specs.ClientStep.{begins_call, is_called, says_busy, client_call, at_time, sends_again, client_tick, starts, restart, fresh_client}
-use Rattle.nq_model.specs.Hear.{hear, spends, attached, vacates_lease, vacates_noticed, loses, loss_of, losses_in, all_dirty, all_dirty_in}
-use Rattle.nq_model.specs.Hear.{other_push, reports, without_lease}
-use Rattle.nq_model.specs.Hear.{push_refused, breaks_chain, if_broken, holds, takes_optional, answers_call, caches_block, then_caches, purges}
-use Rattle.nq_model.specs.Hear.{knows_revision, read_done, marks_through, lease_done, caches_write, write_done, ends_push, caches_push, push_done, answer_of}
-use Rattle.nq_model.specs.Hear.{pauses, replied, reply_counts, cancels, notes_notice, evicted}
-use Rattle.nq_model.specs.Journal.{Each}
+use Rattle.nq_model.specs.protocol.Client.{Client, ClientStep, Notice, Ticket, pushing, begun, is_push_of, notice_on, losses_of, add_losses, file_of_loss}
+use Rattle.nq_model.specs.protocol.Client.{span_of, is_clean_in}
+use Rattle.nq_model.specs.protocol.ClientStep.{begins_call, is_called, says_busy, client_call, at_time, sends_again, client_tick, starts, restart, fresh_client}
+use Rattle.nq_model.specs.protocol.Hear.{hear, spends, attached, vacates_lease, vacates_noticed, loses, loss_of, losses_in, all_dirty, all_dirty_in}
+use Rattle.nq_model.specs.protocol.Hear.{other_push, reports, without_lease}
+use Rattle.nq_model.specs.protocol.Hear.{push_refused, breaks_chain, if_broken, holds, takes_optional, answers_call, caches_block, then_caches, purges}
+use Rattle.nq_model.specs.protocol.Hear.{knows_revision, read_done, marks_through, lease_done, caches_write, write_done, ends_push, caches_push, push_done}
+use Rattle.nq_model.specs.protocol.Hear.{answer_of}
+use Rattle.nq_model.specs.protocol.Hear.{pauses, replied, reply_counts, cancels, notes_notice, evicted}
+use Rattle.nq_model.specs.laws.Journal.{Each}
 use Rattle.nq_laws.proofs.Pushing.{HasPush}
-use Rattle.nq_model.specs.LossesAreNamed.{NameSome}
+use Rattle.nq_model.specs.laws.LossesAreNamed.{NameSome}
 use Rattle.nq_model.proofs.ByFile.{of-added}
-use Rattle.nq_model.specs.Message.{Message}
-use Rattle.nq_model.specs.Profile.{most_dirty}
-use Rattle.nq_model.specs.Send.{sends_request, after_seq, after_number, takes_push, gives_up, send_next}
-use Rattle.nq_model.specs.Settle.{said, answers, reads_cached, after_read, after_write, marks_written, settle, pending}
+use Rattle.nq_model.specs.protocol.Message.{Message}
+use Rattle.nq_model.specs.protocol.Profile.{most_dirty}
+use Rattle.nq_model.specs.protocol.Send.{sends_request, after_seq, after_number, takes_push, gives_up, send_next}
+use Rattle.nq_model.specs.protocol.Settle.{said, answers, reads_cached, after_read, after_write, marks_written, settle, pending}
 use Rattle.walk_steps.proofs.ClientFacts.{Alone, fits_job, push_in}
 use Rattle.walk_steps.proofs.ClientMoves.{some-same}
 use Rattle.walk_steps.proofs.Rows.{same-number, number-same}

@@ -6,15 +6,15 @@ use Rattle.nq_base.specs.declared.Request.{Request}
 use Rattle.nq_base.specs.declared.Row.{Row}
 use Rattle.nq_base.specs.declared.Want.{Want}
 use Rattle.nq_base.specs.declared.Who.{Who}
-use Rattle.nq_model.specs.Client.{Client, Lease, lease_on}
-use Rattle.nq_model.specs.Hear.{holds_later}
-use Rattle.nq_model.specs.Kept.{host_row}
-use Rattle.nq_model.specs.Lines.{Play, play, play_rounds}
-use Rattle.nq_model.specs.Message.{call, asker, sequence_of, datagram_of}
-use Rattle.nq_model.specs.Server.{serving}
-use Rattle.nq_model.specs.ServerStep.{receive}
-use Rattle.nq_model.specs.Table.{find_row}
-use Rattle.nq_model.specs.World.{Head, World}
+use Rattle.nq_model.specs.protocol.Client.{Client, Lease, lease_on}
+use Rattle.nq_model.specs.protocol.Hear.{holds_later}
+use Rattle.nq_model.specs.protocol.Kept.{host_row}
+use Rattle.nq_model.specs.protocol.Lines.{Play, play, play_rounds}
+use Rattle.nq_model.specs.protocol.Message.{call, asker, sequence_of, datagram_of}
+use Rattle.nq_model.specs.protocol.Server.{serving}
+use Rattle.nq_model.specs.protocol.ServerStep.{receive}
+use Rattle.nq_model.specs.protocol.Table.{find_row}
+use Rattle.nq_model.specs.protocol.World.{Head, World}
 use Rattle.law_rounds.proofs.ClientCount.{client-count}
 use Rattle.law_rounds.specs.CalmRoundsAreLawful.{IsLawful}
 use Rattle.law_rounds.proofs.CalmEnds.{IsRising}

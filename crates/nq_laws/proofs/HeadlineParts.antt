@@ -14,16 +14,16 @@ use Rattle.law_runs.proofs.ZeroRuns.{untouched}
 use Rattle.nq_laws.proofs.CachedReads.{cached-in-every-run}
 use Rattle.nq_laws.proofs.FullRuns.{full-has-its-cause, losses-are-named}
 use Rattle.nq_laws.proofs.RunAnswers.{refusals-are-of-their-calls, answers-tell-what-was, answers-have-causes}
-use Rattle.nq_model.specs.Headline.{HeadlineHolds, AtEveryMoment}
+use Rattle.nq_model.specs.laws.Headline.{HeadlineHolds, AtEveryMoment}
 use Rattle.walk_steps.proofs.NoCrash.{bounds-before}
-use Rattle.nq_model.specs.Bounds.{KeepsBounds}
+use Rattle.nq_model.specs.laws.Bounds.{KeepsBounds}
 use Rattle.law_runs.proofs.LegalLaws.{legal-in-every-run}
-use Rattle.nq_model.specs.Client.{Client, ClientStep}
-use Rattle.nq_model.specs.Hear.{hear}
-use Rattle.nq_model.specs.Message.{Message, Packet}
-use Rattle.nq_model.specs.Server.{ServerStep}
-use Rattle.nq_model.specs.Skew.{IsWithinSkew}
-use Rattle.nq_model.specs.World.{Head, World, after_server, after_client, at_client, after_hearing, deliver_to_client, deliver_to, deliver, step, run}
+use Rattle.nq_model.specs.protocol.Client.{Client, ClientStep}
+use Rattle.nq_model.specs.protocol.Hear.{hear}
+use Rattle.nq_model.specs.protocol.Message.{Message, Packet}
+use Rattle.nq_model.specs.protocol.Server.{ServerStep}
+use Rattle.nq_model.specs.protocol.Skew.{IsWithinSkew}
+use Rattle.nq_model.specs.protocol.World.{Head, World, after_server, after_client, at_client, after_hearing, deliver_to_client, deliver_to, deliver, step, run}
 use Rattle.law_runs.proofs.ReportedRuns.{reported-in-every-run}
 use Rattle.walk_steps.proofs.Clocks.{within-before}
 use Rattle.law_runs.proofs.OkDeeds.{deeds-in-every-run}

@@ -4,16 +4,16 @@ use Rattle.nq_base.specs.declared.Entry.{Entry}
 use Rattle.nq_base.specs.declared.Entry.TheVariants.{W}
 use Rattle.nq_base.specs.declared.Event.{Event}
 use Rattle.nq_laws.proofs.HeadlineParts.{at-every-moment}
-use Rattle.nq_model.specs.Fate.{IsDelayed}
-use Rattle.nq_model.specs.Journal.{AtEachPlace}
-use Rattle.nq_model.specs.Message.{Packet}
-use Rattle.nq_model.specs.Server.{Server, last_in}
-use Rattle.nq_model.specs.ServerStep.{boot, crash}
-use Rattle.nq_model.specs.World.{Head, World, after_server, first_kept, start, step, run}
-use Rattle.nq_model.specs.Skew.{IsWithinSkew}
-use Rattle.nq_model.specs.Bounds.{KeepsBounds}
-use Rattle.nq_model.specs.Headline.{HeadlineHolds, HoldsAt}
-use Rattle.nq_model.specs.WritesAreAccounted.{HasFate, EachHasItsFate, IsStillUnsaved}
+use Rattle.nq_model.specs.laws.Fate.{IsDelayed}
+use Rattle.nq_model.specs.laws.Journal.{AtEachPlace}
+use Rattle.nq_model.specs.protocol.Message.{Packet}
+use Rattle.nq_model.specs.protocol.Server.{Server, last_in}
+use Rattle.nq_model.specs.protocol.ServerStep.{boot, crash}
+use Rattle.nq_model.specs.protocol.World.{Head, World, after_server, first_kept, start, step, run}
+use Rattle.nq_model.specs.protocol.Skew.{IsWithinSkew}
+use Rattle.nq_model.specs.laws.Bounds.{KeepsBounds}
+use Rattle.nq_model.specs.laws.Headline.{HeadlineHolds, HoldsAt}
+use Rattle.nq_model.specs.laws.WritesAreAccounted.{HasFate, EachHasItsFate, IsStillUnsaved}
 use Rattle.nq_laws.proofs.LastTable.{boots-alike}
 use Rattle.nq_laws.proofs.TornRuns.{torn-is-run}
 use Rattle.nq_laws.specs.TornHeadline.{TornAtEveryMoment, OneIsTorn, EachStopTears, FirstBootTears}

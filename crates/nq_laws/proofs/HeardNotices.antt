@@ -4,14 +4,14 @@ use Rattle.std.specs.Prelude.{slice_get}
 use Rattle.std.proofs.lemmas.Bool.{and_from}
 use Rattle.nq_base.specs.declared.Event.{Event}
 use Rattle.nq_base.specs.declared.Row.{Row}
-use Rattle.nq_model.specs.Client.{Client, Lease, begun, lease_on}
-use Rattle.nq_model.specs.Hear.{cancels, evicted, goes_on, holds_later}
-use Rattle.nq_model.specs.LeaseInterval.{HasFitting, IsCovered, claim_of, cover_end}
-use Rattle.nq_model.specs.Server.{serving}
-use Rattle.nq_model.specs.Skew.{IsWithinSkew}
-use Rattle.nq_model.specs.Table.{same_who, tag_below, find_row}
-use Rattle.nq_model.specs.World.{Head, run}
-use Rattle.nq_model.specs.Bounds.{KeepsBounds}
+use Rattle.nq_model.specs.protocol.Client.{Client, Lease, begun, lease_on}
+use Rattle.nq_model.specs.protocol.Hear.{cancels, evicted, goes_on, holds_later}
+use Rattle.nq_model.specs.laws.LeaseInterval.{HasFitting, IsCovered, claim_of, cover_end}
+use Rattle.nq_model.specs.protocol.Server.{serving}
+use Rattle.nq_model.specs.protocol.Skew.{IsWithinSkew}
+use Rattle.nq_model.specs.protocol.Table.{same_who, tag_below, find_row}
+use Rattle.nq_model.specs.protocol.World.{Head, run}
+use Rattle.nq_model.specs.laws.Bounds.{KeepsBounds}
 use Rattle.walk_steps.proofs.LeaseIntervals.{run-runs}
 use Rattle.walk_steps.proofs.ClientMoves.{some-same}
 use Rattle.walk_steps.proofs.Worlds.{run-holds}

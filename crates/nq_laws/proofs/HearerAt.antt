@@ -7,11 +7,11 @@ use Rattle.nq_base.specs.declared.Request.{Request}
 use Rattle.nq_base.specs.declared.Row.{Row}
 use Rattle.nq_base.specs.declared.Tag.{Tag}
 use Rattle.nq_base.specs.declared.Who.{Who}
-use Rattle.nq_model.specs.Client.{Client, ClientStep, Lease, Notice, Ticket, UnderWay, begun, lease_on, notice_on, drop_lease, used_lease}
-use Rattle.nq_model.specs.Hear.{hear, inc_of, is_put_off, reply_counts, holds_later, cancels, cancelled, evicted, goes_on}
-use Rattle.nq_model.specs.Message.{Message, Packet, call, reply}
-use Rattle.nq_model.specs.Server.{to_host}
-use Rattle.nq_model.specs.Table.{tag_below, find_row}
+use Rattle.nq_model.specs.protocol.Client.{Client, ClientStep, Lease, Notice, Ticket, UnderWay, begun, lease_on, notice_on, drop_lease, used_lease}
+use Rattle.nq_model.specs.protocol.Hear.{hear, inc_of, is_put_off, reply_counts, holds_later, cancels, cancelled, evicted, goes_on}
+use Rattle.nq_model.specs.protocol.Message.{Message, Packet, call, reply}
+use Rattle.nq_model.specs.protocol.Server.{to_host}
+use Rattle.nq_model.specs.protocol.Table.{tag_below, find_row}
 use Rattle.walk_steps.proofs.ClientCases.{Core, core_of, Closed}
 use Rattle.walk_steps.proofs.ClientFacts.{Alone}
 use Rattle.walk_steps.proofs.ClientMoves.{some-same, none-some, keeps-or-cancels}

@@ -10,13 +10,13 @@ use Rattle.nq_base.specs.declared.Reply.{Reply}
 use Rattle.nq_base.specs.declared.Request.{Request}
 use Rattle.nq_base.specs.declared.Row.{Row}
 use Rattle.nq_base.specs.declared.Tag.{Tag}
-use Rattle.nq_model.specs.Ask.{mode_conflicts}
-use Rattle.nq_model.specs.Client.{Client, Notice, Ticket, UnderWay, lease_on, notice_on}
-use Rattle.nq_model.specs.Hear.{holds_later, is_put_off, refusal_counts, wants_of}
-use Rattle.nq_model.specs.Message.{Packet, call, reply}
-use Rattle.nq_model.specs.Server.{to_host}
-use Rattle.nq_model.specs.Table.{caches, is_writing, find_row}
-use Rattle.nq_model.specs.World.{from_host}
+use Rattle.nq_model.specs.protocol.Ask.{mode_conflicts}
+use Rattle.nq_model.specs.protocol.Client.{Client, Notice, Ticket, UnderWay, lease_on, notice_on}
+use Rattle.nq_model.specs.protocol.Hear.{holds_later, is_put_off, refusal_counts, wants_of}
+use Rattle.nq_model.specs.protocol.Message.{Packet, call, reply}
+use Rattle.nq_model.specs.protocol.Server.{to_host}
+use Rattle.nq_model.specs.protocol.Table.{caches, is_writing, find_row}
+use Rattle.nq_model.specs.protocol.World.{from_host}
 use Rattle.walk_steps.proofs.Packets.{In}
 
 -- ---- calls

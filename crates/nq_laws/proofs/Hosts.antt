@@ -3,12 +3,12 @@ use Rattle.std.proofs.Common.{◌≡◌, ◌≢◌, ◌≤◌, ◌<◌, ℕ, ◌
 use Rattle.std.proofs.Common.{subst, ◌∙◌, arith}
 use Rattle.std.specs.Prelude.{slice_get, slice_set}
 use Rattle.nq_base.specs.declared.Event.{Event}
-use Rattle.nq_model.specs.Client.{Client, ClientStep}
-use Rattle.nq_model.specs.ClientStep.{client_tick}
-use Rattle.nq_model.specs.Hear.{hear}
-use Rattle.nq_model.specs.Lines.{Play, play, play_hosts, play_rounds}
-use Rattle.nq_model.specs.Message.{Message}
-use Rattle.nq_model.specs.World.{Head, World, after_client, after_server, at_client, step}
+use Rattle.nq_model.specs.protocol.Client.{Client, ClientStep}
+use Rattle.nq_model.specs.protocol.ClientStep.{client_tick}
+use Rattle.nq_model.specs.protocol.Hear.{hear}
+use Rattle.nq_model.specs.protocol.Lines.{Play, play, play_hosts, play_rounds}
+use Rattle.nq_model.specs.protocol.Message.{Message}
+use Rattle.nq_model.specs.protocol.World.{Head, World, after_client, after_server, at_client, step}
 use Rattle.law_rounds.specs.CalmRoundsAreLawful.{IsLawful}
 use Rattle.law_rounds.proofs.CalmIsLawful.{played-quiet}
 use Rattle.walk_steps.proofs.ClientFacts.{Alone}

@@ -8,14 +8,14 @@ use Rattle.nq_base.specs.declared.Party.{Party}
 use Rattle.nq_base.specs.declared.Reply.{Reply}
 use Rattle.nq_base.specs.declared.Request.{Request}
 use Rattle.nq_base.specs.declared.Who.{Who}
-use Rattle.nq_model.specs.Client.{Client, ClientStep, Ticket}
-use Rattle.nq_model.specs.Hear.{inc_of}
-use Rattle.nq_model.specs.Kept.{host_row}
-use Rattle.nq_model.specs.Lines.{Play, play, delivered}
-use Rattle.nq_model.specs.Message.{Packet, call, reply, request, datagram_of, asker, sequence_of}
-use Rattle.nq_model.specs.Server.{Server, ServerStep, to_host}
-use Rattle.nq_model.specs.ServerStep.{receive}
-use Rattle.nq_model.specs.World.{World, from_host, after_client, after_server, sending_host, step}
+use Rattle.nq_model.specs.protocol.Client.{Client, ClientStep, Ticket}
+use Rattle.nq_model.specs.protocol.Hear.{inc_of}
+use Rattle.nq_model.specs.protocol.Kept.{host_row}
+use Rattle.nq_model.specs.protocol.Lines.{Play, play, delivered}
+use Rattle.nq_model.specs.protocol.Message.{Packet, call, reply, request, datagram_of, asker, sequence_of}
+use Rattle.nq_model.specs.protocol.Server.{Server, ServerStep, to_host}
+use Rattle.nq_model.specs.protocol.ServerStep.{receive}
+use Rattle.nq_model.specs.protocol.World.{World, from_host, after_client, after_server, sending_host, step}
 use Rattle.law_rounds.proofs.CalmEnds.{IsRising}
 use Rattle.law_rounds.proofs.PacketsCome.{Comes}
 use Rattle.law_rounds.proofs.LineSteps.{LineGoes, line_same, line_attached, line_decided}

@@ -11,18 +11,19 @@ use Rattle.nq_base.specs.declared.Tag.{Tag}
 use Rattle.nq_base.specs.declared.Verdict.{Verdict}
 use Rattle.nq_base.specs.declared.Verdict.TheVariants.{Stale, Invalid, Fenced, TryLater}
 use Rattle.nq_base.specs.declared.Who.{Who}
-use Rattle.nq_model.specs.Decide.{Decision, decided_once, decides, wrote, stores_recovering, decide_push_recovering, decide_write_recovering, decide}
-use Rattle.nq_model.specs.Decide.{commits, commits_within, row_after, verdict_reply}
-use Rattle.nq_model.specs.Kept.{File, Kept, blocks_of, find_file, can_be_kept, host_row}
-use Rattle.nq_model.specs.Message.{Message, Reason, Datagram, too_long, no_message, no_call, other_rpc, other_program, other_version}
-use Rattle.nq_model.specs.Message.{unknown_procedure, garbage_vacated, garbage, request, asker, error, rpc_mismatch, program_unavailable}
-use Rattle.nq_model.specs.Message.{program_mismatch, procedure_unavailable, garbage_arguments, was_too_long, was_no_message, was_no_call, wrong_host}
-use Rattle.nq_model.specs.Message.{old_incarnation, out_of_bounds, no_reply_owed}
-use Rattle.nq_model.specs.Profile.{most_hosts, skew, write_slack}
-use Rattle.nq_model.specs.Server.{Phase, serving, recovering, Server, ServerStep, quiet, drops, says, replies, refuses, keeping, keeping_with, with_table}
-use Rattle.nq_model.specs.ServerStep.{attaches, attach_later, attach, vacates, row_of_attach, perform, not_attached, is_attach, admit, answer_request}
-use Rattle.nq_model.specs.ServerStep.{receive, at_time, opens, tick, boot}
-use Rattle.nq_model.specs.Table.{Table}
+use Rattle.nq_model.specs.protocol.Decide.{Decision, decided_once, decides, wrote, stores_recovering, decide_push_recovering, decide_write_recovering, decide}
+use Rattle.nq_model.specs.protocol.Decide.{commits, commits_within, row_after, verdict_reply}
+use Rattle.nq_model.specs.protocol.Kept.{File, Kept, blocks_of, find_file, can_be_kept, host_row}
+use Rattle.nq_model.specs.protocol.Message.{Message, Reason, Datagram, too_long, no_message, no_call, other_rpc, other_program, other_version}
+use Rattle.nq_model.specs.protocol.Message.{unknown_procedure, garbage_vacated, garbage, request, asker, error, rpc_mismatch, program_unavailable}
+use Rattle.nq_model.specs.protocol.Message.{program_mismatch, procedure_unavailable, garbage_arguments, was_too_long, was_no_message, was_no_call, wrong_host}
+use Rattle.nq_model.specs.protocol.Message.{old_incarnation, out_of_bounds, no_reply_owed}
+use Rattle.nq_model.specs.protocol.Profile.{most_hosts, skew, write_slack}
+use Rattle.nq_model.specs.protocol.Server.{Phase, serving, recovering, Server, ServerStep, quiet, drops, says, replies, refuses, keeping, keeping_with}
+use Rattle.nq_model.specs.protocol.Server.{with_table}
+use Rattle.nq_model.specs.protocol.ServerStep.{attaches, attach_later, attach, vacates, row_of_attach, perform, not_attached, is_attach, admit, answer_request}
+use Rattle.nq_model.specs.protocol.ServerStep.{receive, at_time, opens, tick, boot}
+use Rattle.nq_model.specs.protocol.Table.{Table}
 use Rattle.nq_laws.specs.TornRuns.{phase_without, without_last}
 
 -- a step without the table

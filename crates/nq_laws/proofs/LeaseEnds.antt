@@ -9,16 +9,16 @@ use Rattle.nq_base.specs.declared.Request.{Request}
 use Rattle.nq_base.specs.declared.Tag.{Tag}
 use Rattle.nq_base.specs.declared.Want.{Want}
 use Rattle.nq_base.specs.declared.Who.{Who}
-use Rattle.nq_model.specs.Client.{Client, ClientStep, Lease, lease_on, drop_lease, notice_on, first_dirty, dirty_at, is_clean, is_clean_in, Job}
-use Rattle.nq_model.specs.Client.{attaching, for_call, renewing, pushing, Notice, Ticket, UnderWay, begun}
-use Rattle.nq_model.specs.ClientStep.{client_tick, sends_again, at_time}
-use Rattle.nq_model.specs.Hear.{hear, granted_lease, breaks, is_put_off, vacates_lease, vacates_noticed, loses, reports_to, without_lease}
-use Rattle.nq_model.specs.Hear.{push_refused, breaks_chain, holds, takes_grant, takes_optional, caches_block, knows_revision, with_through}
-use Rattle.nq_model.specs.Hear.{marks_through, ends_push, caches_push, push_done, spends, attached, pauses, done_renewal, done_push, done}
-use Rattle.nq_model.specs.Hear.{refused_push, refused, replied, cancels, notes_notice, evicted}
-use Rattle.nq_model.specs.Message.{Message}
-use Rattle.nq_model.specs.Send.{sends_request, after_seq, after_number, takes_push, gives_up, send_next}
-use Rattle.nq_model.specs.Settle.{settle, settle_under_way}
+use Rattle.nq_model.specs.protocol.Client.{Client, ClientStep, Lease, lease_on, drop_lease, notice_on, first_dirty, dirty_at, is_clean, is_clean_in, Job}
+use Rattle.nq_model.specs.protocol.Client.{attaching, for_call, renewing, pushing, Notice, Ticket, UnderWay, begun}
+use Rattle.nq_model.specs.protocol.ClientStep.{client_tick, sends_again, at_time}
+use Rattle.nq_model.specs.protocol.Hear.{hear, granted_lease, breaks, is_put_off, vacates_lease, vacates_noticed, loses, reports_to, without_lease}
+use Rattle.nq_model.specs.protocol.Hear.{push_refused, breaks_chain, holds, takes_grant, takes_optional, caches_block, knows_revision, with_through}
+use Rattle.nq_model.specs.protocol.Hear.{marks_through, ends_push, caches_push, push_done, spends, attached, pauses, done_renewal, done_push, done}
+use Rattle.nq_model.specs.protocol.Hear.{refused_push, refused, replied, cancels, notes_notice, evicted}
+use Rattle.nq_model.specs.protocol.Message.{Message}
+use Rattle.nq_model.specs.protocol.Send.{sends_request, after_seq, after_number, takes_push, gives_up, send_next}
+use Rattle.nq_model.specs.protocol.Settle.{settle, settle_under_way}
 use Rattle.nq_model.proofs.ClientLists.{lease-before-drop, lease-after-put}
 use Rattle.std.proofs.lemmas.Bool.{and_parts}
 use Rattle.walk_files.proofs.ChainLists.{unclean-pushed, unclean-lost, unclean-ended}

@@ -14,18 +14,18 @@ use Rattle.nq_base.specs.declared.Who.{Who}
 use Rattle.law_runs.proofs.ChainWorlds.{chains-know}
 use Rattle.law_runs.proofs.CachedReads.{covered-chained}
 use Rattle.nq_laws.proofs.RunTells.{HadSo, IsTrue, all-true}
-use Rattle.nq_model.specs.AnswersTellWhatWas.{HasLength}
-use Rattle.nq_model.specs.Bounds.{KeepsBounds}
-use Rattle.nq_model.specs.Chained.{IsChained, KnowsFile}
-use Rattle.nq_model.specs.Client.{Client, Ticket, lease_on, lets_read, is_live}
-use Rattle.nq_model.specs.Hear.{granted_lease, inc_of, is_of_procedure, is_reply_to, reply_counts}
-use Rattle.nq_model.specs.LeaseInterval.{CanTake, IsCovered, claim_of, cover_end, grant_in, requested_file}
-use Rattle.nq_model.specs.Message.{reply}
-use Rattle.nq_model.specs.RepliesTellWhatWas.{Once}
-use Rattle.nq_model.specs.Server.{standing, to_host}
-use Rattle.nq_model.specs.Skew.{IsWithinSkew}
-use Rattle.nq_model.specs.Table.{caches}
-use Rattle.nq_model.specs.World.{Head, World, run}
+use Rattle.nq_model.specs.laws.AnswersTellWhatWas.{HasLength}
+use Rattle.nq_model.specs.laws.Bounds.{KeepsBounds}
+use Rattle.nq_model.specs.laws.Chained.{IsChained, KnowsFile}
+use Rattle.nq_model.specs.protocol.Client.{Client, Ticket, lease_on, lets_read, is_live}
+use Rattle.nq_model.specs.protocol.Hear.{granted_lease, inc_of, is_of_procedure, is_reply_to, reply_counts}
+use Rattle.nq_model.specs.laws.LeaseInterval.{CanTake, IsCovered, claim_of, cover_end, grant_in, requested_file}
+use Rattle.nq_model.specs.protocol.Message.{reply}
+use Rattle.nq_model.specs.laws.RepliesTellWhatWas.{Once}
+use Rattle.nq_model.specs.protocol.Server.{standing, to_host}
+use Rattle.nq_model.specs.protocol.Skew.{IsWithinSkew}
+use Rattle.nq_model.specs.protocol.Table.{caches}
+use Rattle.nq_model.specs.protocol.World.{Head, World, run}
 use Rattle.walk_steps.proofs.ClientEntries.{IsGranting, by_read, by_lease, IsLending}
 use Rattle.walk_steps.proofs.LeaseIntervals.{kept-in-every-run}
 use Rattle.walk_steps.proofs.Packets.{Asked, Told as ToldTo}

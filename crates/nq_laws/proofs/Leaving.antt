@@ -7,14 +7,14 @@ use Rattle.nq_base.specs.declared.Request.{Request}
 use Rattle.nq_base.specs.declared.Row.{Row}
 use Rattle.nq_base.specs.declared.Tag.{Tag}
 use Rattle.nq_base.specs.declared.Who.{Who}
-use Rattle.nq_model.specs.Client.{Client, ClientStep, Notice, Ticket, begun, notice_on, drop_notice, is_clean}
-use Rattle.nq_model.specs.Hear.{hear, inc_of, reply_counts, wants_of, noticed_tag, replied, cancels, vacates_lease, notes_notice, evicted, goes_on}
-use Rattle.nq_model.specs.LeaseInterval.{grant_in, requested_file}
-use Rattle.nq_model.specs.Message.{Message, Packet, call, reply}
-use Rattle.nq_model.specs.Send.{sends_request, after_seq, after_number, takes_push, gives_up, send_next}
-use Rattle.nq_model.specs.Server.{to_host}
-use Rattle.nq_model.specs.Settle.{answers, after_read, reads_cached, after_write, marks_written, settle}
-use Rattle.nq_model.specs.Table.{tag_below, later_tag, find_row}
+use Rattle.nq_model.specs.protocol.Client.{Client, ClientStep, Notice, Ticket, begun, notice_on, drop_notice, is_clean}
+use Rattle.nq_model.specs.protocol.Hear.{hear, inc_of, reply_counts, wants_of, noticed_tag, replied, cancels, vacates_lease, notes_notice, evicted, goes_on}
+use Rattle.nq_model.specs.laws.LeaseInterval.{grant_in, requested_file}
+use Rattle.nq_model.specs.protocol.Message.{Message, Packet, call, reply}
+use Rattle.nq_model.specs.protocol.Send.{sends_request, after_seq, after_number, takes_push, gives_up, send_next}
+use Rattle.nq_model.specs.protocol.Server.{to_host}
+use Rattle.nq_model.specs.protocol.Settle.{answers, after_read, reads_cached, after_write, marks_written, settle}
+use Rattle.nq_model.specs.protocol.Table.{tag_below, later_tag, find_row}
 use Rattle.walk_steps.proofs.ClientCases.{Core, core_of, Closed}
 use Rattle.walk_steps.proofs.ClientFacts.{Alone}
 use Rattle.walk_steps.proofs.ClientMoves.{some-same}

@@ -8,15 +8,15 @@ use Rattle.std.proofs.lemmas.Bool.Decides.{nat_tests}
 use Rattle.nq_base.specs.declared.Entry.{Entry}
 use Rattle.nq_base.specs.declared.Event.{Event}
 use Rattle.nq_base.specs.declared.Party.{Party}
-use Rattle.nq_model.specs.Client.{Client, ClientStep}
-use Rattle.nq_model.specs.ClientStep.{client_call, client_tick, restart}
-use Rattle.nq_model.specs.Hear.{hear}
-use Rattle.nq_model.specs.Kept.{Kept}
-use Rattle.nq_model.specs.Message.{Message, Packet, datagram_of}
-use Rattle.nq_model.specs.Server.{ServerStep, last_in, taken}
-use Rattle.nq_model.specs.ServerStep.{receive, tick, boot, booted, crash}
-use Rattle.nq_model.specs.World.{World, from_host, after_server, after_client, at_client, after_hearing, sending_host, deliver_to_client, deliver_to}
-use Rattle.nq_model.specs.World.{deliver, step}
+use Rattle.nq_model.specs.protocol.Client.{Client, ClientStep}
+use Rattle.nq_model.specs.protocol.ClientStep.{client_call, client_tick, restart}
+use Rattle.nq_model.specs.protocol.Hear.{hear}
+use Rattle.nq_model.specs.protocol.Kept.{Kept}
+use Rattle.nq_model.specs.protocol.Message.{Message, Packet, datagram_of}
+use Rattle.nq_model.specs.protocol.Server.{ServerStep, last_in, taken}
+use Rattle.nq_model.specs.protocol.ServerStep.{receive, tick, boot, booted, crash}
+use Rattle.nq_model.specs.protocol.World.{World, from_host, after_server, after_client, at_client, after_hearing, sending_host, deliver_to_client, deliver_to}
+use Rattle.nq_model.specs.protocol.World.{deliver, step}
 use Rattle.nq_laws.proofs.LastTable.{Alike, receives-alike, ticks-alike, boots-alike}
 use Rattle.nq_laws.proofs.Numbers.{get-longer, get-more, get-beside, get-stands}
 use Rattle.nq_laws.specs.TornRuns.{Span, is_within, is_unsent, no_packet, brings_unsent, boots_over, unheard, numbers_made, without_last, IsWorldOf}

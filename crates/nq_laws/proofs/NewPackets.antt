@@ -3,9 +3,9 @@ use Rattle.std.proofs.Common.{◌≡◌, ◌≤◌, ◌<◌, ◌⊎◌, ℕ, ◌
 use Rattle.std.proofs.Common.{arith, inl, inr}
 use Rattle.std.specs.Prelude.{map, slice_get}
 use Rattle.nq_base.specs.declared.Event.{Event}
-use Rattle.nq_model.specs.Lines.{Play, play, delivered, added}
-use Rattle.nq_model.specs.Message.{Packet}
-use Rattle.nq_model.specs.World.{step}
+use Rattle.nq_model.specs.protocol.Lines.{Play, play, delivered, added}
+use Rattle.nq_model.specs.protocol.Message.{Packet}
+use Rattle.nq_model.specs.protocol.World.{step}
 use Rattle.law_rounds.proofs.Items.{Rise}
 use Rattle.law_rounds.proofs.CalmEnds.{IsRising}
 use Rattle.law_rounds.proofs.PacketsCome.{Comes}

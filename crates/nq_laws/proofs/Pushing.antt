@@ -5,14 +5,14 @@ use Rattle.nq_base.specs.declared.Call.{Call}
 use Rattle.nq_base.specs.declared.Event.{Event}
 use Rattle.nq_base.specs.declared.Tag.{Tag}
 use Rattle.law_rounds.proofs.Meant.{replied-free}
-use Rattle.nq_model.specs.Client.{Client, ClientStep, begun, pushing, Ticket}
-use Rattle.nq_model.specs.ClientStep.{begins_call, is_called, says_busy, client_call, at_time, sends_again, client_tick, attached_client, starts}
-use Rattle.nq_model.specs.ClientStep.{fresh_client, restart}
-use Rattle.nq_model.specs.Hear.{hear, replied, cancels, vacates_lease, notes_notice, evicted}
-use Rattle.nq_model.specs.Message.{Message}
-use Rattle.nq_model.specs.Send.{sends_request, after_seq, after_number, takes_push, gives_up, send_next}
-use Rattle.nq_model.specs.Settle.{answers, after_read, reads_cached, after_write, marks_written, settle}
-use Rattle.nq_model.specs.World.{Head, World, after_server, after_client, start, run}
+use Rattle.nq_model.specs.protocol.Client.{Client, ClientStep, begun, pushing, Ticket}
+use Rattle.nq_model.specs.protocol.ClientStep.{begins_call, is_called, says_busy, client_call, at_time, sends_again, client_tick, attached_client, starts}
+use Rattle.nq_model.specs.protocol.ClientStep.{fresh_client, restart}
+use Rattle.nq_model.specs.protocol.Hear.{hear, replied, cancels, vacates_lease, notes_notice, evicted}
+use Rattle.nq_model.specs.protocol.Message.{Message}
+use Rattle.nq_model.specs.protocol.Send.{sends_request, after_seq, after_number, takes_push, gives_up, send_next}
+use Rattle.nq_model.specs.protocol.Settle.{answers, after_read, reads_cached, after_write, marks_written, settle}
+use Rattle.nq_model.specs.protocol.World.{Head, World, after_server, after_client, start, run}
 use Rattle.walk_steps.proofs.ClientFacts.{Alone}
 use Rattle.walk_steps.proofs.ClientMoves.{some-same, none-some, keeps-or-cancels}
 use Rattle.walk_steps.proofs.Rows.{same-number, number-same}

@@ -8,14 +8,14 @@ use Rattle.nq_base.specs.declared.Request.{Request}
 use Rattle.nq_base.specs.declared.Row.{Row}
 use Rattle.nq_base.specs.declared.Verdict.{Verdict}
 use Rattle.nq_base.specs.declared.Who.{Who}
-use Rattle.nq_model.specs.Ask.{conflicts}
-use Rattle.nq_model.specs.Decide.{in_the_way, done_reply, verdict_reply, decides, creates, writes_through, stores, stores_recovering, wrote, resizes}
-use Rattle.nq_model.specs.Decide.{removes, puts_off, commits}
-use Rattle.nq_model.specs.Kept.{host_row}
-use Rattle.nq_model.specs.LeaseInterval.{requested_file}
-use Rattle.nq_model.specs.Message.{Message, Packet, reply, request, asker, sequence_of}
-use Rattle.nq_model.specs.Server.{serving, recovering, Server, to_host, notices, after_notices, keeping, keeping_with, with_table, quiet, drops, says}
-use Rattle.nq_model.specs.ServerStep.{access_of, attaches, vacates, tells_later, serves, leases, receive}
+use Rattle.nq_model.specs.protocol.Ask.{conflicts}
+use Rattle.nq_model.specs.protocol.Decide.{in_the_way, done_reply, verdict_reply, decides, creates, writes_through, stores, stores_recovering, wrote, resizes}
+use Rattle.nq_model.specs.protocol.Decide.{removes, puts_off, commits}
+use Rattle.nq_model.specs.protocol.Kept.{host_row}
+use Rattle.nq_model.specs.laws.LeaseInterval.{requested_file}
+use Rattle.nq_model.specs.protocol.Message.{Message, Packet, reply, request, asker, sequence_of}
+use Rattle.nq_model.specs.protocol.Server.{serving, recovering, Server, to_host, notices, after_notices, keeping, keeping_with, with_table, quiet, drops, says}
+use Rattle.nq_model.specs.protocol.ServerStep.{access_of, attaches, vacates, tells_later, serves, leases, receive}
 use Rattle.walk_steps.proofs.ClientMoves.{some-same, none-some}
 use Rattle.walk_steps.proofs.Packets.{told-same, reply-same}
 use Rattle.walk_steps.proofs.ServerCases.{server-hears}

@@ -4,9 +4,9 @@ use Rattle.std.proofs.Common.{Some, None, length, refl, sym, subst, ap, ◌∙�
 use Rattle.std.specs.Prelude.{slice_get}
 use Rattle.std.proofs.lemmas.List.{length-append}
 use Rattle.nq_base.specs.declared.Event.{Event}
-use Rattle.nq_model.specs.Lines.{Play, play, without, numbers_from, added}
-use Rattle.nq_model.specs.Message.{Packet}
-use Rattle.nq_model.specs.World.{step}
+use Rattle.nq_model.specs.protocol.Lines.{Play, play, without, numbers_from, added}
+use Rattle.nq_model.specs.protocol.Message.{Packet}
+use Rattle.nq_model.specs.protocol.World.{step}
 use Rattle.law_rounds.proofs.Items.{Rise, without-first}
 use Rattle.law_rounds.proofs.CalmEnds.{IsRising}
 use Rattle.law_rounds.proofs.PacketsCome.{Comes, get-kept}

@@ -10,12 +10,12 @@ use Rattle.nq_base.specs.declared.Told.{Told}
 use Rattle.nq_base.specs.declared.Who.{Who}
 use Rattle.nq_laws.specs.RefusedAnswers.{no_file_head, made_and_found, its_journal, OnlyMomentsRefuse, OnlyNamesRefuse}
 use Rattle.nq_laws.specs.RefusedAnswers.{one_block_head, grown_and_fetched, a_fetched_block, OnlyRangesRefuse}
-use Rattle.nq_model.specs.AnswersHaveCauses.{LacksName, LacksBlock}
-use Rattle.nq_model.specs.AnswersTellWhatWas.{Meanwhile}
-use Rattle.nq_model.specs.Journal.{Exists, IsCall}
-use Rattle.nq_model.specs.Kept.{File, blocks_of, find_file, find_name}
-use Rattle.nq_model.specs.RepliesTellWhatWas.{Once}
-use Rattle.nq_model.specs.World.{World, start, run}
+use Rattle.nq_model.specs.laws.AnswersHaveCauses.{LacksName, LacksBlock}
+use Rattle.nq_model.specs.laws.AnswersTellWhatWas.{Meanwhile}
+use Rattle.nq_model.specs.laws.Journal.{Exists, IsCall}
+use Rattle.nq_model.specs.protocol.Kept.{File, blocks_of, find_file, find_name}
+use Rattle.nq_model.specs.laws.RepliesTellWhatWas.{Once}
+use Rattle.nq_model.specs.protocol.World.{World, start, run}
 use Rattle.walk_steps.proofs.GivenRuns.{given-run}
 use Rattle.walk_steps.proofs.Tests.{is-at-most, is-not-at-most}
 

@@ -3,12 +3,12 @@ use Rattle.std.proofs.Common.{◌≡◌, ◌≤◌, ◌<◌, ◌⊎◌, ℕ, ◌
 use Rattle.std.proofs.Common.{subst, ap, ◌∙◌, arith, inl, inr}
 use Rattle.std.specs.Prelude.{slice_get}
 use Rattle.nq_base.specs.declared.Event.{Event}
-use Rattle.nq_model.specs.Client.{Client, UnderWay, Ticket}
-use Rattle.nq_model.specs.ClientStep.{client_tick}
-use Rattle.nq_model.specs.Lines.{Play, play_hosts, play_rounds}
-use Rattle.nq_model.specs.Message.{Packet, call}
-use Rattle.nq_model.specs.Profile.{patience}
-use Rattle.nq_model.specs.World.{Head, World}
+use Rattle.nq_model.specs.protocol.Client.{Client, UnderWay, Ticket}
+use Rattle.nq_model.specs.protocol.ClientStep.{client_tick}
+use Rattle.nq_model.specs.protocol.Lines.{Play, play_hosts, play_rounds}
+use Rattle.nq_model.specs.protocol.Message.{Packet, call}
+use Rattle.nq_model.specs.protocol.Profile.{patience}
+use Rattle.nq_model.specs.protocol.World.{Head, World}
 use Rattle.law_rounds.proofs.ClientCount.{client-count}
 use Rattle.law_rounds.specs.CalmRoundsAreLawful.{IsLawful}
 use Rattle.law_rounds.specs.QuietDeliveries.{recovers}

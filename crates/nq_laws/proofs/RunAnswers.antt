@@ -12,26 +12,26 @@ use Rattle.nq_base.specs.declared.Said.{Said}
 use Rattle.nq_base.specs.declared.Told.{Told}
 use Rattle.nq_base.specs.declared.Who.{Who}
 use Rattle.nq_model.proofs.Lists.{exists-right}
-use Rattle.nq_model.specs.Client.{Client, ClientStep, for_call, Ticket, UnderWay}
-use Rattle.nq_model.specs.ClientStep.{client_call, client_tick, restart}
+use Rattle.nq_model.specs.protocol.Client.{Client, ClientStep, for_call, Ticket, UnderWay}
+use Rattle.nq_model.specs.protocol.ClientStep.{client_call, client_tick, restart}
 use Rattle.nq_base.specs.Calls.{told}
-use Rattle.nq_model.specs.Hear.{hear, inc_of}
-use Rattle.nq_model.specs.Journal.{Exists, Throughout, IsCall, IsAnswer, call_of}
-use Rattle.nq_model.specs.Kept.{host_row}
-use Rattle.nq_model.specs.Message.{Packet, reply, datagram_of}
-use Rattle.nq_model.specs.OfTheirCall.{Reads}
-use Rattle.nq_model.specs.Server.{ServerStep}
-use Rattle.nq_model.specs.ServerStep.{receive, tick, crash}
-use Rattle.nq_model.specs.Settle.{said}
-use Rattle.nq_model.specs.Skew.{IsWithinSkew}
-use Rattle.nq_model.specs.World.{Head, World, after_server, after_client, at_client, after_hearing, sending_host, deliver_to_client, deliver_to}
-use Rattle.nq_model.specs.World.{deliver, start, run}
-use Rattle.nq_model.specs.AnswersHaveCauses.{LacksBlock, IsAnsweredSo, HasCauseAt, AnswersHaveCauses}
-use Rattle.nq_model.specs.AnswersAreOfTheirCalls.{IsAnswerOfCall}
-use Rattle.nq_model.specs.AnswersTellWhatWas.{HasLength, ToldSo, TellsSoAt, AnswersTellWhatWas}
-use Rattle.nq_model.specs.Bounds.{KeepsBounds, InEveryRun}
-use Rattle.nq_model.specs.RefusalsAreOfTheirCalls.{IsRefusalOf, IsRefusalAt, RefusalsAreOfTheirCallsInEveryRun}
-use Rattle.nq_model.specs.RepliesTellWhatWas.{Once}
+use Rattle.nq_model.specs.protocol.Hear.{hear, inc_of}
+use Rattle.nq_model.specs.laws.Journal.{Exists, Throughout, IsCall, IsAnswer, call_of}
+use Rattle.nq_model.specs.protocol.Kept.{host_row}
+use Rattle.nq_model.specs.protocol.Message.{Packet, reply, datagram_of}
+use Rattle.nq_model.specs.laws.OfTheirCall.{Reads}
+use Rattle.nq_model.specs.protocol.Server.{ServerStep}
+use Rattle.nq_model.specs.protocol.ServerStep.{receive, tick, crash}
+use Rattle.nq_model.specs.protocol.Settle.{said}
+use Rattle.nq_model.specs.protocol.Skew.{IsWithinSkew}
+use Rattle.nq_model.specs.protocol.World.{Head, World, after_server, after_client, at_client, after_hearing, sending_host, deliver_to_client, deliver_to}
+use Rattle.nq_model.specs.protocol.World.{deliver, start, run}
+use Rattle.nq_model.specs.laws.AnswersHaveCauses.{LacksBlock, IsAnsweredSo, HasCauseAt, AnswersHaveCauses}
+use Rattle.nq_model.specs.laws.AnswersAreOfTheirCalls.{IsAnswerOfCall}
+use Rattle.nq_model.specs.laws.AnswersTellWhatWas.{HasLength, ToldSo, TellsSoAt, AnswersTellWhatWas}
+use Rattle.nq_model.specs.laws.Bounds.{KeepsBounds, InEveryRun}
+use Rattle.nq_model.specs.laws.RefusalsAreOfTheirCalls.{IsRefusalOf, IsRefusalAt, RefusalsAreOfTheirCallsInEveryRun}
+use Rattle.nq_model.specs.laws.RepliesTellWhatWas.{Once}
 use Rattle.walk_files.proofs.CallFacts.{CallsAt}
 use Rattle.walk_files.proofs.Placed.{Placed, call-told, call-later}
 use Rattle.walk_steps.proofs.ClientEntries.{IsTelling}

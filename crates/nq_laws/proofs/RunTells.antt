@@ -9,18 +9,18 @@ use Rattle.nq_base.specs.declared.Refusal.{Refusal}
 use Rattle.nq_base.specs.declared.Reply.{Reply}
 use Rattle.nq_base.specs.declared.Request.{Request}
 use Rattle.nq_base.specs.declared.Who.{Who}
-use Rattle.nq_model.specs.Client.{Client, ClientStep}
-use Rattle.nq_model.specs.ClientStep.{client_call, client_tick, restart}
-use Rattle.nq_model.specs.Decide.{verdict_reply}
-use Rattle.nq_model.specs.Hear.{hear, inc_of}
-use Rattle.nq_model.specs.Kept.{File, Kept, find_file, with_files, fresh_row, host_row}
-use Rattle.nq_model.specs.Message.{Message, Packet, call, reply, request, asker, datagram_of, sequence_of}
-use Rattle.nq_model.specs.Profile.{most_hosts}
-use Rattle.nq_model.specs.Server.{Server, ServerStep, quiet, with_table, keeping_with, to_host}
-use Rattle.nq_model.specs.ServerStep.{receive, tick, crash, boot, fence, at_time, opens, ends_writing}
-use Rattle.nq_model.specs.World.{Head, World, from_host, after_server, after_client, at_client, after_hearing, sending_host, deliver_to_client}
-use Rattle.nq_model.specs.World.{deliver_to, deliver, first_row, start, run}
-use Rattle.nq_model.specs.RepliesTellWhatWas.{Once, WasSo, RepliesTellWhatWas}
+use Rattle.nq_model.specs.protocol.Client.{Client, ClientStep}
+use Rattle.nq_model.specs.protocol.ClientStep.{client_call, client_tick, restart}
+use Rattle.nq_model.specs.protocol.Decide.{verdict_reply}
+use Rattle.nq_model.specs.protocol.Hear.{hear, inc_of}
+use Rattle.nq_model.specs.protocol.Kept.{File, Kept, find_file, with_files, fresh_row, host_row}
+use Rattle.nq_model.specs.protocol.Message.{Message, Packet, call, reply, request, asker, datagram_of, sequence_of}
+use Rattle.nq_model.specs.protocol.Profile.{most_hosts}
+use Rattle.nq_model.specs.protocol.Server.{Server, ServerStep, quiet, with_table, keeping_with, to_host}
+use Rattle.nq_model.specs.protocol.ServerStep.{receive, tick, crash, boot, fence, at_time, opens, ends_writing}
+use Rattle.nq_model.specs.protocol.World.{Head, World, from_host, after_server, after_client, at_client, after_hearing, sending_host, deliver_to_client}
+use Rattle.nq_model.specs.protocol.World.{deliver_to, deliver, first_row, start, run}
+use Rattle.nq_model.specs.laws.RepliesTellWhatWas.{Once, WasSo, RepliesTellWhatWas}
 use Rattle.walk_steps.proofs.Mail.{none-to-host}
 use Rattle.walk_steps.proofs.Packets.{In, in-append, in-left, in-get, Asked, Told}
 use Rattle.walk_steps.proofs.Worlds.{to-server, run-holds}

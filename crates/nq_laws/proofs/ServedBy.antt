@@ -11,17 +11,17 @@ use Rattle.nq_base.specs.declared.Tag.{Tag}
 use Rattle.nq_base.specs.declared.Verdict.{Verdict}
 use Rattle.nq_base.specs.declared.Want.{Want}
 use Rattle.nq_base.specs.declared.Who.{Who}
-use Rattle.nq_model.specs.Ask.{conflicts, marked, mode_conflicts, term_of, sharing_row, caching_row, shared_again, renewed_row}
-use Rattle.nq_model.specs.Decide.{in_the_way, verdict_reply, decides, creates, writes_through, stores, stores_recovering, wrote, resizes, removes}
-use Rattle.nq_model.specs.Decide.{puts_off, commits, done_reply}
-use Rattle.nq_model.specs.Hear.{is_put_off, wants_of}
-use Rattle.nq_model.specs.LeaseInterval.{requested_file}
-use Rattle.nq_model.specs.Message.{Message, Packet, call, reply, Datagram, request, datagram_of, asker, sequence_of}
-use Rattle.nq_model.specs.Profile.{most_hosts, xid_end}
-use Rattle.nq_model.specs.Server.{serving, recovering, Server, ServerStep, to_host, notices, after_notices, keeping, keeping_with, with_table}
-use Rattle.nq_model.specs.Server.{quiet as rests, drops, says}
-use Rattle.nq_model.specs.ServerStep.{access_of, to_read, attaches, vacates, tells_later, serves, leases, receive}
-use Rattle.nq_model.specs.Table.{caches, find_row, is_row_of, put_row, with_rows, after_draw}
+use Rattle.nq_model.specs.protocol.Ask.{conflicts, marked, mode_conflicts, term_of, sharing_row, caching_row, shared_again, renewed_row}
+use Rattle.nq_model.specs.protocol.Decide.{in_the_way, verdict_reply, decides, creates, writes_through, stores, stores_recovering, wrote, resizes, removes}
+use Rattle.nq_model.specs.protocol.Decide.{puts_off, commits, done_reply}
+use Rattle.nq_model.specs.protocol.Hear.{is_put_off, wants_of}
+use Rattle.nq_model.specs.laws.LeaseInterval.{requested_file}
+use Rattle.nq_model.specs.protocol.Message.{Message, Packet, call, reply, Datagram, request, datagram_of, asker, sequence_of}
+use Rattle.nq_model.specs.protocol.Profile.{most_hosts, xid_end}
+use Rattle.nq_model.specs.protocol.Server.{serving, recovering, Server, ServerStep, to_host, notices, after_notices, keeping, keeping_with, with_table}
+use Rattle.nq_model.specs.protocol.Server.{quiet as rests, drops, says}
+use Rattle.nq_model.specs.protocol.ServerStep.{access_of, to_read, attaches, vacates, tells_later, serves, leases, receive}
+use Rattle.nq_model.specs.protocol.Table.{caches, find_row, is_row_of, put_row, with_rows, after_draw}
 use Rattle.walk_steps.proofs.ClientMoves.{some-same, none-some}
 use Rattle.walk_steps.proofs.Packets.{In, in-left, in-last, told-same, reply-same}
 use Rattle.walk_steps.proofs.AskCases.{shares_again, begins_sharing, begins_caching, renews_row}

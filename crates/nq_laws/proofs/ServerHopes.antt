@@ -7,14 +7,14 @@ use Rattle.nq_base.specs.declared.Reply.{Reply}
 use Rattle.nq_base.specs.declared.Request.{Request}
 use Rattle.nq_base.specs.declared.Row.{Row}
 use Rattle.nq_base.specs.declared.Want.{Want}
-use Rattle.nq_model.specs.RowsStandApart.{WritesAlone}
-use Rattle.nq_model.specs.Ask.{mode_conflicts}
-use Rattle.nq_model.specs.Client.{Client, Ticket, UnderWay}
-use Rattle.nq_model.specs.Hear.{inc_of}
-use Rattle.nq_model.specs.Message.{Packet, call, reply}
-use Rattle.nq_model.specs.Server.{to_host}
-use Rattle.nq_model.specs.Table.{caches, is_writing, greater_mode, find_row}
-use Rattle.nq_model.specs.World.{from_host}
+use Rattle.nq_model.specs.laws.RowsStandApart.{WritesAlone}
+use Rattle.nq_model.specs.protocol.Ask.{mode_conflicts}
+use Rattle.nq_model.specs.protocol.Client.{Client, Ticket, UnderWay}
+use Rattle.nq_model.specs.protocol.Hear.{inc_of}
+use Rattle.nq_model.specs.protocol.Message.{Packet, call, reply}
+use Rattle.nq_model.specs.protocol.Server.{to_host}
+use Rattle.nq_model.specs.protocol.Table.{caches, is_writing, greater_mode, find_row}
+use Rattle.nq_model.specs.protocol.World.{from_host}
 use Rattle.walk_steps.proofs.ClientMoves.{some-same, none-some}
 use Rattle.walk_steps.proofs.Packets.{In, in-right, not-both}
 use Rattle.walk_steps.proofs.Rows.{same-number, number-same}

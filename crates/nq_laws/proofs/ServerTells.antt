@@ -12,17 +12,17 @@ use Rattle.nq_base.specs.declared.Request.{Request}
 use Rattle.nq_base.specs.declared.Row.{Row}
 use Rattle.nq_base.specs.declared.Verdict.{Verdict}
 use Rattle.nq_base.specs.declared.Who.{Who}
-use Rattle.nq_model.specs.Ask.{grant_of}
-use Rattle.nq_model.specs.Decide.{Decision, in_the_way, verdict_reply, row_after, decides, creates, writes_through, stores, wrote, stores_recovering}
-use Rattle.nq_model.specs.Decide.{resizes, removes, puts_off, commits}
-use Rattle.nq_model.specs.Hear.{inc_of}
-use Rattle.nq_model.specs.Kept.{File, Kept, blocks_of, find_file, find_name, new_file, host_row, with_row, with_files, with_new_file}
-use Rattle.nq_model.specs.Message.{Message, Packet, reply, asker, Datagram, request, sequence_of}
-use Rattle.nq_model.specs.Profile.{same_bytes}
-use Rattle.nq_model.specs.Server.{Server, ServerStep, to_host, says, quiet, drops, notices, keeping, keeping_with, with_table, after_notices}
-use Rattle.nq_model.specs.ServerStep.{attaches, vacates, tells_later, serves, leases, receive}
-use Rattle.nq_model.specs.Table.{Table}
-use Rattle.nq_model.specs.RepliesTellWhatWas.{KeepsAt, KeepsNamed}
+use Rattle.nq_model.specs.protocol.Ask.{grant_of}
+use Rattle.nq_model.specs.protocol.Decide.{Decision, in_the_way, verdict_reply, row_after, decides, creates, writes_through, stores, wrote, stores_recovering}
+use Rattle.nq_model.specs.protocol.Decide.{resizes, removes, puts_off, commits}
+use Rattle.nq_model.specs.protocol.Hear.{inc_of}
+use Rattle.nq_model.specs.protocol.Kept.{File, Kept, blocks_of, find_file, find_name, new_file, host_row, with_row, with_files, with_new_file}
+use Rattle.nq_model.specs.protocol.Message.{Message, Packet, reply, asker, Datagram, request, sequence_of}
+use Rattle.nq_model.specs.protocol.Profile.{same_bytes}
+use Rattle.nq_model.specs.protocol.Server.{Server, ServerStep, to_host, says, quiet, drops, notices, keeping, keeping_with, with_table, after_notices}
+use Rattle.nq_model.specs.protocol.ServerStep.{attaches, vacates, tells_later, serves, leases, receive}
+use Rattle.nq_model.specs.protocol.Table.{Table}
+use Rattle.nq_model.specs.laws.RepliesTellWhatWas.{KeepsAt, KeepsNamed}
 use Rattle.nq_laws.specs.RefusalsHaveCauses.{IsCause}
 use Rattle.nq_laws.proofs.Causes.{IsTold, refused-told, none-beyond, requested-lacks, declined-told}
 use Rattle.walk_steps.proofs.Packets.{In, in-append, told-same, reply-same}

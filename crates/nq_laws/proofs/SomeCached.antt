@@ -4,10 +4,10 @@ use Rattle.std.specs.Prelude.{slice_get, unwrap_or}
 use Rattle.nq_base.specs.declared.Mode.{Mode}
 use Rattle.walk_steps.proofs.SomeLease.{two-hosts, one-read}
 use Rattle.nq_laws.specs.CachedReadsMet.{IsReadySometime}
-use Rattle.nq_model.specs.Client.{Client, Lease}
+use Rattle.nq_model.specs.protocol.Client.{Client, Lease}
 use Rattle.nq_base.specs.Block.{filled, zeros}
-use Rattle.nq_model.specs.ClientStep.{attached_client}
-use Rattle.nq_model.specs.World.{run}
+use Rattle.nq_model.specs.protocol.ClientStep.{attached_client}
+use Rattle.nq_model.specs.protocol.World.{run}
 use Rattle.walk_steps.proofs.GivenRuns.{given-run}
 
 -- the first host's client after it

@@ -5,11 +5,11 @@ use Rattle.std.proofs.lemmas.Bool.{and_parts}
 use Rattle.nq_base.specs.Block.{filled, zeros}
 use Rattle.nq_base.specs.declared.Call.{Call}
 use Rattle.nq_base.specs.declared.Event.{Event}
-use Rattle.nq_model.specs.Bounds.{KeepsBounds, BootsWithin}
-use Rattle.nq_model.specs.Lines.{Play, play}
-use Rattle.nq_model.specs.Skew.{is_within_skew}
-use Rattle.nq_model.specs.Stepped.{most_events, most_sent}
-use Rattle.nq_model.specs.World.{run}
+use Rattle.nq_model.specs.laws.Bounds.{KeepsBounds, BootsWithin}
+use Rattle.nq_model.specs.protocol.Lines.{Play, play}
+use Rattle.nq_model.specs.protocol.Skew.{is_within_skew}
+use Rattle.nq_model.specs.protocol.Stepped.{most_events, most_sent}
+use Rattle.nq_model.specs.protocol.World.{run}
 use Rattle.nq_model.proofs.SkewTest.{skew-test-is-sound}
 use Rattle.walk_steps.proofs.GivenRuns.{given-run}
 use Rattle.walk_steps.proofs.NoCrash.{one-first}

@@ -8,14 +8,14 @@ use Rattle.nq_base.specs.declared.Loss.{Loss}
 use Rattle.nq_base.specs.declared.Who.{Who}
 use Rattle.nq_laws.specs.LawsAreMet.{is_refusal, LosesAfterSilence, LosesAfterRecovery, StoresAfterRestart, CutsAndGrows, LawsAreMet}
 use Rattle.walk_steps.proofs.NoCrash.{one-first, no-crash-within, no-crash-after}
-use Rattle.nq_model.specs.Bounds.{BootsWithin, KeepsBounds}
+use Rattle.nq_model.specs.laws.Bounds.{BootsWithin, KeepsBounds}
 use Rattle.nq_model.proofs.SkewTest.{skew-test-is-sound}
-use Rattle.nq_model.specs.ClientStep.{next_incarnation}
-use Rattle.nq_model.specs.JournalTest.{exists}
-use Rattle.nq_model.specs.ReportedTest.{names}
-use Rattle.nq_model.specs.World.{Head, run}
-use Rattle.nq_model.specs.Witnesses.{in_order, is_delayed_write, is_lost_write, is_loss, is_store, is_silence, is_silence_of, is_crash, is_opening}
-use Rattle.nq_model.specs.Witnesses.{is_start, is_read, is_cut, is_growth, is_write}
+use Rattle.nq_model.specs.protocol.ClientStep.{next_incarnation}
+use Rattle.nq_model.specs.laws.JournalTest.{exists}
+use Rattle.nq_model.specs.laws.ReportedTest.{names}
+use Rattle.nq_model.specs.protocol.World.{Head, run}
+use Rattle.nq_model.specs.laws.Witnesses.{in_order, is_delayed_write, is_lost_write, is_loss, is_store, is_silence, is_silence_of, is_crash, is_opening}
+use Rattle.nq_model.specs.laws.Witnesses.{is_start, is_read, is_cut, is_growth, is_write}
 use Rattle.walk_steps.proofs.GivenRuns.{given-run}
 
 -- one host that wants short leases, and one file

@@ -6,11 +6,11 @@ use Rattle.nq_base.specs.declared.Call.{Call}
 use Rattle.nq_base.specs.declared.Event.{Event}
 use Rattle.nq_base.specs.declared.Who.{Who}
 use Rattle.nq_model.proofs.SkewTest.{skew-test-is-sound}
-use Rattle.nq_model.specs.Kept.{find_file}
-use Rattle.nq_model.specs.Skew.{IsWithinSkew, is_within_skew}
-use Rattle.nq_model.specs.World.{Head}
-use Rattle.nq_model.specs.Bounds.{BootsWithin, KeepsBounds}
-use Rattle.nq_model.specs.Witnesses.{in_order, is_crash, is_delayed_write, is_store}
+use Rattle.nq_model.specs.protocol.Kept.{find_file}
+use Rattle.nq_model.specs.protocol.Skew.{IsWithinSkew, is_within_skew}
+use Rattle.nq_model.specs.protocol.World.{Head}
+use Rattle.nq_model.specs.laws.Bounds.{BootsWithin, KeepsBounds}
+use Rattle.nq_model.specs.laws.Witnesses.{in_order, is_crash, is_delayed_write, is_store}
 use Rattle.walk_steps.proofs.GivenRuns.{given-run}
 use Rattle.walk_steps.proofs.NoCrash.{one-first, no-crash-within, no-crash-after}
 use Rattle.nq_laws.specs.TornMet.{value_at, is_ok, IsFair, PushesAreTorn}

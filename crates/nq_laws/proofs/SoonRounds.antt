@@ -1,8 +1,8 @@
 -- A calm round in which fewer deliveries are enough is the same: so some schedule's rounds are computed.
 use Rattle.std.proofs.Common.{◌≡◌, ℕ, ◌&&◌, Bool, true, false, zero, suc, List, [], ◌∷◌, refl, sym, ap, subst, ◌∙◌}
 use Rattle.std.proofs.lemmas.Bool.{and_parts}
-use Rattle.nq_model.specs.Lines.{Play, play_flow, flow_first, play_rounds}
-use Rattle.nq_model.specs.World.{Head}
+use Rattle.nq_model.specs.protocol.Lines.{Play, play_flow, flow_first, play_rounds}
+use Rattle.nq_model.specs.protocol.World.{Head}
 use Rattle.law_rounds.specs.DeliveryEnds.{enough_deliveries}
 use Rattle.law_rounds.specs.CalmRound.{calm_round, calm_rounds}
 use Rattle.law_rounds.specs.CalmRoundsAreLawful.{IsLawful}

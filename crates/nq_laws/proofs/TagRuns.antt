@@ -12,17 +12,17 @@ use Rattle.nq_base.specs.declared.Request.{Request}
 use Rattle.nq_base.specs.declared.Row.{Row}
 use Rattle.nq_base.specs.declared.Tag.{Tag}
 use Rattle.nq_base.specs.declared.Who.{Who}
-use Rattle.nq_model.specs.Client.{Client, ClientStep, Lease, Ticket, begun, lease_on}
-use Rattle.nq_model.specs.ClientStep.{client_call, client_tick, restart, attached_client, fresh_client}
-use Rattle.nq_model.specs.Hear.{hear, inc_of, cancels, evicted, goes_on, holds_later}
-use Rattle.nq_model.specs.LeaseInterval.{grant_in, requested_file}
-use Rattle.nq_model.specs.Message.{Packet, Datagram, call, reply, asker, datagram_of}
-use Rattle.nq_model.specs.Server.{Server, ServerStep, Phase, serving, recovering, standing, standing_in, to_host}
-use Rattle.nq_model.specs.ServerStep.{receive, tick, crash, boot}
-use Rattle.nq_model.specs.Skew.{IsWithinSkew}
-use Rattle.nq_model.specs.Table.{Table, same_who, tag_below, next_tag, find_row, empty_table, with_rows}
-use Rattle.nq_model.specs.World.{Head, World, from_host, after_server, after_client, sending_host, start, run}
-use Rattle.nq_model.specs.Bounds.{KeepsBounds}
+use Rattle.nq_model.specs.protocol.Client.{Client, ClientStep, Lease, Ticket, begun, lease_on}
+use Rattle.nq_model.specs.protocol.ClientStep.{client_call, client_tick, restart, attached_client, fresh_client}
+use Rattle.nq_model.specs.protocol.Hear.{hear, inc_of, cancels, evicted, goes_on, holds_later}
+use Rattle.nq_model.specs.laws.LeaseInterval.{grant_in, requested_file}
+use Rattle.nq_model.specs.protocol.Message.{Packet, Datagram, call, reply, asker, datagram_of}
+use Rattle.nq_model.specs.protocol.Server.{Server, ServerStep, Phase, serving, recovering, standing, standing_in, to_host}
+use Rattle.nq_model.specs.protocol.ServerStep.{receive, tick, crash, boot}
+use Rattle.nq_model.specs.protocol.Skew.{IsWithinSkew}
+use Rattle.nq_model.specs.protocol.Table.{Table, same_who, tag_below, next_tag, find_row, empty_table, with_rows}
+use Rattle.nq_model.specs.protocol.World.{Head, World, from_host, after_server, after_client, sending_host, start, run}
+use Rattle.nq_model.specs.laws.Bounds.{KeepsBounds}
 use Rattle.law_rounds.proofs.HostsBelow.{one-row-each}
 use Rattle.law_rounds.proofs.NoticeRows.{notices-mark}
 use Rattle.walk_steps.proofs.LeaseIntervals.{run-runs}

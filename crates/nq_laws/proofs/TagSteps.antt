@@ -7,13 +7,13 @@ use Rattle.nq_base.specs.declared.Request.{Request}
 use Rattle.nq_base.specs.declared.Tag.{Tag}
 use Rattle.nq_base.specs.declared.Who.{Who}
 use Rattle.nq_model.proofs.ClientLists.{notice-before-drop, notice-after-put, lease-after-put}
-use Rattle.nq_model.specs.Client.{Client, ClientStep, Job, Lease, Notice, Ticket, begun, lease_on, drop_lease, put_lease, used_lease, notice_on}
-use Rattle.nq_model.specs.ClientStep.{client_call, client_tick, at_time, restart, starts, fresh_client, next_incarnation}
+use Rattle.nq_model.specs.protocol.Client.{Client, ClientStep, Job, Lease, Notice, Ticket, begun, lease_on, drop_lease, put_lease, used_lease, notice_on}
+use Rattle.nq_model.specs.protocol.ClientStep.{client_call, client_tick, at_time, restart, starts, fresh_client, next_incarnation}
 use Rattle.nq_base.specs.declared.Call.{Call}
-use Rattle.nq_model.specs.Hear.{hear, inc_of, noticed_tag, granted_lease}
-use Rattle.nq_model.specs.LeaseInterval.{grant_in, requested_file}
-use Rattle.nq_model.specs.Message.{Message, Packet, call, reply}
-use Rattle.nq_model.specs.Table.{tag_below, later_tag}
+use Rattle.nq_model.specs.protocol.Hear.{hear, inc_of, noticed_tag, granted_lease}
+use Rattle.nq_model.specs.laws.LeaseInterval.{grant_in, requested_file}
+use Rattle.nq_model.specs.protocol.Message.{Message, Packet, call, reply}
+use Rattle.nq_model.specs.protocol.Table.{tag_below, later_tag}
 use Rattle.walk_steps.proofs.ClientCases.{Core, Closed, core_of}
 use Rattle.walk_steps.proofs.ClientFacts.{fits_job}
 use Rattle.walk_steps.proofs.ClientMoves.{some-same, none-some, keeps-or-cancels}

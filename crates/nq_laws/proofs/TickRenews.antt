@@ -6,11 +6,11 @@ use Rattle.nq_base.specs.declared.Grant.{Grant}
 use Rattle.std.specs.Prelude.{map, filter}
 use Rattle.nq_base.specs.declared.Request.{Request}
 use Rattle.nq_base.specs.declared.Tag.{Tag}
-use Rattle.nq_model.specs.Client.{Client, ClientStep, renewing, Lease, Ticket, UnderWay, begun, file_of_lease, lease_on}
-use Rattle.nq_model.specs.ClientStep.{client_tick, at_time}
-use Rattle.nq_model.specs.Send.{want_of, is_asking, is_to_renew, sends_request, after_seq, after_number, takes_push, gives_up, send_next, least}
-use Rattle.nq_model.specs.Settle.{answers, after_read, reads_cached, after_write, marks_written, settle}
-use Rattle.nq_model.specs.Table.{caches}
+use Rattle.nq_model.specs.protocol.Client.{Client, ClientStep, renewing, Lease, Ticket, UnderWay, begun, file_of_lease, lease_on}
+use Rattle.nq_model.specs.protocol.ClientStep.{client_tick, at_time}
+use Rattle.nq_model.specs.protocol.Send.{want_of, is_asking, is_to_renew, sends_request, after_seq, after_number, takes_push, gives_up, send_next, least}
+use Rattle.nq_model.specs.protocol.Settle.{answers, after_read, reads_cached, after_write, marks_written, settle}
+use Rattle.nq_model.specs.protocol.Table.{caches}
 use Rattle.law_rounds.proofs.Busy.{asks-next}
 use Rattle.walk_steps.proofs.ClientCases.{Both}
 use Rattle.walk_steps.proofs.ClientFacts.{Alone}

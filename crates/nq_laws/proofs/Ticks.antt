@@ -3,15 +3,15 @@ use Rattle.std.proofs.Common.{◌≡◌, ℕ, ◌+◌, false, zero, suc, List, O
 use Rattle.std.specs.Prelude.{not, slice_get}
 use Rattle.nq_base.specs.declared.Event.{Event}
 use Rattle.nq_base.specs.declared.Row.{Row}
-use Rattle.nq_model.specs.Client.{Client, UnderWay}
-use Rattle.nq_model.specs.ClientStep.{client_tick, at_time as at_client_time}
-use Rattle.nq_model.specs.Lines.{Play, play, play_hosts, play_rounds}
-use Rattle.nq_model.specs.Server.{serving, recovering, Server, ServerStep, quiet, keeping_with, with_table}
-use Rattle.nq_model.specs.ServerStep.{tick, at_time, opens, ends_writing, end_reading, is_over}
-use Rattle.nq_model.specs.Table.{find_row, is_row_of, with_rows}
-use Rattle.nq_model.specs.World.{Head, World, after_client, after_server, at_client, run}
-use Rattle.nq_model.specs.Skew.{IsWithinSkew}
-use Rattle.nq_model.specs.Bounds.{KeepsBounds}
+use Rattle.nq_model.specs.protocol.Client.{Client, UnderWay}
+use Rattle.nq_model.specs.protocol.ClientStep.{client_tick, at_time as at_client_time}
+use Rattle.nq_model.specs.protocol.Lines.{Play, play, play_hosts, play_rounds}
+use Rattle.nq_model.specs.protocol.Server.{serving, recovering, Server, ServerStep, quiet, keeping_with, with_table}
+use Rattle.nq_model.specs.protocol.ServerStep.{tick, at_time, opens, ends_writing, end_reading, is_over}
+use Rattle.nq_model.specs.protocol.Table.{find_row, is_row_of, with_rows}
+use Rattle.nq_model.specs.protocol.World.{Head, World, after_client, after_server, at_client, run}
+use Rattle.nq_model.specs.protocol.Skew.{IsWithinSkew}
+use Rattle.nq_model.specs.laws.Bounds.{KeepsBounds}
 use Rattle.law_rounds.proofs.ClientCount.{client-count}
 use Rattle.law_rounds.specs.CalmRoundsAreLawful.{IsLawful}
 use Rattle.law_rounds.specs.QuietDeliveries.{recovers}

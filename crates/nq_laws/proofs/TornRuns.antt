@@ -1,7 +1,7 @@
 -- A torn run is the run of its schedule.
 use Rattle.std.proofs.Common.{◌≡◌, Bool, true, false, List, [], ◌∷◌, ◌++◌, if◌then◌else◌, refl, sym, subst}
 use Rattle.nq_base.specs.declared.Event.{Event}
-use Rattle.nq_model.specs.World.{Head, World, step, run}
+use Rattle.nq_model.specs.protocol.World.{Head, World, step, run}
 use Rattle.nq_laws.proofs.LikeWorlds.{Goes, stays, steps-alike, boots-like, unheard-like}
 use Rattle.nq_laws.specs.TornRuns.{Happening, whole, torn_before, torn_after, Span, TornWorld, brings_unsent, comes, unheard, numbers_made, torn_off}
 use Rattle.nq_laws.specs.TornRuns.{torn_step, torn_run, event_of, events_of, schedule, IsWorldOf, TornRunsAreRuns}

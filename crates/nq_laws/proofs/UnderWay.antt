@@ -8,14 +8,14 @@ use Rattle.nq_base.specs.declared.Row.{Row}
 use Rattle.nq_base.specs.declared.Tag.{Tag}
 use Rattle.nq_base.specs.declared.Want.{Want}
 use Rattle.nq_base.specs.declared.Who.{Who}
-use Rattle.nq_model.specs.Client.{Client, ClientStep, renewing, Notice, Ticket, UnderWay, lease_on, notice_on}
-use Rattle.nq_model.specs.Hear.{inc_of, holds_later, cancelled}
-use Rattle.nq_model.specs.Kept.{host_row}
-use Rattle.nq_model.specs.Lines.{Play}
-use Rattle.nq_model.specs.Message.{Message, Packet, call, reply, asker, sequence_of}
-use Rattle.nq_model.specs.Server.{Phase, serving, recovering, to_host}
-use Rattle.nq_model.specs.Table.{caches, greater_mode, tag_below, find_row}
-use Rattle.nq_model.specs.World.{World, from_host}
+use Rattle.nq_model.specs.protocol.Client.{Client, ClientStep, renewing, Notice, Ticket, UnderWay, lease_on, notice_on}
+use Rattle.nq_model.specs.protocol.Hear.{inc_of, holds_later, cancelled}
+use Rattle.nq_model.specs.protocol.Kept.{host_row}
+use Rattle.nq_model.specs.protocol.Lines.{Play}
+use Rattle.nq_model.specs.protocol.Message.{Message, Packet, call, reply, asker, sequence_of}
+use Rattle.nq_model.specs.protocol.Server.{Phase, serving, recovering, to_host}
+use Rattle.nq_model.specs.protocol.Table.{caches, greater_mode, tag_below, find_row}
+use Rattle.nq_model.specs.protocol.World.{World, from_host}
 use Rattle.law_rounds.specs.QuietDeliveries.{recovers}
 use Rattle.law_rounds.proofs.PacketsCome.{Comes}
 use Rattle.walk_steps.proofs.ClientFacts.{fits_job}

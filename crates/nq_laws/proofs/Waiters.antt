@@ -9,10 +9,10 @@ use Rattle.nq_base.specs.declared.Clash.{Clash}
 use Rattle.nq_base.specs.declared.Question.{Question}
 use Rattle.nq_base.specs.declared.Row.{Row}
 use Rattle.nq_base.specs.declared.Want.{Want}
-use Rattle.nq_model.specs.Ask.{Reply, ask_past, ask_freely, begin, shares, conflicts, sharing_row, caching_row, marked, with_waiting, put_off}
-use Rattle.nq_model.specs.Ask.{granted, no_lease, term_of}
-use Rattle.nq_model.specs.Profile.{shortest_term, most_rows}
-use Rattle.nq_model.specs.Table.{Table, find_row, with_rows, after_draw}
+use Rattle.nq_model.specs.protocol.Ask.{Reply, ask_past, ask_freely, begin, shares, conflicts, sharing_row, caching_row, marked, with_waiting, put_off}
+use Rattle.nq_model.specs.protocol.Ask.{granted, no_lease, term_of}
+use Rattle.nq_model.specs.protocol.Profile.{shortest_term, most_rows}
+use Rattle.nq_model.specs.protocol.Table.{Table, find_row, with_rows, after_draw}
 use Rattle.walk_steps.proofs.AskCases.{with_marked, with_waiter}
 use Rattle.walk_steps.proofs.RowChanges.{mark, find-put-same}
 use Rattle.walk_steps.proofs.Rows.{choice}

@@ -3,9 +3,9 @@ use Rattle.std.specs.Prelude.{◌≡◌, ◌≤◌, ◌<◌, ◌+◌, true, fals
 use Rattle.nq_base.specs.declared.Question.{Question}
 use Rattle.nq_base.specs.declared.Row.{Row}
 use Rattle.nq_base.specs.declared.Want.{Want}
-use Rattle.nq_model.specs.Ask.{ask}
-use Rattle.nq_model.specs.Profile.{shortest_term, most_rows}
-use Rattle.nq_model.specs.Table.{Table, caches, find_row}
+use Rattle.nq_model.specs.protocol.Ask.{ask}
+use Rattle.nq_model.specs.protocol.Profile.{shortest_term, most_rows}
+use Rattle.nq_model.specs.protocol.Table.{Table, caches, find_row}
 
 -- whoever wants a lease, and has no row of the file that does not let him cache, has none afterwards, or one that goes on for the shortest term
 abbrev pub AskersShareLong : Type 0

@@ -1,9 +1,9 @@
 -- There is a schedule after which a client can read a block at once: the premises of the laws are met.
 use Rattle.std.specs.Prelude.{◌≡◌, ℕ, List, Some, slice_get}
 use Rattle.nq_base.specs.declared.Event.{Event}
-use Rattle.nq_model.specs.Client.{Client, Lease}
-use Rattle.nq_model.specs.World.{Head, run}
-use Rattle.nq_model.specs.CachedAtOnce.{HasCached}
+use Rattle.nq_model.specs.protocol.Client.{Client, Lease}
+use Rattle.nq_model.specs.protocol.World.{Head, run}
+use Rattle.nq_model.specs.laws.CachedAtOnce.{HasCached}
 
 -- the premises are met: after some schedule a client is ready to read a block that it has
 pub record IsReadySometime : Type 0 where

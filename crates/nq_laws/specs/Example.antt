@@ -1,9 +1,9 @@
 -- A schedule with its journal.
 use Rattle.std.specs.Prelude.{List, [], ◌∷◌, ◌≡◌, ℕ, Bool, true, ◌&&◌, map}
 use Rattle.nq_base.specs.declared.Entry.{Entry}
-use Rattle.nq_model.specs.Lines.{Line, Play, play_all}
-use Rattle.nq_model.specs.Skew.{is_within_skew}
-use Rattle.nq_model.specs.World.{Head}
+use Rattle.nq_model.specs.protocol.Lines.{Line, Play, play_all}
+use Rattle.nq_model.specs.protocol.Skew.{is_within_skew}
+use Rattle.nq_model.specs.protocol.World.{Head}
 
 -- a schedule, as its head and its lines, and the journal that it makes, the newest entry first
 pub record Example : Type 0 where

@@ -1,13 +1,13 @@
 -- Which laws a journal breaks.
 use Rattle.std.specs.Prelude.{List, [], ◌∷◌, ◌++◌, ◌≡◌, Bool, if◌then◌else◌, flat_map, map}
 use Rattle.nq_base.specs.declared.Entry.{Entry}
-use Rattle.nq_model.specs.CutOffTest.{is_excused}
-use Rattle.nq_model.specs.FateTest.{is_accounted}
-use Rattle.nq_model.specs.LegalTest.{is_legal}
-use Rattle.nq_model.specs.OfTheirCallTest.{are_of_their_call}
-use Rattle.nq_model.specs.OrderedTest.{is_ordered}
-use Rattle.nq_model.specs.ReportedTest.{is_reported}
-use Rattle.nq_model.specs.SynchronizedTest.{is_synchronized}
+use Rattle.nq_model.specs.laws.CutOffTest.{is_excused}
+use Rattle.nq_model.specs.laws.FateTest.{is_accounted}
+use Rattle.nq_model.specs.laws.LegalTest.{is_legal}
+use Rattle.nq_model.specs.laws.OfTheirCallTest.{are_of_their_call}
+use Rattle.nq_model.specs.laws.OrderedTest.{is_ordered}
+use Rattle.nq_model.specs.laws.ReportedTest.{is_reported}
+use Rattle.nq_model.specs.laws.SynchronizedTest.{is_synchronized}
 
 -- the laws of journals
 pub data Law : Type 0 where

@@ -6,15 +6,15 @@ use Rattle.nq_base.specs.declared.Party.{Party}
 use Rattle.nq_base.specs.declared.Refusal.TheVariants.{Fenced}
 use Rattle.nq_base.specs.declared.Reply.TheVariants.{Refused}
 use Rattle.nq_base.specs.declared.Who.{Who}
-use Rattle.nq_model.specs.Bounds.{KeepsBounds}
-use Rattle.nq_model.specs.Witnesses.{in_order, is_lost_write, is_loss, is_delayed_write, is_store, is_silence, is_silence_of, is_crash, is_opening}
-use Rattle.nq_model.specs.Witnesses.{is_start, is_read, is_cut, is_growth, is_write}
-use Rattle.nq_model.specs.ClientStep.{next_incarnation}
-use Rattle.nq_model.specs.JournalTest.{exists}
-use Rattle.nq_model.specs.Message.{Message, Packet, reply}
-use Rattle.nq_model.specs.ReportedTest.{names}
-use Rattle.nq_model.specs.Skew.{IsWithinSkew}
-use Rattle.nq_model.specs.World.{Head, run}
+use Rattle.nq_model.specs.laws.Bounds.{KeepsBounds}
+use Rattle.nq_model.specs.laws.Witnesses.{in_order, is_lost_write, is_loss, is_delayed_write, is_store, is_silence, is_silence_of, is_crash, is_opening}
+use Rattle.nq_model.specs.laws.Witnesses.{is_start, is_read, is_cut, is_growth, is_write}
+use Rattle.nq_model.specs.protocol.ClientStep.{next_incarnation}
+use Rattle.nq_model.specs.laws.JournalTest.{exists}
+use Rattle.nq_model.specs.protocol.Message.{Message, Packet, reply}
+use Rattle.nq_model.specs.laws.ReportedTest.{names}
+use Rattle.nq_model.specs.protocol.Skew.{IsWithinSkew}
+use Rattle.nq_model.specs.protocol.World.{Head, run}
 
 -- ---- packets
 

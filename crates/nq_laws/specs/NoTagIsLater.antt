@@ -4,13 +4,13 @@ use Rattle.nq_base.specs.declared.Request.{Request}
 use Rattle.nq_base.specs.declared.Row.{Row}
 use Rattle.nq_base.specs.declared.Tag.{Tag}
 use Rattle.nq_base.specs.declared.Who.{Who}
-use Rattle.nq_model.specs.Client.{Client, ClientStep, Lease, Notice, lease_on, notice_on}
-use Rattle.nq_model.specs.Hear.{hear}
-use Rattle.nq_model.specs.Message.{call}
-use Rattle.nq_model.specs.Server.{serving, to_host}
-use Rattle.nq_model.specs.Table.{find_row, tag_below}
-use Rattle.nq_model.specs.World.{World, from_host, run}
-use Rattle.nq_model.specs.Bounds.{InEveryRun}
+use Rattle.nq_model.specs.protocol.Client.{Client, ClientStep, Lease, Notice, lease_on, notice_on}
+use Rattle.nq_model.specs.protocol.Hear.{hear}
+use Rattle.nq_model.specs.protocol.Message.{call}
+use Rattle.nq_model.specs.protocol.Server.{serving, to_host}
+use Rattle.nq_model.specs.protocol.Table.{find_row, tag_below}
+use Rattle.nq_model.specs.protocol.World.{World, from_host, run}
+use Rattle.nq_model.specs.laws.Bounds.{InEveryRun}
 
 -- what a host's client has and was told of a file, and what it gave up: its lease, whether it runs or not, the notice that waits, each notice that was
 -- ever sent to it, and each VACATED that it ever sent. None of these has a later tag than this one

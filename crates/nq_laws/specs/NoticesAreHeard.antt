@@ -2,13 +2,13 @@
 use Rattle.std.specs.Prelude.{◌≡◌, ◌<◌, ℕ, true, Some, slice_get}
 use Rattle.nq_base.specs.declared.Request.{Request}
 use Rattle.nq_base.specs.declared.Row.{Row}
-use Rattle.nq_model.specs.Bounds.{InEveryRun}
-use Rattle.nq_model.specs.Client.{Client, ClientStep, Lease, lease_on}
-use Rattle.nq_model.specs.Hear.{hear}
-use Rattle.nq_model.specs.Message.{call}
-use Rattle.nq_model.specs.Server.{serving}
-use Rattle.nq_model.specs.Table.{caches, find_row}
-use Rattle.nq_model.specs.World.{run}
+use Rattle.nq_model.specs.laws.Bounds.{InEveryRun}
+use Rattle.nq_model.specs.protocol.Client.{Client, ClientStep, Lease, lease_on}
+use Rattle.nq_model.specs.protocol.Hear.{hear}
+use Rattle.nq_model.specs.protocol.Message.{call}
+use Rattle.nq_model.specs.protocol.Server.{serving}
+use Rattle.nq_model.specs.protocol.Table.{caches, find_row}
+use Rattle.nq_model.specs.protocol.World.{run}
 
 -- a lease that lets its holder cache, and runs by his clock
 pub record RunsOn (now : ℕ) (l : Lease) : Type 0 where

@@ -6,13 +6,13 @@ use Rattle.nq_base.specs.declared.Reply.{Reply}
 use Rattle.nq_base.specs.declared.Request.{Request}
 use Rattle.nq_base.specs.declared.Row.{Row}
 use Rattle.nq_base.specs.declared.Who.{Who}
-use Rattle.nq_model.specs.Ask.{conflicts}
-use Rattle.nq_model.specs.Decide.{in_the_way}
-use Rattle.nq_model.specs.Kept.{host_row}
-use Rattle.nq_model.specs.Message.{Packet, reply, request, asker, sequence_of}
-use Rattle.nq_model.specs.Server.{serving, Server, to_host, notices}
-use Rattle.nq_model.specs.ServerStep.{access_of, receive}
-use Rattle.nq_model.specs.Table.{find_row}
+use Rattle.nq_model.specs.protocol.Ask.{conflicts}
+use Rattle.nq_model.specs.protocol.Decide.{in_the_way}
+use Rattle.nq_model.specs.protocol.Kept.{host_row}
+use Rattle.nq_model.specs.protocol.Message.{Packet, reply, request, asker, sequence_of}
+use Rattle.nq_model.specs.protocol.Server.{serving, Server, to_host, notices}
+use Rattle.nq_model.specs.protocol.ServerStep.{access_of, receive}
+use Rattle.nq_model.specs.protocol.Table.{find_row}
 
 -- the file that a request reads, changes, or wants a lease on
 abbrev pub file_of : Request → Option ℕ

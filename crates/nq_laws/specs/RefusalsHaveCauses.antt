@@ -7,12 +7,12 @@ use Rattle.nq_base.specs.declared.Refusal.TheVariants.{NoEnt, Exist, Inval, NoSp
 use Rattle.nq_base.specs.declared.Reply.{Reply}
 use Rattle.nq_base.specs.declared.Request.{Request}
 use Rattle.nq_base.specs.declared.Who.{Who}
-use Rattle.nq_model.specs.AnswersHaveCauses.{LacksName, HasName, LacksFile, LacksBlock, IsNoLength, HasNoRoom, CannotGrow}
-use Rattle.nq_model.specs.Kept.{File}
-use Rattle.nq_model.specs.Message.{call, reply, asker}
-use Rattle.nq_model.specs.Server.{to_host}
-use Rattle.nq_model.specs.World.{Head, World, from_host, run}
-use Rattle.nq_model.specs.RepliesTellWhatWas.{Once}
+use Rattle.nq_model.specs.laws.AnswersHaveCauses.{LacksName, HasName, LacksFile, LacksBlock, IsNoLength, HasNoRoom, CannotGrow}
+use Rattle.nq_model.specs.protocol.Kept.{File}
+use Rattle.nq_model.specs.protocol.Message.{call, reply, asker}
+use Rattle.nq_model.specs.protocol.Server.{to_host}
+use Rattle.nq_model.specs.protocol.World.{Head, World, from_host, run}
+use Rattle.nq_model.specs.laws.RepliesTellWhatWas.{Once}
 
 -- ---- causes
 

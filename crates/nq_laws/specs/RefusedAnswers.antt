@@ -6,15 +6,15 @@ use Rattle.nq_base.specs.declared.Entry.{Entry}
 use Rattle.nq_base.specs.declared.Event.{Event}
 use Rattle.nq_base.specs.declared.Said.{Said}
 use Rattle.nq_base.specs.declared.Told.{Told}
-use Rattle.nq_model.specs.AnswersAreOfTheirCalls.{AnswersAreOfTheirCalls}
-use Rattle.nq_model.specs.AnswersHaveCauses.{LacksName, LacksBlock, HasCauseAt}
-use Rattle.nq_model.specs.BusyIsSaidAtOnce.{BusyIsSaidAtOnce}
-use Rattle.nq_model.specs.Journal.{Throughout}
-use Rattle.nq_model.specs.LossesAreNamed.{LossesAreNamed}
-use Rattle.nq_model.specs.OksHaveTheirDeeds.{OksHaveTheirDeeds}
-use Rattle.nq_model.specs.RefusalsAreOfTheirCalls.{RefusalsAreOfTheirCalls}
-use Rattle.nq_model.specs.RepliesTellWhatWas.{Once}
-use Rattle.nq_model.specs.World.{Head, run}
+use Rattle.nq_model.specs.laws.AnswersAreOfTheirCalls.{AnswersAreOfTheirCalls}
+use Rattle.nq_model.specs.laws.AnswersHaveCauses.{LacksName, LacksBlock, HasCauseAt}
+use Rattle.nq_model.specs.laws.BusyIsSaidAtOnce.{BusyIsSaidAtOnce}
+use Rattle.nq_model.specs.laws.Journal.{Throughout}
+use Rattle.nq_model.specs.laws.LossesAreNamed.{LossesAreNamed}
+use Rattle.nq_model.specs.laws.OksHaveTheirDeeds.{OksHaveTheirDeeds}
+use Rattle.nq_model.specs.laws.RefusalsAreOfTheirCalls.{RefusalsAreOfTheirCalls}
+use Rattle.nq_model.specs.laws.RepliesTellWhatWas.{Once}
+use Rattle.nq_model.specs.protocol.World.{Head, run}
 
 -- one host, and no file at first
 abbrev pub no_file_head : Head

@@ -1,7 +1,7 @@
 -- A schedule within skew, and one tick more.
 use Rattle.std.specs.Prelude.{List, [], ◌∷◌}
 use Rattle.nq_base.specs.declared.Event.{Event}
-use Rattle.nq_model.specs.Skew.{IsWithinSkew}
+use Rattle.nq_model.specs.protocol.Skew.{IsWithinSkew}
 
 -- a tick of the server's clock, a crash, a tick of each host's clock, and three ticks of the server's; the newest event
 -- first

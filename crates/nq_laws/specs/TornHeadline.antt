@@ -2,15 +2,15 @@
 use Rattle.std.specs.Prelude.{◌≡◌, ◌⊎◌, ◌++◌, ◌∷◌, false, ℕ, List, None, map}
 use Rattle.nq_base.specs.declared.Entry.{Entry}
 use Rattle.nq_base.specs.declared.Event.{Event}
-use Rattle.nq_model.specs.Kept.{Kept}
-use Rattle.nq_model.specs.ServerStep.{boot}
-use Rattle.nq_model.specs.Skew.{IsWithinSkew}
-use Rattle.nq_model.specs.World.{Head, first_kept, start, step, run}
-use Rattle.nq_model.specs.Bounds.{KeepsBounds}
-use Rattle.nq_model.specs.AnswersHaveCauses.{HaveCauses}
-use Rattle.nq_model.specs.AnswersTellWhatWas.{TellWhatWas}
-use Rattle.nq_model.specs.FullHasItsCause.{FullHaveCauses}
-use Rattle.nq_model.specs.Headline.{HeadlineHolds}
+use Rattle.nq_model.specs.protocol.Kept.{Kept}
+use Rattle.nq_model.specs.protocol.ServerStep.{boot}
+use Rattle.nq_model.specs.protocol.Skew.{IsWithinSkew}
+use Rattle.nq_model.specs.protocol.World.{Head, first_kept, start, step, run}
+use Rattle.nq_model.specs.laws.Bounds.{KeepsBounds}
+use Rattle.nq_model.specs.laws.AnswersHaveCauses.{HaveCauses}
+use Rattle.nq_model.specs.laws.AnswersTellWhatWas.{TellWhatWas}
+use Rattle.nq_model.specs.laws.FullHasItsCause.{FullHaveCauses}
+use Rattle.nq_model.specs.laws.Headline.{HeadlineHolds}
 use Rattle.nq_laws.specs.TornRuns.{Happening, whole, torn_before, torn_after, TornWorld, brings_unsent, torn_step, torn_run, schedule, without_last}
 
 -- at a moment of a torn run the headline holds of its own world; what answers say was so between each call and its answer in the run of

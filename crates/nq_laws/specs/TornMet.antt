@@ -6,12 +6,12 @@ use Rattle.nq_base.specs.declared.Entry.TheVariants.{A}
 use Rattle.nq_base.specs.declared.Event.{Event}
 use Rattle.nq_base.specs.declared.Said.TheVariants.{Ok}
 use Rattle.nq_base.specs.declared.Who.{Who}
-use Rattle.nq_model.specs.Kept.{File, find_file}
-use Rattle.nq_model.specs.Skew.{IsWithinSkew}
-use Rattle.nq_model.specs.Table.{same_who}
-use Rattle.nq_model.specs.World.{Head}
-use Rattle.nq_model.specs.Bounds.{KeepsBounds}
-use Rattle.nq_model.specs.Witnesses.{in_order, is_crash, is_delayed_write, is_store}
+use Rattle.nq_model.specs.protocol.Kept.{File, find_file}
+use Rattle.nq_model.specs.protocol.Skew.{IsWithinSkew}
+use Rattle.nq_model.specs.protocol.Table.{same_who}
+use Rattle.nq_model.specs.protocol.World.{Head}
+use Rattle.nq_model.specs.laws.Bounds.{KeepsBounds}
+use Rattle.nq_model.specs.laws.Witnesses.{in_order, is_crash, is_delayed_write, is_store}
 use Rattle.nq_laws.specs.TornRuns.{Happening, torn_before, torn_after, torn_run, schedule}
 
 -- the value of a body, where there is one

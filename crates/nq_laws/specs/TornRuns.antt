@@ -8,12 +8,12 @@ use Rattle.std.specs.Prelude.{slice_get, if◌then◌else◌}
 use Rattle.std.specs.List.{list_any}
 use Rattle.nq_base.specs.declared.Entry.{Entry}
 use Rattle.nq_base.specs.declared.Event.{Event}
-use Rattle.nq_model.specs.Kept.{Kept}
-use Rattle.nq_model.specs.Message.{Packet, error, garbage_arguments}
-use Rattle.nq_model.specs.Profile.{most_hosts}
-use Rattle.nq_model.specs.Server.{Phase, serving, recovering, Server, to_host}
-use Rattle.nq_model.specs.ServerStep.{boot, booted}
-use Rattle.nq_model.specs.World.{Head, World, start, step, run}
+use Rattle.nq_model.specs.protocol.Kept.{Kept}
+use Rattle.nq_model.specs.protocol.Message.{Packet, error, garbage_arguments}
+use Rattle.nq_model.specs.protocol.Profile.{most_hosts}
+use Rattle.nq_model.specs.protocol.Server.{Phase, serving, recovering, Server, to_host}
+use Rattle.nq_model.specs.protocol.ServerStep.{boot, booted}
+use Rattle.nq_model.specs.protocol.World.{Head, World, start, step, run}
 
 -- ---- what happens
 

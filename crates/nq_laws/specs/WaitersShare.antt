@@ -5,9 +5,9 @@ use Rattle.nq_base.specs.declared.Clash.{Clash}
 use Rattle.nq_base.specs.declared.Question.{Question}
 use Rattle.nq_base.specs.declared.Row.{Row}
 use Rattle.nq_base.specs.declared.Want.{Want}
-use Rattle.nq_model.specs.Ask.{ask}
-use Rattle.nq_model.specs.Profile.{shortest_term, most_rows}
-use Rattle.nq_model.specs.Table.{Table, caches, find_row}
+use Rattle.nq_model.specs.protocol.Ask.{ask}
+use Rattle.nq_model.specs.protocol.Profile.{shortest_term, most_rows}
+use Rattle.nq_model.specs.protocol.Table.{Table, caches, find_row}
 
 -- a host has a row of a file that does not let it cache, and that goes on for so many ticks from now on
 pub record IsSharedFor (ticks now : ℕ) (rows : List Row) (file host : ℕ) : Type 0 where

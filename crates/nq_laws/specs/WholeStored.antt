@@ -1,9 +1,9 @@
 -- By whole rounds all that is delayed is stored, though nobody syncs.
 use Rattle.std.specs.Prelude.{◌≤◌, ℕ, ◌+◌, List, All, length}
 use Rattle.nq_base.specs.declared.Event.{Event}
-use Rattle.nq_model.specs.Bounds.{KeepsBounds}
-use Rattle.nq_model.specs.Skew.{IsWithinSkew}
-use Rattle.nq_model.specs.World.{Head, run}
+use Rattle.nq_model.specs.laws.Bounds.{KeepsBounds}
+use Rattle.nq_model.specs.protocol.Skew.{IsWithinSkew}
+use Rattle.nq_model.specs.protocol.World.{Head, run}
 use Rattle.law_rounds.specs.DeliveryEnds.{AreUnderWay, calmed}
 use Rattle.law_rounds.specs.AtRest.{HasStored}
 use Rattle.law_rounds.specs.RoundsEndQuiet.{IsSmall}

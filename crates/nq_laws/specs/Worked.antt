@@ -7,7 +7,7 @@ use Rattle.nq_base.specs.declared.Mode.{Mode}
 use Rattle.nq_base.specs.declared.Said.{Said}
 use Rattle.nq_base.specs.declared.Told.{Told}
 use Rattle.nq_laws.specs.Example.{Example}
-use Rattle.nq_model.specs.Lines.{one, times, round, flow}
+use Rattle.nq_model.specs.protocol.Lines.{one, times, round, flow}
 
 -- a cached read
 abbrev pub a_cached_read : Example

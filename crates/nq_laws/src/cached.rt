@@ -1,8 +1,8 @@
 //! Cached reads.
 
-ghost use Rattle.nq_model.specs.CachedReadsChangeLittle.{CachedReadsChangeNothingElse};
+ghost use Rattle.nq_model.specs.laws.CachedReadsChangeLittle.{CachedReadsChangeNothingElse};
 ghost use Rattle.nq_laws.specs.CachedReadsMet.{IsReadySometime};
-ghost use Rattle.nq_model.specs.CachedReadsAreAtOnce.{CachedAtOnceInEveryRun};
+ghost use Rattle.nq_model.specs.laws.CachedReadsAreAtOnce.{CachedAtOnceInEveryRun};
 
 /// After every schedule a read or fetch of what a client has, under a lease that runs by its own clock, is answered in its
 /// own step and sends no packet, where no other call of that client is under way (Macklem 1994).

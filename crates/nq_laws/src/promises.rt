@@ -1,23 +1,23 @@
 //! The headline.
 
-ghost use Rattle.nq_model.specs.AnswersAreOfTheirCalls.{AnswersAreOfTheirCallsInEveryRun};
-ghost use Rattle.nq_model.specs.AnswersHaveCauses.{AnswersHaveCauses};
-ghost use Rattle.nq_model.specs.AnswersTellWhatWas.{AnswersTellWhatWas};
-ghost use Rattle.nq_model.specs.BusyIsSaidAtOnce.{BusyIsSaidAtOnceInEveryRun};
-ghost use Rattle.nq_model.specs.OksHaveTheirDeeds.{OksHaveTheirDeedsInEveryRun};
-ghost use Rattle.nq_model.specs.CallsAreOrdered.{OrderedInEveryRun, ReadsAreOfTheirCallInEveryRun};
-ghost use Rattle.nq_model.specs.LossesAreExcused.{LossesAreExcused};
-ghost use Rattle.nq_model.specs.WritesAreAccounted.{AccountedInEveryRun, EachHasItsFateInEveryRun, WaitingAreUnsavedInEveryRun};
-ghost use Rattle.nq_model.specs.BlocksAreHeld.{KeptBlocksAreHeldInEveryRun};
-ghost use Rattle.nq_model.specs.CachedReadsAreAtOnce.{CachedAtOnceInEveryRun};
-ghost use Rattle.nq_model.specs.FullHasItsCause.{FullHasItsCause};
-ghost use Rattle.nq_model.specs.Headline.{AtEveryMoment};
-ghost use Rattle.nq_model.specs.ReadsAreLegal.{ReadsAreLegalInEveryRun};
-ghost use Rattle.nq_model.specs.RefusalsAreOfTheirCalls.{RefusalsAreOfTheirCallsInEveryRun};
-ghost use Rattle.nq_model.specs.LossesAreNamed.{LossesAreNamedInEveryRun};
-ghost use Rattle.nq_model.specs.LossesAreReported.{ReportedInEveryRun};
-ghost use Rattle.nq_model.specs.UntouchedAreZeros.{UntouchedAreZerosInEveryRun};
-ghost use Rattle.nq_model.specs.OksAreKept.{SynchronizedInEveryRun};
+ghost use Rattle.nq_model.specs.laws.AnswersAreOfTheirCalls.{AnswersAreOfTheirCallsInEveryRun};
+ghost use Rattle.nq_model.specs.laws.AnswersHaveCauses.{AnswersHaveCauses};
+ghost use Rattle.nq_model.specs.laws.AnswersTellWhatWas.{AnswersTellWhatWas};
+ghost use Rattle.nq_model.specs.laws.BusyIsSaidAtOnce.{BusyIsSaidAtOnceInEveryRun};
+ghost use Rattle.nq_model.specs.laws.OksHaveTheirDeeds.{OksHaveTheirDeedsInEveryRun};
+ghost use Rattle.nq_model.specs.laws.CallsAreOrdered.{OrderedInEveryRun, ReadsAreOfTheirCallInEveryRun};
+ghost use Rattle.nq_model.specs.laws.LossesAreExcused.{LossesAreExcused};
+ghost use Rattle.nq_model.specs.laws.WritesAreAccounted.{AccountedInEveryRun, EachHasItsFateInEveryRun, WaitingAreUnsavedInEveryRun};
+ghost use Rattle.nq_model.specs.laws.BlocksAreHeld.{KeptBlocksAreHeldInEveryRun};
+ghost use Rattle.nq_model.specs.laws.CachedReadsAreAtOnce.{CachedAtOnceInEveryRun};
+ghost use Rattle.nq_model.specs.laws.FullHasItsCause.{FullHasItsCause};
+ghost use Rattle.nq_model.specs.laws.Headline.{AtEveryMoment};
+ghost use Rattle.nq_model.specs.laws.ReadsAreLegal.{ReadsAreLegalInEveryRun};
+ghost use Rattle.nq_model.specs.laws.RefusalsAreOfTheirCalls.{RefusalsAreOfTheirCallsInEveryRun};
+ghost use Rattle.nq_model.specs.laws.LossesAreNamed.{LossesAreNamedInEveryRun};
+ghost use Rattle.nq_model.specs.laws.LossesAreReported.{ReportedInEveryRun};
+ghost use Rattle.nq_model.specs.laws.UntouchedAreZeros.{UntouchedAreZerosInEveryRun};
+ghost use Rattle.nq_model.specs.laws.OksAreKept.{SynchronizedInEveryRun};
 
 /// For every schedule of calls, losses, repeats, reorderings, ticks within skew, restarts and crashes, the journal keeps each
 /// client's order; each answer is of its call, in a form that the call can have, and the deed of each ok stands before it; what

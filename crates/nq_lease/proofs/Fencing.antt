@@ -13,11 +13,12 @@ use Rattle.nq_lease.specs.Ending.{IsDueBy, fence_of, Fences, fenced, fenced_if, 
 use Rattle.nq_keeper.specs.Capped.{last_number}
 use Rattle.nq_keeper.specs.Keeping.{Commits, told_after}
 use Rattle.nq_keeper.proofs.CappedRows.{row-stays, file-capped}
-use Rattle.nq_model.specs.Change.{Fits, FitsFile, IsChangeWithin, IsOrderly, IsFileWithin, IsWithinBounds, applied, raised_row, row_of, row_of_found, fencing}
-use Rattle.nq_model.specs.Kept.{File, Kept, can_rise, find_file}
-use Rattle.nq_model.specs.Profile.{rev_end}
-use Rattle.nq_model.specs.ServerStep.{fence, is_due}
-use Rattle.nq_model.specs.Table.{find_row}
+use Rattle.nq_model.specs.protocol.Change.{Fits, FitsFile, IsChangeWithin, IsOrderly, IsFileWithin, IsWithinBounds, applied, raised_row, row_of, row_of_found}
+use Rattle.nq_model.specs.protocol.Change.{fencing}
+use Rattle.nq_model.specs.protocol.Kept.{File, Kept, can_rise, find_file}
+use Rattle.nq_model.specs.protocol.Profile.{rev_end}
+use Rattle.nq_model.specs.protocol.ServerStep.{fence, is_due}
+use Rattle.nq_model.specs.protocol.Table.{find_row}
 use Rattle.nq_model.proofs.AppliedChanges.{applied-fencing}
 use Rattle.nq_model.proofs.Files.{found-id, some-told}
 use Rattle.nq_model.proofs.FreshFits.{found-has, fencing-fits}

@@ -12,8 +12,8 @@ use Rattle.std.proofs.lemmas.List.Filters.{length-filter_both}
 use Rattle.std.proofs.lemmas.List.Edits.{length-insert, length-remove}
 use Rattle.std.proofs.lemmas.Option.{slice_get_within, get_or_from_slice_get}
 use Rattle.nq_base.specs.declared.Row.{Row}
-use Rattle.nq_model.specs.Profile.{most_rows}
-use Rattle.nq_model.specs.Table.{is_row_of, find_row, drop_row}
+use Rattle.nq_model.specs.protocol.Profile.{most_rows}
+use Rattle.nq_model.specs.protocol.Table.{is_row_of, find_row, drop_row}
 use Rattle.nq_lease.specs.Rows.{AreInOrder, is_before}
 use Rattle.nq_lease.specs.Ends.{end_of}
 use Rattle.nq_lease.specs.declared.ends.End.{End}

@@ -6,8 +6,8 @@ use Rattle.std.proofs.lemmas.List.{take-map, take-append-drop, length-map, set-g
 use Rattle.std.proofs.lemmas.List.Edits.{map_over_more}
 use Rattle.nq_base.specs.declared.Access.{Access}
 use Rattle.nq_base.specs.declared.Row.{Row}
-use Rattle.nq_model.specs.Ask.{conflicts, marked}
-use Rattle.nq_model.specs.Table.{row_before}
+use Rattle.nq_model.specs.protocol.Ask.{conflicts, marked}
+use Rattle.nq_model.specs.protocol.Table.{row_before}
 use Rattle.nq_lease.specs.Rows.{StandsBefore, AreInOrder, is_of, is_below, is_upto}
 use Rattle.nq_lease.specs.Ends.{end_of}
 use Rattle.nq_lease.specs.declared.ends.End.{End}

@@ -4,7 +4,7 @@ use Rattle.std.specs.List.{filter, prefix_len}
 use Rattle.std.specs.Prelude.{nat_lt, nat_le}
 use Rattle.std.proofs.lemmas.Bool.Decides.{nat_tests}
 use Rattle.nq_base.specs.declared.Row.{Row}
-use Rattle.nq_model.specs.Table.{row_before}
+use Rattle.nq_model.specs.protocol.Table.{row_before}
 use Rattle.nq_lease.specs.Rows.{StandsBefore, AreInOrder, is_of, is_below, is_upto}
 use Rattle.nq_lease.proofs.Splits.{decided}
 

@@ -11,7 +11,7 @@ use denote.Ref.{Bor}
 use Rattle.std.specs.Prelude.{nat_lt, nat_le}
 use Rattle.std.proofs.lemmas.Bool.Decides.{nat_tests}
 use Rattle.nq_base.specs.declared.Row.{Row}
-use Rattle.nq_model.specs.Table.{is_row_of, find_row, drop_row, row_before, insert_row, put_row}
+use Rattle.nq_model.specs.protocol.Table.{is_row_of, find_row, drop_row, row_before, insert_row, put_row}
 use Rattle.nq_lease.specs.Rows.{StandsBefore, AreInOrder, is_before}
 use Rattle.nq_lease.proofs.Splits.{Passed, Split, decided, find-passed, filter-none}
 

@@ -8,8 +8,8 @@ use Rattle.nq_base.specs.declared.Row.{Row}
 use Rattle.nq_base.specs.declared.Mode.{Mode}
 use Rattle.nq_base.specs.declared.Mode.TheVariants.{NonCaching, Reading, Writing}
 use Rattle.nq_base.specs.declared.RowKey.{RowKey}
-use Rattle.nq_model.specs.Table.{is_writing, row_end, find_row}
-use Rattle.nq_model.specs.ServerStep.{is_over, is_due, end_reading}
+use Rattle.nq_model.specs.protocol.Table.{is_writing, row_end, find_row}
+use Rattle.nq_model.specs.protocol.ServerStep.{is_over, is_due, end_reading}
 use Rattle.nq_lease.specs.Ends.{end_of, lesser, earliest}
 use Rattle.nq_lease.specs.Rows.{AreInOrder, key_of}
 use Rattle.nq_lease.proofs.Order.{found-is-own}

@@ -11,11 +11,11 @@ use Rattle.nq_base.specs.declared.Request.{Request}
 use Rattle.nq_datagrams.specs.Messages.{FitsMessage}
 use Rattle.nq_datagrams.specs.Sent.{FitsPacket, sent}
 use Rattle.nq_lease.specs.Rows.{is_of, rows_of}
-use Rattle.nq_model.specs.Ask.{conflicts}
+use Rattle.nq_model.specs.protocol.Ask.{conflicts}
 use Rattle.nq_lease.specs.Telling.{told_among}
-use Rattle.nq_model.specs.Message.{call}
-use Rattle.nq_model.specs.Profile.{xid_end}
-use Rattle.nq_model.specs.Server.{notices, to_host}
+use Rattle.nq_model.specs.protocol.Message.{call}
+use Rattle.nq_model.specs.protocol.Profile.{xid_end}
+use Rattle.nq_model.specs.protocol.Server.{notices, to_host}
 
 decided : (b : Bool) → (b ≡ true) ⊎ (b ≡ false)
 decided true = inl refl

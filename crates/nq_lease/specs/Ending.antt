@@ -13,10 +13,10 @@ use Rattle.nq_keeper.specs.declared.KeepFault.TheVariants.{Failed, Memory}
 use Rattle.nq_keeper.specs.Capped.{capped_row}
 use Rattle.nq_keeper.specs.Keeping.{StaysOrEnds}
 use Rattle.nq_lease.specs.Rows.{key_of}
-use Rattle.nq_model.specs.Change.{raised_row}
-use Rattle.nq_model.specs.Kept.{Kept, can_rise, find_file}
-use Rattle.nq_model.specs.ServerStep.{fence, is_due}
-use Rattle.nq_model.specs.Table.{Table, drop_row, find_row, with_rows}
+use Rattle.nq_model.specs.protocol.Change.{raised_row}
+use Rattle.nq_model.specs.protocol.Kept.{Kept, can_rise, find_file}
+use Rattle.nq_model.specs.protocol.ServerStep.{fence, is_due}
+use Rattle.nq_model.specs.protocol.Table.{Table, drop_row, find_row, with_rows}
 
 -- the kept state after a file was fenced, where it is kept
 abbrev pub fenced : (file : ℕ) → Kept → Kept

@@ -1,7 +1,7 @@
 -- When rows end.
 use Rattle.std.specs.Prelude.{ℕ, List, [], ◌∷◌, Option, Some, None, min, map}
 use Rattle.nq_base.specs.declared.Row.{Row}
-use Rattle.nq_model.specs.Table.{row_end}
+use Rattle.nq_model.specs.protocol.Table.{row_end}
 
 -- the last time that a clock can show
 abbrev pub last_time : ℕ

@@ -2,7 +2,7 @@
 use Rattle.std.specs.Prelude.{◌≡◌, ◌≤◌, ◌==◌, ℕ, List, All, length, count_by, sum_by, if◌then◌else◌}
 use Rattle.std.specs.List.Sorted.{IsNonDecreasingBy}
 use Rattle.nq_base.specs.declared.Row.{Row}
-use Rattle.nq_model.specs.Profile.{most_rows}
+use Rattle.nq_model.specs.protocol.Profile.{most_rows}
 use Rattle.nq_lease.specs.declared.ends.End.{End}
 use Rattle.nq_lease.specs.Rows.{AreInOrder}
 use Rattle.nq_lease.specs.Ends.{end_of}

@@ -2,7 +2,7 @@
 use Rattle.std.specs.Prelude.{◌≡◌, ℕ, ◌==◌, Bool, true, ◌&&◌, ◌||◌, List, [], ◌∷◌, filter, nat_lt, nat_le}
 use Rattle.nq_base.specs.declared.Row.{Row}
 use Rattle.nq_base.specs.declared.RowKey.{RowKey}
-use Rattle.nq_model.specs.Table.{row_before}
+use Rattle.nq_model.specs.protocol.Table.{row_before}
 
 -- a row stands before each of these
 abbrev pub StandsBefore : Row → List Row → Type 0

@@ -5,10 +5,10 @@ use Rattle.nq_base.specs.declared.Row.{Row}
 use Rattle.nq_datagrams.specs.Sent.{FitsPacket, sent}
 use Rattle.nq_lease.specs.declared.evict.notifying.NoticeTo.{NoticeTo}
 use Rattle.nq_lease.specs.declared.evict.notifying.NoticeTo.TheVariants.{Others, Own}
-use Rattle.nq_model.specs.Ask.{conflicts}
-use Rattle.nq_model.specs.Profile.{xid_end}
-use Rattle.nq_model.specs.Server.{notices}
-use Rattle.nq_model.specs.Table.{find_row}
+use Rattle.nq_model.specs.protocol.Ask.{conflicts}
+use Rattle.nq_model.specs.protocol.Profile.{xid_end}
+use Rattle.nq_model.specs.protocol.Server.{notices}
+use Rattle.nq_model.specs.protocol.Table.{find_row}
 use Rattle.nq_wire.specs.Outbox.{Datagrams}
 
 -- those of these rows that are in the way of what a host is about to do with a file

@@ -1,10 +1,10 @@
 //! Changes of rows together with the times at which they end. None takes memory.
 
 ghost use Rattle.std.specs.Prelude.{◌≡◌, ◌<◌, ◌≤◌, ◌↔◌, length, slice_set, insert, vec_len, vec_capacity, None, OnOk, OnErr, IsErr};
-ghost use Rattle.nq_model.specs.Ask.{marked};
-ghost use Rattle.nq_model.specs.Profile.{most_rows};
-ghost use Rattle.nq_model.specs.Table.{find_row, put_row, drop_row, drop_host, drop_rows_of};
-ghost use Rattle.nq_model.specs.ServerStep.{end_reading, is_over as is_row_over};
+ghost use Rattle.nq_model.specs.protocol.Ask.{marked};
+ghost use Rattle.nq_model.specs.protocol.Profile.{most_rows};
+ghost use Rattle.nq_model.specs.protocol.Table.{find_row, put_row, drop_row, drop_host, drop_rows_of};
+ghost use Rattle.nq_model.specs.protocol.ServerStep.{end_reading, is_over as is_row_over};
 ghost use Rattle.nq_lease.specs.Rows.{AreInOrder};
 ghost use Rattle.nq_lease.specs.Kept.{IsKept};
 

@@ -2,7 +2,7 @@
 
 ghost use Rattle.std.specs.Prelude.{◌≡◌, ℕ, ◌+◌, ◌<◌, ◌≤◌, ◌==◌, length, slice_index_or, vec_capacity, if◌then◌else◌};
 ghost use Rattle.std.specs.List.Sorted.{IsNonDecreasingBy};
-ghost use Rattle.nq_model.specs.Profile.{most_rows};
+ghost use Rattle.nq_model.specs.protocol.Profile.{most_rows};
 ghost use Rattle.nq_lease.specs.declared.ends.End.{End};
 ghost use Rattle.nq_lease.specs.Ends.{end_of as end_of_row};
 ghost use Rattle.nq_lease.specs.Kept.{AreEnds, AreEndsOf, rows_ending, rows_ending_at};

@@ -2,8 +2,8 @@
 
 ghost use Rattle.std.specs.Prelude.{◌≡◌, ◌≤◌, length, slice_get};
 ghost use Rattle.std.specs.List.{prefix_len};
-ghost use Rattle.nq_model.specs.Ask.{conflicts, mode_conflicts};
-ghost use Rattle.nq_model.specs.Table.{find_row, is_row_of};
+ghost use Rattle.nq_model.specs.protocol.Ask.{conflicts, mode_conflicts};
+ghost use Rattle.nq_model.specs.protocol.Table.{find_row, is_row_of};
 ghost use Rattle.nq_lease.specs.Rows.{AreInOrder, is_before, is_below, is_upto, rows_of};
 
 use nq_base::{Access, FileId, Host, Mode, Row};

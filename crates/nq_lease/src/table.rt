@@ -1,10 +1,10 @@
 //! The table.
 
 ghost use Rattle.std.specs.Prelude.{◌≡◌, ◌^◌, ◌<◌, ◌≤◌, ◌↔◌, length, None, IsTrue, IsErr, IfOk, OnOk, OnErr};
-ghost use Rattle.nq_model.specs.Ask.{marked};
-ghost use Rattle.nq_model.specs.Profile.{most_rows};
-ghost use Rattle.nq_model.specs.ServerStep.{end_reading};
-ghost use Rattle.nq_model.specs.Table.{empty_table, next_tag, find_row, put_row, drop_row, drop_host, drop_rows_of, with_rows, after_draw};
+ghost use Rattle.nq_model.specs.protocol.Ask.{marked};
+ghost use Rattle.nq_model.specs.protocol.Profile.{most_rows};
+ghost use Rattle.nq_model.specs.protocol.ServerStep.{end_reading};
+ghost use Rattle.nq_model.specs.protocol.Table.{empty_table, next_tag, find_row, put_row, drop_row, drop_host, drop_rows_of, with_rows, after_draw};
 ghost use Rattle.nq_lease.specs.Ends.{earliest};
 ghost use Rattle.nq_lease.specs.Rows.{AreInOrder, rows_of};
 
@@ -26,7 +26,7 @@ pub struct Table {
 
 impl Model for Table {
     ghost use Rattle.std.specs.Prelude.{vec_capacity};
-    ghost use Rattle.nq_model.specs.Table.{Table as LeaseTable};
+    ghost use Rattle.nq_model.specs.protocol.Table.{Table as LeaseTable};
     ghost use Rattle.nq_lease.specs.Kept.{IsKept};
 
     ghost Value = { LeaseTable };
@@ -36,7 +36,7 @@ impl Model for Table {
     ghost invariant = { λ t. IsKept t.rows.items (vec_capacity t.rows) t.ends.items (vec_capacity t.ends) };
 }
 
-#[tactic(auto, unfolding(nq_model::specs::Table::empty_table, nq_model::specs::Table::with_rows, nq_model::specs::Table::after_draw))]
+#[tactic(auto, unfolding(nq_model::specs::protocol::Table::empty_table, nq_model::specs::protocol::Table::with_rows, nq_model::specs::protocol::Table::after_draw))]
 impl Table {
     /// An empty table, with room for all rows that there can be.
     ///

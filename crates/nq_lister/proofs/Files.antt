@@ -8,8 +8,8 @@ use Rattle.nq_base.specs.declared.FileRow.{FileRow}
 use Rattle.nq_directory.specs.declared.FileName.{FileName}
 use Rattle.nq_directory.specs.Messages.{most_names}
 use Rattle.nq_model.proofs.Finding.{decided}
-use Rattle.nq_model.specs.Change.{AreApart, IsWithinBounds, file_after, row_of, row_of_found}
-use Rattle.nq_model.specs.Kept.{File, Kept}
+use Rattle.nq_model.specs.protocol.Change.{AreApart, IsWithinBounds, file_after, row_of, row_of_found}
+use Rattle.nq_model.specs.protocol.Kept.{File, Kept}
 use Rattle.nq_lister.specs.Listing.{IsNext, begins_with, name_of, names_behind, page_of}
 
 -- ---- the rows that are read

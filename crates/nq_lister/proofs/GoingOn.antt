@@ -10,8 +10,8 @@ use Rattle.nq_directory.specs.declared.FileName.{FileName}
 use Rattle.nq_lister.proofs.Files.{same-behind}
 use Rattle.nq_lister.specs.Listing.{PagesGoOn, is_behind, name_of, names_behind, names_beyond, page_of}
 use Rattle.nq_model.proofs.Finding.{decided}
-use Rattle.nq_model.specs.Change.{AreApart}
-use Rattle.nq_model.specs.Kept.{File, Kept}
+use Rattle.nq_model.specs.protocol.Change.{AreApart}
+use Rattle.nq_model.specs.protocol.Kept.{File, Kept}
 
 heads : (e f : FileName) (es fs : List FileName) → e ∷ es ≡ f ∷ fs → (e ≡ f) × (es ≡ fs)
 heads e f es fs is = (let one : e ≡ f = cc in one, let rest : es ≡ fs = cc in rest)

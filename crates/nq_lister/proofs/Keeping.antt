@@ -4,7 +4,7 @@ use Rattle.nq_io.specs.Faults.{Rose}
 use Rattle.nq_keeper.specs.Keeping.{LeavesOne, Reads, StaysOrEnds}
 use Rattle.nq_keeper.specs.declared.KeepFault.{KeepFault}
 use Rattle.nq_keeper.specs.declared.KeepFault.TheVariants as keep
-use Rattle.nq_model.specs.Kept.{Kept}
+use Rattle.nq_model.specs.protocol.Kept.{Kept}
 use Rattle.nq_server.specs.Holding.{Holding, IsUntouched}
 use Rattle.nq_serving.specs.Extending.{ReadsOnly}
 

@@ -3,8 +3,8 @@ use Rattle.std.proofs.Common.{◌≡◌, ◌≢◌, List, refl, ap}
 use Rattle.nq_directory.specs.Messages.{page, wait}
 use Rattle.nq_directory.specs.declared.listing.messages.ReadDir.{ReadDir}
 use Rattle.nq_lister.specs.Listing.{names_behind, page_of, told_by}
-use Rattle.nq_model.specs.Kept.{File}
-use Rattle.nq_model.specs.Server.{Phase, recovering, serving}
+use Rattle.nq_model.specs.protocol.Kept.{File}
+use Rattle.nq_model.specs.protocol.Server.{Phase, recovering, serving}
 
 -- a server that serves tells a page
 pub tells_page : (phase : Phase) (files : List File) (r : ReadDir) → phase ≡ serving

@@ -8,10 +8,10 @@ use Rattle.nq_directory.specs.Messages.{Answer, Listing, answer_bytes, most_name
 use Rattle.nq_directory.specs.Reading.{read_dir_in}
 use Rattle.nq_directory.specs.declared.FileName.{FileName}
 use Rattle.nq_directory.specs.declared.listing.messages.ReadDir.{ReadDir}
-use Rattle.nq_model.specs.Change.{IsWithinBounds, file_after, row_of_found}
-use Rattle.nq_model.specs.Kept.{File, Kept, host_row}
-use Rattle.nq_model.specs.Profile.{most_hosts}
-use Rattle.nq_model.specs.Server.{Phase, Server, recovering, serving}
+use Rattle.nq_model.specs.protocol.Change.{IsWithinBounds, file_after, row_of_found}
+use Rattle.nq_model.specs.protocol.Kept.{File, Kept, host_row}
+use Rattle.nq_model.specs.protocol.Profile.{most_hosts}
+use Rattle.nq_model.specs.protocol.Server.{Phase, Server, recovering, serving}
 
 -- ---- pages
 

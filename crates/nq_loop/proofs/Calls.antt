@@ -15,8 +15,8 @@ use Rattle.nq_loop.specs.Counting.{Counts, begins, begun_in}
 use Rattle.nq_loop.specs.Holding.{GivesTo, IsLooping, Loop, Loops, moment_of}
 use Rattle.nq_loop.specs.Looping.{GivesDue, Step, call_behind, call_due, is_busy}
 use Rattle.nq_loop.specs.declared.turns.Halt.{Halt}
-use Rattle.nq_model.specs.Client.{Client, UnderWay}
-use Rattle.nq_model.specs.World.{Head, run}
+use Rattle.nq_model.specs.protocol.Client.{Client, UnderWay}
+use Rattle.nq_model.specs.protocol.World.{Head, run}
 use Rattle.nq_link.proofs.Letters.{there}
 
 -- ---- counting

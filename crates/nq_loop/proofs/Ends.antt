@@ -15,8 +15,8 @@ use Rattle.nq_loop.specs.Printed.{PrintsRan, PrintsSpelled, loop_text}
 use Rattle.nq_loop.specs.Turning.{Between, Ran, Stops, TakesTurns}
 use Rattle.nq_loop.specs.Whole.{loop_head}
 use Rattle.nq_loop.specs.declared.turns.Halt.{Halt}
-use Rattle.nq_model.specs.Kept.{Kept}
-use Rattle.nq_model.specs.World.{Head as Beginning}
+use Rattle.nq_model.specs.protocol.Kept.{Kept}
+use Rattle.nq_model.specs.protocol.World.{Head as Beginning}
 use Rattle.nq_link.specs.Links.{LinkTold}
 use Rattle.nq_replay.proofs.Lawfully.{played-runs-are-lawful}
 use Rattle.nq_replay.specs.Delivering.{Marks}

@@ -9,9 +9,9 @@ use Rattle.nq_loop.specs.Holding.{AreTaken, CountsKeep, GivesTo, IsLooped, IsLoo
 use Rattle.nq_loop.specs.Looping.{Gives, IsTaken, Moment, datagrams_of, halt_of, moved, sends_at}
 use Rattle.nq_loop.specs.Sending.{SendsAll}
 use Rattle.nq_loop.specs.declared.turns.Halt.{Halt}
-use Rattle.nq_model.specs.Kept.{Kept}
-use Rattle.nq_model.specs.Stepped.{done, stepped}
-use Rattle.nq_model.specs.World.{Head, run}
+use Rattle.nq_model.specs.protocol.Kept.{Kept}
+use Rattle.nq_model.specs.protocol.Stepped.{done, stepped}
+use Rattle.nq_model.specs.protocol.World.{Head, run}
 use Rattle.nq_link.specs.Links.{LinkTold}
 use Rattle.nq_replay.proofs.Limits.{is_reached}
 use Rattle.nq_replay.specs.Delivering.{Marks}

@@ -15,7 +15,7 @@ use Rattle.nq_loop.specs.Steps.{MakesAll, MakesSteps}
 use Rattle.nq_loop.specs.Turning.{Between, Goes}
 use Rattle.nq_loop.specs.Whole.{loop_head}
 use Rattle.nq_loop.specs.declared.turns.Halt.{Halt}
-use Rattle.nq_model.specs.World.{Head}
+use Rattle.nq_model.specs.protocol.World.{Head}
 use Rattle.nq_link.specs.Packets.{Datagram}
 use Rattle.nq_clock.specs.Clocks.{ClockTold}
 use Rattle.nq_link.specs.Links.{Letter, LinkTold}

@@ -3,7 +3,7 @@ use Rattle.std.proofs.Common.{ℕ, Bool}
 use Rattle.nq_loop.specs.Looping.{Makes, Moment, rounds_due, turn_steps}
 use Rattle.nq_loop.specs.Steps.{MakesAll}
 use Rattle.nq_loop.specs.Turning.{Between, GoesOn}
-use Rattle.nq_model.specs.World.{Head, run}
+use Rattle.nq_model.specs.protocol.World.{Head, run}
 
 module _ (head : Head) (at after : Moment) where
   -- all steps of a turn were made, by a reading of the clock

@@ -13,7 +13,7 @@ use Rattle.nq_loop.specs.Looping.{Brings, HearsAt, MissesAt, Step, came_to, data
 use Rattle.nq_loop.specs.Matching.{CountsAs}
 use Rattle.nq_loop.specs.Sending.{place_of, told_of}
 use Rattle.nq_loop.specs.declared.turns.Halt.{Halt}
-use Rattle.nq_model.specs.World.{Head, run}
+use Rattle.nq_model.specs.protocol.World.{Head, run}
 use Rattle.nq_link.specs.Packets.{Datagram}
 use Rattle.nq_link.proofs.Letters.{heard}
 use Rattle.nq_link.specs.Links.{Letter, LinkTold, most_bytes}

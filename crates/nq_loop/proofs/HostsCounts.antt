@@ -7,7 +7,7 @@ use Rattle.nq_base.specs.declared.Call.{Call}
 use Rattle.nq_base.specs.declared.Event.{Event}
 use Rattle.nq_loop.specs.Counting.{begins, begun_in}
 use Rattle.nq_loop.specs.Looping.{call_behind, call_due, is_busy}
-use Rattle.nq_model.specs.World.{Head, run}
+use Rattle.nq_model.specs.protocol.World.{Head, run}
 use Rattle.walk_steps.proofs.ClientMoves.{some-same, none-some}
 use Rattle.walk_steps.proofs.Rows.{same-number, number-same}
 

@@ -10,9 +10,9 @@ use Rattle.nq_loop.specs.Counting.{begins, begun_in}
 use Rattle.nq_loop.specs.Looping.{Moment, GivesDue, Delivers, Takes, TakesIn, came_to, given, call, receive, Makes, call_due, round_steps}
 use Rattle.nq_loop.specs.Looping.{rounds_steps, call_steps, receive_steps}
 use Rattle.nq_loop.specs.Steps.{MakesAll, each_below}
-use Rattle.nq_model.specs.Lines.{Play, play, play_hosts, play_rounds}
-use Rattle.nq_model.specs.Server.{Server}
-use Rattle.nq_model.specs.World.{Head, World}
+use Rattle.nq_model.specs.protocol.Lines.{Play, play, play_hosts, play_rounds}
+use Rattle.nq_model.specs.protocol.Server.{Server}
+use Rattle.nq_model.specs.protocol.World.{Head, World}
 use Rattle.nq_link.specs.Packets.{Datagram}
 use Rattle.nq_link.specs.Links.{Letter}
 use Rattle.law_rounds.proofs.ClientCount.{client-count}

@@ -10,11 +10,11 @@ use Rattle.nq_loop.specs.Looping.{Moment, Makes, call_due, is_busy, rounds_steps
 use Rattle.nq_loop.specs.Steps.{MakesAll}
 use Rattle.nq_loop.specs.Turning.{all_answered, all_below, is_through}
 use Rattle.nq_loop.specs.Whole.{loop_head}
-use Rattle.nq_model.specs.ServerStep.{boot}
-use Rattle.nq_model.specs.Skew.{IsWithinSkew}
-use Rattle.nq_model.specs.World.{Head, World, run, start, step}
+use Rattle.nq_model.specs.protocol.ServerStep.{boot}
+use Rattle.nq_model.specs.protocol.Skew.{IsWithinSkew}
+use Rattle.nq_model.specs.protocol.World.{Head, World, run, start, step}
 use Rattle.nq_replay.specs.Playing.{beginning}
-use Rattle.nq_model.specs.Bounds.{KeepsBounds}
+use Rattle.nq_model.specs.laws.Bounds.{KeepsBounds}
 use Rattle.law_rounds.proofs.ClientCount.{client-count}
 use Rattle.law_rounds.specs.DeliveryEnds.{calmed}
 use Rattle.law_rounds.specs.CalmRoundsAreLawful.{IsLawful}

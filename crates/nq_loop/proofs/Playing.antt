@@ -4,7 +4,7 @@ use Rattle.std.proofs.lemmas.List.{append-nil, reverse-reverse}
 use Rattle.std.specs.Prelude.{reverse}
 use Rattle.nq_base.specs.declared.Event.{Event}
 use Rattle.nq_loop.specs.Holding.{AreTaken}
-use Rattle.nq_model.specs.World.{Head as Beginning}
+use Rattle.nq_model.specs.protocol.World.{Head as Beginning}
 use Rattle.nq_replay.proofs.EachTaken.{Taken, newest, plays-each}
 use Rattle.nq_replay.specs.AsidesPlaying.{ran}
 use Rattle.nq_replay.specs.Playing.{beginning, play}

@@ -7,10 +7,10 @@ use Rattle.nq_loop.specs.Looped.{LoopEnds, PrintsLoop, between}
 use Rattle.nq_loop.specs.Looping.{Moment}
 use Rattle.nq_loop.specs.Turning.{Between, Goes, all_answered}
 use Rattle.nq_loop.specs.Whole.{loop_head}
-use Rattle.nq_model.specs.Profile.{most_hosts}
-use Rattle.nq_model.specs.ServerStep.{boot}
-use Rattle.nq_model.specs.Stepped.{most_events}
-use Rattle.nq_model.specs.World.{Head, run, start}
+use Rattle.nq_model.specs.protocol.Profile.{most_hosts}
+use Rattle.nq_model.specs.protocol.ServerStep.{boot}
+use Rattle.nq_model.specs.protocol.Stepped.{most_events}
+use Rattle.nq_model.specs.protocol.World.{Head, run, start}
 use Rattle.nq_link.specs.Links.{LinkTold}
 use Rattle.nq_replay.specs.Playing.{beginning}
 use Rattle.law_rounds.specs.RoundsEndQuiet.{IsSmall}

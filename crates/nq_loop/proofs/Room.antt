@@ -8,12 +8,13 @@ use Rattle.nq_base.specs.declared.SkewBroken.{SkewBroken}
 use Rattle.nq_loop.specs.Looping.{Moment, Gives, GivesDue, Delivers, Takes, TakesIn, came_to, given, call, receive, Makes, Step, call_due}
 use Rattle.nq_loop.specs.Looping.{round_steps, rounds_steps, rounds_due, call_steps, receive_steps}
 use Rattle.nq_loop.specs.Steps.{MakesAll, each_below}
-use Rattle.nq_model.specs.Client.{Client, ClientStep}
-use Rattle.nq_model.specs.Server.{Server, ServerStep, quiet, keeping_with, with_table}
-use Rattle.nq_model.specs.ServerStep.{tick, at_time, opens, ends_writing}
-use Rattle.nq_model.specs.SkewBroken.{skew_broken}
-use Rattle.nq_model.specs.Stepped.{done, no_packet, too_many_events, too_many_packets, most_events, most_sent, tested, tested_room, tested_skew, stepped}
-use Rattle.nq_model.specs.World.{Head, World, after_client, after_server, at_client, run, step}
+use Rattle.nq_model.specs.protocol.Client.{Client, ClientStep}
+use Rattle.nq_model.specs.protocol.Server.{Server, ServerStep, quiet, keeping_with, with_table}
+use Rattle.nq_model.specs.protocol.ServerStep.{tick, at_time, opens, ends_writing}
+use Rattle.nq_model.specs.protocol.SkewBroken.{skew_broken}
+use Rattle.nq_model.specs.protocol.Stepped.{done, no_packet, too_many_events, too_many_packets, most_events, most_sent, tested, tested_room, tested_skew}
+use Rattle.nq_model.specs.protocol.Stepped.{stepped}
+use Rattle.nq_model.specs.protocol.World.{Head, World, after_client, after_server, at_client, run, step}
 use Rattle.nq_link.specs.Packets.{Datagram}
 use Rattle.nq_link.specs.Links.{Letter}
 use Rattle.law_rounds.specs.DeliveryEnds.{calmed}

@@ -9,15 +9,15 @@ use Rattle.nq_base.specs.declared.Row.{Row}
 use Rattle.nq_datagrams.specs.Incoming.{datagram_in}
 use Rattle.nq_base.specs.Entries.{EntryList}
 use Rattle.nq_keeper.specs.Keeping.{StaysOrEnds}
-use Rattle.nq_model.specs.Kept.{Kept}
-use Rattle.nq_model.specs.Server.{Phase, serving, recovering, Server, ServerStep}
-use Rattle.nq_model.specs.ServerStep.{at_time, boot, receive, tick, crash}
-use Rattle.nq_model.specs.Table.{is_row_of, find_row}
-use Rattle.nq_model.specs.RowsStandApart.{WritesAlone}
+use Rattle.nq_model.specs.protocol.Kept.{Kept}
+use Rattle.nq_model.specs.protocol.Server.{Phase, serving, recovering, Server, ServerStep}
+use Rattle.nq_model.specs.protocol.ServerStep.{at_time, boot, receive, tick, crash}
+use Rattle.nq_model.specs.protocol.Table.{is_row_of, find_row}
+use Rattle.nq_model.specs.laws.RowsStandApart.{WritesAlone}
 use Rattle.nq_server.specs.Holding.{Holding, IsTaken, Reboots}
 use Rattle.nq_server.specs.State.{beside, server_of}
 use Rattle.nq_server.specs.Stepping.{next_of}
-use Rattle.nq_model.specs.Table.{empty_table}
+use Rattle.nq_model.specs.protocol.Table.{empty_table}
 use Rattle.nq_server.specs.declared.Received.{Received}
 use Rattle.nq_server.specs.declared.Received.TheVariants as received
 use Rattle.nq_wire.specs.Outbox.{Datagrams}

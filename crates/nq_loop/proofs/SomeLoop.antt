@@ -2,7 +2,7 @@
 use Rattle.std.proofs.Common.{◌≡◌, true, false, nat_le, length, refl}
 use Rattle.nq_base.specs.Block.{filled, zeros}
 use Rattle.nq_loop.specs.Turning.{all_answered}
-use Rattle.nq_model.specs.Stepped.{most_events, most_sent}
+use Rattle.nq_model.specs.protocol.Stepped.{most_events, most_sent}
 use Rattle.walk_steps.proofs.GivenRuns.{given-run}
 use Rattle.walk_steps.proofs.Tests.{is-at-most}
 use Rattle.law_rounds.specs.DeliveryEnds.{calmed}

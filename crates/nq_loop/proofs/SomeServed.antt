@@ -14,13 +14,13 @@ use Rattle.nq_datagrams.proofs.Readers.{server-reads-messages}
 use Rattle.nq_datagrams.specs.Incoming.{datagram_in}
 use Rattle.nq_datagrams.specs.Messages.{FitsMessage, bytes_of}
 use Rattle.nq_base.specs.Entries.{EntryList}
-use Rattle.nq_model.specs.Ask.{grant_of, caching_row, granted}
-use Rattle.nq_model.specs.Kept.{Kept, new_file}
-use Rattle.nq_model.specs.Message.{Message, Packet, call, reply, request}
-use Rattle.nq_model.specs.Server.{Server, ServerStep, taken, to_host, with_table}
-use Rattle.nq_model.specs.ServerStep.{boot, leases, receive}
-use Rattle.nq_model.specs.Table.{is_writing, find_row, empty_table, with_rows, after_draw}
-use Rattle.nq_model.specs.World.{Head, first_kept}
+use Rattle.nq_model.specs.protocol.Ask.{grant_of, caching_row, granted}
+use Rattle.nq_model.specs.protocol.Kept.{Kept, new_file}
+use Rattle.nq_model.specs.protocol.Message.{Message, Packet, call, reply, request}
+use Rattle.nq_model.specs.protocol.Server.{Server, ServerStep, taken, to_host, with_table}
+use Rattle.nq_model.specs.protocol.ServerStep.{boot, leases, receive}
+use Rattle.nq_model.specs.protocol.Table.{is_writing, find_row, empty_table, with_rows, after_draw}
+use Rattle.nq_model.specs.protocol.World.{Head, first_kept}
 use Rattle.nq_server.specs.Holding.{Holding, IsServer, TakesIn}
 use Rattle.nq_server.specs.State.{beside, server_of}
 use Rattle.nq_server.specs.Stepping.{datagram_of_packet, next_of}

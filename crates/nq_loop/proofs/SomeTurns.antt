@@ -16,8 +16,8 @@ use Rattle.nq_loop.specs.Matching.{CountsAs}
 use Rattle.nq_loop.specs.Sending.{changed_at, place_of, sent_all, sent_one, with_sent}
 use Rattle.nq_loop.specs.Steps.{MakesAll}
 use Rattle.nq_loop.specs.Turning.{Goes, all_answered}
-use Rattle.nq_model.specs.Stepped.{done, stepped}
-use Rattle.nq_model.specs.World.{run}
+use Rattle.nq_model.specs.protocol.Stepped.{done, stepped}
+use Rattle.nq_model.specs.protocol.World.{run}
 use Rattle.nq_link.specs.Packets.{Datagram}
 use Rattle.nq_clock.specs.Clocks.{ClockTold, ReadsOnce}
 use Rattle.nq_link.specs.Links.{Letter, LinkTold, most_bytes}

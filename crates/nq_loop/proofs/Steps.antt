@@ -2,7 +2,7 @@
 use Rattle.std.proofs.Common.{◌≤◌, ◌<◌, ℕ, ◌++◌, ◌||◌, Bool, false, zero, suc, List, [], ◌∷◌, Ok, refl, sym, subst, arith}
 use Rattle.nq_loop.specs.Looping.{Makes, Moment, Step}
 use Rattle.nq_loop.specs.Steps.{MakesAll, each_below}
-use Rattle.nq_model.specs.World.{Head}
+use Rattle.nq_model.specs.protocol.World.{Head}
 
 module _ (head : Head) where
   -- steps in two parts

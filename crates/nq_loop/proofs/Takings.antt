@@ -10,7 +10,7 @@ use Rattle.nq_loop.specs.Holding.{CountsKeep, IsLooping, Loop, Stands, Turns, mo
 use Rattle.nq_loop.specs.Looping.{is_busy}
 use Rattle.nq_loop.specs.Turning.{Between, Goes, Stops, TakesTurns, all_answered, all_below, is_over, is_through}
 use Rattle.nq_loop.specs.declared.turns.Halt.{Halt}
-use Rattle.nq_model.specs.World.{Head, run}
+use Rattle.nq_model.specs.protocol.World.{Head, run}
 
 -- ---- whether all is answered
 

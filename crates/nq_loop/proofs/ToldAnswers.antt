@@ -10,10 +10,10 @@ use Rattle.nq_loop.specs.Looping.{is_busy}
 use Rattle.nq_loop.specs.Turning.{all_below, is_through}
 use Rattle.nq_loop.specs.Whole.{loop_head}
 use Rattle.nq_model.proofs.JournalTests.{tells_answer, tells_exists}
-use Rattle.nq_model.specs.Client.{Client, UnderWay}
-use Rattle.nq_model.specs.Journal.{Exists, IsAnswer}
-use Rattle.nq_model.specs.JournalTest.{exists, is_answer}
-use Rattle.nq_model.specs.World.{run}
+use Rattle.nq_model.specs.protocol.Client.{Client, UnderWay}
+use Rattle.nq_model.specs.laws.Journal.{Exists, IsAnswer}
+use Rattle.nq_model.specs.laws.JournalTest.{exists, is_answer}
+use Rattle.nq_model.specs.protocol.World.{run}
 use Rattle.nq_replay.specs.Playing.{beginning}
 use Rattle.law_runs.proofs.RunCalls.{calls-fit}
 use Rattle.law_rounds.proofs.ClientCount.{client-count}

@@ -6,7 +6,7 @@ use Rattle.nq_loop.specs.Holding.{IsLooping, Loop, Loops, Turns, moment_of}
 use Rattle.nq_loop.specs.Looping.{Makes, rounds_due, turn_steps}
 use Rattle.nq_loop.specs.Steps.{MakesSteps}
 use Rattle.nq_loop.specs.declared.turns.Halt.{Halt}
-use Rattle.nq_model.specs.World.{Head, run}
+use Rattle.nq_model.specs.protocol.World.{Head, run}
 
 pub turned : {K : Type 0} (head : Head) (ended : Result Bool Halt) (reading rounds time : ℕ) (clock clock' : ClockTold)
     (old new : Loop K) → ReadsOnce reading clock clock' → rounds ≡ rounds_due time reading

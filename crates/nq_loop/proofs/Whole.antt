@@ -10,7 +10,7 @@ use Rattle.nq_loop.specs.Holding.{CountsKeep, GivesTo, IsLooping, Keeps, Loop, L
 use Rattle.nq_loop.specs.Looping.{Makes, Step}
 use Rattle.nq_loop.specs.Steps.{behind}
 use Rattle.nq_loop.specs.declared.turns.Halt.{Halt}
-use Rattle.nq_model.specs.World.{Head}
+use Rattle.nq_model.specs.protocol.World.{Head}
 
 -- ---- how a loop stands
 

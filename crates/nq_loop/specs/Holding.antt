@@ -13,9 +13,9 @@ use Rattle.nq_loop.specs.Looping.{Gives, Makes, Moment, Step, Takes, TakesTurn}
 use Rattle.nq_loop.specs.Sending.{told_of}
 use Rattle.nq_loop.specs.Steps.{MakesSteps}
 use Rattle.nq_loop.specs.declared.turns.Halt.{Halt}
-use Rattle.nq_model.specs.Kept.{Kept}
-use Rattle.nq_model.specs.Stepped.{done, stepped}
-use Rattle.nq_model.specs.World.{Head}
+use Rattle.nq_model.specs.protocol.Kept.{Kept}
+use Rattle.nq_model.specs.protocol.Stepped.{done, stepped}
+use Rattle.nq_model.specs.protocol.World.{Head}
 use Rattle.nq_link.specs.Packets.{Datagram}
 use Rattle.nq_link.specs.Links.{LinkTold}
 use Rattle.nq_replay.specs.Delivering.{Marks}

@@ -1,8 +1,8 @@
 -- A run in which all arrives in time: before the clocks tick, and each link keeps its order. Events are told with the newest first.
 use Rattle.std.specs.Prelude.{ℕ, ◌==◌, ◌&&◌, ◌||◌, not, Bool, true, false, List, [], ◌∷◌}
 use Rattle.nq_base.specs.declared.Event.{Event}
-use Rattle.nq_model.specs.Lines.{Play, play}
-use Rattle.nq_model.specs.World.{Head}
+use Rattle.nq_model.specs.protocol.Lines.{Play, play}
+use Rattle.nq_model.specs.protocol.World.{Head}
 use Rattle.law_rounds.specs.DeliveryEnds.{calmed}
 use Rattle.law_rounds.specs.WholeRounds.{is_next}
 

@@ -3,7 +3,7 @@ use Rattle.std.specs.Prelude.{◌≡◌, ℕ, Bool, false, zero, suc}
 use Rattle.nq_loop.specs.Looping.{Makes, Moment, rounds_due, turn_steps}
 use Rattle.nq_loop.specs.Steps.{MakesAll}
 use Rattle.nq_loop.specs.Turning.{all_answered}
-use Rattle.nq_model.specs.World.{Head, run}
+use Rattle.nq_model.specs.protocol.World.{Head, run}
 
 -- a turn made all of its steps, by a reading of the clock
 pub record MakesTurn (head : Head) (at after : Moment) : Type 0 where

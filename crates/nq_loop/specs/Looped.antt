@@ -10,7 +10,7 @@ use Rattle.nq_loop.specs.Printed.{PrintsRan, loop_text}
 use Rattle.nq_loop.specs.Turning.{Between, Ran, Stops, TakesTurns}
 use Rattle.nq_loop.specs.Whole.{loop_head}
 use Rattle.nq_loop.specs.declared.turns.Halt.{Halt}
-use Rattle.nq_model.specs.Kept.{Kept}
+use Rattle.nq_model.specs.protocol.Kept.{Kept}
 use Rattle.nq_clock.specs.Clocks.{ClockTold}
 use Rattle.nq_link.specs.Links.{LinkTold}
 use Rattle.nq_replay.specs.Lawful.{IsLawful}

@@ -15,9 +15,9 @@ use Rattle.nq_loop.specs.Sending.{SendsAll, place_of}
 use Rattle.nq_loop.specs.Steps.{MakesSteps, each_below}
 use Rattle.nq_loop.specs.declared.turns.Deed.{Deed}
 use Rattle.nq_loop.specs.declared.turns.Halt.{Halt}
-use Rattle.nq_model.specs.Client.{Client}
-use Rattle.nq_model.specs.Stepped.{done, stepped}
-use Rattle.nq_model.specs.World.{Head, World, run}
+use Rattle.nq_model.specs.protocol.Client.{Client}
+use Rattle.nq_model.specs.protocol.Stepped.{done, stepped}
+use Rattle.nq_model.specs.protocol.World.{Head, World, run}
 use Rattle.nq_link.specs.Packets.{Datagram}
 use Rattle.nq_clock.specs.Clocks.{ClockTold, ReadsOnce}
 use Rattle.nq_link.specs.Links.{Hears, Letter, LinkTold, most_bytes}

@@ -3,8 +3,8 @@ use Rattle.std.specs.Prelude.{◌≡◌, ◌≤◌, ◌<◌, ◌⊎◌, ℕ, ◌
 use Rattle.nq_loop.specs.Looping.{Moment}
 use Rattle.nq_loop.specs.Turning.{all_answered}
 use Rattle.nq_loop.specs.Whole.{loop_head}
-use Rattle.nq_model.specs.Profile.{most_hosts}
-use Rattle.nq_model.specs.World.{run}
+use Rattle.nq_model.specs.protocol.Profile.{most_hosts}
+use Rattle.nq_model.specs.protocol.World.{run}
 use Rattle.nq_link.specs.Links.{LinkTold}
 use Rattle.nq_replay.specs.Playing.{beginning}
 use Rattle.nq_laws.specs.WholeCallsAnswered.{served_rounds_for}

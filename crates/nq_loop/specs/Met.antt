@@ -5,7 +5,7 @@ use Rattle.nq_base.specs.declared.Call.{Call}
 use Rattle.nq_base.specs.declared.Event.{Event}
 use Rattle.nq_loop.specs.Turning.{all_answered}
 use Rattle.nq_loop.specs.Whole.{loop_head}
-use Rattle.nq_model.specs.World.{Head}
+use Rattle.nq_model.specs.protocol.World.{Head}
 use Rattle.nq_replay.specs.Playing.{beginning}
 use Rattle.law_rounds.specs.RoundsEndQuiet.{IsSmall}
 use Rattle.nq_loop.specs.InTime.{played, all_in_time}

@@ -8,8 +8,8 @@ use Rattle.nq_loop.specs.Looped.{IsWhole, LoopEnds}
 use Rattle.nq_loop.specs.Printed.{loop_text}
 use Rattle.nq_loop.specs.Turning.{all_answered}
 use Rattle.nq_loop.specs.Whole.{loop_head}
-use Rattle.nq_model.specs.Stepped.{most_sent}
-use Rattle.nq_model.specs.World.{run}
+use Rattle.nq_model.specs.protocol.Stepped.{most_sent}
+use Rattle.nq_model.specs.protocol.World.{run}
 use Rattle.nq_clock.specs.Clocks.{ClockTold}
 use Rattle.nq_link.specs.Links.{LinkTold}
 use Rattle.nq_replay.specs.Playing.{beginning}

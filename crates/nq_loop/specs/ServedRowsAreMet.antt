@@ -1,8 +1,8 @@
 -- That the law of served rows speaks of something: a server that gave a host a lease to write.
 use Rattle.std.specs.Prelude.{◌≡◌, ℕ, true, List, Some, IsSomeAnd}
 use Rattle.nq_loop.specs.Serving.{Coming, IsServed}
-use Rattle.nq_model.specs.Kept.{Kept}
-use Rattle.nq_model.specs.Table.{is_writing, find_row}
+use Rattle.nq_model.specs.protocol.Kept.{Kept}
+use Rattle.nq_model.specs.protocol.Table.{is_writing, find_row}
 use Rattle.nq_server.specs.Holding.{Holding}
 
 -- over a keeper that always tells what it keeps a server boots, and something comes to it; then it has a row that lets its holder

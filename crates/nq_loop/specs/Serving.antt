@@ -5,12 +5,12 @@ use Rattle.nq_loop.specs.declared.hosts.served.arriving.Arrival.{Arrival}
 use Rattle.nq_loop.specs.declared.hosts.served.arriving.Arrival.TheVariants as arrival
 use Rattle.nq_datagrams.specs.Incoming.{datagram_in}
 use Rattle.nq_base.specs.Entries.{EntryList}
-use Rattle.nq_model.specs.Kept.{Kept}
-use Rattle.nq_model.specs.Profile.{shortest_term, longest_term}
-use Rattle.nq_model.specs.Server.{recovering}
-use Rattle.nq_model.specs.ServerStep.{receive, tick}
-use Rattle.nq_model.specs.Table.{Table}
-use Rattle.nq_model.specs.RowsStandApart.{HasOneRowEach, WritesAlone}
+use Rattle.nq_model.specs.protocol.Kept.{Kept}
+use Rattle.nq_model.specs.protocol.Profile.{shortest_term, longest_term}
+use Rattle.nq_model.specs.protocol.Server.{recovering}
+use Rattle.nq_model.specs.protocol.ServerStep.{receive, tick}
+use Rattle.nq_model.specs.protocol.Table.{Table}
+use Rattle.nq_model.specs.laws.RowsStandApart.{HasOneRowEach, WritesAlone}
 use Rattle.nq_server.specs.Holding.{Boots, Holding, IsTaken, Reboots}
 use Rattle.nq_server.specs.State.{Beside, server_of}
 use Rattle.nq_server.specs.Stepping.{next_of}

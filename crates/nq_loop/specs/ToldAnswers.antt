@@ -6,9 +6,9 @@ use Rattle.nq_base.specs.declared.Who.{Who}
 use Rattle.nq_loop.specs.Looped.{IsWhole}
 use Rattle.nq_loop.specs.Turning.{all_answered}
 use Rattle.nq_loop.specs.Whole.{loop_head}
-use Rattle.nq_model.specs.Client.{Client}
-use Rattle.nq_model.specs.Journal.{Exists, IsAnswer, IsCall}
-use Rattle.nq_model.specs.World.{run}
+use Rattle.nq_model.specs.protocol.Client.{Client}
+use Rattle.nq_model.specs.laws.Journal.{Exists, IsAnswer, IsCall}
+use Rattle.nq_model.specs.protocol.World.{run}
 use Rattle.nq_clock.specs.Clocks.{ClockTold}
 use Rattle.nq_link.specs.Links.{LinkTold}
 use Rattle.nq_replay.specs.Playing.{beginning}

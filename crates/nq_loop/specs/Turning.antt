@@ -4,7 +4,7 @@ use Rattle.nq_base.specs.declared.Event.{Event}
 use Rattle.nq_loop.specs.Counting.{begun_in}
 use Rattle.nq_loop.specs.Looping.{Moment, TakesTurn, is_busy}
 use Rattle.nq_loop.specs.declared.turns.Halt.{Halt}
-use Rattle.nq_model.specs.World.{Head, run}
+use Rattle.nq_model.specs.protocol.World.{Head, run}
 use Rattle.nq_clock.specs.Clocks.{ClockTold}
 
 -- a loop between two turns: its moment, and its clock

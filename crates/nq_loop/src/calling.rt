@@ -4,7 +4,7 @@ ghost use Rattle.std.specs.Prelude.{◌≡◌, ◌<◌, ◌≤◌, ◌∷◌, []
 ghost use Rattle.nq_base.specs.declared.Event.{Event};
 ghost use Rattle.nq_loop.specs.Holding.{IsLoopCall, IsLooping, Keeps, Loops, loop_of};
 ghost use Rattle.nq_loop.specs.Looping.{Step, call_behind, is_busy};
-ghost use Rattle.nq_model.specs.World.{Head, run};
+ghost use Rattle.nq_model.specs.protocol.World.{Head, run};
 ghost use Rattle.nq_world.specs.Playing.{Plays};
 
 use crate::giving::give;

@@ -3,7 +3,7 @@
 ghost use Rattle.std.specs.Prelude.{◌≡◌, ◌≤◌, ◌||◌, ◌∷◌, [], length};
 ghost use Rattle.nq_loop.specs.Holding.{AreThere, IsLooping, Keeps, Loops, loop_of};
 ghost use Rattle.nq_loop.specs.Looping.{IsAmong, step_of, turn_steps};
-ghost use Rattle.nq_model.specs.World.{Head};
+ghost use Rattle.nq_model.specs.protocol.World.{Head};
 
 use crate::calling::begin_call;
 use crate::giving::give;

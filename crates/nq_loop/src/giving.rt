@@ -4,7 +4,7 @@ ghost use Rattle.std.specs.Prelude.{◌≡◌, ◌≤◌, ◌++◌, ◌∷◌, [
 ghost use Rattle.nq_base.specs.declared.Event.{Event};
 ghost use Rattle.nq_loop.specs.Holding.{GivesTo, IsLooped, IsLooping, Keeps, loop_of};
 ghost use Rattle.nq_loop.specs.Looping.{halt_of, moved};
-ghost use Rattle.nq_model.specs.World.{Head};
+ghost use Rattle.nq_model.specs.protocol.World.{Head};
 ghost use Rattle.nq_replay.specs.Delivering.{Marks};
 ghost use Rattle.nq_script.specs.Lines.{IsFilledEvent};
 

@@ -4,7 +4,7 @@ ghost use Rattle.std.specs.Prelude.{◌≡◌, ◌<◌, ◌∷◌, [], length, m
 ghost use Rattle.nq_loop.specs.Holding.{IsLooping, Keeps, Loops, TakesFrom, loop_of};
 ghost use Rattle.nq_loop.specs.Looping.{Brings, Step};
 ghost use Rattle.nq_loop.specs.Sending.{place_of, told_of};
-ghost use Rattle.nq_model.specs.World.{Head};
+ghost use Rattle.nq_model.specs.protocol.World.{Head};
 ghost use Rattle.nq_link.specs.Links.{most_bytes};
 
 use crate::giving::give;

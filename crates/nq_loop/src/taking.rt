@@ -6,7 +6,7 @@ ghost use Rattle.nq_base.specs.declared.Event.{Event};
 ghost use Rattle.nq_loop.specs.Counting.{Counts};
 ghost use Rattle.nq_loop.specs.Holding.{AreThere, CountsKeep, IsLooping, Stands, loop_of, moment_of};
 ghost use Rattle.nq_loop.specs.Turning.{TakesTurns, all_answered, is_over, is_through};
-ghost use Rattle.nq_model.specs.World.{Head};
+ghost use Rattle.nq_model.specs.protocol.World.{Head};
 ghost use Rattle.nq_world.specs.Playing.{Plays};
 
 use crate::calling::is_busy;

@@ -4,7 +4,7 @@ ghost use Rattle.std.specs.Prelude.{◌≡◌, length};
 ghost use Rattle.nq_clock.specs.Clocks.{clock_told};
 ghost use Rattle.nq_loop.specs.Holding.{AreThere, IsLooping, Keeps, Turns, loop_of};
 ghost use Rattle.nq_loop.specs.Looping.{rounds_due};
-ghost use Rattle.nq_model.specs.World.{Head};
+ghost use Rattle.nq_model.specs.protocol.World.{Head};
 
 use crate::deeds::take_steps;
 use crate::state::LoopState;

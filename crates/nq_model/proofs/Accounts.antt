@@ -5,10 +5,10 @@ use Rattle.nq_base.specs.declared.Entry.{Entry}
 use Rattle.nq_base.specs.declared.Entry.TheVariants.{W, S, L, B}
 use Rattle.nq_model.proofs.Lists.{each-of, each-map, exists-map}
 use Rattle.nq_model.proofs.Telling.{no, tells_same}
-use Rattle.nq_model.specs.Tests.{Tells}
-use Rattle.nq_model.specs.Journal.{Each, Exists, AtMostOne, Throughout, Covers, Stores, Loses, IsStored, IsLost}
-use Rattle.nq_model.specs.Fate.{Restarts, IsFirstToCover, IsAccountedAt, CoversOnce, StoredOrLost}
-use Rattle.nq_model.specs.FateTest.{restarts}
+use Rattle.nq_model.specs.laws.Tests.{Tells}
+use Rattle.nq_model.specs.laws.Journal.{Each, Exists, AtMostOne, Throughout, Covers, Stores, Loses, IsStored, IsLost}
+use Rattle.nq_model.specs.laws.Fate.{Restarts, IsFirstToCover, IsAccountedAt, CoversOnce, StoredOrLost}
+use Rattle.nq_model.specs.laws.FateTest.{restarts}
 
 -- two facts of each element together
 both_of_each : {X : Type 0} (P Q : X → Type 0) (xs : List X) → Each P xs → Each Q xs → Each (λ x. P x × Q x) xs

@@ -3,12 +3,12 @@ use Rattle.std.proofs.Common.{◌≡◌, ℕ, ◌+◌, ◌==◌, Bool, true, fal
 use Rattle.std.specs.Prelude.{slice_set}
 use Rattle.nq_base.specs.declared.Verdict.{Verdict}
 use Rattle.nq_base.specs.declared.Who.{Who}
-use Rattle.nq_model.specs.Change.{IsNextFree, raised_row, row_of, row_of_found, heads_of, file_of, with_body, with_file, with_file_at, with_block}
-use Rattle.nq_model.specs.Change.{with_block_in, kept_as, applied, applied_if, change_of_heads, booted_heads, opened_heads, fencing, fencing_of}
-use Rattle.nq_model.specs.Decided.{no_effect, creation, block_write, length_change, removal, row_with, change_with}
-use Rattle.nq_model.specs.Kept.{File, Kept, blocks_of, find_file, replace_file, drop_file, new_file, written_file, resized_file, fenced_file}
-use Rattle.nq_model.specs.Kept.{with_row, with_files, with_new_file}
-use Rattle.nq_model.specs.ServerStep.{fence, booted}
+use Rattle.nq_model.specs.protocol.Change.{IsNextFree, raised_row, row_of, row_of_found, heads_of, file_of, with_body, with_file, with_file_at, with_block}
+use Rattle.nq_model.specs.protocol.Change.{with_block_in, kept_as, applied, applied_if, change_of_heads, booted_heads, opened_heads, fencing, fencing_of}
+use Rattle.nq_model.specs.protocol.Decided.{no_effect, creation, block_write, length_change, removal, row_with, change_with}
+use Rattle.nq_model.specs.protocol.Kept.{File, Kept, blocks_of, find_file, replace_file, drop_file, new_file, written_file, resized_file, fenced_file}
+use Rattle.nq_model.specs.protocol.Kept.{with_row, with_files, with_new_file}
+use Rattle.nq_model.specs.protocol.ServerStep.{fence, booted}
 use Rattle.nq_model.proofs.Files.{found-id, replaced-found, replaced-twice, resized-same, resized-none}
 
 -- a decision without effect changes the host's row alone

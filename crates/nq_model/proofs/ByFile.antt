@@ -5,8 +5,8 @@ use Rattle.std.specs.List.{find, filter}
 use Rattle.std.proofs.lemmas.Bool.Decides.{nat_tests}
 use Rattle.std.proofs.lemmas.List.Elements.{filter-append}
 use Rattle.nq_model.proofs.Finding.{same-number, number-same, number-other, filter-within, filter-apart}
-use Rattle.nq_model.specs.ByFile.{insert_by, up_to, past, add_by}
-use Rattle.nq_model.specs.Journal.{Each}
+use Rattle.nq_model.specs.protocol.ByFile.{insert_by, up_to, past, add_by}
+use Rattle.nq_model.specs.laws.Journal.{Each}
 
 abbrev found : {A : Type 0} → (A → ℕ) → ℕ → List A → Option A
 found file_of file xs = find (λ x. file_of x == file) xs

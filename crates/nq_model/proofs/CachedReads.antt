@@ -2,10 +2,10 @@
 use Rattle.std.proofs.Common.{◌≡◌, ◌<◌, ℕ, ◌+◌, true, false, List, Some, None, nat_le, refl, sym, subst, ap, ◌∙◌, arith}
 use Rattle.std.proofs.lemmas.Bool.Decides.{nat_tests}
 use Rattle.nq_base.specs.declared.Call.{Call}
-use Rattle.nq_model.specs.CachedAtOnce.{HasCached, AnswersAtOnce, CachedAtOnce}
-use Rattle.nq_model.specs.Client.{Lease, Client, ClientStep, UnderWay, lease_on, lets_read}
-use Rattle.nq_model.specs.ClientStep.{client_call, call_freely, sends_unless_cached, changed_file, begins_call, is_called}
-use Rattle.nq_model.specs.Settle.{answers, reads_cached, after_read, cached_body, settle, settle_call, settle_read, ticket_is_for_call}
+use Rattle.nq_model.specs.laws.CachedAtOnce.{HasCached, AnswersAtOnce, CachedAtOnce}
+use Rattle.nq_model.specs.protocol.Client.{Lease, Client, ClientStep, UnderWay, lease_on, lets_read}
+use Rattle.nq_model.specs.protocol.ClientStep.{client_call, call_freely, sends_unless_cached, changed_file, begins_call, is_called}
+use Rattle.nq_model.specs.protocol.Settle.{answers, reads_cached, after_read, cached_body, settle, settle_call, settle_read, ticket_is_for_call}
 
 -- a read under a lease that runs, of a block below the length that the client has
 read-hit : (t : ClientStep) (u : UnderWay) (file block : ℕ) (lease : Lease) (body : List ℕ) → lets_read t.client.now lease ≡ true

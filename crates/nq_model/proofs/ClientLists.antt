@@ -7,10 +7,10 @@ use Rattle.std.proofs.lemmas.Bool.{not_from_false}
 use Rattle.nq_base.specs.declared.Push.{Push}
 use Rattle.nq_model.proofs.Finding.{find-passes, find-filter, find-dropped, find-map, same-number, number-other, is-other}
 use Rattle.nq_model.proofs.ByFile.{find-inserted, find-besides}
-use Rattle.nq_model.specs.Client.{Lease, Notice, lease_on, drop_lease, put_lease, notice_on, drop_notice, put_notice, file_of_lease, file_of_notice}
-use Rattle.nq_model.specs.Client.{file_of_revision, is_push_of, is_push_at, first_dirty, drop_dirty, other_dirty, marked_used, used_lease, Revision}
-use Rattle.nq_model.specs.Client.{revision_of, drop_revision, put_revision}
-use Rattle.nq_model.specs.Settle.{overwritten_at, with_write}
+use Rattle.nq_model.specs.protocol.Client.{Lease, Notice, lease_on, drop_lease, put_lease, notice_on, drop_notice, put_notice, file_of_lease, file_of_notice}
+use Rattle.nq_model.specs.protocol.Client.{file_of_revision, is_push_of, is_push_at, first_dirty, drop_dirty, other_dirty, marked_used, used_lease, Revision}
+use Rattle.nq_model.specs.protocol.Client.{revision_of, drop_revision, put_revision}
+use Rattle.nq_model.specs.protocol.Settle.{overwritten_at, with_write}
 
 -- leases: what was dropped is not found, and the others are found as before
 pub dropped-lease : (file : ℕ) (leases : List Lease) → lease_on file (drop_lease file leases) ≡ None

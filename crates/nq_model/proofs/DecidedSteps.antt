@@ -20,25 +20,25 @@ use Rattle.nq_base.specs.declared.Request.TheVariants.{Attach, Create, Write, Re
 use Rattle.nq_base.specs.declared.Row.{Row}
 use Rattle.nq_base.specs.declared.Verdict.{Verdict}
 use Rattle.nq_base.specs.declared.Who.{Who}
-use Rattle.nq_model.specs.Ask.{ask_past, conflicts, marked, put_off, free}
-use Rattle.nq_model.specs.Change.{row_of, row_of_found, heads_of, space_of, IsNextFree, kept_as, applied}
-use Rattle.nq_model.specs.Decide.{Decision, decides, creates, writes_through, stores, wrote, stores_recovering, resizes, removes, to_change, puts_off}
-use Rattle.nq_model.specs.Decide.{unless_asked, lets_push, decide_create, decide_push, decide_write_in, decide_write, decide_push_recovering}
-use Rattle.nq_model.specs.Decide.{decide_write_recovering, decide_resize, decide_remove, decide_in, decide, verdict_reply, row_after, commits}
-use Rattle.nq_model.specs.Decide.{commits_within}
-use Rattle.nq_model.specs.Decided.{no_effect, creation, block_write, length_change, removal, effect_of_create, effect_of_push, effect_of_write_in}
-use Rattle.nq_model.specs.Decided.{effect_of_write, effect_of_write_recovering, effect_of_resize, effect_of_remove, effect_of, row_with}
-use Rattle.nq_model.specs.Decided.{fresh_decided, or_fresh, decided, is_decided_once, change_with, file_to_change, is_held_writing, gate_in, gate_of}
-use Rattle.nq_model.specs.Decided.{Aside, nothing_aside, entry_aside, rows_aside, heard_aside, put_off_aside, stored_aside, kept_length, aside_in}
-use Rattle.nq_model.specs.Decided.{decided_answer, fresh_step, decided_step}
-use Rattle.nq_model.specs.Kept.{File, Kept, blocks_of, blocks_in_all, find_file, find_name, replace_file, drop_file, written_file, resized_file}
-use Rattle.nq_model.specs.Kept.{with_row, with_files, with_new_file, can_be_kept, host_row}
-use Rattle.nq_model.specs.Message.{reply, request, asker, old_incarnation, out_of_bounds, wrong_host}
-use Rattle.nq_model.specs.Profile.{most_hosts}
-use Rattle.nq_model.specs.Server.{Phase, serving, recovering, Server, ServerStep, taken, to_host, drops, refuses, replies, keeping, keeping_with}
-use Rattle.nq_model.specs.Server.{after_notices}
-use Rattle.nq_model.specs.ServerStep.{row_of_attach, attaches, admit, answer_request, receive}
-use Rattle.nq_model.specs.Table.{Table, find_row, drop_rows_of, with_rows}
+use Rattle.nq_model.specs.protocol.Ask.{ask_past, conflicts, marked, put_off, free}
+use Rattle.nq_model.specs.protocol.Change.{row_of, row_of_found, heads_of, space_of, IsNextFree, kept_as, applied}
+use Rattle.nq_model.specs.protocol.Decide.{Decision, decides, creates, writes_through, stores, wrote, stores_recovering, resizes, removes, to_change, puts_off}
+use Rattle.nq_model.specs.protocol.Decide.{unless_asked, lets_push, decide_create, decide_push, decide_write_in, decide_write, decide_push_recovering}
+use Rattle.nq_model.specs.protocol.Decide.{decide_write_recovering, decide_resize, decide_remove, decide_in, decide, verdict_reply, row_after, commits}
+use Rattle.nq_model.specs.protocol.Decide.{commits_within}
+use Rattle.nq_model.specs.protocol.Decided.{no_effect, creation, block_write, length_change, removal, effect_of_create, effect_of_push, effect_of_write_in}
+use Rattle.nq_model.specs.protocol.Decided.{effect_of_write, effect_of_write_recovering, effect_of_resize, effect_of_remove, effect_of, row_with}
+use Rattle.nq_model.specs.protocol.Decided.{fresh_decided, or_fresh, decided, is_decided_once, change_with, file_to_change, is_held_writing, gate_in, gate_of}
+use Rattle.nq_model.specs.protocol.Decided.{Aside, nothing_aside, entry_aside, rows_aside, heard_aside, put_off_aside, stored_aside, kept_length, aside_in}
+use Rattle.nq_model.specs.protocol.Decided.{decided_answer, fresh_step, decided_step}
+use Rattle.nq_model.specs.protocol.Kept.{File, Kept, blocks_of, blocks_in_all, find_file, find_name, replace_file, drop_file, written_file, resized_file}
+use Rattle.nq_model.specs.protocol.Kept.{with_row, with_files, with_new_file, can_be_kept, host_row}
+use Rattle.nq_model.specs.protocol.Message.{reply, request, asker, old_incarnation, out_of_bounds, wrong_host}
+use Rattle.nq_model.specs.protocol.Profile.{most_hosts}
+use Rattle.nq_model.specs.protocol.Server.{Phase, serving, recovering, Server, ServerStep, taken, to_host, drops, refuses, replies, keeping, keeping_with}
+use Rattle.nq_model.specs.protocol.Server.{after_notices}
+use Rattle.nq_model.specs.protocol.ServerStep.{row_of_attach, attaches, admit, answer_request, receive}
+use Rattle.nq_model.specs.protocol.Table.{Table, find_row, drop_rows_of, with_rows}
 use Rattle.nq_model.proofs.AppliedChanges.{applied-none, applied-write, applied-resize, applied-removal, applied-creation}
 use Rattle.nq_model.proofs.Files.{found-id}
 

@@ -17,20 +17,20 @@ use Rattle.nq_base.specs.declared.Row.{Row}
 use Rattle.nq_base.specs.declared.Tag.{Tag}
 use Rattle.nq_base.specs.declared.Want.{Want}
 use Rattle.nq_base.specs.declared.Who.{Who}
-use Rattle.nq_model.specs.Ask.{Reply, ask}
-use Rattle.nq_model.specs.Change.{IsWithinBounds, IsChangedOnce, IsChangeWithin, Fits, applied_if, fencing_of, row_of_found, change_of_heads}
-use Rattle.nq_model.specs.Change.{booted_heads, opened_heads}
-use Rattle.nq_model.specs.ChangesOnce.{EachStepChangesOnce, RequestsAreDecided, BoundsAreKept, IsServerWithin, HasItsText}
-use Rattle.nq_model.specs.Decided.{is_decided_once, fresh_change, gate_of, decided, decided_step, fresh_step, HasText}
-use Rattle.nq_model.specs.Kept.{File, Kept, find_file, find_name, can_rise, host_row}
-use Rattle.nq_model.specs.Message.{Message, Datagram, Reason, reply, request, too_long, no_message, no_call, other_rpc, other_program, other_version}
-use Rattle.nq_model.specs.Message.{unknown_procedure, garbage_vacated, garbage, asker, wrong_host, old_incarnation}
-use Rattle.nq_model.specs.Profile.{most_hosts, shortest_term, longest_term}
-use Rattle.nq_model.specs.Server.{Phase, serving, recovering, Server, ServerStep, drops, says, quiet, after_notices, keeping_with, with_table}
-use Rattle.nq_model.specs.ServerStep.{to_read, look_up, get_attr, read, read_block, read_asked, access_of, tells_later, serves, leases, lease_asked}
-use Rattle.nq_model.specs.ServerStep.{get_lease, vacates, look, not_attached, admit, answer_request, receive, fence, ends_writing, end_due}
-use Rattle.nq_model.specs.ServerStep.{end_writing, end_reading, is_due, opens, at_time, tick_in, tick, boot, crash}
-use Rattle.nq_model.specs.Table.{Table}
+use Rattle.nq_model.specs.protocol.Ask.{Reply, ask}
+use Rattle.nq_model.specs.protocol.Change.{IsWithinBounds, IsChangedOnce, IsChangeWithin, Fits, applied_if, fencing_of, row_of_found, change_of_heads}
+use Rattle.nq_model.specs.protocol.Change.{booted_heads, opened_heads}
+use Rattle.nq_model.specs.laws.ChangesOnce.{EachStepChangesOnce, RequestsAreDecided, BoundsAreKept, IsServerWithin, HasItsText}
+use Rattle.nq_model.specs.protocol.Decided.{is_decided_once, fresh_change, gate_of, decided, decided_step, fresh_step, HasText}
+use Rattle.nq_model.specs.protocol.Kept.{File, Kept, find_file, find_name, can_rise, host_row}
+use Rattle.nq_model.specs.protocol.Message.{Message, Datagram, Reason, reply, request, too_long, no_message, no_call, other_rpc, other_program, other_version}
+use Rattle.nq_model.specs.protocol.Message.{unknown_procedure, garbage_vacated, garbage, asker, wrong_host, old_incarnation}
+use Rattle.nq_model.specs.protocol.Profile.{most_hosts, shortest_term, longest_term}
+use Rattle.nq_model.specs.protocol.Server.{Phase, serving, recovering, Server, ServerStep, drops, says, quiet, after_notices, keeping_with, with_table}
+use Rattle.nq_model.specs.protocol.ServerStep.{to_read, look_up, get_attr, read, read_block, read_asked, access_of, tells_later, serves, leases, lease_asked}
+use Rattle.nq_model.specs.protocol.ServerStep.{get_lease, vacates, look, not_attached, admit, answer_request, receive, fence, ends_writing, end_due}
+use Rattle.nq_model.specs.protocol.ServerStep.{end_writing, end_reading, is_due, opens, at_time, tick_in, tick, boot, crash}
+use Rattle.nq_model.specs.protocol.Table.{Table}
 use Rattle.nq_model.proofs.AppliedChanges.{applied-fencing, applied-boot, applied-opening}
 use Rattle.nq_model.proofs.DecidedSteps.{admits-decided, receives-decided}
 use Rattle.nq_model.proofs.Finding.{choice}

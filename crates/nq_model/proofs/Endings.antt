@@ -2,8 +2,8 @@
 use Rattle.std.proofs.Common.{◌⊎◌, ℕ, List, [], ◌∷◌, ◌++◌, refl, sym, subst, ap, inl, inr}
 use Rattle.nq_base.specs.declared.Entry.{Entry}
 use Rattle.nq_base.specs.declared.Who.{Who}
-use Rattle.nq_model.specs.CutOff.{Ends, EndsFirst}
-use Rattle.nq_model.specs.Journal.{Exists, Loses}
+use Rattle.nq_model.specs.laws.CutOff.{Ends, EndsFirst}
+use Rattle.nq_model.specs.laws.Journal.{Exists, Loses}
 
 -- the newest entry ends the lease, or the loss does not cover it and the same holds of those before it
 abbrev pub EndsIn : (loss : Entry) (who : Who) (file : ℕ) → List Entry → Type 0

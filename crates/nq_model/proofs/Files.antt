@@ -5,8 +5,8 @@ use Rattle.std.proofs.lemmas.List.{take-replicate}
 use Rattle.std.proofs.Math.Seq.{take-append_seam}
 use Rattle.nq_base.specs.Block.{zeros}
 use Rattle.nq_base.specs.declared.FileRow.{FileRow}
-use Rattle.nq_model.specs.Change.{row_of, row_of_found}
-use Rattle.nq_model.specs.Kept.{File, find_file, replace_file, resized}
+use Rattle.nq_model.specs.protocol.Change.{row_of, row_of_found}
+use Rattle.nq_model.specs.protocol.Kept.{File, find_file, replace_file, resized}
 use Rattle.nq_model.proofs.Finding.{same-number, number-same}
 
 found-first : (id : ℕ) (f file : File) (rest : Option File) (b : Bool) → (f.id == id) ≡ b → (rest ≡ Some file → file.id ≡ id)

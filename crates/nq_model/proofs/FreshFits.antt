@@ -18,14 +18,14 @@ use Rattle.nq_base.specs.declared.Request.{Request}
 use Rattle.nq_base.specs.declared.Request.TheVariants.{Attach, Create, Write, Resize, Remove}
 use Rattle.nq_base.specs.declared.Verdict.{Verdict}
 use Rattle.nq_base.specs.declared.Who.{Who}
-use Rattle.nq_model.specs.Change.{row_of, row_of_found, heads_of, space_of, IsNextFree, IsRowOf, FitsFile, HasBlock, Fits, AreApart, IsOrderly}
-use Rattle.nq_model.specs.Change.{IsWithinBounds, raised_row, file_of, with_file, with_file_at, no_change, fencing, change_of_heads}
-use Rattle.nq_model.specs.Decided.{no_effect, creation, block_write, length_change, removal, effect_of_create, effect_of_push, effect_of_write_in}
-use Rattle.nq_model.specs.Decided.{effect_of_write, effect_of_write_recovering, effect_of_resize, effect_of_remove, effect_of, change_with}
-use Rattle.nq_model.specs.Decided.{fresh_change}
-use Rattle.nq_model.specs.Kept.{File, Kept, blocks_of, blocks_in_all, find_file, find_name, replace_file, resized}
-use Rattle.nq_model.specs.Message.{asker}
-use Rattle.nq_model.specs.Profile.{most_hosts, most_files, most_blocks, most_blocks_of_file, most_ids}
+use Rattle.nq_model.specs.protocol.Change.{row_of, row_of_found, heads_of, space_of, IsNextFree, IsRowOf, FitsFile, HasBlock, Fits, AreApart, IsOrderly}
+use Rattle.nq_model.specs.protocol.Change.{IsWithinBounds, raised_row, file_of, with_file, with_file_at, no_change, fencing, change_of_heads}
+use Rattle.nq_model.specs.protocol.Decided.{no_effect, creation, block_write, length_change, removal, effect_of_create, effect_of_push, effect_of_write_in}
+use Rattle.nq_model.specs.protocol.Decided.{effect_of_write, effect_of_write_recovering, effect_of_resize, effect_of_remove, effect_of, change_with}
+use Rattle.nq_model.specs.protocol.Decided.{fresh_change}
+use Rattle.nq_model.specs.protocol.Kept.{File, Kept, blocks_of, blocks_in_all, find_file, find_name, replace_file, resized}
+use Rattle.nq_model.specs.protocol.Message.{asker}
+use Rattle.nq_model.specs.protocol.Profile.{most_hosts, most_files, most_blocks, most_blocks_of_file, most_ids}
 use Rattle.nq_model.proofs.Finding.{choice, number-same}
 use Rattle.nq_model.proofs.Files.{found-id, replaced-found}
 

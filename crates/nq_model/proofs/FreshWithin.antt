@@ -14,13 +14,13 @@ use Rattle.nq_base.specs.declared.Request.{Request}
 use Rattle.nq_base.specs.declared.Request.TheVariants.{Attach, Create, Write, Resize, Remove}
 use Rattle.nq_base.specs.declared.Verdict.{Verdict}
 use Rattle.nq_base.specs.declared.Who.{Who}
-use Rattle.nq_model.specs.Change.{IsBody, IsFileWithin, IsWithinBounds, IsChangeWithin, AreHeadsWithin, row_of, row_of_found, raised_row, heads_of}
-use Rattle.nq_model.specs.Change.{space_of, fencing, change_of_heads, booted_heads, opened_heads}
-use Rattle.nq_model.specs.Decided.{no_effect, creation, block_write, length_change, removal, effect_of_create, effect_of_push, effect_of_write_in}
-use Rattle.nq_model.specs.Decided.{effect_of_write, effect_of_write_recovering, effect_of_resize, effect_of_remove, effect_of, row_with}
-use Rattle.nq_model.specs.Decided.{sequence_decided, attach_decided, or_fresh, decided, change_with, fresh_change, HasText}
-use Rattle.nq_model.specs.Kept.{File, Kept, blocks_of, blocks_in_all, find_file, find_name, can_be_kept, can_rise, host_row}
-use Rattle.nq_model.specs.Profile.{shortest_term, longest_term, most_files, most_blocks, most_blocks_of_file, most_ids, inc_end, seq_end, rev_end}
+use Rattle.nq_model.specs.protocol.Change.{IsBody, IsFileWithin, IsWithinBounds, IsChangeWithin, AreHeadsWithin, row_of, row_of_found, raised_row, heads_of}
+use Rattle.nq_model.specs.protocol.Change.{space_of, fencing, change_of_heads, booted_heads, opened_heads}
+use Rattle.nq_model.specs.protocol.Decided.{no_effect, creation, block_write, length_change, removal, effect_of_create, effect_of_push, effect_of_write_in}
+use Rattle.nq_model.specs.protocol.Decided.{effect_of_write, effect_of_write_recovering, effect_of_resize, effect_of_remove, effect_of, row_with}
+use Rattle.nq_model.specs.protocol.Decided.{sequence_decided, attach_decided, or_fresh, decided, change_with, fresh_change, HasText}
+use Rattle.nq_model.specs.protocol.Kept.{File, Kept, blocks_of, blocks_in_all, find_file, find_name, can_be_kept, can_rise, host_row}
+use Rattle.nq_model.specs.protocol.Profile.{shortest_term, longest_term, most_files, most_blocks, most_blocks_of_file, most_ids, inc_end, seq_end, rev_end}
 use Rattle.nq_model.proofs.Finding.{choice}
 use Rattle.nq_model.proofs.FreshFits.{found-has}
 

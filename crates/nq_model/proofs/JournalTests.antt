@@ -8,16 +8,16 @@ use Rattle.nq_base.specs.declared.Said.TheVariants.{OkBy}
 use Rattle.nq_base.specs.declared.Told.{Told}
 use Rattle.nq_base.specs.declared.Told.TheVariants.{Read, Fetch, Write, WriteSync, Attr, Sync, Resize, Remove}
 use Rattle.nq_base.specs.declared.Who.{Who}
-use Rattle.nq_model.specs.Journal.{Each, Exists, AtMostOne, Throughout, Somewhere, AtEachPlace, IsCall, IsAnswer, IsOpen, SpeaksOf, IsReadBy}
-use Rattle.nq_model.specs.Journal.{IsAnswerBy, IsCounted, IsWriteOn, IsWriteBy, IsThrough, value_written, IsWithin, Covers, Stores, Loses, IsStored}
-use Rattle.nq_model.specs.Journal.{IsLost, IsLastValue, last_value}
-use Rattle.nq_model.specs.JournalTest.{each, exists, number_of, at_most_one, throughout, somewhere, at_each_place, is_call, is_answer, is_open}
-use Rattle.nq_model.specs.JournalTest.{speaks_of, is_read_by, is_answer_by, is_counted, is_write_on, is_write_by, is_through, is_within, covers}
-use Rattle.nq_model.specs.JournalTest.{store_covers, loss_covers, is_stored, is_lost}
+use Rattle.nq_model.specs.laws.Journal.{Each, Exists, AtMostOne, Throughout, Somewhere, AtEachPlace, IsCall, IsAnswer, IsOpen, SpeaksOf, IsReadBy}
+use Rattle.nq_model.specs.laws.Journal.{IsAnswerBy, IsCounted, IsWriteOn, IsWriteBy, IsThrough, value_written, IsWithin, Covers, Stores, Loses, IsStored}
+use Rattle.nq_model.specs.laws.Journal.{IsLost, IsLastValue, last_value}
+use Rattle.nq_model.specs.laws.JournalTest.{each, exists, number_of, at_most_one, throughout, somewhere, at_each_place, is_call, is_answer, is_open}
+use Rattle.nq_model.specs.laws.JournalTest.{speaks_of, is_read_by, is_answer_by, is_counted, is_write_on, is_write_by, is_through, is_within, covers}
+use Rattle.nq_model.specs.laws.JournalTest.{store_covers, loss_covers, is_stored, is_lost}
 use mathlib.Core.Logic.{inl, inr}
-use Rattle.nq_model.specs.Tests.{Tells}
+use Rattle.nq_model.specs.laws.Tests.{Tells}
 use Rattle.nq_model.proofs.Telling.{yes, no, tells_alike, tells_and, tells_3, tells_5, tells_or, tells_not, tells_same, tells_le, not_told, not_so}
-use Rattle.nq_model.specs.Table.{same_who}
+use Rattle.nq_model.specs.protocol.Table.{same_who}
 
 -- ---- facts of entries and of their places
 

@@ -8,13 +8,13 @@ use Rattle.nq_base.specs.declared.Said.TheVariants.{OkValue, OkBy}
 use Rattle.nq_base.specs.declared.Told.{Told}
 use Rattle.nq_base.specs.declared.Told.TheVariants.{Read, Fetch}
 use Rattle.nq_base.specs.declared.Who.{Who}
-use Rattle.nq_model.specs.Journal.{call_of, since_cut}
-use Rattle.nq_model.specs.Stands.{Stands, IsStandingValue}
-use Rattle.nq_model.specs.StandsTest.{stands, standing_value}
-use Rattle.nq_model.specs.Legal.{IsReading, GivesValue, IsAnswerWith, IsCountedBy, IsCountedWith, IsLegalRead, IsLegalAnswer, IsLegalAt, IsLegal}
-use Rattle.nq_model.specs.LegalTest.{is_reading, gives_value, is_answer_with, is_counted_by, is_counted_with, is_legal_read, is_legal_answer}
-use Rattle.nq_model.specs.LegalTest.{is_legal_at, is_legal}
-use Rattle.nq_model.specs.Tests.{Tells, TellsLaw}
+use Rattle.nq_model.specs.laws.Journal.{call_of, since_cut}
+use Rattle.nq_model.specs.laws.Stands.{Stands, IsStandingValue}
+use Rattle.nq_model.specs.laws.StandsTest.{stands, standing_value}
+use Rattle.nq_model.specs.laws.Legal.{IsReading, GivesValue, IsAnswerWith, IsCountedBy, IsCountedWith, IsLegalRead, IsLegalAnswer, IsLegalAt, IsLegal}
+use Rattle.nq_model.specs.laws.LegalTest.{is_reading, gives_value, is_answer_with, is_counted_by, is_counted_with, is_legal_read, is_legal_answer}
+use Rattle.nq_model.specs.laws.LegalTest.{is_legal_at, is_legal}
+use Rattle.nq_model.specs.laws.Tests.{Tells, TellsLaw}
 use Rattle.nq_model.proofs.Telling.{yes, no, tells_alike, tells_and, tells_3, tells_or, tells_not, tells_implies, tells_same}
 use Rattle.nq_model.proofs.JournalTests.{tells_exists, tells_at_most_one, tells_throughout, tells_who, tells_read_by, tells_counted, tells_write_on}
 use Rattle.nq_model.proofs.JournalTests.{tells_write_by, tells_through, tells_stored, tells_lost, tells_last_value}

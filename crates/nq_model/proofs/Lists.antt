@@ -1,6 +1,6 @@
 -- What each element of a list has, and what some element has.
 use Rattle.std.proofs.Common.{◌⊎◌, List, [], ◌∷◌, ◌++◌, inl, inr}
-use Rattle.nq_model.specs.Journal.{Each, Exists}
+use Rattle.nq_model.specs.laws.Journal.{Each, Exists}
 
 -- ---- each element
 

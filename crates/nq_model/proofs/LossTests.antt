@@ -9,17 +9,17 @@ use Rattle.nq_base.specs.declared.Span.{Span}
 use Rattle.nq_base.specs.declared.Told.{Told}
 use Rattle.nq_base.specs.declared.Told.TheVariants.{Write, WriteSync, Sync, Resize, Remove}
 use Rattle.nq_base.specs.declared.Who.{Who}
-use Rattle.nq_model.specs.Profile.{skew, write_slack}
-use Rattle.nq_model.specs.Journal.{call_of}
-use Rattle.nq_model.specs.Fate.{IsFirstToCover, IsAccountedAt, IsAccounted}
-use Rattle.nq_model.specs.FateTest.{is_first_to_cover, is_accounted_at, is_accounted}
-use Rattle.nq_model.specs.CutOff.{Given, last_grant, IsStoreOver, IsLateEnd, IsLongWait, IsLateOpening, Ends, EndsFirst, IsCutOff, IsExcused}
-use Rattle.nq_model.specs.CutOffTest.{is_store_over, has_passed, is_late_end, is_long_wait, is_late_opening, ends, ends_first, is_cut_off, is_excused}
-use Rattle.nq_model.specs.Reported.{loss_told, IsNameOf, Names, IsReporting, IsBusyAnswer, MustReport, IsNamedNext, IsReportedIn, IsUnnamed}
-use Rattle.nq_model.specs.Reported.{IsSameSpan, NameLosses, IsReportedAt, IsReported}
-use Rattle.nq_model.specs.ReportedTest.{is_name_of, names, is_reporting, is_busy_answer, must_report, is_named_next, is_reported_in, is_unnamed}
-use Rattle.nq_model.specs.ReportedTest.{is_same_span, name_losses, is_reported_at, is_reported}
-use Rattle.nq_model.specs.Tests.{Tells, TellsLaw}
+use Rattle.nq_model.specs.protocol.Profile.{skew, write_slack}
+use Rattle.nq_model.specs.laws.Journal.{call_of}
+use Rattle.nq_model.specs.laws.Fate.{IsFirstToCover, IsAccountedAt, IsAccounted}
+use Rattle.nq_model.specs.laws.FateTest.{is_first_to_cover, is_accounted_at, is_accounted}
+use Rattle.nq_model.specs.laws.CutOff.{Given, last_grant, IsStoreOver, IsLateEnd, IsLongWait, IsLateOpening, Ends, EndsFirst, IsCutOff, IsExcused}
+use Rattle.nq_model.specs.laws.CutOffTest.{is_store_over, has_passed, is_late_end, is_long_wait, is_late_opening, ends, ends_first, is_cut_off, is_excused}
+use Rattle.nq_model.specs.laws.Reported.{loss_told, IsNameOf, Names, IsReporting, IsBusyAnswer, MustReport, IsNamedNext, IsReportedIn, IsUnnamed}
+use Rattle.nq_model.specs.laws.Reported.{IsSameSpan, NameLosses, IsReportedAt, IsReported}
+use Rattle.nq_model.specs.laws.ReportedTest.{is_name_of, names, is_reporting, is_busy_answer, must_report, is_named_next, is_reported_in, is_unnamed}
+use Rattle.nq_model.specs.laws.ReportedTest.{is_same_span, name_losses, is_reported_at, is_reported}
+use Rattle.nq_model.specs.laws.Tests.{Tells, TellsLaw}
 use Rattle.nq_model.proofs.Endings.{EndsIn, ends-first, ends-in}
 use Rattle.nq_model.proofs.Telling.{yes, no, tells_alike, tells_and, tells_3, tells_4, tells_or, tells_not, tells_implies, tells_same, tells_le}
 use Rattle.nq_model.proofs.JournalTests.{tells_each, tells_exists, tells_throughout, tells_at_each_place, tells_who, tells_answer, tells_covers}

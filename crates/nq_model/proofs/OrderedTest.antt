@@ -8,14 +8,14 @@ use Rattle.nq_base.specs.declared.Told.{Told}
 use Rattle.nq_base.specs.declared.Told.TheVariants.{Write, WriteSync, Resize, Remove}
 use Rattle.nq_base.specs.declared.Who.{Who}
 use mathlib.Core.Logic.{inl, inr}
-use Rattle.nq_model.specs.Journal.{Each, Exists, Throughout, IsCall, IsOpen, call_of}
-use Rattle.nq_model.specs.JournalTest.{each}
-use Rattle.nq_model.specs.Ordered.{IsCallBelow, IsOpenCall, HasOpen, IsBusyNext, IsCallInOrder, Writes, IsBeforeCall, IsNumbered, IsWriteOf}
-use Rattle.nq_model.specs.Ordered.{IsWriteInOrder, Resizes, IsResizeBy, IsResizeInOrder, IsReadInOrder, IsInOrder, IsOrdered}
-use Rattle.nq_model.specs.OrderedTest.{is_call_below, is_open_call, has_open, is_busy_next, is_call_in_order, writes, is_before_call, is_numbered}
-use Rattle.nq_model.specs.OrderedTest.{is_write_of, is_write_in_order, is_no_other, open_call, call_resizes, is_resize_by, is_resize_in_order}
-use Rattle.nq_model.specs.OrderedTest.{is_read_in_order, is_in_order, is_ordered}
-use Rattle.nq_model.specs.Tests.{Tells, TellsLaw}
+use Rattle.nq_model.specs.laws.Journal.{Each, Exists, Throughout, IsCall, IsOpen, call_of}
+use Rattle.nq_model.specs.laws.JournalTest.{each}
+use Rattle.nq_model.specs.laws.Ordered.{IsCallBelow, IsOpenCall, HasOpen, IsBusyNext, IsCallInOrder, Writes, IsBeforeCall, IsNumbered, IsWriteOf}
+use Rattle.nq_model.specs.laws.Ordered.{IsWriteInOrder, Resizes, IsResizeBy, IsResizeInOrder, IsReadInOrder, IsInOrder, IsOrdered}
+use Rattle.nq_model.specs.laws.OrderedTest.{is_call_below, is_open_call, has_open, is_busy_next, is_call_in_order, writes, is_before_call, is_numbered}
+use Rattle.nq_model.specs.laws.OrderedTest.{is_write_of, is_write_in_order, is_no_other, open_call, call_resizes, is_resize_by, is_resize_in_order}
+use Rattle.nq_model.specs.laws.OrderedTest.{is_read_in_order, is_in_order, is_ordered}
+use Rattle.nq_model.specs.laws.Tests.{Tells, TellsLaw}
 use Rattle.nq_model.proofs.Telling.{yes, no, tells_alike, tells_and, tells_3, tells_4, tells_not, tells_implies, tells_same, tells_lt, not_told}
 use Rattle.nq_model.proofs.JournalTests.{tells_each, tells_exists, tells_throughout, tells_at_each_place, tells_who, tells_call, tells_answer}
 use Rattle.nq_model.proofs.JournalTests.{tells_open, tells_counted}

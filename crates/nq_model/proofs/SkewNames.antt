@@ -8,10 +8,11 @@ use Rattle.std.proofs.lemmas.Bool.{and_parts, and_from}
 use mathlib.Core.Logic.{inl, inr}
 use Rattle.nq_base.specs.declared.Event.{Event}
 use Rattle.nq_base.specs.declared.SkewBroken.{SkewBroken}
-use Rattle.nq_model.specs.Profile.{skew}
-use Rattle.nq_model.specs.Skew.{is_server_tick, is_tick_of, server_ticks, ticks_of, part_within, parts_within, host_within, is_within_skew, IsWithinSkew}
-use Rattle.nq_model.specs.SkewBroken.{broken_from, found_first, lowest_broken, EndsNow, Breaks, IsFewest, IsLowest, EachTickIsJudged, TellsSkew}
-use Rattle.nq_model.specs.Tests.{Tells}
+use Rattle.nq_model.specs.protocol.Profile.{skew}
+use Rattle.nq_model.specs.protocol.Skew.{is_server_tick, is_tick_of, server_ticks, ticks_of, part_within, parts_within, host_within, is_within_skew}
+use Rattle.nq_model.specs.protocol.Skew.{IsWithinSkew}
+use Rattle.nq_model.specs.protocol.SkewBroken.{broken_from, found_first, lowest_broken, EndsNow, Breaks, IsFewest, IsLowest, EachTickIsJudged, TellsSkew}
+use Rattle.nq_model.specs.laws.Tests.{Tells}
 use Rattle.nq_model.proofs.SkewTest.{skew-test-is-sound, begins-here, part-says}
 use Rattle.nq_model.proofs.Telling.{tells_implies, tells_le}
 

@@ -3,8 +3,9 @@ use Rattle.std.proofs.Common.{◌≡◌, ◌<◌, ◌≤◌, ℕ, ◌+◌, ◌++
 use Rattle.std.proofs.lemmas.Bool.Decides.{nat_tests}
 use Rattle.std.proofs.lemmas.Bool.{and_parts}
 use Rattle.nq_base.specs.declared.Event.{Event}
-use Rattle.nq_model.specs.Profile.{skew}
-use Rattle.nq_model.specs.Skew.{is_server_tick, is_tick_of, server_ticks, ticks_of, part_within, parts_within, host_within, is_within_skew, SkewTestIsSound}
+use Rattle.nq_model.specs.protocol.Profile.{skew}
+use Rattle.nq_model.specs.protocol.Skew.{is_server_tick, is_tick_of, server_ticks, ticks_of, part_within, parts_within, host_within, is_within_skew}
+use Rattle.nq_model.specs.protocol.Skew.{SkewTestIsSound}
 
 -- what a test of one part says
 pub part-says : (longest ticks server : ℕ) → part_within longest ticks server ≡ true → ticks ≤ longest → server ≤ ticks + skew

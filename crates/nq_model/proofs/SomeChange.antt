@@ -9,11 +9,11 @@ use Rattle.nq_base.specs.declared.Gate.{Gate}
 use Rattle.nq_base.specs.declared.Request.{Request}
 use Rattle.nq_base.specs.declared.Verdict.TheVariants.{Done}
 use Rattle.nq_base.specs.declared.Who.{Who}
-use Rattle.nq_model.specs.Change.{IsFileWithin, IsHostWithin, IsBody, IsWithinBounds, raised_row, file_of, with_body, kept_as, applied_if}
-use Rattle.nq_model.specs.ChangesOnce.{ChangesAreMet}
-use Rattle.nq_model.specs.Decided.{block_write, change_with, decided, change_of}
-use Rattle.nq_model.specs.Kept.{Kept, new_file, fresh_row}
-use Rattle.nq_model.specs.World.{first_kept, first_row}
+use Rattle.nq_model.specs.protocol.Change.{IsFileWithin, IsHostWithin, IsBody, IsWithinBounds, raised_row, file_of, with_body, kept_as, applied_if}
+use Rattle.nq_model.specs.laws.ChangesOnce.{ChangesAreMet}
+use Rattle.nq_model.specs.protocol.Decided.{block_write, change_with, decided, change_of}
+use Rattle.nq_model.specs.protocol.Kept.{Kept, new_file, fresh_row}
+use Rattle.nq_model.specs.protocol.World.{first_kept, first_row}
 use Rattle.nq_model.proofs.WithinBounds.{zeros-body}
 
 abbrev kept : Kept

@@ -1,7 +1,7 @@
 -- The test of sound journals is right.
-use Rattle.nq_model.specs.Sound.{IsSound}
-use Rattle.nq_model.specs.SoundTest.{is_sound}
-use Rattle.nq_model.specs.Tests.{TellsLaw}
+use Rattle.nq_model.specs.laws.Sound.{IsSound}
+use Rattle.nq_model.specs.laws.SoundTest.{is_sound}
+use Rattle.nq_model.specs.laws.Tests.{TellsLaw}
 use Rattle.nq_model.proofs.Telling.{tells_alike, tells_and, tells_5}
 use Rattle.nq_model.proofs.LegalTest.{tells_legal}
 use Rattle.nq_model.proofs.LossTests.{tells_accounted, tells_excused, tells_reported}

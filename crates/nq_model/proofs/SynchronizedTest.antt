@@ -7,14 +7,14 @@ use Rattle.nq_base.specs.declared.Said.TheVariants.{Ok, OkValue, OkBy}
 use Rattle.nq_base.specs.declared.Told.{Told}
 use Rattle.nq_base.specs.declared.Told.TheVariants.{Read, Fetch, WriteSync, Sync, Resize, Remove}
 use Rattle.nq_base.specs.declared.Who.{Who}
-use Rattle.nq_model.specs.Journal.{call_of}
-use Rattle.nq_model.specs.OfTheirCall.{Reads, IsOfItsCall, AreOfTheirCall}
-use Rattle.nq_model.specs.OfTheirCallTest.{reads, is_of_its_call, are_of_their_call}
-use Rattle.nq_model.specs.Synchronized.{IsPutKept, IsDelayedOn, IsNamedLoss, IsStoredOrTold, IsSettledResize, IsKept, IsKeptAt, IsSynchronized}
-use Rattle.nq_model.specs.SynchronizedTest.{is_put_kept, is_delayed_on, is_named_loss, is_stored_or_told, is_settled_resize, is_kept, is_kept_at}
-use Rattle.nq_model.specs.SynchronizedTest.{is_synchronized}
-use Rattle.nq_model.specs.Reported.{loss_told}
-use Rattle.nq_model.specs.Tests.{Tells, TellsLaw}
+use Rattle.nq_model.specs.laws.Journal.{call_of}
+use Rattle.nq_model.specs.laws.OfTheirCall.{Reads, IsOfItsCall, AreOfTheirCall}
+use Rattle.nq_model.specs.laws.OfTheirCallTest.{reads, is_of_its_call, are_of_their_call}
+use Rattle.nq_model.specs.laws.Synchronized.{IsPutKept, IsDelayedOn, IsNamedLoss, IsStoredOrTold, IsSettledResize, IsKept, IsKeptAt, IsSynchronized}
+use Rattle.nq_model.specs.laws.SynchronizedTest.{is_put_kept, is_delayed_on, is_named_loss, is_stored_or_told, is_settled_resize, is_kept, is_kept_at}
+use Rattle.nq_model.specs.laws.SynchronizedTest.{is_synchronized}
+use Rattle.nq_model.specs.laws.Reported.{loss_told}
+use Rattle.nq_model.specs.laws.Tests.{Tells, TellsLaw}
 use Rattle.nq_model.proofs.Telling.{yes, no, tells_and, tells_3, tells_or, tells_implies, tells_same}
 use Rattle.nq_model.proofs.JournalTests.{tells_each, tells_exists, tells_throughout, tells_somewhere, tells_who, tells_open, tells_write_by}
 use Rattle.nq_model.proofs.JournalTests.{tells_through, tells_stored, tells_loses, tells_counted}

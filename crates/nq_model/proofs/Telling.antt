@@ -3,7 +3,7 @@ use Rattle.std.proofs.Common.{◌≡◌, ◌≤◌, ◌<◌, ℕ, Bool, true, fa
 use Rattle.std.specs.Prelude.{◌⊎◌, ◌==◌, nat_le, nat_lt, IsFalse, ⊤}
 use Rattle.std.proofs.lemmas.Bool.{and_parts, and_from, or_cases, or_left, or_right, eqb-true, eq-eqb, leb-true, le-leb, ltb-true, lt-ltb, both_ways}
 use mathlib.Core.Logic.{inl, inr}
-use Rattle.nq_model.specs.Tests.{Tells}
+use Rattle.nq_model.specs.laws.Tests.{Tells}
 
 pub yes : Tells true ⊤
 yes = record { sound = λ e. tt; complete = λ h. refl }

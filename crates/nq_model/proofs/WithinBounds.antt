@@ -15,11 +15,11 @@ use Rattle.nq_base.specs.declared.FileRow.{FileRow}
 use Rattle.nq_base.specs.declared.Heads.{Heads}
 use Rattle.nq_base.specs.declared.HostChange.{HostChange}
 use Rattle.nq_base.specs.declared.HostRow.{HostRow}
-use Rattle.nq_model.specs.Change.{IsFileWithin, AreApart, IsBody, IsHostWithin, AreHeadsWithin, IsChangeWithin, IsWithinBounds, IsRowOf, RaisesNext}
-use Rattle.nq_model.specs.Change.{FitsFile, FitsRemoval, HasBlock, Fits, heads_of, file_of, with_file, with_file_at, with_body, with_block_in}
-use Rattle.nq_model.specs.Change.{files_without, files_with, blocks_with, hosts_with, heads_with, kept_as, applied}
-use Rattle.nq_model.specs.Kept.{File, Kept, blocks_of, blocks_in_all, find_file, find_name, replace_file, drop_file, resized}
-use Rattle.nq_model.specs.Profile.{most_files, most_blocks, most_blocks_of_file, same_bytes}
+use Rattle.nq_model.specs.protocol.Change.{IsFileWithin, AreApart, IsBody, IsHostWithin, AreHeadsWithin, IsChangeWithin, IsWithinBounds, IsRowOf, RaisesNext}
+use Rattle.nq_model.specs.protocol.Change.{FitsFile, FitsRemoval, HasBlock, Fits, heads_of, file_of, with_file, with_file_at, with_body, with_block_in}
+use Rattle.nq_model.specs.protocol.Change.{files_without, files_with, blocks_with, hosts_with, heads_with, kept_as, applied}
+use Rattle.nq_model.specs.protocol.Kept.{File, Kept, blocks_of, blocks_in_all, find_file, find_name, replace_file, drop_file, resized}
+use Rattle.nq_model.specs.protocol.Profile.{most_files, most_blocks, most_blocks_of_file, same_bytes}
 use Rattle.nq_model.proofs.Files.{found-id}
 use Rattle.nq_model.proofs.FreshFits.{found-has, blocks-first, blocks-replaced, length-replaced, resized-length}
 use Rattle.nq_model.proofs.Finding.{choice, same-number, number-same, number-other, is-other}

@@ -1,6 +1,6 @@
 //! Cached reads.
 
-ghost use Rattle.nq_model.specs.CachedAtOnce.{CachedAtOnce, TellsCached};
+ghost use Rattle.nq_model.specs.laws.CachedAtOnce.{CachedAtOnce, TellsCached};
 
 /// A read or fetch of what a client has, under a lease that runs, is answered in its own step: the call, the cached
 /// read and the answer are its entries, no packet is sent, and nothing else of the client changes (Macklem 1994).

@@ -1,6 +1,6 @@
 //! What the server keeps.
 
-ghost use Rattle.nq_model.specs.ChangesOnce.{BoundsAreKept, ChangesAreMet, EachStepChangesOnce, RequestsAreDecided};
+ghost use Rattle.nq_model.specs.laws.ChangesOnce.{BoundsAreKept, ChangesAreMet, EachStepChangesOnce, RequestsAreDecided};
 
 /// From a kept state within its bounds, each step of the server changes what is kept once at most, and that change can
 /// be kept.

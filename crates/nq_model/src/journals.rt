@@ -1,22 +1,22 @@
 //! Each law of journals has a test that computes: it is true exactly where the law holds.
 
-ghost use Rattle.nq_model.specs.CutOff.{IsExcused};
-ghost use Rattle.nq_model.specs.CutOffTest.{is_excused};
-ghost use Rattle.nq_model.specs.Fate.{CoversOnce, IsAccounted, StoredOrLost};
-ghost use Rattle.nq_model.specs.FateTest.{is_accounted};
-ghost use Rattle.nq_model.specs.Legal.{IsLegal};
-ghost use Rattle.nq_model.specs.LegalTest.{is_legal};
-ghost use Rattle.nq_model.specs.OfTheirCall.{AreOfTheirCall};
-ghost use Rattle.nq_model.specs.OfTheirCallTest.{are_of_their_call};
-ghost use Rattle.nq_model.specs.Ordered.{IsOrdered};
-ghost use Rattle.nq_model.specs.OrderedTest.{is_ordered};
-ghost use Rattle.nq_model.specs.Reported.{IsReported};
-ghost use Rattle.nq_model.specs.ReportedTest.{is_reported};
-ghost use Rattle.nq_model.specs.Sound.{IsSound};
-ghost use Rattle.nq_model.specs.SoundTest.{is_sound};
-ghost use Rattle.nq_model.specs.Synchronized.{IsSynchronized};
-ghost use Rattle.nq_model.specs.SynchronizedTest.{is_synchronized};
-ghost use Rattle.nq_model.specs.Tests.{TellsLaw};
+ghost use Rattle.nq_model.specs.laws.CutOff.{IsExcused};
+ghost use Rattle.nq_model.specs.laws.CutOffTest.{is_excused};
+ghost use Rattle.nq_model.specs.laws.Fate.{CoversOnce, IsAccounted, StoredOrLost};
+ghost use Rattle.nq_model.specs.laws.FateTest.{is_accounted};
+ghost use Rattle.nq_model.specs.laws.Legal.{IsLegal};
+ghost use Rattle.nq_model.specs.laws.LegalTest.{is_legal};
+ghost use Rattle.nq_model.specs.laws.OfTheirCall.{AreOfTheirCall};
+ghost use Rattle.nq_model.specs.laws.OfTheirCallTest.{are_of_their_call};
+ghost use Rattle.nq_model.specs.laws.Ordered.{IsOrdered};
+ghost use Rattle.nq_model.specs.laws.OrderedTest.{is_ordered};
+ghost use Rattle.nq_model.specs.laws.Reported.{IsReported};
+ghost use Rattle.nq_model.specs.laws.ReportedTest.{is_reported};
+ghost use Rattle.nq_model.specs.laws.Sound.{IsSound};
+ghost use Rattle.nq_model.specs.laws.SoundTest.{is_sound};
+ghost use Rattle.nq_model.specs.laws.Synchronized.{IsSynchronized};
+ghost use Rattle.nq_model.specs.laws.SynchronizedTest.{is_synchronized};
+ghost use Rattle.nq_model.specs.laws.Tests.{TellsLaw};
 
 /// The test of legal journals tells them.
 pub fn legal_test_is_exact()

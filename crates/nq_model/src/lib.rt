@@ -1,6 +1,6 @@
-//! The protocol as definitions that compute. They stand in `specs/`, to be read in the order of `Lib.antt`: what the
-//! server keeps, its lease table, what it is asked, messages, the server's step, the client's step, the run, clocks,
-//! and the laws. The functions here have empty bodies: each states a law about the definitions and is its proof.
+//! The protocol as definitions that compute, in `specs/protocol`: what the server keeps, its lease table, what it is
+//! asked, messages, the server's step, the client's step, the run and clocks. What is promised stands in `specs/laws`.
+//! The functions here have empty bodies: each states a law about the definitions and is its proof.
 #![tactic(auto)]
 
 mod cached;

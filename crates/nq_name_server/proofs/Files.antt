@@ -10,9 +10,9 @@ use Rattle.nq_directory.specs.declared.FileName.{FileName}
 use Rattle.nq_directory.specs.Prefix.{directory}
 use Rattle.nq_directory.specs.Messages.{most_names}
 use Rattle.nq_model.proofs.Finding.{decided, number-other}
-use Rattle.nq_model.specs.Change.{AreApart, IsFileWithin, IsWithinBounds, file_after, row_of, row_of_found}
-use Rattle.nq_model.specs.Kept.{File, Kept, find_file}
-use Rattle.nq_model.specs.Profile.{same_bytes}
+use Rattle.nq_model.specs.protocol.Change.{AreApart, IsFileWithin, IsWithinBounds, file_after, row_of, row_of_found}
+use Rattle.nq_model.specs.protocol.Kept.{File, Kept, find_file}
+use Rattle.nq_model.specs.protocol.Profile.{same_bytes}
 use Rattle.nq_name_server.specs.Outside.{Changes, changes_of}
 use Rattle.nq_name_server.specs.Pages.{IsNext}
 use Rattle.nq_name_server.specs.Served.{leaf_behind, name_of, names_behind}

@@ -6,8 +6,8 @@ use Rattle.std.specs.Option.{option_map}
 use Rattle.std.specs.Prelude.{Result, Ok, Err, OnErr, OnOk, slice_get}
 use Rattle.nq_base.specs.declared.Event.{Event}
 use Rattle.nq_base.specs.declared.Party.{Party}
-use Rattle.nq_model.specs.Message.{Packet}
-use Rattle.nq_model.specs.World.{World}
+use Rattle.nq_model.specs.protocol.Message.{Packet}
+use Rattle.nq_model.specs.protocol.World.{World}
 use Rattle.nq_link.specs.Packets.{Datagram}
 use Rattle.nq_name_server.specs.Outside.{sends, sends_all}
 use Rattle.nq_name_server.specs.Around.{AroundOver, datagram, flushed_as, flushed_one, once_sent, over, sent_one, shown, with_due}

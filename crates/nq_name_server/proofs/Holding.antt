@@ -4,7 +4,7 @@ use Rattle.std.specs.Prelude.{is_some}
 use Rattle.std.specs.List.{find, filter}
 use Rattle.nq_base.specs.declared.Access.{Access}
 use Rattle.nq_base.specs.declared.Who.{Who}
-use Rattle.nq_model.specs.Ask.{conflicts}
+use Rattle.nq_model.specs.protocol.Ask.{conflicts}
 use Rattle.nq_name_server.specs.Served.{Served, number_of}
 use Rattle.nq_name_server.specs.Serving.{holds, holds_as, holds_for, holds_up, readers}
 

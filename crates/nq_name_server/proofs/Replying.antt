@@ -14,9 +14,9 @@ use Rattle.nq_base.specs.declared.Who.{Who}
 use Rattle.nq_directory.specs.declared.listing.messages.ReadDir.{ReadDir}
 use Rattle.nq_directory.specs.Messages.{answer_bytes, results}
 use Rattle.nq_model.proofs.Finding.{find-dropped, find-passes}
-use Rattle.nq_model.specs.Ask.{ask}
-use Rattle.nq_model.specs.Profile.{same_bytes, xid_end}
-use Rattle.nq_model.specs.Table.{Table, drop_row, find_row, is_row_of, with_rows}
+use Rattle.nq_model.specs.protocol.Ask.{ask}
+use Rattle.nq_model.specs.protocol.Profile.{same_bytes, xid_end}
+use Rattle.nq_model.specs.protocol.Table.{Table, drop_row, find_row, is_row_of, with_rows}
 use Rattle.nq_wire.specs.Outbox.{Datagrams}
 use Rattle.nq_wire.specs.Parts.{grant_bytes, optional}
 use Rattle.nq_name_server.specs.Sending.{IsServed, all_sent, sent}

@@ -3,8 +3,8 @@ use Rattle.std.proofs.Common.{◌≡◌, ◌==◌, ℕ, Bool, true, false, not, 
 use Rattle.nq_base.specs.declared.Question.{Question}
 use Rattle.nq_base.specs.declared.Row.{Row}
 use Rattle.nq_base.specs.declared.Who.{Who}
-use Rattle.nq_model.specs.Ask.{ask, ask_freely, ask_past, conflicts, free, marked, put_off, with_waiting}
-use Rattle.nq_model.specs.Table.{Table, drop_row, find_row, is_row_of, with_rows}
+use Rattle.nq_model.specs.protocol.Ask.{ask, ask_freely, ask_past, conflicts, free, marked, put_off, with_waiting}
+use Rattle.nq_model.specs.protocol.Table.{Table, drop_row, find_row, is_row_of, with_rows}
 use Rattle.nq_server.proofs.TickedRows.{some-run}
 use Rattle.nq_server.specs.Sound.{RowsRun}
 use Rattle.std.specs.List.{find}

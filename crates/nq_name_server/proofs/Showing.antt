@@ -4,8 +4,8 @@ use Rattle.std.specs.Prelude.{Result, Ok, Err, OnOk, slice_get}
 use Rattle.std.proofs.lemmas.Option.{slice_get_past}
 use Rattle.nq_base.specs.declared.Event.{Event}
 use Rattle.nq_base.specs.declared.Party.{Party}
-use Rattle.nq_model.specs.World.{World}
-use Rattle.nq_model.specs.Client.{Client}
+use Rattle.nq_model.specs.protocol.World.{World}
+use Rattle.nq_model.specs.protocol.Client.{Client}
 use Rattle.nq_directory.specs.Asking.{Asks, heard, lists_dir}
 use Rattle.nq_directory.specs.NameCacheNames.{Names}
 use Rattle.nq_name_server.specs.Sending.{all_sent}

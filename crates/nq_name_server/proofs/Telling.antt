@@ -4,8 +4,8 @@ use Rattle.std.proofs.Common.{add-one, append_assoc, arith, drop-cons}
 use Rattle.nq_base.specs.declared.Access.{Access}
 use Rattle.nq_base.specs.declared.Party.{Party}
 use Rattle.nq_base.specs.declared.Row.{Row}
-use Rattle.nq_model.specs.Ask.{conflicts}
-use Rattle.nq_model.specs.Profile.{xid_end}
+use Rattle.nq_model.specs.protocol.Ask.{conflicts}
+use Rattle.nq_model.specs.protocol.Profile.{xid_end}
 use Rattle.nq_name_server.specs.Sending.{all_sent, sent}
 use Rattle.nq_name_server.specs.Serving.{notice_after, notice_to, notices, readers}
 

@@ -6,7 +6,7 @@ use Rattle.nq_base.specs.declared.Row.{Row}
 use Rattle.nq_base.specs.declared.Who.{Who}
 use Rattle.nq_directory.specs.declared.listing.messages.DirTag.{DirTag}
 use Rattle.nq_directory.specs.declared.listing.messages.ReadDir.{ReadDir}
-use Rattle.nq_model.specs.Table.{Table}
+use Rattle.nq_model.specs.protocol.Table.{Table}
 use Rattle.nq_name_server.specs.Sending.{IsHeld, IsServed}
 use Rattle.nq_name_server.specs.Served.{Leaf, Served, most_directories, number_of}
 use Rattle.nq_name_server.specs.Serving.{Serves, answers, gives_up, holds_as, holds_for, holds_up, leased, reads_as, reads_dir, reads_numbered}

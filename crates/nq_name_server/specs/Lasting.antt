@@ -6,13 +6,13 @@ use Rattle.nq_base.specs.declared.Mode.{Mode}
 use Rattle.nq_base.specs.declared.Who.{Who}
 use Rattle.nq_directory.specs.Names.{named}
 use Rattle.nq_directory.specs.Prefix.{directory}
-use Rattle.nq_model.specs.Client.{Client, Lease}
-use Rattle.nq_model.specs.Kept.{File, find_name}
-use Rattle.nq_model.specs.LeaseInterval.{Claim, HasFitting, claim_of, cover_end}
-use Rattle.nq_model.specs.Server.{Phase, serving, recovering}
+use Rattle.nq_model.specs.protocol.Client.{Client, Lease}
+use Rattle.nq_model.specs.protocol.Kept.{File, find_name}
+use Rattle.nq_model.specs.laws.LeaseInterval.{Claim, HasFitting, claim_of, cover_end}
+use Rattle.nq_model.specs.protocol.Server.{Phase, serving, recovering}
 use Rattle.nq_directory.specs.NameCacheNames.{DirList, Names, list_of}
 use Rattle.nq_name_server.specs.Served.{Served, number_of}
-use Rattle.nq_model.specs.World.{Head}
+use Rattle.nq_model.specs.protocol.World.{Head}
 use Rattle.nq_name_server.specs.declared.run.event.NameEvent.{NameEvent}
 use Rattle.nq_name_server.specs.Outer.{Outside}
 use Rattle.nq_name_server.specs.Outside.{outside_run}

@@ -2,7 +2,7 @@
 use Rattle.std.specs.Prelude.{ℕ, List, [], Option, map}
 use Rattle.nq_base.specs.declared.Event.{Event}
 use Rattle.nq_base.specs.declared.Party.{Party}
-use Rattle.nq_model.specs.World.{Head, World, start}
+use Rattle.nq_model.specs.protocol.World.{Head, World, start}
 use Rattle.nq_directory.specs.NameCacheNames.{Names, new_names}
 use Rattle.nq_name_server.specs.Served.{Served, new_served}
 

@@ -12,11 +12,11 @@ use Rattle.nq_directory.specs.Prefix.{directory}
 use Rattle.nq_directory.specs.declared.listing.messages.DirTag.{DirTag}
 use Rattle.nq_directory.specs.declared.listing.messages.ReadDir.{ReadDir}
 use Rattle.nq_directory.specs.Reading.{read_dir_in, dir_vacated_in}
-use Rattle.nq_model.specs.Client.{Client, UnderWay}
-use Rattle.nq_model.specs.Kept.{File, Kept, find_file, host_row}
-use Rattle.nq_model.specs.Message.{Datagram, Packet, request}
-use Rattle.nq_model.specs.Server.{Phase, serving, recovering}
-use Rattle.nq_model.specs.World.{Head, World, step}
+use Rattle.nq_model.specs.protocol.Client.{Client, UnderWay}
+use Rattle.nq_model.specs.protocol.Kept.{File, Kept, find_file, host_row}
+use Rattle.nq_model.specs.protocol.Message.{Datagram, Packet, request}
+use Rattle.nq_model.specs.protocol.Server.{Phase, serving, recovering}
+use Rattle.nq_model.specs.protocol.World.{Head, World, step}
 use Rattle.nq_directory.specs.declared.name_cache.found.Found.{Found}
 use Rattle.nq_directory.specs.Asking.{Asks, heard, lists_dir}
 use Rattle.nq_directory.specs.NameCacheNames.{Names, before_call, finds, new_names}

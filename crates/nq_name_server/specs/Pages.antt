@@ -1,8 +1,8 @@
 -- How far the reading of a directory came, and what a request changes before what is kept is read.
 use Rattle.std.specs.Prelude.{◌≡◌, ℕ, Bool, true, false, List, [], ◌++◌, Option, Some, None}
 use Rattle.nq_base.specs.declared.FileRow.{FileRow}
-use Rattle.nq_model.specs.Change.{IsWithinBounds, file_after, row_of_found}
-use Rattle.nq_model.specs.Kept.{File, Kept, find_file}
+use Rattle.nq_model.specs.protocol.Change.{IsWithinBounds, file_after, row_of_found}
+use Rattle.nq_model.specs.protocol.Kept.{File, Kept, find_file}
 use Rattle.nq_name_server.specs.Outside.{Changes, changes_of}
 use Rattle.nq_name_server.specs.Served.{Leaf, leaf_behind, names_behind}
 use Rattle.nq_name_server.specs.declared.change.MayChange.{MayChange}

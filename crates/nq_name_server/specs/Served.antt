@@ -4,9 +4,9 @@ use Rattle.std.specs.List.{position}
 use Rattle.nq_directory.specs.declared.FileName.{FileName}
 use Rattle.nq_directory.specs.Prefix.{directory}
 use Rattle.nq_directory.specs.Messages.{most_names}
-use Rattle.nq_model.specs.Kept.{File}
-use Rattle.nq_model.specs.Profile.{same_bytes}
-use Rattle.nq_model.specs.Table.{Table, empty_table}
+use Rattle.nq_model.specs.protocol.Kept.{File}
+use Rattle.nq_model.specs.protocol.Profile.{same_bytes}
+use Rattle.nq_model.specs.protocol.Table.{Table, empty_table}
 
 -- a lease table in which the number of a directory stands for a file, the directories by their numbers, the number of the next
 -- DIREVICTED, the longest term of the boot, and the time

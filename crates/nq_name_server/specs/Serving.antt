@@ -10,10 +10,10 @@ use Rattle.nq_base.specs.declared.Who.{Who}
 use Rattle.nq_directory.specs.declared.listing.messages.DirTag.{DirTag}
 use Rattle.nq_directory.specs.declared.listing.messages.ReadDir.{ReadDir}
 use Rattle.nq_directory.specs.Messages.{page, wait, answer_bytes, dir_evicted_bytes, front_bytes}
-use Rattle.nq_model.specs.Ask.{ask, conflicts}
-use Rattle.nq_model.specs.Profile.{xid_end}
-use Rattle.nq_model.specs.ServerStep.{end_reading, vacated_rows}
-use Rattle.nq_model.specs.Table.{Table, find_row, drop_row, with_rows}
+use Rattle.nq_model.specs.protocol.Ask.{ask, conflicts}
+use Rattle.nq_model.specs.protocol.Profile.{xid_end}
+use Rattle.nq_model.specs.protocol.ServerStep.{end_reading, vacated_rows}
+use Rattle.nq_model.specs.protocol.Table.{Table, find_row, drop_row, with_rows}
 use Rattle.nq_xdr.specs.Message.{spelling, reply_with, null}
 use Rattle.nq_name_server.specs.Served.{Served, Leaf, most_directories, number_of}
 

@@ -1,6 +1,6 @@
 -- What holds at every moment of a server of names.
 use Rattle.std.specs.Prelude.{◌<◌, ◌≤◌, ◌^◌, length}
-use Rattle.nq_model.specs.Profile.{shortest_term, longest_term}
+use Rattle.nq_model.specs.protocol.Profile.{shortest_term, longest_term}
 use Rattle.nq_server.specs.Sound.{RowsRun}
 use Rattle.nq_name_server.specs.Served.{Served, most_directories}
 

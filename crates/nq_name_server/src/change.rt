@@ -2,8 +2,8 @@
 
 ghost use Rattle.std.specs.Prelude.{◌≡◌, ◌-◌, IfOk, ◌==◌, if◌then◌else◌};
 ghost use Rattle.nq_datagrams.specs.Incoming.{datagram_in};
-ghost use Rattle.nq_model.specs.Change.{IsWithinBounds};
-ghost use Rattle.nq_model.specs.Kept.{Kept, find_file};
+ghost use Rattle.nq_model.specs.protocol.Change.{IsWithinBounds};
+ghost use Rattle.nq_model.specs.protocol.Kept.{Kept, find_file};
 ghost use Rattle.nq_name_server.specs.Outside.{changes_as, changes_by, changes_of, own_changes};
 ghost use Rattle.nq_name_server.specs.Pages.{IsNext, changed_by};
 ghost use Rattle.nq_name_server.specs.declared.change.MayChange.{MayChange};

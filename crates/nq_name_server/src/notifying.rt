@@ -4,7 +4,7 @@ ghost use Rattle.std.specs.Prelude.{◌≡◌, ◌<◌, ◌^◌, [], ◌∷◌, 
 ghost use Rattle.nq_lease.specs.Telling.{Grows};
 ghost use Rattle.nq_directory.specs.Messages.{dir_evicted_bytes};
 ghost use Rattle.nq_base.specs.declared.Access.{Access};
-ghost use Rattle.nq_model.specs.Ask.{ask, conflicts};
+ghost use Rattle.nq_model.specs.protocol.Ask.{ask, conflicts};
 ghost use Rattle.nq_name_server.specs.Sending.{IsHeld, IsUntouched, all_sent, sent};
 ghost use Rattle.nq_name_server.specs.Served.{number_of};
 ghost use Rattle.nq_name_server.specs.Serving.{changes_for, holds_up, notice_after, notice_to, notices, readers};

@@ -4,8 +4,8 @@ ghost use Rattle.std.specs.Prelude.{◌≡◌, ◌<◌, ◌≤◌, ◌+◌, ◌^
 ghost use Rattle.nq_base.specs.declared.Party.{Party};
 ghost use Rattle.nq_directory.specs.Messages.{most_names};
 ghost use Rattle.nq_name_server.specs.Sending.{IsServed, IsUntouched, all_sent};
-ghost use Rattle.nq_model.specs.Ask.{ask};
-ghost use Rattle.nq_model.specs.Table.{drop_row, find_row};
+ghost use Rattle.nq_model.specs.protocol.Ask.{ask};
+ghost use Rattle.nq_model.specs.protocol.Table.{drop_row, find_row};
 ghost use Rattle.nq_wire.specs.Parts.{grant_bytes, optional};
 ghost use Rattle.nq_name_server.specs.Served.{Leaf, most_directories};
 ghost use Rattle.nq_name_server.specs.Serving.{AreReady, entered, for_asker, lists_for, notice_after, notices, number_for, own_again, own_told, reads_dir, replied, warnings};
@@ -229,7 +229,7 @@ impl NameServer {
     }
 
     /// Drops the asker's row on a directory, where it is of another incarnation.
-    #[tactic(auto, using(crate::proofs::Running::again_runs), unfolding(nq_model::specs::Table::with_rows))]
+    #[tactic(auto, using(crate::proofs::Running::again_runs), unfolding(nq_model::specs::protocol::Table::with_rows))]
     fn drop_older(&mut self, request: &ReadDir, number: FileId)
         ensures table { self.new ≡ record self.old { table = for_asker self.old.table request.now.who number } }
         ensures drawn { self.new.table.drawn ≡ self.old.table.drawn }

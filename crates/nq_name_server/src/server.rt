@@ -1,7 +1,7 @@
 //! The server of names.
 
 ghost use Rattle.std.specs.Prelude.{◌≡◌, ◌<◌, ◌≤◌, ◌+◌, ◌^◌, None, length, IfOk, IfSome};
-ghost use Rattle.nq_model.specs.Ask.{ask};
+ghost use Rattle.nq_model.specs.protocol.Ask.{ask};
 ghost use Rattle.nq_name_server.specs.Served.{new_served, number_of};
 ghost use Rattle.nq_name_server.specs.Serving.{ticks, vacates};
 

@@ -1,9 +1,9 @@
 -- What hosts find.
 use Rattle.std.proofs.Common.{◌≡◌, ◌≢◌, ◌<◌, ℕ, List, length, reverse, Option, Some, sym, ap, subst, ◌∙◌}
 use Rattle.std.specs.Prelude.{IfSome, slice_get}
-use Rattle.nq_model.specs.Client.{Client}
-use Rattle.nq_model.specs.Kept.{Kept, find_name}
-use Rattle.nq_model.specs.World.{Head, World, run}
+use Rattle.nq_model.specs.protocol.Client.{Client}
+use Rattle.nq_model.specs.protocol.Kept.{Kept, find_name}
+use Rattle.nq_model.specs.protocol.World.{Head, World, run}
 use Rattle.nq_directory.specs.NameCacheNames.{Names}
 use Rattle.nq_directory.specs.declared.name_cache.found.Found.{Found}
 use Rattle.nq_name_server.specs.declared.run.event.NameEvent.{NameEvent}

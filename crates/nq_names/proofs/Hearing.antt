@@ -8,9 +8,9 @@ use Rattle.nq_base.specs.declared.Call.{Call}
 use Rattle.nq_base.specs.declared.Event.{Event}
 use Rattle.nq_client.specs.Counted.{Counted}
 use Rattle.nq_client.specs.State.{call_of}
-use Rattle.nq_model.specs.Client.{UnderWay}
-use Rattle.nq_model.specs.Kept.{Kept}
-use Rattle.nq_model.specs.World.{Head, World, run}
+use Rattle.nq_model.specs.protocol.Client.{UnderWay}
+use Rattle.nq_model.specs.protocol.Kept.{Kept}
+use Rattle.nq_model.specs.protocol.World.{Head, World, run}
 use Rattle.nq_directory.specs.NameCacheNames.{Names}
 use Rattle.nq_name_server.specs.Outer.{Outside}
 use Rattle.nq_name_server.specs.Outside.{heard_by, is_change, is_changing}

@@ -1,6 +1,6 @@
 -- Reading what is kept, call by call.
 use Rattle.std.proofs.Common.{◌≡◌, ℕ, Option, refl, ◌∙◌}
-use Rattle.nq_model.specs.Kept.{Kept}
+use Rattle.nq_model.specs.protocol.Kept.{Kept}
 use Rattle.nq_world.specs.Playing.{IsAsBefore, WorldOver}
 use Rattle.nq_names.specs.Playing.{NamesOver}
 use Rattle.nq_names.specs.Taking.{IsAsBeforeOutside}

@@ -4,9 +4,9 @@ use Rattle.std.specs.Prelude.{slice_get}
 use Rattle.nq_base.specs.declared.Event.{Event}
 use Rattle.nq_client.specs.Counted.{Counted}
 use Rattle.nq_directory.specs.Prefix.{IsPrefix}
-use Rattle.nq_model.specs.Kept.{Kept}
-use Rattle.nq_model.specs.Stepped.{done, stepped}
-use Rattle.nq_model.specs.World.{Head, World, run}
+use Rattle.nq_model.specs.protocol.Kept.{Kept}
+use Rattle.nq_model.specs.protocol.Stepped.{done, stepped}
+use Rattle.nq_model.specs.protocol.World.{Head, World, run}
 use Rattle.nq_name_server.specs.declared.run.event.NameEvent.{NameEvent}
 use Rattle.nq_name_server.specs.Outer.{Outer, Outside}
 use Rattle.nq_name_server.specs.Outside.{delivers, inner, lists, outside_run, outside_step, takes}

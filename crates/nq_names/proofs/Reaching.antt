@@ -7,14 +7,14 @@ use Rattle.std.specs.Prelude.{Result, Ok, Err, IfSome, OnOk, nat_lt, slice_get}
 use Rattle.nq_base.specs.declared.Event.{Event}
 use Rattle.nq_base.specs.declared.Party.{Party}
 use Rattle.nq_client.specs.Counted.{Counted}
-use Rattle.nq_model.specs.Client.{Client}
-use Rattle.nq_model.specs.Journal.{Each}
-use Rattle.nq_model.specs.Kept.{Kept}
-use Rattle.nq_model.specs.Message.{Packet}
-use Rattle.nq_model.specs.Skew.{IsWithinSkew}
-use Rattle.nq_model.specs.Stepped.{most_events, stepped}
-use Rattle.nq_model.specs.World.{Head, World, run, start, step}
-use Rattle.nq_model.specs.Bounds.{KeepsBounds}
+use Rattle.nq_model.specs.protocol.Client.{Client}
+use Rattle.nq_model.specs.laws.Journal.{Each}
+use Rattle.nq_model.specs.protocol.Kept.{Kept}
+use Rattle.nq_model.specs.protocol.Message.{Packet}
+use Rattle.nq_model.specs.protocol.Skew.{IsWithinSkew}
+use Rattle.nq_model.specs.protocol.Stepped.{most_events, stepped}
+use Rattle.nq_model.specs.protocol.World.{Head, World, run, start, step}
+use Rattle.nq_model.specs.laws.Bounds.{KeepsBounds}
 use Rattle.walk_steps.proofs.WorldNumbers.{numbers-stay-within}
 use Rattle.walk_steps.specs.Within.{AreGiven}
 use Rattle.law_names.proofs.Codecs.{codec}

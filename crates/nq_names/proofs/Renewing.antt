@@ -1,11 +1,11 @@
 -- What running an event of the inner world changes around it.
 use Rattle.std.proofs.Common.{◌≡◌, ℕ, ◌+◌, List, ◌∷◌, reverse, Option, refl, sym, ap, subst, ◌∙◌}
 use Rattle.nq_base.specs.declared.Event.{Event}
-use Rattle.nq_model.specs.Kept.{Kept}
-use Rattle.nq_model.specs.Server.{Phase, serving, recovering, Server, ServerStep}
-use Rattle.nq_model.specs.ServerStep.{boot, crash, tick}
-use Rattle.nq_model.specs.Table.{Table, empty_table}
-use Rattle.nq_model.specs.World.{Head, World, after_server, run, step}
+use Rattle.nq_model.specs.protocol.Kept.{Kept}
+use Rattle.nq_model.specs.protocol.Server.{Phase, serving, recovering, Server, ServerStep}
+use Rattle.nq_model.specs.protocol.ServerStep.{boot, crash, tick}
+use Rattle.nq_model.specs.protocol.Table.{Table, empty_table}
+use Rattle.nq_model.specs.protocol.World.{Head, World, after_server, run, step}
 use Rattle.walk_steps.proofs.LeaseIntervals.{run-runs}
 use Rattle.nq_name_server.specs.Served.{Served, new_served}
 use Rattle.nq_name_server.specs.Serving.{ticks}

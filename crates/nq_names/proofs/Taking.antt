@@ -4,9 +4,9 @@ use Rattle.std.specs.Option.{ForSome}
 use Rattle.std.specs.Prelude.{Ok}
 use Rattle.nq_base.specs.declared.Event.{Event}
 use Rattle.nq_directory.specs.declared.listing.messages.ReadDir.{ReadDir}
-use Rattle.nq_model.specs.Kept.{Kept}
-use Rattle.nq_model.specs.Server.{Phase, serving, recovering}
-use Rattle.nq_model.specs.World.{Head, run}
+use Rattle.nq_model.specs.protocol.Kept.{Kept}
+use Rattle.nq_model.specs.protocol.Server.{Phase, serving, recovering}
+use Rattle.nq_model.specs.protocol.World.{Head, run}
 use Rattle.nq_name_server.specs.Served.{leaf_behind}
 use Rattle.nq_name_server.specs.Serving.{Serves, holds_up, puts_off, reads_dir}
 use Rattle.nq_name_server.specs.Served.{Leaf}

@@ -4,8 +4,8 @@ use Rattle.std.specs.Prelude.{◌≡◌, ◌⊎◌, ℕ, Bool, true, false, Opti
 use Rattle.nq_base.specs.declared.Event.{Event}
 use Rattle.nq_keeper.specs.declared.keeper.KeepFault.{KeepFault}
 use Rattle.nq_keeper.specs.Keeping.{Reads, StaysOrEnds}
-use Rattle.nq_model.specs.Kept.{Kept}
-use Rattle.nq_model.specs.World.{Head, run}
+use Rattle.nq_model.specs.protocol.Kept.{Kept}
+use Rattle.nq_model.specs.protocol.World.{Head, run}
 use Rattle.nq_name_server.specs.Outer.{Outside}
 use Rattle.nq_name_server.specs.Serving.{holds_up}
 use Rattle.nq_name_server.specs.Outside.{Changes, inner, passes}

@@ -4,8 +4,8 @@ ghost use Rattle.std.specs.Prelude.{◌≡◌, ◌<◌, ◌&&◌, not, [], List,
 ghost use Rattle.nq_base.specs.declared.Event.{Event};
 ghost use Rattle.nq_client.specs.Counted.{Counted};
 ghost use Rattle.nq_datagrams.specs.Incoming.{datagram_in};
-ghost use Rattle.nq_model.specs.Kept.{Kept};
-ghost use Rattle.nq_model.specs.World.{Head, World as Model, run};
+ghost use Rattle.nq_model.specs.protocol.Kept.{Kept};
+ghost use Rattle.nq_model.specs.protocol.World.{Head, World as Model, run};
 ghost use Rattle.nq_names.specs.Playing.{IsLeft, IsReady, Leads, Reaches, stepped_outside};
 ghost use Rattle.nq_names.specs.Taking.{IsOfLists, TakesIn, outside_of, stepped_of};
 ghost use Rattle.nq_name_server.specs.Around.{once_sent, over};

@@ -3,7 +3,7 @@
 ghost use Rattle.std.specs.Prelude.{◌≡◌, IfOk};
 ghost use Rattle.std.specs.Option.{ForSome};
 ghost use Rattle.nq_datagrams.specs.Incoming.{datagram_in};
-ghost use Rattle.nq_model.specs.Kept.{host_row};
+ghost use Rattle.nq_model.specs.protocol.Kept.{host_row};
 ghost use Rattle.nq_name_server.specs.Outside.{changes_as};
 ghost use Rattle.nq_name_server.specs.Pages.{IsNext};
 ghost use Rattle.nq_name_server.specs.Served.{leaf_behind};

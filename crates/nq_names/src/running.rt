@@ -2,7 +2,7 @@
 
 ghost use Rattle.std.specs.Prelude.{◌≡◌, ◌<◌, ◌≤◌, ◌+◌, ◌^◌, length, reverse, IfOk, IfSome};
 ghost use Rattle.nq_base.specs.declared.Event.{Event};
-ghost use Rattle.nq_model.specs.World.{Head, World as Model};
+ghost use Rattle.nq_model.specs.protocol.World.{Head, World as Model};
 ghost use Rattle.nq_name_server.specs.Served.{new_served};
 ghost use Rattle.nq_names.specs.Playing.{RunsInner, RunsTo, renewed_around};
 ghost use Rattle.nq_names.specs.Taking.{LeavesLeases};

@@ -4,7 +4,7 @@ ghost use Rattle.std.specs.Prelude.{◌≡◌, [], List, Ok, reverse, OnOk, OnEr
 ghost use Rattle.nq_base.specs.declared.Event.{Event};
 ghost use Rattle.nq_datagrams.specs.Incoming.{datagram_in};
 ghost use Rattle.nq_directory.specs.Reading.{dir_vacated_in, read_dir_in};
-ghost use Rattle.nq_model.specs.World.{Head, World as Model, run};
+ghost use Rattle.nq_model.specs.protocol.World.{Head, World as Model, run};
 ghost use Rattle.nq_name_server.specs.Serving.{reads_dir};
 ghost use Rattle.nq_names.specs.Taking.{HoldsUp, IsHeldFor, TakesBeside, outside_of, stepped_of};
 ghost use Rattle.nq_name_server.specs.Around.{once_sent, over, served_by};

@@ -2,10 +2,10 @@
 
 ghost use Rattle.std.specs.Prelude.{◌≡◌, ◌<◌, [], List, Option, length, reverse, nat_lt, OnOk, if◌then◌else◌};
 ghost use Rattle.nq_base.specs.declared.Event.{Event};
-ghost use Rattle.nq_model.specs.Kept.{Kept};
-ghost use Rattle.nq_model.specs.SkewBroken.{skew_broken};
-ghost use Rattle.nq_model.specs.Stepped.{most_events, no_packet, tested_room, tested_skew};
-ghost use Rattle.nq_model.specs.World.{Head};
+ghost use Rattle.nq_model.specs.protocol.Kept.{Kept};
+ghost use Rattle.nq_model.specs.protocol.SkewBroken.{skew_broken};
+ghost use Rattle.nq_model.specs.protocol.Stepped.{most_events, no_packet, tested_room, tested_skew};
+ghost use Rattle.nq_model.specs.protocol.World.{Head};
 ghost use Rattle.nq_names.specs.Playing.{CanComeOutside, IsLeft, IsReady, IsTested, Leads, PlaysOutside, Reaches, StepsOutside, stepped_outside, tested_outside};
 ghost use Rattle.nq_name_server.specs.declared.run.event.NameEvent.{NameEvent};
 ghost use Rattle.nq_name_server.specs.Outside.{outside_run};

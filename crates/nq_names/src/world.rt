@@ -2,8 +2,8 @@
 
 ghost use Rattle.std.specs.Prelude.{◌≡◌, ◌≢◌, ◌<◌, [], List, Option, Some, length, map, reverse, IfErr, IfOk, IfSome, OnOk, slice_get};
 ghost use Rattle.nq_base.specs.Plain.{plain};
-ghost use Rattle.nq_model.specs.Kept.{Kept, find_name};
-ghost use Rattle.nq_model.specs.World.{Head};
+ghost use Rattle.nq_model.specs.protocol.Kept.{Kept, find_name};
+ghost use Rattle.nq_model.specs.protocol.World.{Head};
 ghost use Rattle.nq_directory.specs.NameCacheNames.{new_names};
 ghost use Rattle.nq_directory.specs.declared.name_cache.found.Found.{Found};
 ghost use Rattle.nq_name_server.specs.Served.{new_served};

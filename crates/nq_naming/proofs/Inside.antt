@@ -3,7 +3,7 @@ use Rattle.std.proofs.Common.{◌≡◌, List, [], ◌∷◌, ◌++◌, refl, sy
 use Rattle.std.specs.List.{AllByRecursion}
 use Rattle.std.specs.Prelude.{slice_get}
 use Rattle.nq_base.specs.declared.Event.{Event}
-use Rattle.nq_model.specs.World.{Head}
+use Rattle.nq_model.specs.protocol.World.{Head}
 use Rattle.nq_name_server.proofs.Inner.{core-listing, delivery-cases, inner-ran}
 use Rattle.nq_name_server.specs.declared.run.event.NameEvent.{NameEvent}
 use Rattle.nq_name_server.specs.Outer.{Outside, outside_start}

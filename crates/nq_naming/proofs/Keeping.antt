@@ -2,8 +2,8 @@
 use Rattle.std.proofs.Common.{◌≡◌, ℕ, ◌+◌, List, length, Option, refl}
 use Rattle.std.specs.List.{AllByRecursion}
 use Rattle.nq_base.specs.declared.Event.{Event}
-use Rattle.nq_model.specs.Kept.{Kept}
-use Rattle.nq_model.specs.Stepped.{done, most_events}
+use Rattle.nq_model.specs.protocol.Kept.{Kept}
+use Rattle.nq_model.specs.protocol.Stepped.{done, most_events}
 use Rattle.nq_name_server.specs.declared.run.event.NameEvent.{NameEvent}
 use Rattle.nq_names.specs.Playing.{NamesOver}
 use Rattle.nq_naming.proofs.Inside.{IsPlainly, run-all}

@@ -2,8 +2,8 @@
 use Rattle.std.proofs.Common.{◌≡◌, ℕ, List, [], ◌∷◌, ◌++◌, length, Option, refl, sym, ap, subst, ◌∙◌, append_assoc}
 use Rattle.std.specs.List.{AllByRecursion}
 use Rattle.nq_directory.specs.declared.name_cache.found.Found.{Found}
-use Rattle.nq_model.specs.Kept.{Kept, find_name}
-use Rattle.nq_model.specs.World.{Head}
+use Rattle.nq_model.specs.protocol.Kept.{Kept, find_name}
+use Rattle.nq_model.specs.protocol.World.{Head}
 use Rattle.nq_name_server.specs.Outside.{found, outside_run}
 use Rattle.nq_name_server.specs.Theorem.{kept_as}
 use Rattle.nq_name_server.specs.declared.run.event.NameEvent.{NameEvent}

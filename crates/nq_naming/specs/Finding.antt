@@ -3,8 +3,8 @@ use Rattle.std.specs.Fmt.{decimal}
 use Rattle.std.specs.List.{AllByRecursion}
 use Rattle.std.specs.Prelude.{◌≡◌, ◌≢◌, ℕ, List, [], ◌∷◌, ◌++◌, codes, length}
 use Rattle.nq_base.specs.declared.Event.{Event}
-use Rattle.nq_model.specs.Kept.{find_name}
-use Rattle.nq_model.specs.World.{Head as Beginning, run}
+use Rattle.nq_model.specs.protocol.Kept.{find_name}
+use Rattle.nq_model.specs.protocol.World.{Head as Beginning, run}
 use Rattle.nq_directory.specs.declared.name_cache.found.Found.{Found}
 use Rattle.nq_name_server.specs.declared.run.event.NameEvent.{NameEvent}
 use Rattle.nq_name_server.specs.Outer.{Outside}

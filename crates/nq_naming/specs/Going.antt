@@ -1,8 +1,8 @@
 -- What playing over a world with leased directories comes to. Below, `told` is what the world's keeper tells of its content, and `text` is
 -- what was found, as text.
 use Rattle.std.specs.Prelude.{◌≡◌, ℕ, List, Option}
-use Rattle.nq_model.specs.Kept.{Kept}
-use Rattle.nq_model.specs.World.{Head}
+use Rattle.nq_model.specs.protocol.Kept.{Kept}
+use Rattle.nq_model.specs.protocol.World.{Head}
 use Rattle.nq_names.specs.Playing.{NamesOver, PlaysOutside}
 use Rattle.nq_naming.specs.Finding.{FindsAreTrue, lines_of}
 use Rattle.nq_naming.specs.Playing.{Moment}

@@ -1,8 +1,8 @@
 -- How the lines of a schedule with lists are played. The events of a run are told with the newest first.
 use Rattle.std.specs.Prelude.{ℕ, ◌+◌, List, [], ◌∷◌, length, Option, Some, None}
 use Rattle.nq_base.specs.declared.Event.{Event}
-use Rattle.nq_model.specs.Stepped.{Stepped, most_events}
-use Rattle.nq_model.specs.World.{Head as Beginning}
+use Rattle.nq_model.specs.protocol.Stepped.{Stepped, most_events}
+use Rattle.nq_model.specs.protocol.World.{Head as Beginning}
 use Rattle.nq_name_server.specs.Outside.{outside_run}
 use Rattle.nq_name_server.specs.declared.run.event.NameEvent.{NameEvent}
 use Rattle.nq_names.specs.Playing.{stepped_outside}

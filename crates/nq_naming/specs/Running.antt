@@ -8,8 +8,8 @@ use Rattle.nq_base.specs.declared.SkewBroken.{SkewBroken}
 use Rattle.nq_names.specs.Playing.{PlaysOutside, NamesOver}
 use Rattle.nq_base.specs.declared.ending.ending.Ending.{Ending}
 use Rattle.nq_journal.specs.Text.{journal_text}
-use Rattle.nq_model.specs.Kept.{Kept}
-use Rattle.nq_model.specs.Stepped.{Stepped, out_of_skew}
+use Rattle.nq_model.specs.protocol.Kept.{Kept}
+use Rattle.nq_model.specs.protocol.Stepped.{Stepped, out_of_skew}
 use Rattle.nq_replay.specs.Ending.{CountsSink, IsUnlessFault}
 use Rattle.nq_played.specs.Running.{Ends, EndsByInput, EndsPlayed, EndsText, Faulty, Passes, Prints, PrintsRun as PrintsAll, Runs, Stops}
 use Rattle.nq_replay.specs.Lawful.{IsLawful}

@@ -1,8 +1,8 @@
 //! A world with leased directories as one in which a schedule with lists is played.
 
 ghost use Rattle.std.specs.Prelude.{◌≡◌, ◌<◌, length, refl, OnOk, Option};
-ghost use Rattle.nq_model.specs.Kept.{Kept};
-ghost use Rattle.nq_model.specs.World.{Head};
+ghost use Rattle.nq_model.specs.protocol.Kept.{Kept};
+ghost use Rattle.nq_model.specs.protocol.World.{Head};
 ghost use Rattle.nq_names.specs.Playing.{CanComeOutside};
 ghost use Rattle.nq_naming.specs.Going.{IsAtMoment};
 ghost use Rattle.nq_naming.specs.Playing.{Moment as Reached, names_rules, with_find};

@@ -2,7 +2,7 @@
 use Rattle.std.specs.Prelude.{ℕ, Bool, true, false, List, [], ◌∷◌, Option, Some, None, slice_set}
 use Rattle.nq_base.specs.declared.Change.{Change}
 use Rattle.nq_image.specs.Standing.{PlacedFile, row_blocks, with_placed}
-use Rattle.nq_model.specs.Change.{heads_with, hosts_with}
+use Rattle.nq_model.specs.protocol.Change.{heads_with, hosts_with}
 use Rattle.nq_plan.specs.declared.placing.Placed.{Placed}
 use Rattle.nq_plan.specs.Held.{HeldTables}
 use Rattle.nq_plan.specs.Finding.{file_in, slot_of}

@@ -2,7 +2,7 @@
 use Rattle.std.specs.Prelude.{ℕ, Bool, ◌&&◌, List, Option, Some, None, Result, Ok, Err, length, nat_le, if◌then◌else◌}
 use Rattle.nq_image.specs.Kept.{opened}
 use Rattle.nq_image.specs.Whole.{has_image_name}
-use Rattle.nq_model.specs.Kept.{Kept}
+use Rattle.nq_model.specs.protocol.Kept.{Kept}
 use Rattle.nq_disk.specs.Whole.{found}
 use Rattle.nq_disk.specs.declared.redo.area.Area.{Area}
 

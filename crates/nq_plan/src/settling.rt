@@ -3,7 +3,7 @@
 ghost use Rattle.std.specs.Prelude.{◌≡◌, ◌<◌, true, false, length, slice_set, vec_len};
 ghost use Rattle.std.specs.Option.{ForSome};
 ghost use Rattle.nq_image.specs.Standing.{row_blocks};
-ghost use Rattle.nq_model.specs.Change.{heads_with, hosts_with};
+ghost use Rattle.nq_model.specs.protocol.Change.{heads_with, hosts_with};
 ghost use Rattle.nq_plan.specs.Finding.{file_in};
 ghost use Rattle.nq_plan.specs.Settling.{marked_all, settled, with_file, with_file_at, with_file_if, with_rows, without, without_slot};
 

@@ -10,7 +10,7 @@ use Rattle.nq_io.specs.Faults.{Rose}
 use Rattle.nq_io.specs.Sink.{AppendsFront, PrintsLine}
 use Rattle.nq_io.specs.Told.{with_end}
 use Rattle.nq_io.specs.Whole.{TakesSome}
-use Rattle.nq_model.specs.Stepped.{Stepped, no_packet, out_of_skew, too_many_events, too_many_packets}
+use Rattle.nq_model.specs.protocol.Stepped.{Stepped, no_packet, out_of_skew, too_many_events, too_many_packets}
 use Rattle.nq_replay.specs.AsidesPlaying.{Ended, ran, stopped}
 use Rattle.nq_replay.specs.Ending.{IsUnlessFault}
 use Rattle.nq_replay.specs.Lines.{limit_line, script_line, skew_line}

@@ -3,8 +3,8 @@ use Rattle.std.proofs.Common.{◌≡◌, ℕ, ◌+◌, List, [], ◌∷◌, ◌+
 use Rattle.std.proofs.lemmas.List.{append-nil, reverse-append}
 use Rattle.std.specs.Prelude.{reverse}
 use Rattle.nq_base.specs.declared.Event.{Event}
-use Rattle.nq_model.specs.Stepped.{done, most_events, stepped}
-use Rattle.nq_model.specs.World.{Head as Beginning}
+use Rattle.nq_model.specs.protocol.Stepped.{done, most_events, stepped}
+use Rattle.nq_model.specs.protocol.World.{Head as Beginning}
 use Rattle.nq_replay.specs.AsidesPlaying.{and_then, answered, at_line, ran, repeated, took}
 use Rattle.nq_replay.specs.Playing.{beginning, plain_rules, play}
 use Rattle.nq_replay.specs.Rules.{play_event, play_lines, play_plain, play_plainly}

@@ -13,18 +13,18 @@ use Rattle.nq_replay.proofs.Tells.{AllTell, Tells, tell-more, server-tells, clie
 use Rattle.nq_replay.specs.Versions.{FirstTellsItsRuns, IsOfFirst}
 use Rattle.nq_script.specs.Forms.{HasTold}
 use Rattle.nq_journal.specs.Text.{Has}
-use Rattle.nq_model.specs.Client.{Client, ClientStep, Ticket}
-use Rattle.nq_model.specs.ClientStep.{client_call, client_tick, restart}
-use Rattle.nq_model.specs.Hear.{hear}
-use Rattle.nq_model.specs.Journal.{AtEachPlace, Each, call_of, told_by}
-use Rattle.nq_model.specs.Kept.{Kept, find_file}
-use Rattle.nq_model.specs.Message.{Datagram, Message, Packet, datagram_of}
-use Rattle.nq_model.specs.Ordered.{IsInOrder, Resizes}
-use Rattle.nq_model.specs.Server.{Server, ServerStep}
-use Rattle.nq_model.specs.ServerStep.{boot, booted, crash, receive, tick}
-use Rattle.nq_model.specs.Table.{same_who}
-use Rattle.nq_model.specs.World.{Head, World, after_client, after_hearing, after_server, at_client, deliver, deliver_to, deliver_to_client, run}
-use Rattle.nq_model.specs.World.{sending_host, start, step}
+use Rattle.nq_model.specs.protocol.Client.{Client, ClientStep, Ticket}
+use Rattle.nq_model.specs.protocol.ClientStep.{client_call, client_tick, restart}
+use Rattle.nq_model.specs.protocol.Hear.{hear}
+use Rattle.nq_model.specs.laws.Journal.{AtEachPlace, Each, call_of, told_by}
+use Rattle.nq_model.specs.protocol.Kept.{Kept, find_file}
+use Rattle.nq_model.specs.protocol.Message.{Datagram, Message, Packet, datagram_of}
+use Rattle.nq_model.specs.laws.Ordered.{IsInOrder, Resizes}
+use Rattle.nq_model.specs.protocol.Server.{Server, ServerStep}
+use Rattle.nq_model.specs.protocol.ServerStep.{boot, booted, crash, receive, tick}
+use Rattle.nq_model.specs.protocol.Table.{same_who}
+use Rattle.nq_model.specs.protocol.World.{Head, World, after_client, after_hearing, after_server, at_client, deliver, deliver_to, deliver_to_client, run}
+use Rattle.nq_model.specs.protocol.World.{sending_host, start, step}
 use Rattle.walk_steps.proofs.ClientFacts.{fits_job}
 use Rattle.walk_steps.proofs.ClientEntries.{AnyCall, AnyLength, any-going, any-lent, call-keeps, tick-keeps as client-tick-keeps, hear-keeps, restart-keeps}
 use Rattle.walk_steps.proofs.ServerEntries.{receive-each, tick-each}

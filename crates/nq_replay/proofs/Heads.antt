@@ -2,7 +2,7 @@
 use Rattle.std.proofs.Common.{◌≡◌, ◌⊎◌, inl, inr, ℕ, ◌+◌, ◌<◌, ◌≤◌, ◌^◌, List, [], ◌∷◌, ◌++◌, length, arith, length-append}
 use Rattle.std.specs.Prelude.{codes}
 use Rattle.nq_base.specs.declared.Event.{Event}
-use Rattle.nq_model.specs.Profile.{shortest_term}
+use Rattle.nq_model.specs.protocol.Profile.{shortest_term}
 use Rattle.nq_replay.specs.Going.{AreForWorld, IsForWorld}
 use Rattle.nq_replay.specs.Schedules.{IsReady}
 use Rattle.nq_script.specs.Heads.{head_lines}

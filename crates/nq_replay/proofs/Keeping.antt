@@ -1,7 +1,7 @@
 -- What playing keeps.
 use Rattle.std.proofs.Common.{◌≡◌, ℕ, Option, Some, None, zero, suc, refl}
 use Rattle.nq_replay.specs.AsidesPlaying.{Played, and_then, answered, refused, repeated, took, with_packet}
-use Rattle.nq_model.specs.Stepped.{Stepped, done, no_packet, out_of_skew, too_many_events, too_many_packets}
+use Rattle.nq_model.specs.protocol.Stepped.{Stepped, done, no_packet, out_of_skew, too_many_events, too_many_packets}
 
 -- it holds of what playing has come to, if all went well
 abbrev pub Ends : {S : Type 0} → (S → Type 0) → Played S → Type 0

@@ -6,11 +6,11 @@ use Rattle.std.specs.Prelude.{nat_lt, if◌then◌else◌}
 use Rattle.nq_base.specs.declared.Event.{Event}
 use Rattle.nq_base.specs.declared.SkewBroken.{SkewBroken}
 use Rattle.nq_model.proofs.SkewNames.{each-tick-is-judged}
-use Rattle.nq_model.specs.Profile.{shortest_term}
-use Rattle.nq_model.specs.Skew.{IsWithinSkew, is_server_tick}
-use Rattle.nq_model.specs.SkewBroken.{skew_broken}
-use Rattle.nq_model.specs.Stepped.{done, too_many_events, most_events, stepped, tested_skew}
-use Rattle.nq_model.specs.World.{Head as Beginning, run}
+use Rattle.nq_model.specs.protocol.Profile.{shortest_term}
+use Rattle.nq_model.specs.protocol.Skew.{IsWithinSkew, is_server_tick}
+use Rattle.nq_model.specs.protocol.SkewBroken.{skew_broken}
+use Rattle.nq_model.specs.protocol.Stepped.{done, too_many_events, most_events, stepped, tested_skew}
+use Rattle.nq_model.specs.protocol.World.{Head as Beginning, run}
 use Rattle.nq_replay.proofs.Keeping.{Keeps, ends-answered}
 use Rattle.nq_replay.proofs.RulesKeeping.{keeps-lines}
 use Rattle.nq_replay.proofs.Skewing.{within-on}
@@ -18,7 +18,7 @@ use Rattle.nq_replay.specs.Lawful.{PlayedRunsAreLawful}
 use Rattle.nq_replay.specs.Playing.{beginning, plain_rules, play}
 use Rattle.nq_replay.specs.Rules.{play_event, play_plainly}
 use Rattle.nq_replay.specs.Texts.{IsTellable}
-use Rattle.nq_model.specs.Bounds.{BootsWithin}
+use Rattle.nq_model.specs.laws.Bounds.{BootsWithin}
 use Rattle.nq_script.specs.declared.heads.Head.{Head}
 
 -- what is kept by each event that is taken

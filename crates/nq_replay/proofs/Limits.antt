@@ -5,9 +5,9 @@ use Rattle.std.proofs.lemmas.Bool.Decides.{nat_tests}
 use Rattle.std.specs.Prelude.{nat_lt, if◌then◌else◌}
 use Rattle.nq_base.specs.declared.Event.{Event}
 use Rattle.nq_base.specs.declared.SkewBroken.{SkewBroken}
-use Rattle.nq_model.specs.SkewBroken.{skew_broken}
-use Rattle.nq_model.specs.Stepped.{Stepped as Answer, no_packet, too_many_events, most_events, most_sent, stepped, tested, tested_room, tested_skew}
-use Rattle.nq_model.specs.World.{Head, run}
+use Rattle.nq_model.specs.protocol.SkewBroken.{skew_broken}
+use Rattle.nq_model.specs.protocol.Stepped.{Stepped as Answer, no_packet, too_many_events, most_events, most_sent, stepped, tested, tested_room, tested_skew}
+use Rattle.nq_model.specs.protocol.World.{Head, run}
 use Rattle.nq_replay.specs.Reaching.{IsReached}
 use Rattle.nq_world.specs.Answering.{told as answer_of}
 use Rattle.nq_world.specs.declared.stepped.Limit.{Limit}

@@ -1,7 +1,7 @@
 -- What is left to be played, one further.
 use Rattle.std.proofs.Common.{◌≡◌, ℕ, ◌+◌, ◌-◌, ◌<◌, Option, Some, None, suc, sym, ap, ◌∙◌, arith}
 use Rattle.nq_base.specs.declared.Event.{Event}
-use Rattle.nq_model.specs.World.{Head}
+use Rattle.nq_model.specs.protocol.World.{Head}
 use Rattle.nq_replay.proofs.AsidesOnward.{then-took}
 use Rattle.nq_replay.specs.AsidesPlaying.{Played as Due, and_then, took, with_packet}
 use Rattle.nq_replay.specs.Rules.{Rules, next_packet, play_flow, play_plain, play_plainly, play_ticks}

@@ -1,8 +1,8 @@
 -- What a step of a world means for what is played by its rules.
 use Rattle.std.proofs.Common.{◌≡◌, ℕ, ◌<◌, ◌≤◌, Bool, List, ◌∷◌, Option, Some, None, refl, sym, ap, subst, ◌∙◌, arith}
 use Rattle.nq_base.specs.declared.Event.{Event}
-use Rattle.nq_model.specs.Stepped.{Stepped as Answer, done, no_packet, out_of_skew, too_many_events, too_many_packets}
-use Rattle.nq_model.specs.World.{Head}
+use Rattle.nq_model.specs.protocol.Stepped.{Stepped as Answer, done, no_packet, out_of_skew, too_many_events, too_many_packets}
+use Rattle.nq_model.specs.protocol.World.{Head}
 use Rattle.nq_replay.specs.AsidesGoing.{Goes, WasRefused}
 use Rattle.nq_replay.specs.AsidesPlaying.{Played as Due, answered, refused, took}
 use Rattle.nq_replay.specs.Delivering.{Marks, least_undelivered}

@@ -1,8 +1,8 @@
 -- A schedule stays within skew by each event that is no tick of the server's clock.
 use Rattle.std.proofs.Common.{◌≡◌, ℕ, ◌+◌, ◌≤◌, List, [], ◌∷◌, ◌++◌, ap, ◌∙◌, arith}
 use Rattle.nq_base.specs.declared.Event.{Event}
-use Rattle.nq_model.specs.Profile.{skew}
-use Rattle.nq_model.specs.Skew.{IsWithinSkew, is_server_tick, server_ticks, ticks_of}
+use Rattle.nq_model.specs.protocol.Profile.{skew}
+use Rattle.nq_model.specs.protocol.Skew.{IsWithinSkew, is_server_tick, server_ticks, ticks_of}
 
 pub within-on : (hosts longest : ℕ) (e : Event) (events : List Event) → is_server_tick e ≡ 0 → IsWithinSkew hosts longest events
     → IsWithinSkew hosts longest (e ∷ events)

@@ -2,9 +2,9 @@
 use Rattle.std.proofs.Common.{◌≡◌, ℕ, ◌≤◌, Bool, List, length, Option, refl, sym, ap, ◌∙◌, arith}
 use Rattle.std.proofs.lemmas.List.{length-map}
 use Rattle.nq_base.specs.declared.Event.{Event}
-use Rattle.nq_model.specs.Kept.{Kept}
-use Rattle.nq_model.specs.Stepped.{done, stepped}
-use Rattle.nq_model.specs.World.{Head, run}
+use Rattle.nq_model.specs.protocol.Kept.{Kept}
+use Rattle.nq_model.specs.protocol.Stepped.{done, stepped}
+use Rattle.nq_model.specs.protocol.World.{Head, run}
 use Rattle.nq_replay.specs.Delivering.{Marks, least_undelivered, next_packet}
 use Rattle.nq_replay.specs.Going.{HasFlag, IsAt}
 use Rattle.nq_replay.specs.RulesLaws.{was-sent}

@@ -2,7 +2,7 @@
 use Rattle.std.proofs.Common.{◌≡◌, List, [], ◌∷◌, ◌++◌}
 use Rattle.nq_base.specs.declared.Entry.{Entry}
 use Rattle.nq_script.specs.Forms.{HasTold}
-use Rattle.nq_model.specs.Journal.{Each}
+use Rattle.nq_model.specs.laws.Journal.{Each}
 use Rattle.walk_steps.proofs.ClientEntries.{AnyCall, AnyLength, OfClient}
 use Rattle.walk_steps.proofs.ServerEntries.{OfServer}
 

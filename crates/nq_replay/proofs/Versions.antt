@@ -13,10 +13,10 @@ use Rattle.nq_script.specs.Forms.{HasTold}
 use Rattle.nq_journal.specs.Text.{Has}
 use Rattle.law_runs.proofs.Tallies.{each-reverse}
 use Rattle.nq_base.specs.Calls.{told}
-use Rattle.nq_model.specs.Journal.{Each}
-use Rattle.nq_model.specs.Kept.{Kept}
-use Rattle.nq_model.specs.Stepped.{most_events, stepped}
-use Rattle.nq_model.specs.World.{run}
+use Rattle.nq_model.specs.laws.Journal.{Each}
+use Rattle.nq_model.specs.protocol.Kept.{Kept}
+use Rattle.nq_model.specs.protocol.Stepped.{most_events, stepped}
+use Rattle.nq_model.specs.protocol.World.{run}
 use Rattle.nq_replay.proofs.Keeping.{Keeps, ends-answered}
 use Rattle.nq_replay.proofs.Lawfully.{played-runs-are-lawful}
 use Rattle.nq_replay.proofs.RulesKeeping.{keeps-lines}

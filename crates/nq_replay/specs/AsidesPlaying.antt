@@ -1,6 +1,6 @@
 -- How lines are played, one after another. Below, `S` is what playing comes to.
 use Rattle.std.specs.Prelude.{ℕ, ◌+◌, List, [], ◌∷◌, Option, Some, None, zero, suc}
-use Rattle.nq_model.specs.Stepped.{Stepped, done}
+use Rattle.nq_model.specs.protocol.Stepped.{Stepped, done}
 
 -- what playing has come to where all went well, or what was answered to the first event that was not taken
 pub data Played (S : Type 0) : Type 0 where

@@ -2,7 +2,7 @@
 use Rattle.std.specs.Prelude.{◌≡◌, ℕ, ◌+◌, ◌<◌, ◌==◌, Bool, true, false, ◌||◌, List, [], ◌∷◌, Option, Some, None, length, slice_index_or, zero, suc}
 use Rattle.std.specs.Prelude.{if◌then◌else◌}
 use Rattle.nq_base.specs.declared.Event.{Event}
-use Rattle.nq_model.specs.World.{Head, run}
+use Rattle.nq_model.specs.protocol.World.{Head, run}
 
 -- whether an event is the delivery of this packet
 abbrev pub delivers : (packet : ℕ) → Event → Bool

@@ -3,8 +3,8 @@
 use Rattle.std.specs.List.{AllByRecursion}
 use Rattle.std.specs.Prelude.{◌<◌, ℕ, Bool, List, Option}
 use Rattle.nq_base.specs.declared.Event.{Event}
-use Rattle.nq_model.specs.Kept.{Kept}
-use Rattle.nq_model.specs.World.{Head}
+use Rattle.nq_model.specs.protocol.Kept.{Kept}
+use Rattle.nq_model.specs.protocol.World.{Head}
 use Rattle.nq_replay.specs.Delivering.{Marks}
 use Rattle.nq_replay.specs.declared.play.played.Played.{Played}
 use Rattle.nq_script.specs.declared.lines.Line.{Line}

@@ -1,11 +1,11 @@
 -- The run of a schedule that was played is lawful: all that the laws of the protocol ask of a schedule holds of its events.
 use Rattle.std.specs.Prelude.{◌≡◌, ℕ, List}
 use Rattle.nq_base.specs.declared.Event.{Event}
-use Rattle.nq_model.specs.Skew.{IsWithinSkew}
-use Rattle.nq_model.specs.World.{Head as Beginning}
+use Rattle.nq_model.specs.protocol.Skew.{IsWithinSkew}
+use Rattle.nq_model.specs.protocol.World.{Head as Beginning}
 use Rattle.nq_replay.specs.AsidesPlaying.{ran}
 use Rattle.nq_replay.specs.Playing.{beginning, play}
-use Rattle.nq_model.specs.Bounds.{KeepsBounds}
+use Rattle.nq_model.specs.laws.Bounds.{KeepsBounds}
 use Rattle.nq_script.specs.Schedule.{SpellsSchedule}
 use Rattle.nq_script.specs.declared.heads.Head.{Head}
 use Rattle.nq_script.specs.declared.lines.Line.{Line}

@@ -1,8 +1,8 @@
 -- How the lines of a schedule are played in the world of the protocol. The events of a run are told with the newest first.
 use Rattle.std.specs.Prelude.{◌+◌, List, [], ◌∷◌, length, Some}
 use Rattle.nq_base.specs.declared.Event.{Event}
-use Rattle.nq_model.specs.Stepped.{most_events, stepped}
-use Rattle.nq_model.specs.World.{run}
+use Rattle.nq_model.specs.protocol.Stepped.{most_events, stepped}
+use Rattle.nq_model.specs.protocol.World.{run}
 use Rattle.nq_replay.specs.AsidesPlaying.{Ended, took}
 use Rattle.nq_replay.specs.Rules.{Rules, play_lines}
 use Rattle.nq_replay.specs.Text.{mixed}

@@ -1,6 +1,6 @@
 -- The limits on a run.
 use Rattle.std.specs.Prelude.{◌≤◌, ◌<◌, ℕ}
-use Rattle.nq_model.specs.Stepped.{most_events, most_sent}
+use Rattle.nq_model.specs.protocol.Stepped.{most_events, most_sent}
 use Rattle.nq_world.specs.declared.stepped.Limit.{Limit}
 
 -- a limit is reached after so many events and packets; that of events is tested first

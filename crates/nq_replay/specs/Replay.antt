@@ -8,9 +8,9 @@ use Rattle.nq_io.specs.Sink.{AppendsFront, PrintsLine}
 use Rattle.nq_io.specs.Told.{with_end}
 use Rattle.nq_io.specs.Whole.{IsAll, IsOver}
 use Rattle.nq_journal.specs.Text.{journal_text}
-use Rattle.nq_model.specs.Kept.{Kept}
-use Rattle.nq_model.specs.Stepped.{Stepped, no_packet, out_of_skew, too_many_events, too_many_packets}
-use Rattle.nq_model.specs.World.{run}
+use Rattle.nq_model.specs.protocol.Kept.{Kept}
+use Rattle.nq_model.specs.protocol.Stepped.{Stepped, no_packet, out_of_skew, too_many_events, too_many_packets}
+use Rattle.nq_model.specs.protocol.World.{run}
 use Rattle.nq_replay.specs.Lawful.{IsLawful}
 use Rattle.nq_replay.specs.AsidesPlaying.{ran, stopped}
 use Rattle.nq_replay.specs.Playing.{beginning, play}

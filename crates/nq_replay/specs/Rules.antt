@@ -2,8 +2,8 @@
 -- world, `A` is an aside, and `S` is a moment, which is what playing comes to.
 use Rattle.std.specs.Prelude.{ℕ, ◌+◌, List, ◌∷◌, Option, Some, None, zero, suc}
 use Rattle.nq_base.specs.declared.Event.{Event}
-use Rattle.nq_model.specs.Stepped.{Stepped, too_many_events}
-use Rattle.nq_model.specs.World.{Head}
+use Rattle.nq_model.specs.protocol.Stepped.{Stepped, too_many_events}
+use Rattle.nq_model.specs.protocol.World.{Head}
 use Rattle.nq_replay.specs.AsidesPlaying.{Ended, Played, and_then, answered, play_each, refused, repeated, took, with_packet}
 use Rattle.nq_replay.specs.Delivering.{least_undelivered}
 use Rattle.nq_replay.specs.Text.{MixedLine, beside, plain}

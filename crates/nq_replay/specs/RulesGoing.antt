@@ -1,8 +1,8 @@
 -- What playing over a world does, beside what it is to do by the world's rules. Below, `plays` tells whether a world has come to a moment,
 -- and `flags` tells which packets were delivered.
 use Rattle.std.specs.Prelude.{◌≡◌, ◌<◌, ℕ, Bool, List, Option, Some, None}
-use Rattle.nq_model.specs.Stepped.{done}
-use Rattle.nq_model.specs.World.{Head}
+use Rattle.nq_model.specs.protocol.Stepped.{done}
+use Rattle.nq_model.specs.protocol.World.{Head}
 use Rattle.nq_replay.specs.Delivering.{Marks}
 use Rattle.nq_replay.specs.Rules.{Rules}
 use Rattle.nq_world.specs.Answering.{told as answer_of}

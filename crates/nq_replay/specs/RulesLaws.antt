@@ -3,8 +3,9 @@ use Rattle.std.proofs.Common.{◌≡◌, ◌<◌, ℕ, Bool, true, false, List, 
 use Rattle.std.proofs.lemmas.Bool.Decides.{nat_tests}
 use Rattle.std.specs.Prelude.{nat_lt, if◌then◌else◌}
 use Rattle.nq_base.specs.declared.Event.{Event}
-use Rattle.nq_model.specs.Stepped.{Stepped as Answer, done, no_packet, out_of_skew, too_many_events, too_many_packets, most_events, stepped, tested_room}
-use Rattle.nq_model.specs.World.{Head, run}
+use Rattle.nq_model.specs.protocol.Stepped.{Stepped as Answer, done, no_packet, out_of_skew, too_many_events, too_many_packets, most_events, stepped}
+use Rattle.nq_model.specs.protocol.Stepped.{tested_room}
+use Rattle.nq_model.specs.protocol.World.{Head, run}
 use Rattle.nq_replay.specs.AsidesPlaying.{answered, took}
 use Rattle.nq_replay.specs.Rules.{packet_of}
 use Rattle.nq_replay.specs.RulesGoing.{IsNoFault}

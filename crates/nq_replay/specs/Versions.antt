@@ -5,10 +5,10 @@ use Rattle.nq_base.specs.declared.Event.{Event}
 use Rattle.nq_script.specs.Forms.{HasTold}
 use Rattle.nq_journal.specs.Text.{Has}
 use Rattle.nq_base.specs.Calls.{told}
-use Rattle.nq_model.specs.Journal.{Each}
-use Rattle.nq_model.specs.Skew.{IsWithinSkew}
-use Rattle.nq_model.specs.World.{Head, run}
-use Rattle.nq_model.specs.Bounds.{KeepsBounds}
+use Rattle.nq_model.specs.laws.Journal.{Each}
+use Rattle.nq_model.specs.protocol.Skew.{IsWithinSkew}
+use Rattle.nq_model.specs.protocol.World.{Head, run}
+use Rattle.nq_model.specs.laws.Bounds.{KeepsBounds}
 
 -- an event that version 1 has: its call is one of version 1, and each boot has the longest term 60
 abbrev pub IsOfFirst : Event → Type 0

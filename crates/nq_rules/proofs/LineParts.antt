@@ -9,11 +9,12 @@ use Rattle.nq_base.specs.declared.Entry.TheVariants.{C, W}
 use Rattle.nq_base.specs.declared.Told.{Told}
 use Rattle.nq_base.specs.declared.Told.TheVariants.{Write, WriteSync, Resize, Remove}
 use Rattle.nq_base.specs.declared.Who.{Who}
-use Rattle.nq_model.specs.Journal.{call_of, told_by}
-use Rattle.nq_model.specs.JournalTest.{each, exists, is_answer, is_call, is_open, throughout}
-use Rattle.nq_model.specs.LegalTest.{is_counted_by}
-use Rattle.nq_model.specs.OrderedTest.{call_resizes, is_before_call, is_call_below, is_no_other, is_numbered, is_open_call, is_resize_by, open_call, writes}
-use Rattle.nq_model.specs.Table.{same_who}
+use Rattle.nq_model.specs.laws.Journal.{call_of, told_by}
+use Rattle.nq_model.specs.laws.JournalTest.{each, exists, is_answer, is_call, is_open, throughout}
+use Rattle.nq_model.specs.laws.LegalTest.{is_counted_by}
+use Rattle.nq_model.specs.laws.OrderedTest.{call_resizes, is_before_call, is_call_below, is_no_other, is_numbered, is_open_call, is_resize_by, open_call}
+use Rattle.nq_model.specs.laws.OrderedTest.{writes}
+use Rattle.nq_model.specs.protocol.Table.{same_who}
 use Rattle.nq_model.proofs.JournalTests.{tells_who}
 use Rattle.nq_rules.specs.declared.lines.Line.{Line}
 use Rattle.nq_rules.specs.declared.lines.Open.{Open}

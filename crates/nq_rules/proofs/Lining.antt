@@ -7,11 +7,11 @@ use Rattle.nq_base.specs.declared.Entry.TheVariants.{C, W, R, Z, A}
 use Rattle.nq_base.specs.declared.Said.{Said}
 use Rattle.nq_base.specs.declared.Told.{Told}
 use Rattle.nq_base.specs.declared.Who.{Who}
-use Rattle.nq_model.specs.JournalTest.{each, exists, is_answer, is_call, is_counted, is_open}
-use Rattle.nq_model.specs.LegalTest.{is_counted_by}
-use Rattle.nq_model.specs.OrderedTest.{has_open, is_busy_next, is_call_below, is_call_in_order, is_numbered, is_resize_by, is_resize_in_order}
-use Rattle.nq_model.specs.OrderedTest.{is_read_in_order, is_write_in_order, writes}
-use Rattle.nq_model.specs.Table.{same_who}
+use Rattle.nq_model.specs.laws.JournalTest.{each, exists, is_answer, is_call, is_counted, is_open}
+use Rattle.nq_model.specs.laws.LegalTest.{is_counted_by}
+use Rattle.nq_model.specs.laws.OrderedTest.{has_open, is_busy_next, is_call_below, is_call_in_order, is_numbered, is_resize_by, is_resize_in_order}
+use Rattle.nq_model.specs.laws.OrderedTest.{is_read_in_order, is_write_in_order, writes}
+use Rattle.nq_model.specs.protocol.Table.{same_who}
 use Rattle.nq_model.proofs.JournalTests.{tells_who}
 use Rattle.nq_rules.specs.declared.lines.Line.{Line}
 use Rattle.nq_rules.specs.declared.lines.Open.{Open}

@@ -5,8 +5,8 @@ use Rattle.nq_base.specs.declared.Entry.{Entry}
 use Rattle.nq_base.specs.declared.Span.{Span}
 use Rattle.nq_base.specs.declared.Told.{Told}
 use Rattle.nq_base.specs.declared.Who.{Who}
-use Rattle.nq_model.specs.JournalTest.{exists}
-use Rattle.nq_model.specs.ReportedTest.{is_same_span, is_unnamed, name_losses}
+use Rattle.nq_model.specs.laws.JournalTest.{exists}
+use Rattle.nq_model.specs.laws.ReportedTest.{is_same_span, is_unnamed, name_losses}
 use Rattle.nq_rules.proofs.Places.{drop_here}
 
 -- a span that names an earlier loss and does not come again

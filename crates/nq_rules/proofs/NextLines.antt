@@ -6,7 +6,7 @@ use Rattle.nq_base.specs.declared.Entry.TheVariants.{C, W, R, Z, A}
 use Rattle.nq_base.specs.declared.Said.{Said}
 use Rattle.nq_base.specs.declared.Told.{Told}
 use Rattle.nq_base.specs.declared.Who.{Who}
-use Rattle.nq_model.specs.OrderedTest.{is_busy_next}
+use Rattle.nq_model.specs.laws.OrderedTest.{is_busy_next}
 use Rattle.nq_rules.specs.declared.lines.Line.{Line}
 use Rattle.nq_rules.specs.InOrder.{IsNext, StandsInOrder}
 use Rattle.nq_rules.specs.Lines.{after_answer_of, after_call, after_read_of, after_resize_of, after_write_of, line_at}

@@ -6,7 +6,7 @@ use Rattle.std.proofs.Math.Seq.{drop-cons}
 use Rattle.std.proofs.lemmas.Bool.{cases_Bool}
 use Rattle.std.proofs.lemmas.List.{reverse-append, take-append-drop}
 use Rattle.std.proofs.lemmas.Option.{slice_get_within, get_or_from_slice_get}
-use Rattle.nq_model.specs.JournalTest.{exists}
+use Rattle.nq_model.specs.laws.JournalTest.{exists}
 use Rattle.nq_rules.proofs.Backwards.{last_first}
 
 -- from a place on stand the element there and what stands from the next place on

@@ -1,7 +1,7 @@
 -- The last grant as the code has it.
 use Rattle.std.specs.Prelude.{Option, Some, None}
 use Rattle.nq_rules.specs.declared.excused.Granted.{Granted}
-use Rattle.nq_model.specs.CutOff.{Given}
+use Rattle.nq_model.specs.laws.CutOff.{Given}
 
 -- when a grant was made, and its term
 abbrev pub given : Option Granted → Option Given

@@ -7,10 +7,10 @@ use Rattle.nq_base.specs.declared.Who.{Who}
 use Rattle.nq_rules.specs.declared.lines.Line.{Line}
 use Rattle.nq_rules.specs.declared.lines.Open.{Open}
 use Rattle.nq_rules.specs.Lines.{IsLined, Sizing, Writing, line_at, sizing_of, writing_of}
-use Rattle.nq_model.specs.Journal.{call_of}
-use Rattle.nq_model.specs.JournalTest.{exists, is_answer, is_call, is_open, throughout}
-use Rattle.nq_model.specs.LegalTest.{is_counted_by}
-use Rattle.nq_model.specs.OrderedTest.{is_before_call, is_in_order, is_numbered, is_resize_by}
+use Rattle.nq_model.specs.laws.Journal.{call_of}
+use Rattle.nq_model.specs.laws.JournalTest.{exists, is_answer, is_call, is_open, throughout}
+use Rattle.nq_model.specs.laws.LegalTest.{is_counted_by}
+use Rattle.nq_model.specs.laws.OrderedTest.{is_before_call, is_in_order, is_numbered, is_resize_by}
 
 -- the call that a line tells as open
 abbrev pub IsOpenCall : Option Open → (q : ℕ) → Type 0

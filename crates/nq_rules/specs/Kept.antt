@@ -6,11 +6,11 @@ use Rattle.nq_base.specs.declared.Said.TheVariants.{Ok, OkValue, OkBy}
 use Rattle.nq_base.specs.declared.Told.{Told}
 use Rattle.nq_base.specs.declared.Told.TheVariants.{WriteSync, Sync, Resize, Remove}
 use Rattle.nq_base.specs.declared.Who.{Who}
-use Rattle.nq_model.specs.Journal.{call_of}
-use Rattle.nq_model.specs.JournalTest.{each, is_open, is_stored, is_through, somewhere}
-use Rattle.nq_model.specs.OrderedTest.{is_no_other, writes}
-use Rattle.nq_model.specs.SynchronizedTest.{are_stored_or_told, is_settled_resize}
-use Rattle.nq_model.specs.Table.{same_who}
+use Rattle.nq_model.specs.laws.Journal.{call_of}
+use Rattle.nq_model.specs.laws.JournalTest.{each, is_open, is_stored, is_through, somewhere}
+use Rattle.nq_model.specs.laws.OrderedTest.{is_no_other, writes}
+use Rattle.nq_model.specs.laws.SynchronizedTest.{are_stored_or_told, is_settled_resize}
+use Rattle.nq_model.specs.protocol.Table.{same_who}
 
 -- whether the entry is the write of a call: the call alone is open of its incarnation's, and asks for that write
 abbrev pub is_write_of_call : (who : Who) (q : ℕ) → Entry → (before : List Entry) → Bool

@@ -6,10 +6,10 @@ use Rattle.nq_base.specs.declared.Entry.TheVariants.{C, L, A}
 use Rattle.nq_base.specs.declared.Loss.{Loss}
 use Rattle.nq_base.specs.declared.Said.TheVariants.{Lost}
 use Rattle.nq_base.specs.declared.Who.{Who}
-use Rattle.nq_model.specs.Journal.{call_of}
-use Rattle.nq_model.specs.JournalTest.{exists, is_answer}
-use Rattle.nq_model.specs.Reported.{loss_told}
-use Rattle.nq_model.specs.ReportedTest.{must_report, name_losses, names}
+use Rattle.nq_model.specs.laws.Journal.{call_of}
+use Rattle.nq_model.specs.laws.JournalTest.{exists, is_answer}
+use Rattle.nq_model.specs.laws.Reported.{loss_told}
+use Rattle.nq_model.specs.laws.ReportedTest.{must_report, name_losses, names}
 
 -- whether the next entry is the A of this C, is `lost` and names the loss
 abbrev pub is_named_at_once : (whole before : List Entry) (who : Who) (loss : Loss) → Entry → (after : List Entry) → Bool

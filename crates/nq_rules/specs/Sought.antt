@@ -7,11 +7,11 @@ use Rattle.nq_rules.specs.declared.keys.Kind.{Kind}
 use Rattle.nq_rules.specs.declared.keys.Kind.TheVariants.{Calls, Covers, Cuts, Own}
 use Rattle.nq_rules.specs.declared.sought.Sought.{Sought}
 use Rattle.nq_rules.specs.declared.sought.Sought.TheVariants.{Call, Answer, AnswerBy, AnswerWith, Busy, Resize, Cut, Cover, Store, Loss, Covered, Lost}
-use Rattle.nq_model.specs.Journal.{cuts}
-use Rattle.nq_model.specs.JournalTest.{covers, is_answer, is_answer_by, is_call, loss_covers, store_covers}
-use Rattle.nq_model.specs.LegalTest.{is_answer_with}
-use Rattle.nq_model.specs.OrderedTest.{is_resize_by}
-use Rattle.nq_model.specs.ReportedTest.{is_busy_answer}
+use Rattle.nq_model.specs.laws.Journal.{cuts}
+use Rattle.nq_model.specs.laws.JournalTest.{covers, is_answer, is_answer_by, is_call, loss_covers, store_covers}
+use Rattle.nq_model.specs.laws.LegalTest.{is_answer_with}
+use Rattle.nq_model.specs.laws.OrderedTest.{is_resize_by}
+use Rattle.nq_model.specs.laws.ReportedTest.{is_busy_answer}
 
 -- whether an entry is what is looked for
 abbrev pub passes : Sought → Entry → Bool

@@ -1,8 +1,8 @@
 //! Which entries account for the delayed writes that they cover.
 
 ghost use Rattle.std.specs.Prelude.{◌≡◌, reverse};
-ghost use Rattle.nq_model.specs.FateTest.{is_accounted_at, is_first_to_cover};
-ghost use Rattle.nq_model.specs.JournalTest.{each};
+ghost use Rattle.nq_model.specs.laws.FateTest.{is_accounted_at, is_first_to_cover};
+ghost use Rattle.nq_model.specs.laws.JournalTest.{each};
 
 use crate::entries::covers;
 use crate::sought::{Sought, is_among};

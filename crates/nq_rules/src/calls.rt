@@ -1,11 +1,11 @@
 //! Calls, and what they ask.
 
 ghost use Rattle.std.specs.Prelude.{◌≡◌, reverse, Some, None};
-ghost use Rattle.nq_model.specs.Journal.{call_of, told_by};
-ghost use Rattle.nq_model.specs.JournalTest.{exists, is_answer, is_open, speaks_of};
-ghost use Rattle.nq_model.specs.LegalTest.{is_reading};
-ghost use Rattle.nq_model.specs.OrderedTest.{call_resizes, has_open, is_open_call, open_call, writes};
-ghost use Rattle.nq_model.specs.ReportedTest.{is_reporting};
+ghost use Rattle.nq_model.specs.laws.Journal.{call_of, told_by};
+ghost use Rattle.nq_model.specs.laws.JournalTest.{exists, is_answer, is_open, speaks_of};
+ghost use Rattle.nq_model.specs.laws.LegalTest.{is_reading};
+ghost use Rattle.nq_model.specs.laws.OrderedTest.{call_resizes, has_open, is_open_call, open_call, writes};
+ghost use Rattle.nq_model.specs.laws.ReportedTest.{is_reporting};
 
 use crate::entries::told_by;
 use crate::sought::{Sought, is_among, is_near};

@@ -1,12 +1,12 @@
 //! What a single entry tells.
 
 ghost use Rattle.std.specs.Prelude.{◌≡◌, Some};
-ghost use Rattle.nq_model.specs.Journal.{cuts, told_by, value_written};
-ghost use Rattle.nq_model.specs.JournalTest.{covers, is_answer, is_answer_by, is_call, is_read_by, is_through, is_within, is_write_by, is_write_on, loss_covers, store_covers};
-ghost use Rattle.nq_model.specs.LegalTest.{gives_value, is_answer_with};
-ghost use Rattle.nq_model.specs.OrderedTest.{is_call_below, is_numbered, is_resize_by};
-ghost use Rattle.nq_model.specs.ReportedTest.{is_busy_answer};
-ghost use Rattle.nq_model.specs.SynchronizedTest.{is_delayed_on};
+ghost use Rattle.nq_model.specs.laws.Journal.{cuts, told_by, value_written};
+ghost use Rattle.nq_model.specs.laws.JournalTest.{covers, is_answer, is_answer_by, is_call, is_read_by, is_through, is_within, is_write_by, is_write_on, loss_covers, store_covers};
+ghost use Rattle.nq_model.specs.laws.LegalTest.{gives_value, is_answer_with};
+ghost use Rattle.nq_model.specs.laws.OrderedTest.{is_call_below, is_numbered, is_resize_by};
+ghost use Rattle.nq_model.specs.laws.ReportedTest.{is_busy_answer};
+ghost use Rattle.nq_model.specs.laws.SynchronizedTest.{is_delayed_on};
 
 use nq_base::{BlockNo, Entry, FileId, Number, Said, Told, Who};
 

@@ -2,9 +2,9 @@
 
 ghost use Rattle.std.specs.Prelude.{◌≡◌, ◌+◌, reverse, nat_le, [], ◌∷◌};
 ghost use Rattle.nq_rules.specs.Grants.{given};
-ghost use Rattle.nq_model.specs.CutOff.{last_grant};
-ghost use Rattle.nq_model.specs.CutOffTest.{ends, ends_first, has_passed, is_late_end, is_late_opening, is_long_wait, is_store_over};
-ghost use Rattle.nq_model.specs.JournalTest.{each, exists};
+ghost use Rattle.nq_model.specs.laws.CutOff.{last_grant};
+ghost use Rattle.nq_model.specs.laws.CutOffTest.{ends, ends_first, has_passed, is_late_end, is_late_opening, is_long_wait, is_store_over};
+ghost use Rattle.nq_model.specs.laws.JournalTest.{each, exists};
 
 use crate::entries::loss_covers;
 use nq_base::{Entry, FileId, Ticks, Who};

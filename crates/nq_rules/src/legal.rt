@@ -1,8 +1,8 @@
 //! Which reads count.
 
 ghost use Rattle.std.specs.Prelude.{◌≡◌, reverse};
-ghost use Rattle.nq_model.specs.JournalTest.{is_counted};
-ghost use Rattle.nq_model.specs.LegalTest.{is_counted_by};
+ghost use Rattle.nq_model.specs.laws.JournalTest.{is_counted};
+ghost use Rattle.nq_model.specs.laws.LegalTest.{is_counted_by};
 
 use crate::entries::is_read_by;
 use crate::sought::{Sought, is_near};

@@ -2,8 +2,8 @@
 
 ghost use Rattle.std.specs.Prelude.{◌≡◌, ◌+◌, ◌<◌, ◌≤◌, length, reverse, take, drop, Some, slice_get};
 ghost use Rattle.nq_rules.specs.Named.{is_named_at_once, is_reported, is_reported_at};
-ghost use Rattle.nq_model.specs.JournalTest.{exists};
-ghost use Rattle.nq_model.specs.ReportedTest.{is_name_of, is_same_span, is_unnamed, must_report, name_losses, names};
+ghost use Rattle.nq_model.specs.laws.JournalTest.{exists};
+ghost use Rattle.nq_model.specs.laws.ReportedTest.{is_name_of, is_same_span, is_unnamed, must_report, name_losses, names};
 
 use crate::calls::{call_of, is_answered, is_reporting, speaks_of};
 use crate::entries::is_answer;

@@ -2,7 +2,7 @@
 
 ghost use Rattle.std.specs.Prelude.{◌≡◌, reverse};
 ghost use Rattle.nq_rules.specs.Sought.{kind_sought, passes, spot_sought};
-ghost use Rattle.nq_model.specs.JournalTest.{exists};
+ghost use Rattle.nq_model.specs.laws.JournalTest.{exists};
 
 use crate::entries::{
     covers, cuts, is_answer, is_answer_by, is_answer_with, is_busy_answer, is_call, is_resize_by,

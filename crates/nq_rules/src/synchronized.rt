@@ -2,8 +2,8 @@
 
 ghost use Rattle.std.specs.Prelude.{◌≡◌, reverse};
 ghost use Rattle.nq_rules.specs.Kept.{is_kept, is_kept_at, is_put_kept, is_write_of_call};
-ghost use Rattle.nq_model.specs.JournalTest.{exists, is_open, is_stored, somewhere};
-ghost use Rattle.nq_model.specs.SynchronizedTest.{are_stored_or_told, is_delayed_on, is_named_loss, is_settled_resize, is_stored_or_told};
+ghost use Rattle.nq_model.specs.laws.JournalTest.{exists, is_open, is_stored, somewhere};
+ghost use Rattle.nq_model.specs.laws.SynchronizedTest.{are_stored_or_told, is_delayed_on, is_named_loss, is_settled_resize, is_stored_or_told};
 
 use crate::calls::{call_of, writes};
 use crate::entries::{is_answer, is_call, is_delayed_on, is_through, loss_covers};

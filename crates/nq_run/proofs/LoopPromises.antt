@@ -6,7 +6,7 @@ use Rattle.nq_base.specs.declared.ending.ending.Ending.{Ending}
 use Rattle.nq_loop.proofs.Faults.{loops-unless}
 use Rattle.nq_loop.specs.Looped.{KeepsLoop, LoopEnds}
 use Rattle.nq_loop.specs.Whole.{loop_head}
-use Rattle.nq_model.specs.Kept.{Kept}
+use Rattle.nq_model.specs.protocol.Kept.{Kept}
 use Rattle.nq_clock.specs.Clocks.{ClockTold}
 use Rattle.nq_link.specs.Links.{LinkTold}
 use Rattle.nq_replay.specs.Ending.{CountsKeeper, CountsSink}

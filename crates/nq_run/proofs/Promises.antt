@@ -5,14 +5,14 @@ use Rattle.nq_base.specs.declared.Event.{Event}
 use Rattle.nq_check.proofs.Sounds.{faultless_where_sound}
 use Rattle.nq_check.specs.Verdict.{verdict}
 use Rattle.nq_laws.proofs.HeadlineParts.{at-every-moment}
-use Rattle.nq_model.specs.Kept.{Kept}
-use Rattle.nq_model.specs.Skew.{IsWithinSkew}
-use Rattle.nq_model.specs.Sound.{IsSound}
-use Rattle.nq_model.specs.World.{run}
+use Rattle.nq_model.specs.protocol.Kept.{Kept}
+use Rattle.nq_model.specs.protocol.Skew.{IsWithinSkew}
+use Rattle.nq_model.specs.laws.Sound.{IsSound}
+use Rattle.nq_model.specs.protocol.World.{run}
 use Rattle.nq_replay.specs.Lawful.{IsLawful}
 use Rattle.nq_replay.specs.Playing.{beginning}
-use Rattle.nq_model.specs.Bounds.{KeepsBounds}
-use Rattle.nq_model.specs.Headline.{HeadlineHolds}
+use Rattle.nq_model.specs.laws.Bounds.{KeepsBounds}
+use Rattle.nq_model.specs.laws.Headline.{HeadlineHolds}
 use Rattle.nq_replay.specs.Replay.{OfInput, PrintsWithin}
 use Rattle.nq_run.specs.Promised.{HoldsThroughout, PrintsLawfully, PrintsSound}
 use Rattle.nq_script.specs.declared.heads.Head.{Head}

@@ -3,7 +3,7 @@ use Rattle.std.proofs.Common.{◌≡◌, ◌<◌, ◌≤◌, ℕ, List, Option, 
 use Rattle.nq_base.proofs.Ends.{one_end}
 use Rattle.nq_base.specs.Status.{status_of}
 use Rattle.nq_base.specs.declared.ending.ending.Ending.{Ending}
-use Rattle.nq_model.specs.Kept.{Kept}
+use Rattle.nq_model.specs.protocol.Kept.{Kept}
 use Rattle.nq_replay.specs.Playing.{play}
 use Rattle.nq_replay.proofs.Whole.{over_by_input, over_ends, over_within, refused_by_input, refused_counts, refused_ends, refused_not_done}
 use Rattle.nq_replay.specs.Ending.{CountsKeeper, CountsSink, CountsSource, Ends, IsFault}

@@ -8,7 +8,7 @@ use Rattle.nq_clock.specs.Clocks.{ClockTold}
 use Rattle.nq_link.specs.Links.{LinkTold}
 use Rattle.nq_serving.specs.Serving.{EndsBy}
 use Rattle.nq_hosts.specs.Using.{EndsBy as UsesBy}
-use Rattle.nq_model.specs.Kept.{Kept}
+use Rattle.nq_model.specs.protocol.Kept.{Kept}
 use Rattle.nq_run.specs.Hosting.{Attends}
 use Rattle.nq_service.specs.Formatting.{Formats}
 use Rattle.nq_service.specs.Serving.{IsNotOpened, PrintsBehind, ServesDisk}

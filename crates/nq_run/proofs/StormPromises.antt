@@ -3,7 +3,7 @@ use Rattle.std.proofs.Common.{◌≡◌, ℕ, List, Option, refl, subst, inl, in
 use Rattle.nq_base.proofs.Ends.{one_end}
 use Rattle.nq_base.specs.Status.{status_of}
 use Rattle.nq_base.specs.declared.ending.ending.Ending.{Ending}
-use Rattle.nq_model.specs.Kept.{Kept}
+use Rattle.nq_model.specs.protocol.Kept.{Kept}
 use Rattle.nq_replay.specs.Ending.{CountsKeeper, CountsSink}
 use Rattle.nq_replay.specs.Lines.{usage_line}
 use Rattle.nq_io.specs.Sink.{PrintsLine}

@@ -11,8 +11,8 @@ use Rattle.nq_io.specs.Told.{with_end}
 use Rattle.nq_loop.specs.Looped.{IsWhole, LoopEnds, LoopsUnlessFault}
 use Rattle.nq_loop.specs.Printed.{loop_text}
 use Rattle.nq_loop.specs.Whole.{loop_head}
-use Rattle.nq_model.specs.Kept.{Kept}
-use Rattle.nq_model.specs.World.{run}
+use Rattle.nq_model.specs.protocol.Kept.{Kept}
+use Rattle.nq_model.specs.protocol.World.{run}
 use Rattle.nq_clock.specs.Clocks.{ClockTold}
 use Rattle.nq_link.specs.Links.{LinkTold}
 use Rattle.nq_replay.specs.Playing.{beginning}

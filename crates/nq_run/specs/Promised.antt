@@ -5,9 +5,9 @@ use Rattle.nq_base.specs.declared.Event.{Event}
 use Rattle.nq_check.specs.Verdict.{verdict}
 use Rattle.nq_io.specs.Told.{with_end}
 use Rattle.nq_journal.specs.Text.{journal_text}
-use Rattle.nq_model.specs.Kept.{Kept}
+use Rattle.nq_model.specs.protocol.Kept.{Kept}
 use Rattle.nq_replay.specs.Playing.{beginning}
-use Rattle.nq_model.specs.Headline.{HoldsAt}
+use Rattle.nq_model.specs.laws.Headline.{HoldsAt}
 use Rattle.nq_replay.specs.Replay.{Runs, journal_printed, kept_of}
 use Rattle.nq_script.specs.declared.heads.Head.{Head}
 

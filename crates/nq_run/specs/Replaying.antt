@@ -5,7 +5,7 @@
 use Rattle.std.specs.Prelude.{◌≡◌, ℕ, List, Option}
 use Rattle.nq_base.specs.Status.{status_of}
 use Rattle.nq_base.specs.declared.ending.ending.Ending.{Ending}
-use Rattle.nq_model.specs.Kept.{Kept}
+use Rattle.nq_model.specs.protocol.Kept.{Kept}
 use Rattle.nq_replay.specs.Ending.{CountsKeeper, CountsSink, CountsSource, Ends, EndsByInput}
 use Rattle.nq_replay.specs.Replay.{OfInput}
 use Rattle.nq_run.specs.Promised.{PrintsLawfully, PrintsSound}

@@ -5,7 +5,7 @@ use Rattle.std.specs.Prelude.{◌≡◌, ℕ, List, ◌++◌, Option, None}
 use Rattle.nq_base.specs.Status.{status_of}
 use Rattle.nq_base.specs.declared.ending.ending.Ending.{Ending}
 use Rattle.nq_io.specs.Told.{with_end}
-use Rattle.nq_model.specs.World.{run}
+use Rattle.nq_model.specs.protocol.World.{run}
 use Rattle.nq_replay.specs.Playing.{beginning}
 use Rattle.nq_replay.specs.Ending.{CountsSink, CountsSource}
 use Rattle.nq_replay.specs.Replay.{OfInput}

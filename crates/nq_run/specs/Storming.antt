@@ -8,8 +8,8 @@ use Rattle.nq_base.specs.Status.{status_of}
 use Rattle.nq_base.specs.declared.ending.ending.Ending.{Ending}
 use Rattle.nq_io.specs.Faults.{Rose}
 use Rattle.nq_io.specs.Told.{with_end}
-use Rattle.nq_model.specs.Kept.{Kept}
-use Rattle.nq_model.specs.World.{run}
+use Rattle.nq_model.specs.protocol.Kept.{Kept}
+use Rattle.nq_model.specs.protocol.World.{run}
 use Rattle.nq_replay.specs.Playing.{beginning}
 use Rattle.nq_replay.specs.Ending.{CountsKeeper, CountsSink, IsFault}
 use Rattle.nq_replay.specs.Lines.{usage_line}

@@ -6,10 +6,10 @@ use Rattle.nq_base.specs.declared.Request.{Request}
 use Rattle.nq_base.specs.declared.Request.TheVariants.{Null, Attach, Lookup, Create, GetAttr, Read, Write, GetLease, Vacated, Evicted, Resize, Remove}
 use Rattle.nq_base.specs.declared.Tag.{Tag}
 use Rattle.nq_base.specs.declared.Who.{Who}
-use Rattle.nq_model.specs.Decided.{is_decided_once}
-use Rattle.nq_model.specs.Message.{old_incarnation}
-use Rattle.nq_model.specs.Server.{Server, serving, drops, quiet, says}
-use Rattle.nq_model.specs.ServerStep.{admit, attach, is_attach, look, not_attached, perform}
+use Rattle.nq_model.specs.protocol.Decided.{is_decided_once}
+use Rattle.nq_model.specs.protocol.Message.{old_incarnation}
+use Rattle.nq_model.specs.protocol.Server.{Server, serving, drops, quiet, says}
+use Rattle.nq_model.specs.protocol.ServerStep.{admit, attach, is_attach, look, not_attached, perform}
 
 not-attach : (r : Request) → is_decided_once r ≡ false → is_attach r ≡ false
 not-attach (Attach who) h = absurd (cc)

@@ -7,11 +7,11 @@ use Rattle.nq_datagrams.specs.Sent.{FitsPacket}
 use Rattle.nq_datagrams.specs.Told.{told}
 use Rattle.nq_datagrams.specs.declared.to_server.Incoming.{Incoming}
 use Rattle.nq_base.specs.Entries.{EntryList}
-use Rattle.nq_model.specs.Change.{row_of_found}
-use Rattle.nq_model.specs.Kept.{File, Kept}
-use Rattle.nq_model.specs.Message.{Message, reply}
-use Rattle.nq_model.specs.Server.{Server, ServerStep, drops, says, to_host}
-use Rattle.nq_model.specs.ServerStep.{look_up, get_attr, receive}
+use Rattle.nq_model.specs.protocol.Change.{row_of_found}
+use Rattle.nq_model.specs.protocol.Kept.{File, Kept}
+use Rattle.nq_model.specs.protocol.Message.{Message, reply}
+use Rattle.nq_model.specs.protocol.Server.{Server, ServerStep, drops, says, to_host}
+use Rattle.nq_model.specs.protocol.ServerStep.{look_up, get_attr, receive}
 use Rattle.nq_server.specs.Answering.{IsNoRequest, looked_up, attributes}
 use Rattle.nq_keeper.specs.declared.KeepFault.{KeepFault}
 use Rattle.nq_keeper.specs.declared.KeepFault.TheVariants.{Failed, Memory}

@@ -9,10 +9,10 @@ use Rattle.nq_base.specs.declared.Mode.TheVariants.{NonCaching, Reading, Writing
 use Rattle.nq_base.specs.declared.Question.{Question}
 use Rattle.nq_base.specs.declared.Row.{Row}
 use Rattle.nq_base.specs.declared.Want.{Want}
-use Rattle.nq_model.specs.Ask.{ask, ask_past, ask_freely, ask_for, begin, renew, share_again, with_waiting, put_off, free, put_off_by_own, granted}
-use Rattle.nq_model.specs.Ask.{no_lease, sharing_row, caching_row, shared_again, renewed_row, marked, conflicts, shares, term_of}
-use Rattle.nq_model.specs.Profile.{granted_term, most_rows, longest_term}
-use Rattle.nq_model.specs.Table.{Table, caches, greater_mode, is_row_of, find_row, drop_row, insert_row, put_row, row_before, with_rows, after_draw}
+use Rattle.nq_model.specs.protocol.Ask.{ask, ask_past, ask_freely, ask_for, begin, renew, share_again, with_waiting, put_off, free, put_off_by_own, granted}
+use Rattle.nq_model.specs.protocol.Ask.{no_lease, sharing_row, caching_row, shared_again, renewed_row, marked, conflicts, shares, term_of}
+use Rattle.nq_model.specs.protocol.Profile.{granted_term, most_rows, longest_term}
+use Rattle.nq_model.specs.protocol.Table.{Table, caches, greater_mode, is_row_of, find_row, drop_row, insert_row, put_row, row_before, with_rows, after_draw}
 use Rattle.nq_server.proofs.TickedRows.{some-run}
 use Rattle.nq_server.specs.Sound.{Runs, RowsRun}
 

@@ -7,11 +7,11 @@ use Rattle.nq_base.specs.declared.Who.{Who}
 use Rattle.nq_base.specs.Entries.{EntryList}
 use Rattle.nq_keeper.specs.declared.KeepFault.{KeepFault}
 use Rattle.nq_keeper.specs.declared.KeepFault.TheVariants.{Failed, Memory}
-use Rattle.nq_model.specs.Ask.{ask}
-use Rattle.nq_model.specs.Kept.{Kept}
-use Rattle.nq_model.specs.Profile.{shortest_term, longest_term}
-use Rattle.nq_model.specs.Server.{ServerStep}
-use Rattle.nq_model.specs.Table.{Table}
+use Rattle.nq_model.specs.protocol.Ask.{ask}
+use Rattle.nq_model.specs.protocol.Kept.{Kept}
+use Rattle.nq_model.specs.protocol.Profile.{shortest_term, longest_term}
+use Rattle.nq_model.specs.protocol.Server.{ServerStep}
+use Rattle.nq_model.specs.protocol.Table.{Table}
 use Rattle.nq_server.proofs.AskedRows.{asked-run, asked-draws}
 use Rattle.nq_server.proofs.LeasedFinds.{with_asked}
 use Rattle.nq_server.proofs.LeasedSteps.{of-serving, some-kept}

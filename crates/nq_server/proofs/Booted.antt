@@ -6,10 +6,10 @@ use Rattle.nq_keeper.specs.Booting.{IsOfTerm, recovery_of, started_of}
 use Rattle.nq_keeper.specs.declared.requests.boot.starting.Started.{Started}
 use Rattle.nq_keeper.specs.declared.requests.boot.starting.Started.TheVariants as begins
 use Rattle.nq_base.specs.Entries.{EntryList}
-use Rattle.nq_model.specs.Kept.{Kept}
-use Rattle.nq_model.specs.Server.{Phase, serving, recovering, last_in}
-use Rattle.nq_model.specs.ServerStep.{at_time, boot, boot_phase, crash}
-use Rattle.nq_model.specs.Table.{Table, empty_table}
+use Rattle.nq_model.specs.protocol.Kept.{Kept}
+use Rattle.nq_model.specs.protocol.Server.{Phase, serving, recovering, last_in}
+use Rattle.nq_model.specs.protocol.ServerStep.{at_time, boot, boot_phase, crash}
+use Rattle.nq_model.specs.protocol.Table.{Table, empty_table}
 use Rattle.nq_server.specs.Booting.{Begins, phase_begun, with_last}
 use Rattle.nq_server.specs.declared.booting.Begun.{Begun}
 use Rattle.nq_server.specs.declared.received.Received.{Received}

@@ -11,10 +11,10 @@ use Rattle.nq_base.specs.declared.Who.{Who}
 use Rattle.nq_datagrams.specs.Messages.{FitsMessage}
 use Rattle.nq_datagrams.specs.Sent.{FitsPacket, sent}
 use Rattle.nq_base.specs.Entries.{EntryList}
-use Rattle.nq_model.specs.Decided.{aside, decided_answer, decided_step, fresh_step}
-use Rattle.nq_model.specs.Message.{Packet, reply}
-use Rattle.nq_model.specs.Server.{Phase, Server, says, drops, to_host}
-use Rattle.nq_model.specs.Table.{Table}
+use Rattle.nq_model.specs.protocol.Decided.{aside, decided_answer, decided_step, fresh_step}
+use Rattle.nq_model.specs.protocol.Message.{Packet, reply}
+use Rattle.nq_model.specs.protocol.Server.{Phase, Server, says, drops, to_host}
+use Rattle.nq_model.specs.protocol.Table.{Table}
 use Rattle.nq_server.proofs.DecidedSteps.{warned}
 use Rattle.nq_server.proofs.PushedPackets.{behind-notices, one-sent}
 use Rattle.nq_server.specs.declared.received.Taken.TheVariants as took

@@ -12,10 +12,10 @@ use Rattle.nq_base.specs.Entries.{EntryList}
 use Rattle.nq_keeper.specs.Keeping.{StaysOrEnds}
 use Rattle.nq_keeper.specs.declared.KeepFault.{KeepFault}
 use Rattle.nq_keeper.specs.declared.KeepFault.TheVariants as keep
-use Rattle.nq_model.specs.Change.{applied_if}
-use Rattle.nq_model.specs.Decided.{change_of, decided, decided_step, fresh_change, fresh_step, gate_of, if_fresh}
-use Rattle.nq_model.specs.Kept.{Kept}
-use Rattle.nq_model.specs.Server.{Server, ServerStep, drops, says}
+use Rattle.nq_model.specs.protocol.Change.{applied_if}
+use Rattle.nq_model.specs.protocol.Decided.{change_of, decided, decided_step, fresh_change, fresh_step, gate_of, if_fresh}
+use Rattle.nq_model.specs.protocol.Kept.{Kept}
+use Rattle.nq_model.specs.protocol.Server.{Server, ServerStep, drops, says}
 use Rattle.nq_server.specs.Deciding.{Concludes}
 use Rattle.nq_server.specs.State.{Beside, server_of}
 use Rattle.nq_server.specs.Stepping.{SaysNothing, Takes}

@@ -4,7 +4,7 @@ use Rattle.std.proofs.Common.{sym, ap, subst, ◌∙◌, append-nil}
 use Rattle.std.specs.Result.{is_ok, is_err}
 use Rattle.std.proofs.lemmas.List.{length-append, take_at}
 use Rattle.nq_datagrams.specs.Sent.{sent}
-use Rattle.nq_model.specs.Message.{Packet}
+use Rattle.nq_model.specs.protocol.Message.{Packet}
 use Rattle.nq_wire.specs.Outbox.{Datagrams}
 use Rattle.nq_base.specs.declared.Entry.{Entry}
 use Rattle.nq_base.specs.declared.Request.{Request}
@@ -14,9 +14,9 @@ use Rattle.nq_base.specs.declared.Verdict.{Verdict}
 use Rattle.nq_base.specs.declared.Verdict.TheVariants.{Done, Fenced, Exist, NoSpace, Invalid, Stale, TryLater}
 use Rattle.nq_base.specs.declared.Who.{Who}
 use Rattle.nq_keeper.specs.Recovery.{Recovery, after_write}
-use Rattle.nq_model.specs.Decided.{Aside, aside, done_aside, nothing_aside, entry_aside, rows_aside, heard_aside, stored_aside}
-use Rattle.nq_model.specs.Server.{Phase, serving, recovering, Server}
-use Rattle.nq_model.specs.Table.{Table, find_row, with_rows, drop_host, drop_rows_of}
+use Rattle.nq_model.specs.protocol.Decided.{Aside, aside, done_aside, nothing_aside, entry_aside, rows_aside, heard_aside, stored_aside}
+use Rattle.nq_model.specs.protocol.Server.{Phase, serving, recovering, Server}
+use Rattle.nq_model.specs.protocol.Table.{Table, find_row, with_rows, drop_host, drop_rows_of}
 use Rattle.nq_server.proofs.AskedRows.{put-runs, found-runs}
 use Rattle.nq_server.proofs.TickedRows.{some-run}
 use Rattle.nq_server.specs.declared.state.Phase.{Phase as Held}

@@ -11,13 +11,13 @@ use Rattle.nq_base.specs.declared.Want.{Want}
 use Rattle.nq_base.specs.declared.Who.{Who}
 use Rattle.nq_keeper.specs.Reading.{read_in, read_out}
 use Rattle.nq_keeper.specs.declared.requests.reading.ReadOut.{ReadOut}
-use Rattle.nq_model.specs.Ask.{ask}
-use Rattle.nq_model.specs.Change.{row_of, row_of_found}
-use Rattle.nq_model.specs.Kept.{File, Kept}
-use Rattle.nq_model.specs.Message.{reply}
-use Rattle.nq_model.specs.Server.{Server, ServerStep, says, after_notices, with_table}
-use Rattle.nq_model.specs.ServerStep.{get_lease, lease_asked, leases, read, read_asked, read_block, read_of, to_read, serves, tells_later}
-use Rattle.nq_model.specs.Table.{Table}
+use Rattle.nq_model.specs.protocol.Ask.{ask}
+use Rattle.nq_model.specs.protocol.Change.{row_of, row_of_found}
+use Rattle.nq_model.specs.protocol.Kept.{File, Kept}
+use Rattle.nq_model.specs.protocol.Message.{reply}
+use Rattle.nq_model.specs.protocol.Server.{Server, ServerStep, says, after_notices, with_table}
+use Rattle.nq_model.specs.protocol.ServerStep.{get_lease, lease_asked, leases, read, read_asked, read_block, read_of, to_read, serves, tells_later}
+use Rattle.nq_model.specs.protocol.Table.{Table}
 use Rattle.nq_server.proofs.LeasedSteps.{read-alike}
 use Rattle.nq_server.specs.Leasing.{asks, file_asked}
 use Rattle.nq_server.specs.State.{Beside, server_of}

@@ -15,13 +15,13 @@ use Rattle.nq_lease.specs.declared.evict.notifying.NoticeTo.{NoticeTo}
 use Rattle.nq_lease.specs.declared.evict.notifying.NoticeTo.TheVariants.{Others, Own}
 use Rattle.nq_lease.specs.Telling.{told_rows, own_rows}
 use Rattle.nq_base.specs.Entries.{EntryList}
-use Rattle.nq_model.specs.Ask.{Reply as Told, ask, ask_past, ask_freely, ask_for, renew, share_again, put_off, put_off_by_own, granted, free}
-use Rattle.nq_model.specs.Ask.{no_lease, caching_row, sharing_row, conflicts, shares, term_of}
-use Rattle.nq_model.specs.Kept.{File, Kept}
-use Rattle.nq_model.specs.Profile.{most_rows}
-use Rattle.nq_model.specs.Server.{Server, ServerStep, serving}
-use Rattle.nq_model.specs.ServerStep.{noticed, lease_asked, leases, read_asked, serves, tells_later}
-use Rattle.nq_model.specs.Table.{Table, caches, find_row}
+use Rattle.nq_model.specs.protocol.Ask.{Reply as Told, ask, ask_past, ask_freely, ask_for, renew, share_again, put_off, put_off_by_own, granted, free}
+use Rattle.nq_model.specs.protocol.Ask.{no_lease, caching_row, sharing_row, conflicts, shares, term_of}
+use Rattle.nq_model.specs.protocol.Kept.{File, Kept}
+use Rattle.nq_model.specs.protocol.Profile.{most_rows}
+use Rattle.nq_model.specs.protocol.Server.{Server, ServerStep, serving}
+use Rattle.nq_model.specs.protocol.ServerStep.{noticed, lease_asked, leases, read_asked, serves, tells_later}
+use Rattle.nq_model.specs.protocol.Table.{Table, caches, find_row}
 use Rattle.nq_keeper.specs.declared.KeepFault.{KeepFault}
 use Rattle.nq_keeper.specs.declared.KeepFault.TheVariants.{Failed, Memory}
 use Rattle.nq_server.specs.declared.received.Taken.{Taken}

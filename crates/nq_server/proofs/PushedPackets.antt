@@ -5,7 +5,7 @@ use Rattle.std.proofs.lemmas.List.{append_assoc, map-append}
 use Rattle.std.proofs.lemmas.List.Elements.{All-nil, All-cons, All-head, All-push}
 use Rattle.nq_base.specs.declared.Party.{Party}
 use Rattle.nq_datagrams.specs.Sent.{FitsPacket, sent}
-use Rattle.nq_model.specs.Message.{Packet}
+use Rattle.nq_model.specs.protocol.Message.{Packet}
 use Rattle.nq_server.specs.Stepping.{Sends}
 use Rattle.nq_wire.specs.Outbox.{Datagrams}
 

@@ -4,11 +4,11 @@ use Rattle.std.specs.Prelude.{nat_lt}
 use Rattle.std.proofs.lemmas.Bool.Decides.{nat_tests}
 use Rattle.nq_base.specs.declared.Request.{Request}
 use Rattle.nq_base.specs.declared.Who.{Who}
-use Rattle.nq_model.specs.Kept.{host_row}
-use Rattle.nq_model.specs.Message.{wrong_host}
-use Rattle.nq_model.specs.Profile.{most_hosts}
-use Rattle.nq_model.specs.Server.{Server, drops}
-use Rattle.nq_model.specs.ServerStep.{admit, answer_request}
+use Rattle.nq_model.specs.protocol.Kept.{host_row}
+use Rattle.nq_model.specs.protocol.Message.{wrong_host}
+use Rattle.nq_model.specs.protocol.Profile.{most_hosts}
+use Rattle.nq_model.specs.protocol.Server.{Server, drops}
+use Rattle.nq_model.specs.protocol.ServerStep.{admit, answer_request}
 
 pub same-host : (host sender : ℕ) → (host == sender && nat_lt host most_hosts) ≡ true → host ≡ sender
 same-host host sender h = grind (arith, nat_tests)

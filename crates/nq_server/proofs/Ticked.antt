@@ -18,10 +18,10 @@ use Rattle.nq_base.specs.Entries.{EntryList}
 use Rattle.nq_keeper.specs.declared.KeepFault.{KeepFault}
 use Rattle.nq_keeper.specs.declared.KeepFault.TheVariants.{Failed, Memory}
 use Rattle.nq_lease.specs.Rows.{key_of}
-use Rattle.nq_model.specs.Kept.{Kept, can_rise, find_file}
-use Rattle.nq_model.specs.Server.{serving, recovering, ServerStep, taken, quiet, with_table, keeping_with}
-use Rattle.nq_model.specs.ServerStep.{is_due, end_reading, end_writing, ends_writing, fence, opens, at_time, tick, tick_in}
-use Rattle.nq_model.specs.Table.{Table, drop_row, with_rows}
+use Rattle.nq_model.specs.protocol.Kept.{Kept, can_rise, find_file}
+use Rattle.nq_model.specs.protocol.Server.{serving, recovering, ServerStep, taken, quiet, with_table, keeping_with}
+use Rattle.nq_model.specs.protocol.ServerStep.{is_due, end_reading, end_writing, ends_writing, fence, opens, at_time, tick, tick_in}
+use Rattle.nq_model.specs.protocol.Table.{Table, drop_row, with_rows}
 use Rattle.nq_server.specs.declared.received.Taken.TheVariants.{Done}
 use Rattle.nq_server.specs.declared.ticks.Opened.{Opened}
 use Rattle.nq_server.specs.declared.state.Phase.{Phase as Held}

@@ -6,8 +6,8 @@ use Rattle.std.proofs.lemmas.Bool.Decides.{nat_tests}
 use Rattle.nq_base.specs.declared.Row.{Row}
 use Rattle.nq_base.specs.declared.Mode.{Mode}
 use Rattle.nq_base.specs.declared.Mode.TheVariants.{NonCaching, Reading, Writing}
-use Rattle.nq_model.specs.ServerStep.{is_over, is_due, end_reading}
-use Rattle.nq_model.specs.Table.{is_writing, caches}
+use Rattle.nq_model.specs.protocol.ServerStep.{is_over, is_due, end_reading}
+use Rattle.nq_model.specs.protocol.Table.{is_writing, caches}
 use Rattle.nq_server.specs.Sound.{Runs, RowsRun}
 
 -- a row that is over is not due

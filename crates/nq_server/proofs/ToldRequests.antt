@@ -13,8 +13,9 @@ use Rattle.nq_base.specs.declared.Request.TheVariants.{Null, Attach, Lookup, Cre
 use Rattle.nq_base.specs.declared.Verdict.{Verdict}
 use Rattle.nq_base.specs.declared.Who.{Who}
 use Rattle.nq_base.specs.Entries.{EntryList}
-use Rattle.nq_model.specs.Decided.{Aside, aside_in, decided_answer, decided_step, done_aside, fresh_change, fresh_step, gate_of, written_aside, entry_aside}
-use Rattle.nq_model.specs.Server.{Phase, Server, serving, recovering}
+use Rattle.nq_model.specs.protocol.Decided.{Aside, aside_in, decided_answer, decided_step, done_aside, fresh_change, fresh_step, gate_of, written_aside}
+use Rattle.nq_model.specs.protocol.Decided.{entry_aside}
+use Rattle.nq_model.specs.protocol.Server.{Phase, Server, serving, recovering}
 use Rattle.nq_server.specs.Deciding.{Concludes, as_told}
 use Rattle.nq_server.specs.State.{Beside}
 use Rattle.nq_server.specs.declared.received.Taken.{Taken}

@@ -3,8 +3,8 @@ use Rattle.std.proofs.Common.{◌≡◌, ◌==◌, ℕ, Bool, true, false, ◌&&
 use Rattle.nq_base.specs.declared.Row.{Row}
 use Rattle.nq_base.specs.declared.Tag.{Tag}
 use Rattle.nq_base.specs.declared.Who.{Who}
-use Rattle.nq_model.specs.ServerStep.{vacated_rows}
-use Rattle.nq_model.specs.Table.{same_tag, is_row_of, drop_row}
+use Rattle.nq_model.specs.protocol.ServerStep.{vacated_rows}
+use Rattle.nq_model.specs.protocol.Table.{same_tag, is_row_of, drop_row}
 use Rattle.nq_server.proofs.TickedRows.{some-run}
 use Rattle.nq_server.specs.declared.state.Phase.{Phase}
 use Rattle.nq_server.specs.declared.state.Phase.TheVariants.{Serving, Recovering}

@@ -9,10 +9,10 @@ use Rattle.nq_keeper.specs.declared.requests.boot.starting.Started.TheVariants a
 use Rattle.nq_keeper.specs.Booting.{IsOfTerm, last_boot, started_of}
 use Rattle.nq_io.specs.Faults.{Rose}
 use Rattle.nq_keeper.specs.Keeping.{StaysOrEnds}
-use Rattle.nq_model.specs.Kept.{Kept}
-use Rattle.nq_model.specs.Profile.{shortest_term, longest_term}
-use Rattle.nq_model.specs.ServerStep.{booted}
-use Rattle.nq_model.specs.Table.{Table, empty_table}
+use Rattle.nq_model.specs.protocol.Kept.{Kept}
+use Rattle.nq_model.specs.protocol.Profile.{shortest_term, longest_term}
+use Rattle.nq_model.specs.protocol.ServerStep.{booted}
+use Rattle.nq_model.specs.protocol.Table.{Table, empty_table}
 use Rattle.nq_server.specs.declared.booting.Begun.{Begun}
 use Rattle.nq_server.specs.declared.received.Received.{Received}
 use Rattle.nq_server.specs.declared.state.Phase.{Phase}

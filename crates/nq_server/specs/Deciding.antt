@@ -13,12 +13,12 @@ use Rattle.nq_base.specs.declared.Verdict.{Verdict}
 use Rattle.nq_base.specs.declared.Who.{Who}
 use Rattle.nq_keeper.specs.Recovery.{Recovery, after_write}
 use Rattle.nq_base.specs.Entries.{EntryList}
-use Rattle.nq_model.specs.Change.{row_of_found}
-use Rattle.nq_model.specs.Decided.{Aside, aside, decided_answer, kept_length, later_aside, file_to_change}
-use Rattle.nq_model.specs.Kept.{Kept, find_file}
-use Rattle.nq_model.specs.Message.{Packet}
-use Rattle.nq_model.specs.Server.{Server, ServerStep}
-use Rattle.nq_model.specs.Table.{find_row, put_row, drop_host, drop_rows_of}
+use Rattle.nq_model.specs.protocol.Change.{row_of_found}
+use Rattle.nq_model.specs.protocol.Decided.{Aside, aside, decided_answer, kept_length, later_aside, file_to_change}
+use Rattle.nq_model.specs.protocol.Kept.{Kept, find_file}
+use Rattle.nq_model.specs.protocol.Message.{Packet}
+use Rattle.nq_model.specs.protocol.Server.{Server, ServerStep}
+use Rattle.nq_model.specs.protocol.Table.{find_row, put_row, drop_host, drop_rows_of}
 use Rattle.nq_server.specs.declared.deciding.Ready.{Ready}
 use Rattle.nq_server.specs.declared.received.Reason.{Reason}
 use Rattle.nq_server.specs.declared.received.Taken.{Taken}

@@ -6,9 +6,9 @@ use Rattle.nq_keeper.specs.Booting.{last_boot}
 use Rattle.nq_io.specs.Faults.{Rose}
 use Rattle.nq_base.specs.Entries.{EntryList}
 use Rattle.nq_keeper.specs.Keeping.{StaysOrEnds}
-use Rattle.nq_model.specs.Kept.{Kept}
-use Rattle.nq_model.specs.Server.{Server, ServerStep, Outcome, taken, dropped}
-use Rattle.nq_model.specs.ServerStep.{at_time, boot, crash}
+use Rattle.nq_model.specs.protocol.Kept.{Kept}
+use Rattle.nq_model.specs.protocol.Server.{Server, ServerStep, Outcome, taken, dropped}
+use Rattle.nq_model.specs.protocol.ServerStep.{at_time, boot, crash}
 use Rattle.nq_server.specs.declared.received.Received.{Received}
 use Rattle.nq_server.specs.declared.received.Received.TheVariants.{Done, Dropped, Fault, Memory, Spent}
 use Rattle.nq_server.specs.declared.server.BootFault.{BootFault}

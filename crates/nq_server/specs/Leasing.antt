@@ -10,11 +10,11 @@ use Rattle.nq_base.specs.declared.Who.{Who}
 use Rattle.nq_lease.specs.declared.evict.notifying.NoticeTo.{NoticeTo}
 use Rattle.nq_lease.specs.declared.evict.notifying.NoticeTo.TheVariants.{Others, Own}
 use Rattle.nq_base.specs.Entries.{EntryList}
-use Rattle.nq_model.specs.Ask.{conflicts}
-use Rattle.nq_model.specs.Kept.{File}
-use Rattle.nq_model.specs.Server.{ServerStep, serving}
-use Rattle.nq_model.specs.ServerStep.{access_of}
-use Rattle.nq_model.specs.Table.{Table, find_row}
+use Rattle.nq_model.specs.protocol.Ask.{conflicts}
+use Rattle.nq_model.specs.protocol.Kept.{File}
+use Rattle.nq_model.specs.protocol.Server.{ServerStep, serving}
+use Rattle.nq_model.specs.protocol.ServerStep.{access_of}
+use Rattle.nq_model.specs.protocol.Table.{Table, find_row}
 use Rattle.nq_keeper.specs.declared.KeepFault.{KeepFault}
 use Rattle.nq_keeper.specs.declared.KeepFault.TheVariants as keep
 use Rattle.nq_server.specs.declared.received.Taken.{Taken}

@@ -2,9 +2,9 @@
 use Rattle.std.specs.Prelude.{◌≡◌, ◌<◌, ◌≤◌, ◌^◌, ℕ, ◌+◌, List, [], ◌∷◌, Option, Some, None, false}
 use Rattle.nq_base.specs.declared.Row.{Row}
 use Rattle.nq_keeper.specs.Recovery.{Recovery}
-use Rattle.nq_model.specs.Profile.{shortest_term, longest_term, most_taken_by_server}
-use Rattle.nq_model.specs.Server.{serving}
-use Rattle.nq_model.specs.Table.{caches}
+use Rattle.nq_model.specs.protocol.Profile.{shortest_term, longest_term, most_taken_by_server}
+use Rattle.nq_model.specs.protocol.Server.{serving}
+use Rattle.nq_model.specs.protocol.Table.{caches}
 use Rattle.nq_server.specs.declared.state.Phase.{Phase}
 use Rattle.nq_server.specs.declared.state.Phase.TheVariants.{Serving, Recovering}
 use Rattle.nq_server.specs.declared.state.State.{State}

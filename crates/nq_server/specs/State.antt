@@ -1,9 +1,9 @@
 -- What a server holds beside what it keeps, as the protocol sees it.
 use Rattle.std.specs.Prelude.{ℕ, Option, Some, None}
 use Rattle.nq_keeper.specs.Recovery.{Recovery}
-use Rattle.nq_model.specs.Kept.{Kept}
-use Rattle.nq_model.specs.Server.{Phase, serving, recovering, Server}
-use Rattle.nq_model.specs.Table.{Table}
+use Rattle.nq_model.specs.protocol.Kept.{Kept}
+use Rattle.nq_model.specs.protocol.Server.{Phase, serving, recovering, Server}
+use Rattle.nq_model.specs.protocol.Table.{Table}
 use Rattle.nq_server.specs.declared.state.Phase.{Phase as Held}
 use Rattle.nq_server.specs.declared.state.Phase.TheVariants as held
 use Rattle.nq_server.specs.declared.state.State.{State}

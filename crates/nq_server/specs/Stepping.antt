@@ -9,10 +9,10 @@ use Rattle.nq_datagrams.specs.Sent.{FitsPacket}
 use Rattle.nq_io.specs.Faults.{Rose}
 use Rattle.nq_base.specs.Entries.{EntryList}
 use Rattle.nq_keeper.specs.Keeping.{StaysOrEnds}
-use Rattle.nq_model.specs.Kept.{Kept}
-use Rattle.nq_model.specs.Message.{Packet, Reason as Cause, was_too_long, was_no_message, was_no_call, wrong_host, old_incarnation, out_of_bounds}
-use Rattle.nq_model.specs.Message.{no_reply_owed}
-use Rattle.nq_model.specs.Server.{ServerStep, Outcome, taken, dropped}
+use Rattle.nq_model.specs.protocol.Kept.{Kept}
+use Rattle.nq_model.specs.protocol.Message.{Packet, Reason as Cause, was_too_long, was_no_message, was_no_call, wrong_host, old_incarnation, out_of_bounds}
+use Rattle.nq_model.specs.protocol.Message.{no_reply_owed}
+use Rattle.nq_model.specs.protocol.Server.{ServerStep, Outcome, taken, dropped}
 use Rattle.nq_xdr.specs.RpcFault.{fault_number}
 use Rattle.nq_keeper.specs.declared.KeepFault.{KeepFault}
 use Rattle.nq_keeper.specs.declared.KeepFault.TheVariants as keep

@@ -12,9 +12,9 @@ use Rattle.nq_io.specs.Faults.{Rose}
 use Rattle.nq_keeper.specs.Keeping.{StaysOrEnds}
 use Rattle.nq_keeper.specs.declared.KeepFault.{KeepFault}
 use Rattle.nq_keeper.specs.declared.KeepFault.TheVariants as keep
-use Rattle.nq_model.specs.Kept.{Kept, can_rise, find_file}
-use Rattle.nq_model.specs.Server.{serving}
-use Rattle.nq_model.specs.Table.{Table, drop_row, with_rows}
+use Rattle.nq_model.specs.protocol.Kept.{Kept, can_rise, find_file}
+use Rattle.nq_model.specs.protocol.Server.{serving}
+use Rattle.nq_model.specs.protocol.Table.{Table, drop_row, with_rows}
 use Rattle.nq_server.specs.declared.ticks.Opened.{Opened}
 use Rattle.nq_server.specs.State.{Beside}
 

@@ -1,9 +1,9 @@
 //! What a request that is decided once does beside the kept state.
 
 ghost use Rattle.std.specs.Prelude.{◌≡◌, ◌<◌, ◌≤◌, ◌^◌, Some, true};
-ghost use Rattle.nq_model.specs.Decided.{done_aside, file_to_change as changed_file, later_aside};
-ghost use Rattle.nq_model.specs.Kept.{Kept};
-ghost use Rattle.nq_model.specs.Table.{find_row, with_rows};
+ghost use Rattle.nq_model.specs.protocol.Decided.{done_aside, file_to_change as changed_file, later_aside};
+ghost use Rattle.nq_model.specs.protocol.Kept.{Kept};
+ghost use Rattle.nq_model.specs.protocol.Table.{find_row, with_rows};
 ghost use Rattle.nq_server.specs.Deciding.{DoesAside, DoesIfFresh, entries_of, entries_recovering, entries_serving, file_to_tell as told_file, heard_rows, length_in, recovery_after, rows_serving};
 ghost use Rattle.nq_server.specs.Sound.{IsSound, StaysSound};
 ghost use Rattle.nq_server.specs.State.{beside_of, phase_of, server_of};
@@ -19,7 +19,7 @@ use nq_keeper::requests::boot::Recovering;
 use nq_lease::Table;
 
 /// A write of the holder of this row was heard now.
-#[tactic(auto, unfolding(nq_model::specs::Table::with_rows))]
+#[tactic(auto, unfolding(nq_model::specs::protocol::Table::with_rows))]
 fn put_heard(table: &mut Table, row: &Row, time: Ticks)
     requires { find_row row.now.file row.now.who.host table.old.rows ≡ Some row.now }
     ensures { table.new ≡ with_rows table.old (heard_rows time (Some row.now) table.old.rows) }
@@ -32,7 +32,7 @@ fn put_heard(table: &mut Table, row: &Row, time: Ticks)
 }
 
 /// A write of the holder of a row was heard now.
-#[tactic(auto, unfolding(nq_model::specs::Table::with_rows))]
+#[tactic(auto, unfolding(nq_model::specs::protocol::Table::with_rows))]
 fn hear(table: &mut Table, file: FileId, host: Host, time: Ticks)
     ensures { table.new ≡ with_rows table.old (heard_rows time (find_row file host table.old.rows) table.old.rows) }
 {
@@ -118,7 +118,7 @@ fn told_serving(who: &Who, request: &Request, length: u32, now: Ticks) -> Option
 }
 
 /// What a request that was done while serving does to the rows.
-#[tactic(auto, unfolding(nq_model::specs::Table::with_rows))]
+#[tactic(auto, unfolding(nq_model::specs::protocol::Table::with_rows))]
 fn change_rows(table: &mut Table, who: &Who, request: &Request, now: Ticks)
     ensures { table.new ≡ with_rows table.old (rows_serving who.now request.now now table.old.rows) }
 {
@@ -207,7 +207,7 @@ fn done(state: &mut State, who: Who, request: &Request, length: u32, log: &mut J
 }
 
 /// What is done beside the kept state where a request was put off: the rows in the way are to be given up.
-#[tactic(auto, unfolding(nq_model::specs::Decided::put_off_aside, nq_model::specs::Decided::nothing_aside, nq_model::specs::Table::with_rows))]
+#[tactic(auto, unfolding(nq_model::specs::protocol::Decided::put_off_aside, nq_model::specs::protocol::Decided::nothing_aside, nq_model::specs::protocol::Table::with_rows))]
 fn put_off(state: &mut State, who: Who, file: Option<FileId>, notice: u32, log: &Journal)
     requires { IsSound state.old }
     ensures stays { StaysSound state.old state.new }

@@ -2,11 +2,11 @@
 
 ghost use Rattle.std.specs.Prelude.{◌≡◌, ◌<◌, ◌≤◌, ◌^◌, ◌+◌, [], ◌∷◌, ◌++◌, IfOk, None};
 ghost use Rattle.nq_keeper.specs.Booting.{LeavesThen, start_fault, started_of};
-ghost use Rattle.nq_model.specs.Change.{heads_of};
-ghost use Rattle.nq_model.specs.Kept.{Kept};
-ghost use Rattle.nq_model.specs.Server.{last_in};
-ghost use Rattle.nq_model.specs.ServerStep.{boot as booted_server, booted};
-ghost use Rattle.nq_model.specs.Table.{empty_table};
+ghost use Rattle.nq_model.specs.protocol.Change.{heads_of};
+ghost use Rattle.nq_model.specs.protocol.Kept.{Kept};
+ghost use Rattle.nq_model.specs.protocol.Server.{last_in};
+ghost use Rattle.nq_model.specs.protocol.ServerStep.{boot as booted_server, booted};
+ghost use Rattle.nq_model.specs.protocol.Table.{empty_table};
 ghost use Rattle.nq_server.specs.Booting.{Begins, IsFitToBegin, phase_begun, with_last};
 ghost use Rattle.nq_server.specs.Sound.{IsSoundAfter};
 ghost use Rattle.nq_server.specs.State.{beside, beside_of, phase_of};

@@ -7,10 +7,10 @@ ghost use Rattle.nq_datagrams.specs.Sent.{sent};
 ghost use Rattle.nq_keeper.specs.Deciding.{IsOfHost};
 ghost use Rattle.nq_base.specs.Entries.{EntryList};
 ghost use Rattle.nq_keeper.specs.Keeping.{LeavesOne, Reads};
-ghost use Rattle.nq_model.specs.Change.{heads_of};
-ghost use Rattle.nq_model.specs.Decided.{decided as decided_of, decided_step, gate_of, is_decided_once, later_aside};
-ghost use Rattle.nq_model.specs.Kept.{Kept};
-ghost use Rattle.nq_model.specs.Message.{Packet};
+ghost use Rattle.nq_model.specs.protocol.Change.{heads_of};
+ghost use Rattle.nq_model.specs.protocol.Decided.{decided as decided_of, decided_step, gate_of, is_decided_once, later_aside};
+ghost use Rattle.nq_model.specs.protocol.Kept.{Kept};
+ghost use Rattle.nq_model.specs.protocol.Message.{Packet};
 ghost use Rattle.nq_server.specs.Answering.{IsSilent};
 ghost use Rattle.nq_server.specs.Deciding.{Concludes, IsReady, Warns, as_told, file_to_tell as told_file, is_put_off, length_in, warnings_if};
 ghost use Rattle.nq_server.specs.Sound.{IsSound, StaysSound};
@@ -77,7 +77,7 @@ fn read_before<K: Keeper>(keeper: &mut K, request: &Request) -> Result<Before, K
 
 /// Sends the notices that are due where an incarnation that is about to change a file is put off, with numbers from
 /// `notice` on.
-#[tactic(auto, unfolding(nq_model::specs::Decided::put_off_aside, nq_model::specs::Decided::nothing_aside))]
+#[tactic(auto, unfolding(nq_model::specs::protocol::Decided::put_off_aside, nq_model::specs::protocol::Decided::nothing_aside))]
 fn warn(
     alloc: Global,
     state: &State,
@@ -177,7 +177,7 @@ fn keep_warnings(decided: &Decided, len: usize, out: &mut Outbox)
 }
 
 /// Answers a request that was decided, and does what is due beside the kept state. It takes no memory.
-#[tactic(auto, unfolding(nq_model::specs::Decided::fresh_step, nq_model::specs::Server::says, nq_model::specs::Server::drops))]
+#[tactic(auto, unfolding(nq_model::specs::protocol::Decided::fresh_step, nq_model::specs::protocol::Server::says, nq_model::specs::protocol::Server::drops))]
 fn conclude(
     state: &mut State,
     caller: Caller,

@@ -1,9 +1,9 @@
 //! What a server knows when an incarnation is about to change a file.
 
 ghost use Rattle.std.specs.Prelude.{◌≡◌};
-ghost use Rattle.nq_model.specs.Change.{heads_of};
-ghost use Rattle.nq_model.specs.Decided.{file_to_change as changed_file, gate_in, is_held_writing};
-ghost use Rattle.nq_model.specs.Kept.{Kept};
+ghost use Rattle.nq_model.specs.protocol.Change.{heads_of};
+ghost use Rattle.nq_model.specs.protocol.Decided.{file_to_change as changed_file, gate_in, is_held_writing};
+ghost use Rattle.nq_model.specs.protocol.Kept.{Kept};
 ghost use Rattle.nq_server.specs.Deciding.{file_to_tell as told_file};
 ghost use Rattle.nq_server.specs.State.{beside_of, phase_of, server_of};
 

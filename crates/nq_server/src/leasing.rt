@@ -4,10 +4,10 @@ ghost use Rattle.std.specs.Prelude.{◌≡◌, ◌≤◌, ◌+◌, OnOk, OnErr, 
 ghost use Rattle.nq_lease.specs.Telling.{told_rows};
 ghost use Rattle.nq_base.specs.Entries.{EntryList};
 ghost use Rattle.nq_keeper.specs.Keeping.{LeavesOne};
-ghost use Rattle.nq_model.specs.Ask.{ask as asked_of};
-ghost use Rattle.nq_model.specs.Kept.{Kept, find_file};
-ghost use Rattle.nq_model.specs.Server.{Server};
-ghost use Rattle.nq_model.specs.ServerStep.{access_of as access_as, get_lease as gets_lease, grants, lease_asked, leases, read as reads, read_asked, serves, tells_later};
+ghost use Rattle.nq_model.specs.protocol.Ask.{ask as asked_of};
+ghost use Rattle.nq_model.specs.protocol.Kept.{Kept, find_file};
+ghost use Rattle.nq_model.specs.protocol.Server.{Server};
+ghost use Rattle.nq_model.specs.protocol.ServerStep.{access_of as access_as, get_lease as gets_lease, grants, lease_asked, leases, read as reads, read_asked, serves, tells_later};
 ghost use Rattle.nq_server.specs.Leasing.{Does, HasRoom, MakesBeside, MayAsk, asks, file_asked, granted_in as grant_of, to_tell as to_tell_of};
 ghost use Rattle.nq_server.specs.Sound.{MayServe, StaysSound};
 ghost use Rattle.nq_server.specs.State.{beside_of, server_of};
@@ -159,7 +159,7 @@ fn enter_grant(log: &mut Journal, question: &Question, grant: &Option<Grant>)
 }
 
 /// Puts the asker off.
-#[tactic(auto, unfolding(nq_model::specs::ServerStep::tells_later, nq_model::specs::Server::after_notices))]
+#[tactic(auto, unfolding(nq_model::specs::protocol::ServerStep::tells_later, nq_model::specs::protocol::Server::after_notices))]
 fn later(
     alloc: Global,
     state: &mut State,
@@ -188,7 +188,7 @@ fn later(
 }
 
 /// Grants a lease, where nobody is put off, and ends the reply, for which there is room. It takes no memory.
-#[tactic(auto, unfolding(nq_model::specs::ServerStep::leases, nq_model::specs::Server::with_table))]
+#[tactic(auto, unfolding(nq_model::specs::protocol::ServerStep::leases, nq_model::specs::protocol::Server::with_table))]
 fn give(
     state: &mut State,
     question: &Question,
@@ -262,7 +262,7 @@ pub(crate) fn get_lease<K: Keeper>(
 }
 
 /// Serves a block, where nobody is put off, and ends the reply, for which there is room. It takes no memory.
-#[tactic(auto, unfolding(nq_model::specs::ServerStep::serves, nq_model::specs::Server::with_table))]
+#[tactic(auto, unfolding(nq_model::specs::protocol::ServerStep::serves, nq_model::specs::protocol::Server::with_table))]
 fn serve(
     state: &mut State,
     question: &Question,

@@ -3,8 +3,8 @@
 ghost use Rattle.std.specs.Prelude.{◌≡◌};
 ghost use Rattle.nq_base.specs.Entries.{EntryList};
 ghost use Rattle.nq_keeper.specs.Keeping.{LeavesOne};
-ghost use Rattle.nq_model.specs.Kept.{find_file, find_name};
-ghost use Rattle.nq_model.specs.ServerStep.{get_attr as gets_attributes, look_up as looks_up};
+ghost use Rattle.nq_model.specs.protocol.Kept.{find_file, find_name};
+ghost use Rattle.nq_model.specs.protocol.ServerStep.{get_attr as gets_attributes, look_up as looks_up};
 ghost use Rattle.nq_server.specs.Answering.{attributes as attributes_as, looked_up as looked_up_as};
 ghost use Rattle.nq_server.specs.State.{Beside, server_of};
 ghost use Rattle.nq_server.specs.Stepping.{Takes};

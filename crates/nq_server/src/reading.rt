@@ -3,8 +3,8 @@
 ghost use Rattle.std.specs.Prelude.{ℕ, ◌<◌, ◌^◌};
 ghost use Rattle.nq_base.specs.Entries.{EntryList};
 ghost use Rattle.nq_datagrams.specs.Told.{told};
-ghost use Rattle.nq_model.specs.Kept.{Kept};
-ghost use Rattle.nq_model.specs.ServerStep.{receive};
+ghost use Rattle.nq_model.specs.protocol.Kept.{Kept};
+ghost use Rattle.nq_model.specs.protocol.ServerStep.{receive};
 ghost use Rattle.nq_server.specs.Answering.{IsNoRequest};
 ghost use Rattle.nq_server.specs.Leasing.{Does};
 ghost use Rattle.nq_server.specs.Sound.{IsSound, StaysSound};

@@ -3,12 +3,12 @@
 ghost use Rattle.std.specs.Prelude.{◌≡◌, ◌<◌, ◌^◌, ◌==◌, ◌&&◌, false, nat_lt};
 ghost use Rattle.nq_base.specs.declared.HostRow.{HostRow as Line};
 ghost use Rattle.nq_base.specs.Entries.{EntryList};
-ghost use Rattle.nq_model.specs.Decided.{is_decided_once as decided_once};
-ghost use Rattle.nq_model.specs.Message.{asker as asked_by};
-ghost use Rattle.nq_model.specs.Profile.{most_hosts};
-ghost use Rattle.nq_model.specs.ServerStep.{admit as admits, answer_request, look as looks, not_attached as is_not_attached, perform as performs};
-ghost use Rattle.nq_model.specs.Server.{serving};
-ghost use Rattle.nq_model.specs.Kept.{Kept, host_row};
+ghost use Rattle.nq_model.specs.protocol.Decided.{is_decided_once as decided_once};
+ghost use Rattle.nq_model.specs.protocol.Message.{asker as asked_by};
+ghost use Rattle.nq_model.specs.protocol.Profile.{most_hosts};
+ghost use Rattle.nq_model.specs.protocol.ServerStep.{admit as admits, answer_request, look as looks, not_attached as is_not_attached, perform as performs};
+ghost use Rattle.nq_model.specs.protocol.Server.{serving};
+ghost use Rattle.nq_model.specs.protocol.Kept.{Kept, host_row};
 ghost use Rattle.nq_keeper.specs.Keeping.{LeavesOne};
 ghost use Rattle.nq_server.specs.Leasing.{Does};
 ghost use Rattle.nq_server.specs.Sound.{IsSound, MayServe, StaysSound};
@@ -62,7 +62,7 @@ fn is_decided_once(request: &Request) -> bool
 }
 
 /// Answers a request of an incarnation that is not attached.
-#[tactic(auto, unfolding(nq_model::specs::Server::quiet, nq_model::specs::Server::says))]
+#[tactic(auto, unfolding(nq_model::specs::protocol::Server::quiet, nq_model::specs::protocol::Server::says))]
 fn not_attached(
     alloc: Global,
     caller: Caller,
@@ -78,7 +78,7 @@ fn not_attached(
 }
 
 /// Answers, while serving, a request that changes no file.
-#[tactic(auto, unfolding(nq_model::specs::Server::quiet))]
+#[tactic(auto, unfolding(nq_model::specs::protocol::Server::quiet))]
 fn look<K: Keeper>(
     alloc: Global,
     keeper: &mut K,
@@ -131,7 +131,7 @@ fn look<K: Keeper>(
 }
 
 /// Answers a request that is not decided once, of the incarnation that is attached.
-#[tactic(auto, unfolding(nq_model::specs::Server::quiet, nq_model::specs::Server::says, nq_model::specs::Server::with_table, nq_model::specs::ServerStep::vacates))]
+#[tactic(auto, unfolding(nq_model::specs::protocol::Server::quiet, nq_model::specs::protocol::Server::says, nq_model::specs::protocol::Server::with_table, nq_model::specs::protocol::ServerStep::vacates))]
 fn perform<K: Keeper>(
     alloc: Global,
     keeper: &mut K,

@@ -3,9 +3,9 @@
 ghost use Rattle.std.specs.Prelude.{◌≡◌, ◌<◌, ◌≤◌, ◌^◌, [], ◌++◌, ◌∷◌, IsSome, find, reverse};
 ghost use Rattle.std.specs.Option.{ForSome};
 ghost use Rattle.nq_keeper.specs.Booting.{LeavesThen, ended_at};
-ghost use Rattle.nq_model.specs.Profile.{shortest_term, longest_term};
-ghost use Rattle.nq_model.specs.Server.{serving};
-ghost use Rattle.nq_model.specs.ServerStep.{is_due, tick as ticked};
+ghost use Rattle.nq_model.specs.protocol.Profile.{shortest_term, longest_term};
+ghost use Rattle.nq_model.specs.protocol.Server.{serving};
+ghost use Rattle.nq_model.specs.protocol.ServerStep.{is_due, tick as ticked};
 ghost use Rattle.nq_server.specs.Sound.{IsSound, StaysSound};
 ghost use Rattle.nq_server.specs.State.{beside_of, phase_of, server_of};
 ghost use Rattle.nq_server.specs.Stepping.{LeavesStep, Takes};

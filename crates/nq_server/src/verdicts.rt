@@ -3,7 +3,7 @@
 ghost use Rattle.std.specs.Prelude.{◌≡◌, ◌≤◌, IfSome};
 ghost use Rattle.nq_base.specs.declared.Reply.{Reply as Answer};
 ghost use Rattle.nq_base.specs.declared.Verdict.{Verdict as Said};
-ghost use Rattle.nq_model.specs.Decided.{decided_answer};
+ghost use Rattle.nq_model.specs.protocol.Decided.{decided_answer};
 ghost use Rattle.nq_server.specs.Deciding.{answer_to as answer_of, dropped_for};
 ghost use Rattle.nq_wire.specs.Reply.{results_len};
 

@@ -6,7 +6,7 @@ use Rattle.nq_base.specs.declared.ending.ending.Ending.{Ending}
 use Rattle.nq_plan.specs.Standing.{stands_as}
 use Rattle.nq_serving.specs.Serving.{EndsBy}
 use Rattle.nq_io.specs.Faults.{Rose}
-use Rattle.nq_model.specs.Kept.{Kept}
+use Rattle.nq_model.specs.protocol.Kept.{Kept}
 use Rattle.nq_service.specs.Serving.{PrintsBehind, first_wrong}
 use Rattle.nq_store.specs.Storing.{GoesOn, HasRisen, IsFresh, IsKept, StoredStore, faults_of, kept_of, kept_on}
 use Rattle.nq_store.proofs.Risen.{risen_over}

@@ -5,7 +5,7 @@ use Rattle.nq_serving.specs.Running.{HaltsBy}
 use Rattle.nq_serving.specs.declared.turning.LinkPolicy.{LinkPolicy}
 use Rattle.nq_base.specs.declared.ending.halt.Halt.{Halt}
 use Rattle.nq_io.specs.Faults.{Rose}
-use Rattle.nq_model.specs.Kept.{Kept}
+use Rattle.nq_model.specs.protocol.Kept.{Kept}
 use Rattle.nq_service.specs.MountServing.{StoodStill}
 use Rattle.nq_store.specs.Storing.{GoesOn, HasRisen, IsFresh, StoredStore, counted, faults_of}
 use Rattle.nq_store.proofs.Risen.{risen_over}

@@ -8,7 +8,7 @@ use Rattle.nq_plan.specs.Formatted.{StandsForNothing, TellsNothing}
 use Rattle.nq_plan.specs.Standing.{stands_as}
 use Rattle.nq_image.specs.Nothing.{nothing_kept}
 use Rattle.nq_io.specs.Faults.{Rose}
-use Rattle.nq_model.specs.Kept.{Kept}
+use Rattle.nq_model.specs.protocol.Kept.{Kept}
 use Rattle.nq_store.proofs.Emptied.{nothing_on}
 use Rattle.nq_service.proofs.MountFailing.{failed_by, stood_still}
 use Rattle.nq_service.proofs.LeftFirst.{left_either, left_first, left_same}

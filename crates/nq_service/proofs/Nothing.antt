@@ -3,7 +3,7 @@ use Rattle.std.proofs.Common.{◌≡◌, ℕ, List, Option, Some, refl, ap, ◌�
 use Rattle.nq_plan.specs.Formatted.{TellsNothing}
 use Rattle.nq_image.specs.Nothing.{nothing_kept}
 use Rattle.nq_keeper.specs.StoredKeeper.{empty_kept}
-use Rattle.nq_model.specs.Kept.{Kept}
+use Rattle.nq_model.specs.protocol.Kept.{Kept}
 use Rattle.nq_store.proofs.Emptied.{nothing_told}
 use Rattle.nq_store.specs.Storing.{kept_told}
 

@@ -7,7 +7,7 @@ use Rattle.nq_serving.specs.Extending.{no_extension}
 use Rattle.nq_serving.specs.LeavingTurns.{IsLeftInRuns, LeavesServing}
 use Rattle.nq_serving.specs.Serving.{Tells}
 use Rattle.nq_serving.specs.declared.turning.LinkPolicy.{LinkPolicy}
-use Rattle.nq_model.specs.Kept.{Kept}
+use Rattle.nq_model.specs.protocol.Kept.{Kept}
 use Rattle.nq_clock.specs.Clocks.{ClockTold}
 use Rattle.nq_link.specs.Links.{LinkTold}
 use Rattle.nq_service.specs.Serving.{EndsServing, ServesStore, StaysSame, Survives}

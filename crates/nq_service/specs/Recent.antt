@@ -2,7 +2,7 @@
 use Rattle.std.specs.Prelude.{◌≡◌, ◌≤◌, ℕ, All, List, Option, Some, length}
 use Rattle.std.specs.Option.{ForSome}
 use Rattle.nq_keeper.specs.Keeping.{body_at}
-use Rattle.nq_model.specs.Kept.{Kept, find_file}
+use Rattle.nq_model.specs.protocol.Kept.{Kept, find_file}
 use Rattle.nq_service.specs.declared.recent.pieces.Piece.{Piece}
 
 -- these bytes are the body of a block of a file, where a keeper tells what it keeps

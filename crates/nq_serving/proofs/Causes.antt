@@ -5,7 +5,7 @@ use Rattle.nq_base.specs.declared.ending.halt.Halt.{Halt}
 use Rattle.nq_serving.specs.Running.{HaltsBy}
 use Rattle.nq_serving.specs.Serving.{EndsBy, Tells, TellsTurns, turns_line}
 use Rattle.nq_serving.specs.declared.turning.LinkPolicy.{LinkPolicy}
-use Rattle.nq_model.specs.Kept.{Kept}
+use Rattle.nq_model.specs.protocol.Kept.{Kept}
 
 -- an end that is told has the cause of its turns, or the sink failed
 pub ends_by : (ended : Result Unit Halt) (line : List ℕ) (result : Ending) (held now : Option (List ℕ)) (told : Option Kept) (keep keep' link link' w w' : ℕ)

@@ -1,8 +1,8 @@
 -- What a stop leaves of two parts of serving, of which one stands behind the other.
 use Rattle.std.proofs.Common.{◌≡◌, ◌⊎◌, ℕ, Option, Some, inl, inr}
 use Rattle.nq_serving.specs.LeavingTurns.{IsBeforeEnd, IsLeftByBoot}
-use Rattle.nq_model.specs.Kept.{Kept}
-use Rattle.nq_model.specs.ServerStep.{booted}
+use Rattle.nq_model.specs.protocol.Kept.{Kept}
+use Rattle.nq_model.specs.protocol.ServerStep.{booted}
 use Rattle.nq_serving.specs.Leaving.{LeavesOnly}
 
 -- behind a boot

@@ -1,7 +1,7 @@
 -- What a stop within the stages of a server's turn leaves.
 use Rattle.std.proofs.Common.{◌≡◌, if◌then◌else◌, ◌⊎◌, ◌∙◌, ℕ, Bool, true, false, List, Option, Some, None, Result, Ok, Err, nat_lt, inl, inr, refl}
 use Rattle.std.proofs.Common.{sym, ap, subst}
-use Rattle.nq_model.specs.Kept.{Kept}
+use Rattle.nq_model.specs.protocol.Kept.{Kept}
 use Rattle.nq_clock.specs.Clocks.{ClockTold, ReadsOnce}
 use Rattle.nq_serving.specs.Leaving.{IsLeftAt, IsLeftBehind, LeavesOnly, LeavesReceiving, LeavesBehind, LeavesStages}
 use Rattle.nq_link.specs.Links.{Letter, LinkTold}

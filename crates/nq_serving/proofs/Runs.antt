@@ -1,7 +1,7 @@
 -- A boot that did not begin.
 use Rattle.std.proofs.Common.{ℕ, Err, Option}
 use Rattle.nq_serving.specs.Running.{NoBoot, halt_of}
-use Rattle.nq_model.specs.Kept.{Kept}
+use Rattle.nq_model.specs.protocol.Kept.{Kept}
 use Rattle.nq_server.specs.Holding.{Boots, keeper_in}
 use Rattle.nq_server.specs.declared.server.BootFault.{BootFault}
 use Rattle.nq_server.specs.declared.server.BootFault.TheVariants as fault

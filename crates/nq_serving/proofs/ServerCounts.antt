@@ -3,9 +3,9 @@ use Rattle.std.proofs.Common.{◌≡◌, ◌+◌, ◌≤◌, ◌⊎◌, inl, inr
 use Rattle.std.proofs.Common.{subst, arith}
 use Rattle.nq_base.specs.Entries.{EntryList}
 use Rattle.nq_link.specs.Link.{Letters}
-use Rattle.nq_model.specs.Kept.{Kept}
-use Rattle.nq_model.specs.Profile.{most_taken_by_server}
-use Rattle.nq_model.specs.Server.{ServerStep}
+use Rattle.nq_model.specs.protocol.Kept.{Kept}
+use Rattle.nq_model.specs.protocol.Profile.{most_taken_by_server}
+use Rattle.nq_model.specs.protocol.Server.{ServerStep}
 use Rattle.nq_clock.specs.Clocks.{ClockTold}
 use Rattle.nq_link.specs.Links.{Letter, LinkTold}
 use Rattle.nq_base.specs.declared.Party.{Party}

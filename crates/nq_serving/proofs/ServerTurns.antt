@@ -4,7 +4,7 @@ use Rattle.nq_base.specs.declared.Party.{Party}
 use Rattle.nq_keeper.specs.declared.KeepFault.{KeepFault}
 use Rattle.nq_keeper.specs.declared.KeepFault.TheVariants as keep
 use Rattle.nq_link.specs.Links.{Letter}
-use Rattle.nq_model.specs.Kept.{Kept}
+use Rattle.nq_model.specs.protocol.Kept.{Kept}
 use Rattle.nq_serving.specs.Extending.{Extension}
 use Rattle.nq_serving.specs.ServerTurn.{Given, Moment, Takes, TakesLetter, TakesOf, answered, datagram, goes_on}
 use Rattle.nq_base.specs.declared.ending.halt.Halt.{Halt}

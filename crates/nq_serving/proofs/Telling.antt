@@ -2,7 +2,7 @@
 use Rattle.std.proofs.Common.{◌≡◌, ◌∙◌, ℕ, Bool, Option, Some, Result, Ok, Err, nat_lt, refl, sym, ap, subst}
 use Rattle.nq_serving.specs.Turning.{Standing, TakesTurn, behind_turn}
 use Rattle.nq_serving.specs.declared.turning.LinkPolicy.{LinkPolicy}
-use Rattle.nq_model.specs.Kept.{Kept}
+use Rattle.nq_model.specs.protocol.Kept.{Kept}
 use Rattle.nq_serving.specs.Extending.{Extension}
 use Rattle.nq_serving.proofs.Leaves.{Tells, came_tells, taken_tells}
 use Rattle.nq_serving.proofs.ServerTurns.{not_link}

@@ -6,8 +6,8 @@ use Rattle.nq_serving.specs.declared.turning.LinkPolicy.{LinkPolicy}
 use Rattle.nq_base.specs.declared.ending.halt.Halt.{Halt}
 use Rattle.nq_serving.specs.Extending.{Extension}
 use Rattle.nq_io.specs.Faults.{Rose}
-use Rattle.nq_model.specs.Kept.{Kept}
-use Rattle.nq_model.specs.Profile.{most_taken_by_server}
+use Rattle.nq_model.specs.protocol.Kept.{Kept}
+use Rattle.nq_model.specs.protocol.Profile.{most_taken_by_server}
 use Rattle.nq_clock.specs.Clocks.{ClockTold}
 use Rattle.nq_link.specs.Links.{LinkTold}
 use Rattle.nq_serving.specs.ServerTurn.{CountsKeep, CountsLink, ServesTurn}

@@ -12,8 +12,8 @@ use Rattle.nq_serving.specs.Extending.{Extension}
 use Rattle.nq_serving.specs.Running.{Booted, NoBoot, halt_of}
 use Rattle.nq_serving.proofs.Joining.{besides, by_boot, further, gone, join}
 use Rattle.nq_serving.proofs.Runs.{none}
-use Rattle.nq_model.specs.Kept.{Kept}
-use Rattle.nq_model.specs.ServerStep.{boot, booted}
+use Rattle.nq_model.specs.protocol.Kept.{Kept}
+use Rattle.nq_model.specs.protocol.ServerStep.{boot, booted}
 use Rattle.nq_serving.proofs.Leaves.{Tells}
 use Rattle.nq_clock.specs.Clocks.{ClockTold}
 use Rattle.nq_serving.specs.Leaving.{IsSettled, LeavesOnly, LeavesTurn}

@@ -7,8 +7,8 @@ use Rattle.nq_base.specs.declared.Party.{Party}
 use Rattle.nq_keeper.specs.Keeping.{LeavesOne, Reads}
 use Rattle.nq_keeper.specs.declared.KeepFault.{KeepFault}
 use Rattle.nq_link.specs.Link.{Letters}
-use Rattle.nq_model.specs.Kept.{Kept}
-use Rattle.nq_model.specs.Server.{Server}
+use Rattle.nq_model.specs.protocol.Kept.{Kept}
+use Rattle.nq_model.specs.protocol.Server.{Server}
 use Rattle.nq_server.specs.Holding.{Holding, IsUntouched}
 
 -- an extension: which datagrams are its own, and what it replies to one of a host, if anything, by the server that it stands beside

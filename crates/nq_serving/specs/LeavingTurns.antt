@@ -8,8 +8,8 @@ use Rattle.nq_serving.specs.Extending.{Extension}
 use Rattle.nq_serving.specs.Turning.{Goes, Standing, TakesTurn, TakesTurns, standing}
 use Rattle.nq_serving.specs.declared.turning.LinkPolicy.{LinkPolicy}
 use Rattle.nq_base.specs.declared.ending.halt.Halt.{Halt}
-use Rattle.nq_model.specs.Kept.{Kept}
-use Rattle.nq_model.specs.ServerStep.{booted}
+use Rattle.nq_model.specs.protocol.Kept.{Kept}
+use Rattle.nq_model.specs.protocol.ServerStep.{booted}
 use Rattle.nq_clock.specs.Clocks.{ClockTold}
 use Rattle.nq_serving.specs.Leaving.{IsLeftInTurn, IsSettled, LeavesOnly}
 use Rattle.nq_link.specs.Links.{LinkTold}

@@ -11,10 +11,10 @@ use Rattle.nq_keeper.specs.declared.KeepFault.{KeepFault}
 use Rattle.nq_keeper.specs.declared.KeepFault.TheVariants as keep
 use Rattle.nq_link.specs.Link.{Letters}
 use Rattle.nq_link.specs.declared.Sent.{Sent}
-use Rattle.nq_model.specs.Kept.{Kept}
-use Rattle.nq_model.specs.Profile.{most_taken_by_server}
-use Rattle.nq_model.specs.Server.{ServerStep}
-use Rattle.nq_model.specs.ServerStep.{receive, tick}
+use Rattle.nq_model.specs.protocol.Kept.{Kept}
+use Rattle.nq_model.specs.protocol.Profile.{most_taken_by_server}
+use Rattle.nq_model.specs.protocol.Server.{ServerStep}
+use Rattle.nq_model.specs.protocol.ServerStep.{receive, tick}
 use Rattle.nq_clock.specs.Clocks.{ClockTold, ReadsOnce}
 use Rattle.nq_link.specs.Links.{Hears, Letter, LinkTold, Posts, ReceivesOnce, most_bytes}
 use Rattle.nq_serving.specs.Extending.{AddsReply, Extension}

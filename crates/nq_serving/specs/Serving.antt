@@ -8,7 +8,7 @@ use Rattle.nq_base.specs.declared.ending.halt.Halt.{Halt}
 use Rattle.nq_io.specs.Faults.{Rose}
 use Rattle.nq_io.specs.Sink.{AppendsFront}
 use Rattle.nq_io.specs.Told.{with_end}
-use Rattle.nq_model.specs.Kept.{Kept}
+use Rattle.nq_model.specs.protocol.Kept.{Kept}
 
 -- the line that tells how many turns were taken
 unfoldable pub turns_line : (turns : ℕ) → List ℕ

@@ -1,7 +1,7 @@
 //! What stands beside a server and answers datagrams that are none of the protocol proper.
 
 ghost use Rattle.std.specs.Prelude.{◌≡◌, ℕ, Bool, List, Option};
-ghost use Rattle.nq_model.specs.Server.{Server as Protocol};
+ghost use Rattle.nq_model.specs.protocol.Server.{Server as Protocol};
 ghost use Rattle.nq_server.specs.State.{server_of};
 ghost use Rattle.nq_serving.specs.Extending.{AddsReply, ReadsOnly};
 

@@ -6,9 +6,9 @@ use Rattle.std.proofs.lemmas.Bool.Decides.{nat_tests}
 use Rattle.nq_base.specs.declared.Push.{Push}
 use Rattle.law_runs.proofs.EachOf.{each-at, each-filter}
 use Rattle.nq_model.proofs.Lists.{each-append}
-use Rattle.nq_model.specs.Client.{is_push_at, dirty_at}
-use Rattle.nq_model.specs.Journal.{Each}
-use Rattle.nq_model.specs.Settle.{overwritten, overwritten_at, with_write}
+use Rattle.nq_model.specs.protocol.Client.{is_push_at, dirty_at}
+use Rattle.nq_model.specs.laws.Journal.{Each}
+use Rattle.nq_model.specs.protocol.Settle.{overwritten, overwritten_at, with_write}
 use Rattle.walk_steps.proofs.Members.{each-in, find-absent}
 use Rattle.walk_steps.proofs.Packets.{In}
 

@@ -3,15 +3,15 @@ use Rattle.std.proofs.Common.{◌≡◌, ℕ, ◌+◌, ◌==◌, Bool, true, fal
 use Rattle.std.specs.Prelude.{slice_get}
 use Rattle.nq_base.specs.declared.Event.{Event}
 use Rattle.nq_base.specs.declared.Party.{Party}
-use Rattle.nq_model.specs.Client.{Client, ClientStep}
-use Rattle.nq_model.specs.Hear.{hear}
-use Rattle.nq_model.specs.Kept.{File, Kept, find_file, with_row, with_files, with_new_file}
-use Rattle.nq_model.specs.Message.{Datagram, Message, Packet, datagram_of}
-use Rattle.nq_model.specs.Server.{Server}
-use Rattle.nq_model.specs.ServerStep.{receive, fence, tick, booted, boot, crash}
-use Rattle.nq_model.specs.Table.{empty_table, with_rows, after_draw}
-use Rattle.nq_model.specs.World.{Head, World, after_server, after_client, at_client, after_hearing, first_kept, deliver_to_client, deliver_to}
-use Rattle.nq_model.specs.World.{deliver, start, step}
+use Rattle.nq_model.specs.protocol.Client.{Client, ClientStep}
+use Rattle.nq_model.specs.protocol.Hear.{hear}
+use Rattle.nq_model.specs.protocol.Kept.{File, Kept, find_file, with_row, with_files, with_new_file}
+use Rattle.nq_model.specs.protocol.Message.{Datagram, Message, Packet, datagram_of}
+use Rattle.nq_model.specs.protocol.Server.{Server}
+use Rattle.nq_model.specs.protocol.ServerStep.{receive, fence, tick, booted, boot, crash}
+use Rattle.nq_model.specs.protocol.Table.{empty_table, with_rows, after_draw}
+use Rattle.nq_model.specs.protocol.World.{Head, World, after_server, after_client, at_client, after_hearing, first_kept, deliver_to_client, deliver_to}
+use Rattle.nq_model.specs.protocol.World.{deliver, start, step}
 use Rattle.nq_stage.specs.Answering.{Answer, write, unstaged, own_stage, own_commit, answered, answered_as, body_for}
 use Rattle.nq_stage.specs.Bodies.{Bodies, body_of}
 use Rattle.nq_stage.specs.PoolLaws.{after, pool_after}

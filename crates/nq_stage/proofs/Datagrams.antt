@@ -4,7 +4,7 @@ use Rattle.nq_base.specs.declared.PushBase.{PushBase}
 use Rattle.nq_base.specs.declared.Request.{Request}
 use Rattle.nq_base.specs.declared.Who.{Who}
 use Rattle.nq_datagrams.specs.Messages.{bytes_of}
-use Rattle.nq_model.specs.Message.{call}
+use Rattle.nq_model.specs.protocol.Message.{call}
 use Rattle.nq_stage.specs.declared.messages.Commit.{Commit}
 use Rattle.nq_stage.specs.declared.messages.Pushed.{Pushed}
 use Rattle.nq_stage.specs.declared.messages.Written.{Written}

@@ -14,16 +14,17 @@ use Rattle.nq_base.specs.declared.Who.{Who}
 use Rattle.law_runs.proofs.EachOf.{each-find, each-filter}
 use Rattle.nq_stage.proofs.Apart.{AreApart, apart-filter, write-apart}
 use Rattle.nq_model.proofs.Lists.{each-append, each-map}
-use Rattle.nq_model.specs.Client.{Client, ClientStep, Job, Notice, Ticket, UnderWay, begun, dirty_at, is_push_at, is_push_of, first_dirty, notice_on}
-use Rattle.nq_model.specs.ClientStep.{begins_call, is_called, says_busy, at_time, sends_again}
-use Rattle.nq_model.specs.Hear.{vacates_lease, vacates_noticed, loses, reports, without_lease, push_refused, breaks_chain, if_broken, holds}
-use Rattle.nq_model.specs.Hear.{takes_grant, takes_optional, answers_call, caches_block, purges, knows_revision, then_caches, read_done}
-use Rattle.nq_model.specs.Hear.{marks_through, caches_write, write_done, ends_push, caches_push, push_done, answer_of, spends, attached, pauses}
-use Rattle.nq_model.specs.Hear.{replied, reply_counts, with_through, cancels, notes_notice, evicted, other_push}
-use Rattle.nq_model.specs.Journal.{Each}
-use Rattle.nq_model.specs.Message.{Message, call, reply, error}
-use Rattle.nq_model.specs.Send.{sends_request, after_seq, after_number, takes_push, sends_write, gives_up}
-use Rattle.nq_model.specs.Settle.{answers, names_losses, reads_cached, after_read, overwritten, overwritten_at, with_write, delays, after_write, marks_written}
+use Rattle.nq_model.specs.protocol.Client.{Client, ClientStep, Job, Notice, Ticket, UnderWay, begun, dirty_at, is_push_at, is_push_of, first_dirty, notice_on}
+use Rattle.nq_model.specs.protocol.ClientStep.{begins_call, is_called, says_busy, at_time, sends_again}
+use Rattle.nq_model.specs.protocol.Hear.{vacates_lease, vacates_noticed, loses, reports, without_lease, push_refused, breaks_chain, if_broken, holds}
+use Rattle.nq_model.specs.protocol.Hear.{takes_grant, takes_optional, answers_call, caches_block, purges, knows_revision, then_caches, read_done}
+use Rattle.nq_model.specs.protocol.Hear.{marks_through, caches_write, write_done, ends_push, caches_push, push_done, answer_of, spends, attached, pauses}
+use Rattle.nq_model.specs.protocol.Hear.{replied, reply_counts, with_through, cancels, notes_notice, evicted, other_push}
+use Rattle.nq_model.specs.laws.Journal.{Each}
+use Rattle.nq_model.specs.protocol.Message.{Message, call, reply, error}
+use Rattle.nq_model.specs.protocol.Send.{sends_request, after_seq, after_number, takes_push, sends_write, gives_up}
+use Rattle.nq_model.specs.protocol.Settle.{answers, names_losses, reads_cached, after_read, overwritten, overwritten_at, with_write, delays, after_write}
+use Rattle.nq_model.specs.protocol.Settle.{marks_written}
 use Rattle.nq_stage.specs.declared.messages.Written.{Written}
 use Rattle.nq_stage.specs.Messages.{IsWritten}
 use Rattle.nq_stage.specs.Theorem.{BringsBlock}

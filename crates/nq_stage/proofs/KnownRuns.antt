@@ -10,15 +10,15 @@ use Rattle.walk_steps.proofs.Saying.{server-says-plainly}
 use Rattle.nq_stage.proofs.KnownClient.{Bodies, Carries, Says, HasOne, AllFit, More, more-asks, more-says, KnowsIn, IsKnown, begun-knows}
 use Rattle.nq_stage.proofs.KnownSteps.{call-knows, tick-knows, hear-knows, restart-knows}
 use Rattle.nq_model.proofs.Lists.{each-append, each-map}
-use Rattle.nq_model.specs.Client.{Client, ClientStep, begun}
-use Rattle.nq_model.specs.ClientStep.{client_call, client_tick, restart, next_incarnation, fresh_client, attached_client}
-use Rattle.nq_model.specs.Hear.{hear}
-use Rattle.nq_model.specs.Journal.{Each}
-use Rattle.nq_model.specs.Message.{Message, Packet, datagram_of}
-use Rattle.nq_model.specs.Server.{ServerStep}
-use Rattle.nq_model.specs.Profile.{most_hosts}
-use Rattle.nq_model.specs.World.{Head, World, from_host, after_server, after_client, at_client, after_hearing, sending_host, deliver_to_client}
-use Rattle.nq_model.specs.World.{deliver_to, deliver, first_clients, start, step}
+use Rattle.nq_model.specs.protocol.Client.{Client, ClientStep, begun}
+use Rattle.nq_model.specs.protocol.ClientStep.{client_call, client_tick, restart, next_incarnation, fresh_client, attached_client}
+use Rattle.nq_model.specs.protocol.Hear.{hear}
+use Rattle.nq_model.specs.laws.Journal.{Each}
+use Rattle.nq_model.specs.protocol.Message.{Message, Packet, datagram_of}
+use Rattle.nq_model.specs.protocol.Server.{ServerStep}
+use Rattle.nq_model.specs.protocol.Profile.{most_hosts}
+use Rattle.nq_model.specs.protocol.World.{Head, World, from_host, after_server, after_client, at_client, after_hearing, sending_host, deliver_to_client}
+use Rattle.nq_model.specs.protocol.World.{deliver_to, deliver, first_clients, start, step}
 use Rattle.nq_stage.specs.declared.messages.Written.{Written}
 use Rattle.nq_stage.specs.Theorem.{BringsBlock, EventBrings}
 use Rattle.walk_steps.proofs.ClientMoves.{none-some}

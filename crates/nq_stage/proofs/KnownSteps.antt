@@ -5,13 +5,13 @@ use Rattle.nq_base.specs.declared.Call.{Call}
 use Rattle.nq_base.specs.declared.Request.{Request}
 use Rattle.nq_base.specs.declared.Value.{Value}
 use Rattle.nq_base.specs.declared.Who.{Who}
-use Rattle.nq_model.specs.Client.{Client, ClientStep, Job, begun, for_call}
-use Rattle.nq_model.specs.ClientStep.{begins_call, is_called, sends_unless_cached, says_busy, client_call, at_time, sends_again, client_tick}
-use Rattle.nq_model.specs.ClientStep.{fresh_client, starts, next_incarnation, restart}
-use Rattle.nq_model.specs.Hear.{replied, cancels, evicted, hear}
-use Rattle.nq_model.specs.Message.{Message}
-use Rattle.nq_model.specs.Send.{sends_request, after_seq, gives_up, send_next}
-use Rattle.nq_model.specs.Settle.{names_losses, delays, settle}
+use Rattle.nq_model.specs.protocol.Client.{Client, ClientStep, Job, begun, for_call}
+use Rattle.nq_model.specs.protocol.ClientStep.{begins_call, is_called, sends_unless_cached, says_busy, client_call, at_time, sends_again, client_tick}
+use Rattle.nq_model.specs.protocol.ClientStep.{fresh_client, starts, next_incarnation, restart}
+use Rattle.nq_model.specs.protocol.Hear.{replied, cancels, evicted, hear}
+use Rattle.nq_model.specs.protocol.Message.{Message}
+use Rattle.nq_model.specs.protocol.Send.{sends_request, after_seq, gives_up, send_next}
+use Rattle.nq_model.specs.protocol.Settle.{names_losses, delays, settle}
 use Rattle.nq_stage.specs.Theorem.{BringsBlock}
 use Rattle.walk_steps.proofs.ClientFacts.{Alone}
 use Rattle.walk_steps.proofs.ClientMoves.{some-same, none-some}

@@ -13,11 +13,11 @@ use Rattle.nq_stage.proofs.Datagrams.{IsPushOf, reads-push}
 use Rattle.nq_stage.proofs.KnownClient.{Bodies, Asks, Says, More}
 use Rattle.nq_stage.proofs.KnownRuns.{PacketKnown, Knowing, SameWho, later-knowing}
 use Rattle.nq_model.proofs.Lists.{each-append}
-use Rattle.nq_model.specs.Client.{Client, ClientStep}
-use Rattle.nq_model.specs.ClientStep.{restart}
-use Rattle.nq_model.specs.Journal.{Each}
-use Rattle.nq_model.specs.Message.{Message, Packet, call, reply, error}
-use Rattle.nq_model.specs.World.{World, after_server, after_client, at_client, from_host, step}
+use Rattle.nq_model.specs.protocol.Client.{Client, ClientStep}
+use Rattle.nq_model.specs.protocol.ClientStep.{restart}
+use Rattle.nq_model.specs.laws.Journal.{Each}
+use Rattle.nq_model.specs.protocol.Message.{Message, Packet, call, reply, error}
+use Rattle.nq_model.specs.protocol.World.{World, after_server, after_client, at_client, from_host, step}
 use Rattle.nq_stage.specs.declared.messages.Pushed.{Pushed}
 use Rattle.nq_stage.specs.declared.messages.Written.{Written}
 use Rattle.nq_stage.specs.Messages.{stage_bytes, commit_bytes, write_bytes, written_of, IsPushed}

@@ -13,13 +13,13 @@ use Rattle.nq_stage.proofs.KnownClient.{Bodies, Carries}
 use Rattle.nq_stage.proofs.Apart.{AreApart, there-at}
 use Rattle.nq_stage.proofs.KnownRuns.{PacketKnown, Knowing, step-knows, start-knows, call-who, delivery-who, tick-who, server-tick-who, crash-who}
 use Rattle.nq_model.proofs.Lists.{each-map}
-use Rattle.nq_model.specs.Client.{Client}
-use Rattle.nq_model.specs.Journal.{Each}
-use Rattle.nq_model.specs.Message.{Packet}
-use Rattle.nq_model.specs.Profile.{most_hosts}
-use Rattle.nq_model.specs.Settle.{dirty_body, pushed_body, held_body}
-use Rattle.nq_model.specs.Stepped.{most_events}
-use Rattle.nq_model.specs.World.{Head, World, start, step}
+use Rattle.nq_model.specs.protocol.Client.{Client}
+use Rattle.nq_model.specs.laws.Journal.{Each}
+use Rattle.nq_model.specs.protocol.Message.{Packet}
+use Rattle.nq_model.specs.protocol.Profile.{most_hosts}
+use Rattle.nq_model.specs.protocol.Settle.{dirty_body, pushed_body, held_body}
+use Rattle.nq_model.specs.protocol.Stepped.{most_events}
+use Rattle.nq_model.specs.protocol.World.{Head, World, start, step}
 use Rattle.nq_stage.specs.Answering.{Answer, write, unstaged, own_stage, own_commit, stage_if_own, staged, answered}
 use Rattle.nq_stage.specs.Bodies.{others, with_body}
 use Rattle.nq_stage.specs.declared.messages.Commit.{Commit}

@@ -7,9 +7,9 @@ use Rattle.std.specs.Option.{option_map}
 use Rattle.nq_base.specs.declared.Loss.{Loss}
 use Rattle.nq_base.specs.declared.Push.{Push}
 use Rattle.nq_base.specs.declared.Who.{Who}
-use Rattle.nq_model.specs.Client.{dirty_at}
-use Rattle.nq_model.specs.Hear.{loss_of}
-use Rattle.nq_model.specs.Settle.{dirty_body, held_body, pushed_body}
+use Rattle.nq_model.specs.protocol.Client.{dirty_at}
+use Rattle.nq_model.specs.protocol.Hear.{loss_of}
+use Rattle.nq_model.specs.protocol.Settle.{dirty_body, held_body, pushed_body}
 use Rattle.nq_stage.specs.declared.messages.Written.{Written}
 use Rattle.nq_stage.specs.Acknowledged.{verifier_of}
 use Rattle.nq_stage.specs.Offering.{written_by, first_unknown}

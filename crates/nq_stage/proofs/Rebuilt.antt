@@ -9,8 +9,8 @@ use Rattle.law_runs.proofs.EachOf.{each-get}
 use Rattle.nq_stage.proofs.Datagrams.{request-no-stage, request-no-commit, stage-no-commit, commit-no-stage, reads-commit}
 use Rattle.nq_stage.proofs.KnownClient.{Bodies}
 use Rattle.nq_stage.proofs.KnownRuns.{PacketKnown, Knowing}
-use Rattle.nq_model.specs.Journal.{Each}
-use Rattle.nq_model.specs.World.{World, step}
+use Rattle.nq_model.specs.laws.Journal.{Each}
+use Rattle.nq_model.specs.protocol.World.{World, step}
 use Rattle.nq_stage.specs.Answering.{Answer, write, unstaged, own_stage, own_commit, commit_if_own, stage_if_own, answered, answered_as}
 use Rattle.nq_stage.specs.Bodies.{Bodies as Pool, body_of}
 use Rattle.nq_stage.specs.declared.messages.Commit.{Commit}

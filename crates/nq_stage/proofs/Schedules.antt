@@ -4,12 +4,12 @@ use Rattle.std.proofs.Common.{◌≡◌, ◌≤◌, ℕ, ◌+◌, List, [], ◌�
 use Rattle.std.specs.Prelude.{All, slice_get}
 use Rattle.std.proofs.lemmas.List.Elements.{All-nil, All-cons, All-head, All-tail}
 use Rattle.nq_base.specs.declared.Event.{Event}
-use Rattle.nq_model.specs.Skew.{IsWithinSkew, server_ticks, ticks_of, is_server_tick, is_tick_of}
-use Rattle.nq_model.specs.World.{Head, World}
+use Rattle.nq_model.specs.protocol.Skew.{IsWithinSkew, server_ticks, ticks_of, is_server_tick, is_tick_of}
+use Rattle.nq_model.specs.protocol.World.{Head, World}
 use Rattle.nq_stage.specs.Bodies.{Bodies}
-use Rattle.nq_model.specs.Bounds.{BootsWithin}
-use Rattle.nq_model.specs.Headline.{HeadlineHolds}
-use Rattle.nq_model.specs.WritesAreAccounted.{WaitingAreUnsaved}
+use Rattle.nq_model.specs.laws.Bounds.{BootsWithin}
+use Rattle.nq_model.specs.laws.Headline.{HeadlineHolds}
+use Rattle.nq_model.specs.laws.WritesAreAccounted.{WaitingAreUnsaved}
 use Rattle.nq_stage.specs.declared.run.event.StagedEvent.{StagedEvent}
 use Rattle.nq_stage.specs.Outer.{Outside, outside_start}
 use Rattle.nq_stage.specs.Outside.{inner, outside_run}

@@ -2,7 +2,7 @@
 use Rattle.std.specs.Prelude.{◌≡◌, ℕ, ◌+◌, List, [], ◌∷◌, Option, Some, None, slice_get}
 use Rattle.nq_base.specs.declared.Event.{Event}
 use Rattle.nq_base.specs.declared.Party.{Party}
-use Rattle.nq_model.specs.World.{Head}
+use Rattle.nq_model.specs.protocol.World.{Head}
 use Rattle.nq_stage.specs.Answering.{answered, write, unstaged}
 use Rattle.nq_stage.specs.PoolLaws.{pool_after, IsOfBoot}
 use Rattle.nq_stage.specs.declared.messages.Commit.{Commit}

@@ -4,7 +4,7 @@ use Rattle.std.specs.Prelude.{ℕ, ◌^◌, ◌<◌, List, ◌++◌, Some}
 use Rattle.nq_base.specs.declared.Request.{Request}
 use Rattle.nq_base.specs.declared.Request.TheVariants.{Write}
 use Rattle.nq_datagrams.specs.Messages.{program, version, bytes_of}
-use Rattle.nq_model.specs.Message.{call}
+use Rattle.nq_model.specs.protocol.Message.{call}
 use Rattle.nq_xdr.specs.declared.rpc.message.Head.{Head}
 use Rattle.nq_xdr.specs.Message.{spelling, call_with, reply_with, null}
 use Rattle.nq_wire.specs.Parts.{head, base_bytes, IsPushBase}

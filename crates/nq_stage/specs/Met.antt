@@ -4,13 +4,13 @@ use Rattle.nq_base.specs.Block.{filled}
 use Rattle.nq_base.specs.declared.Entry.{Entry}
 use Rattle.nq_base.specs.declared.Event.{Event}
 use Rattle.nq_base.specs.declared.Party.{Party}
-use Rattle.nq_model.specs.Client.{Client}
-use Rattle.nq_model.specs.Journal.{Exists}
-use Rattle.nq_model.specs.World.{Head}
+use Rattle.nq_model.specs.protocol.Client.{Client}
+use Rattle.nq_model.specs.laws.Journal.{Exists}
+use Rattle.nq_model.specs.protocol.World.{Head}
 use Rattle.nq_stage.specs.Answering.{answered, write, unstaged}
 use Rattle.nq_stage.specs.Bodies.{Bodies}
 use Rattle.nq_stage.specs.PoolLaws.{pool_after}
-use Rattle.nq_model.specs.WritesAreAccounted.{WaitingAreUnsaved}
+use Rattle.nq_model.specs.laws.WritesAreAccounted.{WaitingAreUnsaved}
 use Rattle.nq_stage.specs.declared.messages.Commit.{Commit}
 use Rattle.nq_stage.specs.declared.messages.Written.{Written}
 use Rattle.nq_stage.specs.Messages.{write_bytes}

@@ -2,9 +2,9 @@
 use Rattle.std.specs.Prelude.{◌≡◌, ℕ, List, Some, None, slice_get}
 use Rattle.nq_base.specs.declared.Event.{Event}
 use Rattle.nq_base.specs.declared.Party.{Party}
-use Rattle.nq_model.specs.World.{Head}
+use Rattle.nq_model.specs.protocol.World.{Head}
 use Rattle.nq_stage.specs.Answering.{answered, unstaged}
-use Rattle.nq_model.specs.WritesAreAccounted.{WaitingAreUnsaved}
+use Rattle.nq_model.specs.laws.WritesAreAccounted.{WaitingAreUnsaved}
 use Rattle.nq_stage.specs.declared.messages.Commit.{Commit}
 use Rattle.nq_stage.specs.declared.run.event.StagedEvent.{StagedEvent}
 use Rattle.nq_stage.specs.Outer.{Outer, Outside}

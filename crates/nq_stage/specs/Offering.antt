@@ -4,7 +4,7 @@ use Rattle.std.specs.Option.{option_map}
 use Rattle.std.specs.Global.{Global}
 use Rattle.nq_base.specs.declared.Push.{Push}
 use Rattle.nq_base.specs.declared.Who.{Who}
-use Rattle.nq_model.specs.Settle.{dirty_body}
+use Rattle.nq_model.specs.protocol.Settle.{dirty_body}
 use Rattle.nq_stage.specs.declared.messages.Written.{Written}
 use Rattle.nq_stage.specs.Messages.{stage_bytes}
 use Rattle.nq_stage.specs.Acknowledged.{verifier_of}

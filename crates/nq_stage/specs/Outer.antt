@@ -2,7 +2,7 @@
 use Rattle.std.specs.Prelude.{ℕ, List, [], Option, None, map}
 use Rattle.nq_base.specs.declared.Event.{Event}
 use Rattle.nq_base.specs.declared.Party.{Party}
-use Rattle.nq_model.specs.World.{Head, World, start}
+use Rattle.nq_model.specs.protocol.World.{Head, World, start}
 use Rattle.nq_stage.specs.Bodies.{Bodies}
 use Rattle.nq_stage.specs.Staged.{Staged, new_stager}
 

@@ -4,7 +4,7 @@ use Rattle.std.specs.List.{AllByRecursion}
 use Rattle.nq_replay.proofs.Keeping.{Keeps, ends-answered}
 use Rattle.nq_replay.specs.Text.{mixed}
 use Rattle.nq_staged.specs.Worlds.{PlaysOutside, StagedOver, stepped_outside}
-use Rattle.nq_model.specs.Kept.{Kept}
+use Rattle.nq_model.specs.protocol.Kept.{Kept}
 use Rattle.nq_replay.specs.Playing.{beginning}
 use Rattle.nq_replay.specs.declared.play.played.Played.{Played as Went}
 use Rattle.nq_replay.specs.Texts.{IsTellable}
@@ -18,7 +18,7 @@ use Rattle.nq_staged.specs.Running.{IsTold}
 use Rattle.nq_staged.specs.declared.offer.Offer.{Offer}
 use Rattle.nq_base.specs.declared.Event.{Event}
 use Rattle.nq_stage.specs.declared.run.event.StagedEvent.{StagedEvent}
-use Rattle.nq_model.specs.Stepped.{done, most_events}
+use Rattle.nq_model.specs.protocol.Stepped.{done, most_events}
 use Rattle.nq_replay.specs.AsidesPlaying.{Ended, ran, stopped}
 use Rattle.nq_replay.proofs.RulesKeeping.{keeps-lines}
 use Rattle.nq_replay.specs.Rules.{play_event, play_plainly}

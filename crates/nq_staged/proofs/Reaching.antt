@@ -9,11 +9,11 @@ use Rattle.nq_base.specs.declared.Event.{Event}
 use Rattle.nq_base.specs.declared.Party.{Party}
 use Rattle.nq_client.specs.Counted.{Counted}
 use Rattle.nq_datagrams.specs.Messages.{bytes_of}
-use Rattle.nq_model.specs.Client.{Client}
-use Rattle.nq_model.specs.Kept.{Kept}
-use Rattle.nq_model.specs.Message.{Packet}
-use Rattle.nq_model.specs.Stepped.{most_events, stepped}
-use Rattle.nq_model.specs.World.{Head, World, run, start, step}
+use Rattle.nq_model.specs.protocol.Client.{Client}
+use Rattle.nq_model.specs.protocol.Kept.{Kept}
+use Rattle.nq_model.specs.protocol.Message.{Packet}
+use Rattle.nq_model.specs.protocol.Stepped.{most_events, stepped}
+use Rattle.nq_model.specs.protocol.World.{Head, World, run, start, step}
 use Rattle.nq_stage.specs.declared.Pushed.{Pushed}
 use Rattle.nq_stage.specs.Shortening.{shortening}
 use Rattle.nq_stage.specs.Staged.{new_stager}

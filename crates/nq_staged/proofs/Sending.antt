@@ -7,8 +7,8 @@ use Rattle.std.specs.Prelude.{Result, Ok, Err, OnErr, OnOk, slice_get, slice_set
 use Rattle.nq_base.specs.declared.Event.{Event}
 use Rattle.nq_base.specs.declared.Party.{Party}
 use Rattle.nq_datagrams.specs.Messages.{bytes_of}
-use Rattle.nq_model.specs.Message.{Packet}
-use Rattle.nq_model.specs.World.{World}
+use Rattle.nq_model.specs.protocol.Message.{Packet}
+use Rattle.nq_model.specs.protocol.World.{World}
 use Rattle.nq_link.specs.Packets.{Datagram}
 use Rattle.nq_stage.specs.declared.Pushed.{Pushed}
 use Rattle.nq_stage.specs.Shortening.{shortening, shortened}

@@ -1,7 +1,7 @@
 -- What a step of a staged world means for what is played.
 use Rattle.std.proofs.Common.{List, Option}
-use Rattle.nq_model.specs.Kept.{Kept}
-use Rattle.nq_model.specs.World.{Head}
+use Rattle.nq_model.specs.protocol.Kept.{Kept}
+use Rattle.nq_model.specs.protocol.World.{Head}
 use Rattle.nq_replay.specs.RulesGoing.{StepsBy}
 use Rattle.nq_stage.specs.declared.run.event.StagedEvent.{StagedEvent}
 use Rattle.nq_staged.specs.Playing.{staged_rules}

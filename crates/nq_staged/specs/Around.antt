@@ -3,7 +3,7 @@ use Rattle.std.specs.Prelude.{◌≡◌, ℕ, ◌+◌, Bool, true, false, List, 
 use Rattle.nq_base.specs.declared.Event.{Event}
 use Rattle.nq_base.specs.declared.Party.{Party}
 use Rattle.nq_base.specs.declared.Push.{Push}
-use Rattle.nq_model.specs.World.{World}
+use Rattle.nq_model.specs.protocol.World.{World}
 use Rattle.nq_link.specs.Packets.{Datagram}
 use Rattle.nq_stage.specs.Bodies.{Bodies}
 use Rattle.nq_stage.specs.declared.Pushed.{Pushed}

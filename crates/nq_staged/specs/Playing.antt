@@ -1,7 +1,7 @@
 -- How the lines of a staged schedule are played, event by event. The events of a run are told with the newest first.
 use Rattle.std.specs.Prelude.{◌+◌, List, [], ◌∷◌, length, Option, Some, None}
 use Rattle.nq_base.specs.declared.Event.{Event}
-use Rattle.nq_model.specs.Stepped.{most_events}
+use Rattle.nq_model.specs.protocol.Stepped.{most_events}
 use Rattle.nq_replay.specs.AsidesPlaying.{Ended, answered}
 use Rattle.nq_replay.specs.Playing.{beginning}
 use Rattle.nq_replay.specs.Rules.{Rules, play_lines, with_event}

@@ -2,8 +2,8 @@
 use Rattle.std.proofs.Common.{◌≡◌, ℕ, ◌<◌, List, ◌∷◌, length, Some, ap, sym, subst}
 use Rattle.std.specs.Prelude.{nat_lt}
 use Rattle.nq_base.specs.declared.Event.{Event}
-use Rattle.nq_model.specs.Stepped.{done, most_events, tested_room}
-use Rattle.nq_model.specs.World.{Head}
+use Rattle.nq_model.specs.protocol.Stepped.{done, most_events, tested_room}
+use Rattle.nq_model.specs.protocol.World.{Head}
 use Rattle.nq_replay.specs.Rules.{packet_of}
 use Rattle.nq_replay.specs.AsidesPlaying.{answered, took}
 use Rattle.nq_replay.specs.RulesLaws.{answered-took, comes-later, low-packet}

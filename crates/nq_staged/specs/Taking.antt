@@ -1,7 +1,7 @@
 -- What comes of a packet that travels outside and is taken in.
 use Rattle.std.specs.Prelude.{◌≡◌, ℕ, Bool, false, List, Option, Some, None}
 use Rattle.nq_base.specs.declared.Event.{Event}
-use Rattle.nq_model.specs.World.{World}
+use Rattle.nq_model.specs.protocol.World.{World}
 use Rattle.nq_stage.specs.Outer.{Outside}
 use Rattle.nq_stage.specs.Outside.{inner}
 use Rattle.nq_staged.specs.Around.{AroundOver, counted, once_sent, over}

@@ -3,10 +3,10 @@
 use Rattle.std.specs.Prelude.{◌≡◌, ◌<◌, ◌≤◌, ℕ, Bool, List, [], ◌∷◌, ◌++◌, Option, length, reverse, nat_lt, if◌then◌else◌}
 use Rattle.nq_base.specs.declared.Event.{Event}
 use Rattle.nq_keeper.specs.Keeping.{StaysOrEnds}
-use Rattle.nq_model.specs.Kept.{Kept}
-use Rattle.nq_model.specs.SkewBroken.{skew_broken}
-use Rattle.nq_model.specs.Stepped.{Stepped as Answer, done, no_packet, out_of_skew, too_many_events, most_events, stepped, tested_room, tested_skew}
-use Rattle.nq_model.specs.World.{Head, run, step}
+use Rattle.nq_model.specs.protocol.Kept.{Kept}
+use Rattle.nq_model.specs.protocol.SkewBroken.{skew_broken}
+use Rattle.nq_model.specs.protocol.Stepped.{Stepped as Answer, done, no_packet, out_of_skew, too_many_events, most_events, stepped, tested_room, tested_skew}
+use Rattle.nq_model.specs.protocol.World.{Head, run, step}
 use Rattle.nq_stage.specs.declared.run.event.StagedEvent.{StagedEvent}
 use Rattle.nq_stage.specs.Outer.{Outside}
 use Rattle.nq_stage.specs.Outside.{outside_run}

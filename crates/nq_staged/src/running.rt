@@ -6,7 +6,7 @@ ghost use Rattle.nq_replay.specs.Text.{IsReadyMixed, mixed};
 ghost use Rattle.nq_staged.specs.Worlds.{PlaysOutside};
 ghost use Rattle.nq_base.specs.declared.ending.ending.Ending.{Ending};
 ghost use Rattle.nq_keeper.specs.StoredKeeper.{empty_kept};
-ghost use Rattle.nq_model.specs.Stepped.{out_of_skew};
+ghost use Rattle.nq_model.specs.protocol.Stepped.{out_of_skew};
 ghost use Rattle.nq_replay.specs.Playing.{beginning};
 ghost use Rattle.nq_replay.specs.declared.play.played.Played.{Played};
 ghost use Rattle.nq_replay.specs.Ending.{CountsSink, CountsSource, IsUnlessFault};

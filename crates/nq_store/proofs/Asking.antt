@@ -5,7 +5,7 @@ use Rattle.nq_io.specs.Faults.{count_up}
 use Rattle.nq_keeper.specs.Keeping.{Commits, LeavesOne, LeavesTwo, Reads}
 use Rattle.nq_keeper.specs.declared.keeper.KeepFault.{KeepFault}
 use Rattle.nq_keeper.specs.declared.keeper.KeepFault.TheVariants.{Failed}
-use Rattle.nq_model.specs.Kept.{Kept}
+use Rattle.nq_model.specs.protocol.Kept.{Kept}
 use Rattle.nq_store.specs.Storing.{GoesOn, IsSound, LeavesKept, StaysForMemory, StoredStore, after_asking, answered, content_of, faults_of, refusals}
 use Rattle.nq_store.proofs.Keeping.{leaves-same, rose-refused}
 

@@ -16,8 +16,8 @@ use Rattle.nq_image.proofs.Overwriting.{body-written, row-cleared, whole-bodies}
 use Rattle.nq_image.proofs.Owning.{body-stands, body-written-kept, removed-kept, rows-of, standing-apart}
 use Rattle.nq_image.proofs.Placing.{cleared-stands}
 use Rattle.nq_image.proofs.Sorting.{OfRow}
-use Rattle.nq_model.specs.Change.{HasBlock, IsBody, with_block}
-use Rattle.nq_model.specs.Kept.{File, blocks_of, drop_file, find_file, with_files}
+use Rattle.nq_model.specs.protocol.Change.{HasBlock, IsBody, with_block}
+use Rattle.nq_model.specs.protocol.Kept.{File, blocks_of, drop_file, find_file, with_files}
 use Rattle.nq_plan.specs.Finding.{file_in, slot_of}
 use Rattle.nq_plan.specs.Held.{HeldTables}
 use Rattle.nq_plan.specs.Placing.{IsPlaced, is_unused, placed_slot}

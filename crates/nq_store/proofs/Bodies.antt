@@ -11,8 +11,8 @@ use Rattle.nq_image.specs.Layout.{block_place, piece}
 use Rattle.nq_image.specs.Standing.{kept_at}
 use Rattle.nq_keeper.specs.Keeping.{body_at}
 use Rattle.nq_keeper.specs.declared.keeper.KeepFault.{KeepFault}
-use Rattle.nq_model.specs.Change.{HasBlock, IsBody, IsFileWithin, IsWithinBounds}
-use Rattle.nq_model.specs.Kept.{File, Kept, find_file}
+use Rattle.nq_model.specs.protocol.Change.{HasBlock, IsBody, IsFileWithin, IsWithinBounds}
+use Rattle.nq_model.specs.protocol.Kept.{File, Kept, find_file}
 use Rattle.nq_plan.specs.Finding as said
 use Rattle.nq_plan.specs.Held.{HeldTables}
 use Rattle.nq_store.specs.Storing.{IsSound, content_while}

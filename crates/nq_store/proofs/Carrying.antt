@@ -6,7 +6,7 @@ use Rattle.nq_io.specs.Faults.{Rose}
 use Rattle.nq_keeper.specs.Keeping.{Commits, LeavesOne, LeavesTwo, Reads, told_after}
 use Rattle.nq_keeper.specs.declared.keeper.KeepFault.{KeepFault}
 use Rattle.nq_keeper.specs.declared.keeper.KeepFault.TheVariants.{Failed, Memory}
-use Rattle.nq_model.specs.Kept.{Kept}
+use Rattle.nq_model.specs.protocol.Kept.{Kept}
 use Rattle.nq_plan.specs.Held.{HeldTables}
 use Rattle.nq_store.specs.Storing.{CountsKeep, GoesOn, IsSound, LeavesKept, StoredStore, content_of, content_while, counted, faults_of, kept_told}
 use Rattle.nq_store.proofs.Keeping.{rose-counted}

@@ -6,8 +6,8 @@ use Rattle.nq_base.specs.declared.Change.{Change}
 use Rattle.nq_plan.specs.Standing.{image_area}
 use Rattle.nq_image.specs.Standing.{Agree, IsFree, Standing, kept_at}
 use Rattle.nq_keeper.specs.Keeping.{LeavesTwo, told_after}
-use Rattle.nq_model.specs.Change.{Fits, IsChangeWithin, IsWithinBounds, applied}
-use Rattle.nq_model.specs.Kept.{Kept}
+use Rattle.nq_model.specs.protocol.Change.{Fits, IsChangeWithin, IsWithinBounds, applied}
+use Rattle.nq_model.specs.protocol.Kept.{Kept}
 use Rattle.nq_model.proofs.WithinBounds.{within-applied}
 use Rattle.nq_plan.specs.Held.{HeldTables}
 use Rattle.nq_plan.specs.Placing.{IsPlacedFor}

@@ -17,8 +17,8 @@ use Rattle.nq_image.proofs.Overwriting.{long-enough}
 use Rattle.nq_image.proofs.Owning.{rows-of, standing-apart}
 use Rattle.nq_image.proofs.Retaining.{new-kept, same-kept}
 use Rattle.nq_image.proofs.Sorting.{OfRow}
-use Rattle.nq_model.specs.Change.{with_file}
-use Rattle.nq_model.specs.Kept.{File, Kept, blocks_in_all, find_file, find_name, with_files}
+use Rattle.nq_model.specs.protocol.Change.{with_file}
+use Rattle.nq_model.specs.protocol.Kept.{File, Kept, blocks_in_all, find_file, find_name, with_files}
 use Rattle.nq_plan.specs.Finding.{blocks_of, file_in, row_if, row_of, slot_of}
 use Rattle.nq_plan.specs.Held.{HeldTables, IsHeldOf}
 use Rattle.nq_plan.specs.Placing.{IsPlaced, free_blocks, is_unused, placed_slot}

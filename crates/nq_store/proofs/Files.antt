@@ -7,8 +7,8 @@ use Rattle.std.proofs.lemmas.Bool.Decides.{nat_tests}
 use Rattle.std.proofs.lemmas.List.{get_or_past}
 use Rattle.std.proofs.lemmas.List.Elements.{All-cons, All-head, All-nil, All-tail, All-weaker}
 use Rattle.std.proofs.lemmas.List.Sums.{prefix_len_passes, prefix_len_stops}
-use Rattle.nq_model.specs.Kept.{File, find_file, find_name}
-use Rattle.nq_model.specs.Profile.{same_bytes}
+use Rattle.nq_model.specs.protocol.Kept.{File, find_file, find_name}
+use Rattle.nq_model.specs.protocol.Profile.{same_bytes}
 use Rattle.nq_image.specs.Standing.{AreNumbered, PlacedFile, Standing, Stands, file_at, files_in, kept_at, put_file, row_at, with_rows}
 use Rattle.nq_image.proofs.Owning.{rows-of, standing-apart}
 use Rattle.nq_image.proofs.Retaining.{apart-ids, files-some, find-none, find-put, kept-files, others-apart, other-files}

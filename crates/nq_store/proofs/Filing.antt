@@ -22,8 +22,8 @@ use Rattle.nq_image.proofs.Owning.{new-file-kept, rows-of, same-file-kept}
 use Rattle.nq_image.proofs.Placing.{file-stands, row-stands}
 use Rattle.nq_image.proofs.Replacing.{around-row, blocks-append, blocks-around}
 use Rattle.nq_image.proofs.Retaining.{kept-files}
-use Rattle.nq_model.specs.Change.{with_file}
-use Rattle.nq_model.specs.Kept.{Kept, blocks_in_all, blocks_of, resized, with_files}
+use Rattle.nq_model.specs.protocol.Change.{with_file}
+use Rattle.nq_model.specs.protocol.Kept.{Kept, blocks_in_all, blocks_of, resized, with_files}
 use Rattle.nq_store.specs.Changing.{HasZeros}
 use Rattle.nq_store.proofs.ImagesZeroing.{zeros-held}
 use Rattle.nq_store.proofs.Seats.{IsNew, distinct-take}

@@ -28,8 +28,8 @@ use Rattle.nq_image.proofs.Overwriting.{length-of-table, long-enough, whole-bodi
 use Rattle.nq_image.proofs.Owning.{rows-of}
 use Rattle.nq_image.proofs.Parting.{parts-of}
 use Rattle.nq_image.proofs.ReadBack.{Hold, length-zeros}
-use Rattle.nq_model.specs.Change.{FitsFile, IsBody}
-use Rattle.nq_model.specs.Kept.{Kept}
+use Rattle.nq_model.specs.protocol.Change.{FitsFile, IsBody}
+use Rattle.nq_model.specs.protocol.Kept.{Kept}
 use Rattle.nq_plan.proofs.Sizes.{length-heads, length-host}
 use Rattle.nq_plan.specs.Finding.{blocks_of, file_in, has_id, row_of, slot_of}
 use Rattle.nq_plan.specs.Held.{HeldTables, IsHeldOf}

@@ -15,8 +15,8 @@ use Rattle.nq_image.proofs.Gathering.{stands-opens}
 use Rattle.nq_image.proofs.Overwriting.{bytes-agree, long-enough, record-written}
 use Rattle.nq_image.proofs.Parting.{parts-of}
 use Rattle.nq_image.proofs.Pieces.{piece-same}
-use Rattle.nq_model.specs.Change.{Fits, IsChangeWithin, applied as changed}
-use Rattle.nq_model.specs.Kept.{Kept}
+use Rattle.nq_model.specs.protocol.Change.{Fits, IsChangeWithin, applied as changed}
+use Rattle.nq_model.specs.protocol.Kept.{Kept}
 use Rattle.nq_plan.specs.Held.{HeldTables}
 use Rattle.nq_plan.specs.Ranges.{ranges_of}
 use Rattle.nq_plan.specs.Settling.{settled}

@@ -10,8 +10,8 @@ use Rattle.nq_io.specs.Faults.{Rose, count_up}
 use Rattle.nq_keeper.specs.Bounds.{within-decides}
 use Rattle.nq_keeper.specs.Keeping.{LeavesOne}
 use Rattle.nq_keeper.specs.declared.keeper.KeepFault.{KeepFault}
-use Rattle.nq_model.specs.Change.{IsWithinBounds}
-use Rattle.nq_model.specs.Kept.{Kept}
+use Rattle.nq_model.specs.protocol.Change.{IsWithinBounds}
+use Rattle.nq_model.specs.protocol.Kept.{Kept}
 use Rattle.nq_plan.specs.Held.{HeldTables, IsHeldOf}
 use Rattle.nq_store.specs.Laws.{tells-bytes}
 use Rattle.nq_store.specs.Storing.{IsKeptOn, IsSound, LeavesKept, answered, content_while, counted, if_within, kept_of, kept_on}

@@ -6,8 +6,8 @@ use Rattle.std.proofs.lemmas.Bool.Decides.{nat_tests}
 use Rattle.std.proofs.lemmas.List.{drop-drop}
 use Rattle.std.proofs.lemmas.List.Elements.{All-nil}
 use Rattle.std.proofs.lemmas.Slice.Eq.{bytes_eq-Decides}
-use Rattle.nq_model.specs.Change.{IsFileWithin, IsWithinBounds}
-use Rattle.nq_model.specs.Kept.{Kept, fresh_row}
+use Rattle.nq_model.specs.protocol.Change.{IsFileWithin, IsWithinBounds}
+use Rattle.nq_model.specs.protocol.Kept.{Kept, fresh_row}
 use Rattle.nq_image.specs.Heads.{boots_checks, boots_of}
 use Rattle.nq_image.specs.Image.{FoundOne}
 use Rattle.nq_image.specs.Layout.{are_zeros, piece, word_in}

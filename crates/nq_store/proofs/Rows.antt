@@ -16,8 +16,8 @@ use Rattle.nq_base.specs.declared.Space.{Space}
 use Rattle.nq_image.specs.Kept.{body_in}
 use Rattle.nq_image.specs.Standing.{AreNumbered, CanStand, IsApartFrom, PlacedFile, Standing, file_at, files_in, kept_at, row_at, row_blocks, with_rows}
 use Rattle.nq_keeper.specs.Keeping.{body_at}
-use Rattle.nq_model.specs.Change.{file_after, heads_of, row_of_found, space_of}
-use Rattle.nq_model.specs.Kept.{File, blocks_in_all, blocks_of, find_file, find_name, fresh_row, host_row}
+use Rattle.nq_model.specs.protocol.Change.{file_after, heads_of, row_of_found, space_of}
+use Rattle.nq_model.specs.protocol.Kept.{File, blocks_in_all, blocks_of, find_file, find_name, fresh_row, host_row}
 use Rattle.nq_plan.specs.Finding as said
 use Rattle.nq_store.specs.Storing.{space_in}
 use Rattle.nq_store.proofs.Sought.{IsOne, found-again, id_if, in-order, length-sum, rows-nearest, rows-sum}

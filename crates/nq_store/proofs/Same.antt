@@ -5,7 +5,7 @@ use Rattle.std.specs.Prelude.{nat_eq}
 use Rattle.std.specs.Cmp.Lexicographic.{pointwise}
 use Rattle.std.proofs.Math.Nat.{div-add-mod'}
 use Rattle.std.proofs.lemmas.List.Elements.{All-drop, All-take, All-weaker}
-use Rattle.nq_model.specs.Kept.{File, Kept}
+use Rattle.nq_model.specs.protocol.Kept.{File, Kept}
 use Rattle.nq_image.specs.Heads.{boots_checks, boots_of, version_of}
 use Rattle.nq_image.specs.Hosts.{hosts_checks, hosts_of}
 use Rattle.nq_image.specs.Image.{FoundOne}

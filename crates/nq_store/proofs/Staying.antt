@@ -1,7 +1,7 @@
 -- A disk that stands for no kept state keeps its bytes.
 use Rattle.std.proofs.Common.{◌≡◌, ℕ, List, Option, Some, None, Result, Ok, Err, inl, refl, sym, subst}
 use Rattle.nq_plan.specs.Standing.{image_area, stands_as}
-use Rattle.nq_model.specs.Kept.{Kept}
+use Rattle.nq_model.specs.protocol.Kept.{Kept}
 use Rattle.nq_plan.specs.Held.{HeldTables}
 use Rattle.nq_disk.specs.Opens.{Opens, disk_in}
 use Rattle.nq_disk.specs.declared.redo.redo.Redo.{Redo}

@@ -9,8 +9,8 @@ use Rattle.nq_image.specs.Standing.{Standing, Stands, kept_at, overwritten, with
 use Rattle.nq_image.specs.Writing.{heads_bytes, host_bytes}
 use Rattle.nq_image.proofs.Changing.{heads-kept, heads-stand, host-kept, host-stands}
 use Rattle.nq_image.proofs.Overwriting.{long-enough, rows-written}
-use Rattle.nq_model.specs.Change.{AreHeadsWithin, IsHostWithin, heads_of, heads_with, hosts_with, kept_as}
-use Rattle.nq_model.specs.Kept.{Kept, with_row}
+use Rattle.nq_model.specs.protocol.Change.{AreHeadsWithin, IsHostWithin, heads_of, heads_with, hosts_with, kept_as}
+use Rattle.nq_model.specs.protocol.Kept.{Kept, with_row}
 use Rattle.nq_plan.proofs.Sizes.{length-heads, length-host}
 use Rattle.nq_plan.specs.Ranges.{heads_ranges, host_ranges}
 use Rattle.nq_disk.specs.Ranges.{applied}

@@ -20,9 +20,9 @@ use Rattle.nq_image.proofs.Changing.{first-id}
 use Rattle.nq_image.proofs.Owning.{rows-of, standing-apart}
 use Rattle.nq_image.proofs.Parting.{parts-of}
 use Rattle.nq_image.proofs.Sorting.{OfRow}
-use Rattle.nq_model.specs.Change.{AreHeadsWithin, IsHostWithin, FitsFile, FitsRemoval, HasBlock, IsBody, IsRowOf, RaisesNext, blocks_with, files_with}
-use Rattle.nq_model.specs.Change.{files_without, heads_of, heads_with, hosts_with, kept_as, with_file}
-use Rattle.nq_model.specs.Kept.{File, Kept, blocks_in_all, find_file, find_name, with_files}
+use Rattle.nq_model.specs.protocol.Change.{AreHeadsWithin, IsHostWithin, FitsFile, FitsRemoval, HasBlock, IsBody, IsRowOf, RaisesNext, blocks_with, files_with}
+use Rattle.nq_model.specs.protocol.Change.{files_without, heads_of, heads_with, hosts_with, kept_as, with_file}
+use Rattle.nq_model.specs.protocol.Kept.{File, Kept, blocks_in_all, find_file, find_name, with_files}
 use Rattle.nq_plan.specs.Finding.{blocks_of, file_in, slot_of}
 use Rattle.nq_plan.specs.Held.{HeldTables, IsHeldOf}
 use Rattle.nq_plan.specs.Placing.{IsPlacedFor}

@@ -6,7 +6,7 @@ use Rattle.nq_disk.specs.Bytes.{written}
 use Rattle.nq_image.specs.Kept.{body_in}
 use Rattle.nq_image.specs.Layout.{block_place}
 use Rattle.nq_image.specs.Standing.{kept_at}
-use Rattle.nq_model.specs.Change.{Fits, IsChangeWithin, applied}
+use Rattle.nq_model.specs.protocol.Change.{Fits, IsChangeWithin, applied}
 use Rattle.nq_plan.specs.Held.{HeldTables, IsHeldOf}
 use Rattle.nq_plan.specs.Placing.{IsPlacedFor}
 use Rattle.nq_plan.specs.Settling.{settled}

@@ -6,8 +6,8 @@ use Rattle.nq_io.specs.Faults.{Rose}
 use Rattle.nq_plan.specs.Standing.{stands_as}
 use Rattle.nq_keeper.specs.Bounds.{within-decides}
 use Rattle.nq_keeper.specs.StoredKeeper.{is_within}
-use Rattle.nq_model.specs.Change.{IsWithinBounds}
-use Rattle.nq_model.specs.Kept.{Kept}
+use Rattle.nq_model.specs.protocol.Change.{IsWithinBounds}
+use Rattle.nq_model.specs.protocol.Kept.{Kept}
 use Rattle.nq_store.specs.Storing.{GoesOn, LeavesKept, RefusesNone, StoredStore, content_of, content_while, counted, faults_of, kept_of, kept_on}
 
 if-within : (kept found : Kept) (b : Bool) → is_within kept ≡ b → (if b then Some kept else None) ≡ Some found → IsWithinBounds found

@@ -7,7 +7,7 @@ use Rattle.nq_image.specs.Heads.{front_checks, front_of}
 use Rattle.nq_image.specs.Layout.{piece}
 use Rattle.nq_image.specs.Standing.{kept_at}
 use Rattle.nq_image.specs.declared.Front.{Front}
-use Rattle.nq_model.specs.Change.{IsWithinBounds}
+use Rattle.nq_model.specs.protocol.Change.{IsWithinBounds}
 use Rattle.nq_plan.specs.Held.{HeldTables, IsHeldOf}
 use Rattle.nq_disk.specs.Calling.{LeavesNoMore}
 use Rattle.nq_disk.specs.Saying.{Only}

@@ -7,7 +7,7 @@ use Rattle.nq_image.specs.Whole.{image_in, of_one}
 use Rattle.nq_image.specs.declared.Boots.{Boots}
 use Rattle.nq_image.specs.declared.Slot.{Slot}
 use Rattle.nq_io.specs.Faults.{Rose}
-use Rattle.nq_model.specs.Kept.{Kept}
+use Rattle.nq_model.specs.protocol.Kept.{Kept}
 use Rattle.nq_disk.specs.Saying.{Each, Only}
 use Rattle.nq_disk.specs.Whole.{IsClosed}
 use Rattle.nq_store.specs.Storing.{kept_on}

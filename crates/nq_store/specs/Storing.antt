@@ -9,8 +9,8 @@ use Rattle.nq_keeper.specs.declared.KeepFault.{KeepFault}
 use Rattle.nq_keeper.specs.declared.KeepFault.TheVariants.{Failed, Memory}
 use Rattle.nq_keeper.specs.StoredKeeper.{is_within}
 use Rattle.nq_plan.specs.Standing.{image_area, stands_as}
-use Rattle.nq_model.specs.Change.{IsWithinBounds}
-use Rattle.nq_model.specs.Kept.{Kept}
+use Rattle.nq_model.specs.protocol.Change.{IsWithinBounds}
+use Rattle.nq_model.specs.protocol.Kept.{Kept}
 use Rattle.nq_plan.specs.Held.{HeldTables, IsHeldOf}
 use Rattle.nq_disk.specs.Saying.{Each, Only}
 use Rattle.nq_disk.specs.Ranges.{Range}

@@ -4,9 +4,9 @@ ghost use Rattle.std.specs.Prelude.{◌≡◌, ◌≤◌, ◌<◌, ◌+◌, fals
 ghost use Rattle.std.specs.Option.{ForSome};
 ghost use Rattle.nq_io.specs.Faults.{count_up};
 ghost use Rattle.nq_keeper.specs.Keeping.{Commits, LeavesOne, LeavesTwo, NamesHost, Reads, body_at};
-ghost use Rattle.nq_model.specs.Change.{Fits, HasBlock, IsChangeWithin, file_after, heads_of, row_of_found, space_of};
-ghost use Rattle.nq_model.specs.Kept.{find_file, find_name, fresh_row, host_row};
-ghost use Rattle.nq_model.specs.Profile.{most_hosts};
+ghost use Rattle.nq_model.specs.protocol.Change.{Fits, HasBlock, IsChangeWithin, file_after, heads_of, row_of_found, space_of};
+ghost use Rattle.nq_model.specs.protocol.Kept.{find_file, find_name, fresh_row, host_row};
+ghost use Rattle.nq_model.specs.protocol.Profile.{most_hosts};
 ghost use Rattle.nq_image.specs.Kept.{body_in};
 ghost use Rattle.nq_image.specs.Layout.{block_place as place_of_block};
 ghost use Rattle.nq_plan.specs.Finding.{row_behind, row_named, row_of};

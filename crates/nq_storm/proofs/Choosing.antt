@@ -2,7 +2,7 @@
 use Rattle.std.proofs.Common.{◌≡◌, ℕ, ◌+◌, List, length, Option, Some, sym, subst}
 use Rattle.std.specs.Prelude.{◌%◌, IfSome, slice_get}
 use Rattle.nq_base.specs.declared.Event.{Event}
-use Rattle.nq_model.specs.World.{Head}
+use Rattle.nq_model.specs.protocol.World.{Head}
 use Rattle.nq_storm.specs.Storming.{IsChosen, IsOffered, word_behind}
 use Rattle.nq_storm.specs.Menu.{menu}
 use Rattle.nq_storm.specs.Rules.{Rule, chosen}

@@ -8,8 +8,8 @@ use Rattle.nq_base.specs.declared.Entry.{Entry}
 use Rattle.nq_base.specs.declared.Event.{Event}
 use Rattle.nq_base.specs.declared.ending.ending.Ending.{Ending}
 use Rattle.nq_journal.specs.Text.{journal_text}
-use Rattle.nq_model.specs.Kept.{Kept}
-use Rattle.nq_model.specs.World.{run}
+use Rattle.nq_model.specs.protocol.Kept.{Kept}
+use Rattle.nq_model.specs.protocol.World.{run}
 use Rattle.nq_replay.specs.Playing.{beginning}
 use Rattle.nq_replay.proofs.Journals.{plain_text}
 use Rattle.nq_replay.proofs.Printings.{bytes_end}

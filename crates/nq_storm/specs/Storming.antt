@@ -1,9 +1,9 @@
 -- What a storm is. The events of a run are told with the newest first.
 use Rattle.std.specs.Prelude.{◌≡◌, ◌↔◌, ℕ, ◌+◌, ◌%◌, List, [], ◌∷◌, length, slice_get, Option, Some, IfSome, IsTrue, unwrap_or, zero, suc}
 use Rattle.nq_base.specs.declared.Event.{Event}
-use Rattle.nq_model.specs.Skew.{IsWithinSkew}
-use Rattle.nq_model.specs.Stepped.{done, stepped}
-use Rattle.nq_model.specs.World.{Head, run}
+use Rattle.nq_model.specs.protocol.Skew.{IsWithinSkew}
+use Rattle.nq_model.specs.protocol.Stepped.{done, stepped}
+use Rattle.nq_model.specs.protocol.World.{Head, run}
 use Rattle.nq_replay.specs.Delivering.{next_packet}
 use Rattle.nq_storm.specs.Menu.{menu}
 use Rattle.nq_storm.specs.Rules.{Rule, chosen}

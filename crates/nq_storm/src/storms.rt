@@ -2,7 +2,7 @@
 
 ghost use Rattle.std.specs.List.{AllByRecursion};
 ghost use Rattle.std.specs.Prelude.{◌≡◌, ◌<◌, [], length, reverse};
-ghost use Rattle.nq_model.specs.World.{Head};
+ghost use Rattle.nq_model.specs.protocol.World.{Head};
 ghost use Rattle.nq_storm.specs.Asking.{AsksOnce};
 ghost use Rattle.nq_storm.specs.Ending.{CountsFaults, Storms};
 ghost use Rattle.nq_storm.specs.Stormy.{IsStormy};

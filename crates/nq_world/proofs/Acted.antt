@@ -13,10 +13,10 @@ use Rattle.nq_client.specs.Outcome.{Called, Counts, Heeded, Received, Stays}
 use Rattle.nq_client.specs.declared.heard.Heard.{Heard}
 use Rattle.nq_base.specs.Entries.{EntryList}
 use Rattle.nq_datagrams.specs.Messages.{FitsMessage}
-use Rattle.nq_model.specs.Client.{Client, ClientStep, noting}
-use Rattle.nq_model.specs.ClientStep.{next_incarnation, restart, starts}
+use Rattle.nq_model.specs.protocol.Client.{Client, ClientStep, noting}
+use Rattle.nq_model.specs.protocol.ClientStep.{next_incarnation, restart, starts}
 use Rattle.nq_wire.specs.Outbox.{Datagrams}
-use Rattle.nq_model.specs.Profile.{most_taken_by_client}
+use Rattle.nq_model.specs.protocol.Profile.{most_taken_by_client}
 use Rattle.nq_world.proofs.Counting.{took-more, took-one-more}
 use Rattle.nq_world.specs.Counting.{ClientIsSpent, IsSpent}
 use Rattle.nq_world.specs.Moving.{ActsAt, Moves, MovesClient, called, clients_in, heeded, step_at}

@@ -5,11 +5,11 @@ use Rattle.std.specs.Prelude.{Result, Ok, Err, IfOk, IfErr}
 use Rattle.nq_client.specs.Counted.{Counted}
 use Rattle.nq_clock.specs.Counts.{SkewCounts}
 use Rattle.nq_clock.specs.Tracks.{Follows}
-use Rattle.nq_model.specs.ClientStep.{attached_client}
-use Rattle.nq_model.specs.Kept.{Kept}
-use Rattle.nq_model.specs.Profile.{shortest_term, longest_term, most_hosts}
-use Rattle.nq_model.specs.ServerStep.{boot}
-use Rattle.nq_model.specs.World.{Head, first_clients, first_kept}
+use Rattle.nq_model.specs.protocol.ClientStep.{attached_client}
+use Rattle.nq_model.specs.protocol.Kept.{Kept}
+use Rattle.nq_model.specs.protocol.Profile.{shortest_term, longest_term, most_hosts}
+use Rattle.nq_model.specs.protocol.ServerStep.{boot}
+use Rattle.nq_model.specs.protocol.World.{Head, first_clients, first_kept}
 use Rattle.nq_io.specs.Faults.{Rose}
 use Rattle.nq_keeper.specs.StoredKeeper.{empty_kept}
 use Rattle.nq_server.specs.Holding.{Boots, Holding, IsServer}

@@ -7,10 +7,10 @@ use Rattle.std.specs.Prelude.{slice_get, slice_set, replicate, Result, Ok, Err, 
 use Rattle.nq_base.specs.declared.Change.{Change}
 use Rattle.nq_base.specs.declared.Heads.{Heads}
 use Rattle.nq_base.specs.declared.FileRow.{FileRow}
-use Rattle.nq_model.specs.Change.{Fits, IsChangeWithin, IsRowOf, file_of, with_file, with_file_at, kept_as, applied}
-use Rattle.nq_model.specs.Kept.{File, Kept, blocks_in_all, find_file, new_file, fresh_row}
-use Rattle.nq_model.specs.Profile.{most_hosts, shortest_term, longest_term}
-use Rattle.nq_model.specs.World.{first_files, first_row}
+use Rattle.nq_model.specs.protocol.Change.{Fits, IsChangeWithin, IsRowOf, file_of, with_file, with_file_at, kept_as, applied}
+use Rattle.nq_model.specs.protocol.Kept.{File, Kept, blocks_in_all, find_file, new_file, fresh_row}
+use Rattle.nq_model.specs.protocol.Profile.{most_hosts, shortest_term, longest_term}
+use Rattle.nq_model.specs.protocol.World.{first_files, first_row}
 use Rattle.nq_model.proofs.Files.{resized-none}
 use Rattle.nq_model.proofs.FreshFits.{none-has}
 use Rattle.nq_keeper.specs.Keeping.{Commits, told_after}

@@ -5,11 +5,11 @@ use Rattle.std.proofs.lemmas.List.Elements.{All-nil, All-cons}
 use Rattle.nq_base.specs.Plain.{plain}
 use Rattle.nq_base.specs.declared.Event.{Event}
 use Rattle.nq_clock.specs.Counts.{SkewCounts}
-use Rattle.nq_model.specs.Skew.{IsWithinSkew}
-use Rattle.nq_model.specs.SkewBroken.{skew_broken}
-use Rattle.nq_model.specs.Stepped.{stepped_at}
-use Rattle.nq_model.specs.World.{Head, run, start}
-use Rattle.nq_model.specs.Bounds.{BootsWithin}
+use Rattle.nq_model.specs.protocol.Skew.{IsWithinSkew}
+use Rattle.nq_model.specs.protocol.SkewBroken.{skew_broken}
+use Rattle.nq_model.specs.protocol.Stepped.{stepped_at}
+use Rattle.nq_model.specs.protocol.World.{Head, run, start}
+use Rattle.nq_model.specs.laws.Bounds.{BootsWithin}
 use Rattle.walk_steps.proofs.WorldNumbers.{numbers-stay-within}
 use Rattle.nq_world.specs.Running.{IsRunOf, stepped_seen, RunsBegin, ServersBegin, TestsAreExact, RunsGoOn, RunsAreLawful}
 use Rattle.nq_world.specs.Shown.{datagram, FitsPacket, Seen}

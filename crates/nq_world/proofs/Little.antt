@@ -7,11 +7,11 @@ use Rattle.std.specs.List.{All}
 use Rattle.nq_base.specs.declared.Party.{Party}
 use Rattle.nq_datagrams.specs.Messages.{FitsMessage, bytes_of, message_of}
 use Rattle.nq_datagrams.specs.Sent.{sent}
-use Rattle.nq_model.specs.Client.{ClientStep}
-use Rattle.nq_model.specs.Message.{Message, Packet, call, reply, error, RpcError, rpc_mismatch, program_unavailable, program_mismatch}
-use Rattle.nq_model.specs.Message.{procedure_unavailable, garbage_arguments}
-use Rattle.nq_model.specs.Server.{ServerStep}
-use Rattle.nq_model.specs.World.{World, from_host, after_server, after_client, run}
+use Rattle.nq_model.specs.protocol.Client.{ClientStep}
+use Rattle.nq_model.specs.protocol.Message.{Message, Packet, call, reply, error, RpcError, rpc_mismatch, program_unavailable, program_mismatch}
+use Rattle.nq_model.specs.protocol.Message.{procedure_unavailable, garbage_arguments}
+use Rattle.nq_model.specs.protocol.Server.{ServerStep}
+use Rattle.nq_model.specs.protocol.World.{World, from_host, after_server, after_client, run}
 use Rattle.nq_xdr.proofs.Spellings.{length-spelling}
 use Rattle.nq_wire.proofs.Lengths.{length-arguments, arguments_len-most, length-results, results_len-most}
 use Rattle.walk_steps.proofs.WorldSends.{events-send-few}

@@ -8,9 +8,9 @@ use Rattle.nq_base.specs.declared.Event.{Event}
 use Rattle.nq_base.specs.declared.Party.{Party}
 use Rattle.nq_client.specs.Counted.{Counted}
 use Rattle.nq_datagrams.specs.Incoming.{hears_in}
-use Rattle.nq_model.specs.Client.{Client, ClientStep}
-use Rattle.nq_model.specs.Kept.{Kept}
-use Rattle.nq_model.specs.World.{Head, World, after_client, after_hearing, at_client, deliver, deliver_to, deliver_to_client, run, step}
+use Rattle.nq_model.specs.protocol.Client.{Client, ClientStep}
+use Rattle.nq_model.specs.protocol.Kept.{Kept}
+use Rattle.nq_model.specs.protocol.World.{Head, World, after_client, after_hearing, at_client, deliver, deliver_to, deliver_to_client, run, step}
 use Rattle.nq_link.specs.Packets.{Datagram, PacketList}
 use Rattle.nq_world.proofs.Little.{clients-send-little}
 use Rattle.nq_world.proofs.Played.{IsFit, plays-on}

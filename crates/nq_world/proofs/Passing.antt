@@ -6,9 +6,10 @@ use Rattle.std.specs.Prelude.{nat_lt, if◌then◌else◌}
 use Rattle.nq_base.specs.declared.Event.{Event}
 use Rattle.nq_base.specs.declared.SkewBroken.{SkewBroken}
 use Rattle.nq_clock.specs.Counts.{SkewCounts}
-use Rattle.nq_model.specs.SkewBroken.{skew_broken}
-use Rattle.nq_model.specs.Stepped.{Stepped, done, no_packet, too_many_events, too_many_packets, most_events, most_sent, tested_room, tested_skew, stepped}
-use Rattle.nq_model.specs.World.{Head}
+use Rattle.nq_model.specs.protocol.SkewBroken.{skew_broken}
+use Rattle.nq_model.specs.protocol.Stepped.{Stepped, done, no_packet, too_many_events, too_many_packets, most_events, most_sent, tested_room, tested_skew}
+use Rattle.nq_model.specs.protocol.Stepped.{stepped}
+use Rattle.nq_model.specs.protocol.World.{Head}
 use Rattle.nq_world.proofs.Going.{tests-are-exact}
 use Rattle.nq_world.specs.Running.{IsRunOf, tested_seen, stepped_seen}
 use Rattle.nq_world.specs.Shown.{Seen}

@@ -5,10 +5,10 @@ use Rattle.nq_base.specs.declared.Event.{Event}
 use Rattle.nq_clock.specs.Counts.{SkewCounts}
 use Rattle.nq_clock.specs.Tracks.{IsNoTick}
 use Rattle.nq_clock.proofs.Tracking.{other-events-pass}
-use Rattle.nq_model.specs.Kept.{Kept}
-use Rattle.nq_model.specs.Stepped.{done, stepped}
-use Rattle.nq_model.specs.World.{Head, run, step}
-use Rattle.nq_model.specs.Bounds.{BootsWithin}
+use Rattle.nq_model.specs.protocol.Kept.{Kept}
+use Rattle.nq_model.specs.protocol.Stepped.{done, stepped}
+use Rattle.nq_model.specs.protocol.World.{Head, run, step}
+use Rattle.nq_model.specs.laws.Bounds.{BootsWithin}
 use Rattle.nq_server.specs.State.{beside}
 use Rattle.walk_steps.specs.Within.{IsGiven}
 use Rattle.nq_world.proofs.Going.{runs-go-on}

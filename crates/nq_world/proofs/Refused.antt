@@ -3,10 +3,10 @@ use Rattle.std.proofs.Common.{◌≡◌, ◌≤◌, ℕ, List, Option, length, m
 use Rattle.nq_base.specs.Plain.{plain}
 use Rattle.nq_base.specs.declared.Event.{Event}
 use Rattle.nq_clock.specs.Tracks.{Follows}
-use Rattle.nq_model.specs.Kept.{Kept}
-use Rattle.nq_model.specs.SkewBroken.{skew_broken}
-use Rattle.nq_model.specs.Stepped.{Stepped as Answer, done, no_packet, out_of_skew, too_many_events, too_many_packets, stepped}
-use Rattle.nq_model.specs.World.{Head}
+use Rattle.nq_model.specs.protocol.Kept.{Kept}
+use Rattle.nq_model.specs.protocol.SkewBroken.{skew_broken}
+use Rattle.nq_model.specs.protocol.Stepped.{Stepped as Answer, done, no_packet, out_of_skew, too_many_events, too_many_packets, stepped}
+use Rattle.nq_model.specs.protocol.World.{Head}
 use Rattle.nq_world.proofs.Going.{tests-are-exact}
 use Rattle.nq_world.specs.Answering.{IsOfTests, told as answer_of}
 use Rattle.nq_world.specs.Counting.{TookIn}

@@ -4,10 +4,10 @@ use Rattle.nq_base.specs.declared.Reply.{Reply}
 use Rattle.nq_base.specs.declared.Request.{Request}
 use Rattle.nq_base.specs.declared.Tag.{Tag}
 use Rattle.nq_base.specs.declared.Who.{Who}
-use Rattle.nq_model.specs.Client.{Client, Job, attaching, for_call, renewing, pushing, Ticket}
-use Rattle.nq_model.specs.Hear.{inc_of}
-use Rattle.nq_model.specs.Message.{Message, Packet, call, reply, error}
-use Rattle.nq_model.specs.World.{run}
+use Rattle.nq_model.specs.protocol.Client.{Client, Job, attaching, for_call, renewing, pushing, Ticket}
+use Rattle.nq_model.specs.protocol.Hear.{inc_of}
+use Rattle.nq_model.specs.protocol.Message.{Message, Packet, call, reply, error}
+use Rattle.nq_model.specs.protocol.World.{run}
 use Rattle.nq_wire.specs.Reply.{Answers, IsRefusable}
 use Rattle.nq_wire.specs.Request.{procedure_of}
 use Rattle.nq_datagrams.specs.Laws.{IsOfTicket}

@@ -3,8 +3,8 @@ use Rattle.std.proofs.Common.{◌≡◌, ℕ, Some, refl}
 use Rattle.nq_base.specs.declared.Reply.{Reply}
 use Rattle.nq_base.specs.declared.Request.{Request}
 use Rattle.nq_base.specs.declared.Verdict.{Verdict}
-use Rattle.nq_model.specs.Decide.{verdict_reply}
-use Rattle.nq_model.specs.Message.{sequence_of}
+use Rattle.nq_model.specs.protocol.Decide.{verdict_reply}
+use Rattle.nq_model.specs.protocol.Message.{sequence_of}
 use Rattle.nq_wire.specs.Reply.{Answers}
 use Rattle.nq_wire.specs.Request.{procedure_of}
 use Rattle.walk_steps.proofs.ClientMoves.{none-some}

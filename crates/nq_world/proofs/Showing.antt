@@ -11,10 +11,11 @@ use Rattle.nq_datagrams.specs.Incoming.{datagram_in, hears_in}
 use Rattle.nq_datagrams.specs.Messages.{FitsMessage, bytes_of}
 use Rattle.nq_datagrams.specs.Sent.{sent}
 use Rattle.nq_datagrams.proofs.Readers.{server-reads-messages}
-use Rattle.nq_model.specs.Hear.{hear}
-use Rattle.nq_model.specs.Message.{Message, Packet, datagram_of}
-use Rattle.nq_model.specs.ServerStep.{receive}
-use Rattle.nq_model.specs.World.{World, from_host, after_server, after_client, after_hearing, sending_host, deliver_to_client, deliver_to, deliver, run}
+use Rattle.nq_model.specs.protocol.Hear.{hear}
+use Rattle.nq_model.specs.protocol.Message.{Message, Packet, datagram_of}
+use Rattle.nq_model.specs.protocol.ServerStep.{receive}
+use Rattle.nq_model.specs.protocol.World.{World, from_host, after_server, after_client, after_hearing, sending_host, deliver_to_client, deliver_to, deliver}
+use Rattle.nq_model.specs.protocol.World.{run}
 use Rattle.nq_link.specs.Packets.{Datagram}
 use Rattle.nq_world.proofs.ReplyWorlds.{each-packet-is-heard}
 use Rattle.nq_world.specs.Shown.{datagram, FitsPacket, sent_from, to_server, Seen, Shows}

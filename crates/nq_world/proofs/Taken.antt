@@ -10,14 +10,14 @@ use Rattle.nq_clock.specs.Counts.{SkewCounts}
 use Rattle.nq_clock.specs.Tracks.{Follows}
 use Rattle.nq_datagrams.specs.Incoming.{datagram_in, hears_in}
 use Rattle.nq_base.specs.Entries.{EntryList}
-use Rattle.nq_model.specs.Client.{Client, ClientStep}
-use Rattle.nq_model.specs.ClientStep.{client_call, client_tick, restart}
-use Rattle.nq_model.specs.Kept.{Kept}
-use Rattle.nq_model.specs.Profile.{most_taken_by_server, shortest_term}
-use Rattle.nq_model.specs.SkewBroken.{skew_broken}
-use Rattle.nq_model.specs.ServerStep.{at_time, crash, receive, tick}
-use Rattle.nq_model.specs.Server.{Server, ServerStep}
-use Rattle.nq_model.specs.World.{after_server, run, sending_host}
+use Rattle.nq_model.specs.protocol.Client.{Client, ClientStep}
+use Rattle.nq_model.specs.protocol.ClientStep.{client_call, client_tick, restart}
+use Rattle.nq_model.specs.protocol.Kept.{Kept}
+use Rattle.nq_model.specs.protocol.Profile.{most_taken_by_server, shortest_term}
+use Rattle.nq_model.specs.protocol.SkewBroken.{skew_broken}
+use Rattle.nq_model.specs.protocol.ServerStep.{at_time, crash, receive, tick}
+use Rattle.nq_model.specs.protocol.Server.{Server, ServerStep}
+use Rattle.nq_model.specs.protocol.World.{after_server, run, sending_host}
 use Rattle.nq_link.specs.Packets.{Datagram, PacketList}
 use Rattle.nq_server.specs.Holding.{Holding, IsTaken, Reboots}
 use Rattle.nq_server.specs.State.{server_of}

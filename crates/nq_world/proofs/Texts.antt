@@ -5,11 +5,11 @@ use Rattle.std.specs.List.{All}
 use Rattle.nq_base.specs.declared.Request.{Request}
 use Rattle.nq_base.specs.declared.Request.TheVariants.{Create, Write}
 use Rattle.nq_datagrams.specs.Messages.{FitsMessage, bytes_of}
-use Rattle.nq_model.specs.Message.{call, reply, error}
+use Rattle.nq_model.specs.protocol.Message.{call, reply, error}
 use Rattle.nq_xdr.specs.Message.{spelling}
 use Rattle.nq_wire.specs.Request.{arguments}
 use Rattle.nq_xdr.specs.Item.{opaque}
-use Rattle.nq_model.specs.Decided.{HasText}
+use Rattle.nq_model.specs.protocol.Decided.{HasText}
 use Rattle.nq_world.specs.Running.{BytesCarryText}
 
 all-right : {X : Type 0} (P : X → Type 0) (xs ys : List X) → All P (xs ++ ys) → All P ys

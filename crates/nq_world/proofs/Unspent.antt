@@ -5,9 +5,9 @@ use Rattle.std.specs.Prelude.{slice_get}
 use Rattle.nq_base.specs.declared.Event.{Event}
 use Rattle.nq_keeper.specs.Booting.{last_boot}
 use Rattle.nq_client.specs.Counted.{Counted}
-use Rattle.nq_model.specs.Kept.{Kept}
-use Rattle.nq_model.specs.Skew.{is_server_tick, is_tick_of, server_ticks, ticks_of}
-use Rattle.nq_model.specs.World.{Head, run}
+use Rattle.nq_model.specs.protocol.Kept.{Kept}
+use Rattle.nq_model.specs.protocol.Skew.{is_server_tick, is_tick_of, server_ticks, ticks_of}
+use Rattle.nq_model.specs.protocol.World.{Head, run}
 use Rattle.walk_steps.proofs.WorldClocks.{run-clocked}
 use Rattle.walk_steps.proofs.WorldNumbers.{drawn-up-to, numbers-stay-within}
 use Rattle.nq_world.proofs.Counting.{took-at}

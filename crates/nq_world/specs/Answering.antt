@@ -1,5 +1,5 @@
 -- What a world answers, in the words of its code.
-use Rattle.nq_model.specs.Stepped.{Stepped as Answer, done, no_packet, out_of_skew, too_many_events, too_many_packets}
+use Rattle.nq_model.specs.protocol.Stepped.{Stepped as Answer, done, no_packet, out_of_skew, too_many_events, too_many_packets}
 use Rattle.nq_world.specs.declared.stepped.Limit.{Limit}
 use Rattle.nq_world.specs.declared.stepped.Stepped.{Stepped}
 

@@ -1,7 +1,7 @@
 -- How a world begins over a keeper.
 use Rattle.std.specs.Prelude.{◌≡◌, ℕ, Result, Ok, Err}
 use Rattle.nq_io.specs.Faults.{Rose}
-use Rattle.nq_model.specs.World.{Head as Beginning}
+use Rattle.nq_model.specs.protocol.World.{Head as Beginning}
 use Rattle.nq_script.specs.declared.heads.Head.{Head}
 use Rattle.nq_world.specs.Playing.{WorldOver}
 use Rattle.nq_world.specs.declared.starting.NewFault.{NewFault}

@@ -3,10 +3,10 @@ use Rattle.std.specs.Prelude.{◌≡◌, ◌⊎◌, ◌≤◌, ◌<◌, ℕ, ◌
 use Rattle.std.specs.Option.{ForSome}
 use Rattle.nq_keeper.specs.Booting.{last_boot}
 use Rattle.nq_client.specs.Counted.{Counted}
-use Rattle.nq_model.specs.Client.{Client}
-use Rattle.nq_model.specs.Kept.{Kept}
-use Rattle.nq_model.specs.Profile.{most_taken_by_client, most_taken_by_server}
-use Rattle.nq_model.specs.World.{World}
+use Rattle.nq_model.specs.protocol.Client.{Client}
+use Rattle.nq_model.specs.protocol.Kept.{Kept}
+use Rattle.nq_model.specs.protocol.Profile.{most_taken_by_client, most_taken_by_server}
+use Rattle.nq_model.specs.protocol.World.{World}
 use Rattle.nq_server.specs.Holding.{Holding}
 
 -- each of these clients took in at most so many calls, datagrams and ticks

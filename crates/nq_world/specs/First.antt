@@ -7,9 +7,9 @@ use Rattle.nq_base.specs.declared.Change.{Change}
 use Rattle.nq_io.specs.Faults.{Rose}
 use Rattle.nq_keeper.specs.declared.keeper.KeepFault.{KeepFault}
 use Rattle.nq_keeper.specs.declared.keeper.KeepFault.TheVariants.{Failed, Memory}
-use Rattle.nq_model.specs.Kept.{Kept, fresh_row}
-use Rattle.nq_model.specs.Profile.{most_hosts, most_files, most_blocks}
-use Rattle.nq_model.specs.World.{first_files, first_row}
+use Rattle.nq_model.specs.protocol.Kept.{Kept, fresh_row}
+use Rattle.nq_model.specs.protocol.Profile.{most_hosts, most_files, most_blocks}
+use Rattle.nq_model.specs.protocol.World.{first_files, first_row}
 use Rattle.nq_base.specs.Name.{AreDistinct}
 use Rattle.walk_steps.specs.Within.{IsFirstFile}
 

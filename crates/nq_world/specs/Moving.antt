@@ -13,10 +13,10 @@ use Rattle.nq_clock.specs.Tracks.{Follows}
 use Rattle.nq_datagrams.specs.Messages.{FitsMessage}
 use Rattle.nq_datagrams.specs.Sent.{sent as sent_packet}
 use Rattle.nq_keeper.specs.Keeping.{StaysOrEnds}
-use Rattle.nq_model.specs.Client.{Client, ClientStep}
-use Rattle.nq_model.specs.Kept.{Kept}
-use Rattle.nq_model.specs.Server.{ServerStep}
-use Rattle.nq_model.specs.Stepped.{most_sends}
+use Rattle.nq_model.specs.protocol.Client.{Client, ClientStep}
+use Rattle.nq_model.specs.protocol.Kept.{Kept}
+use Rattle.nq_model.specs.protocol.Server.{ServerStep}
+use Rattle.nq_model.specs.protocol.Stepped.{most_sends}
 use Rattle.nq_link.specs.Packets.{PacketList}
 use Rattle.nq_server.specs.Holding.{Holding, IsUntouched}
 use Rattle.nq_server.specs.State.{beside}

@@ -8,11 +8,11 @@ use Rattle.nq_client.specs.Counted.{Counted}
 use Rattle.nq_clock.specs.Counts.{SkewCounts}
 use Rattle.nq_io.specs.Faults.{Rose}
 use Rattle.nq_keeper.specs.Keeping.{StaysOrEnds}
-use Rattle.nq_model.specs.Client.{Client}
-use Rattle.nq_model.specs.Kept.{Kept}
-use Rattle.nq_model.specs.Profile.{shortest_term}
-use Rattle.nq_model.specs.Stepped.{done, stepped}
-use Rattle.nq_model.specs.World.{Head, run}
+use Rattle.nq_model.specs.protocol.Client.{Client}
+use Rattle.nq_model.specs.protocol.Kept.{Kept}
+use Rattle.nq_model.specs.protocol.Profile.{shortest_term}
+use Rattle.nq_model.specs.protocol.Stepped.{done, stepped}
+use Rattle.nq_model.specs.protocol.World.{Head, run}
 use Rattle.nq_link.specs.Packets.{Datagram}
 use Rattle.nq_server.specs.Holding.{Holding, IsUntouched}
 use Rattle.nq_server.specs.State.{beside}

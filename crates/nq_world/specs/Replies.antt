@@ -2,10 +2,10 @@
 use Rattle.std.specs.Prelude.{◌≡◌, ℕ, List, Some, slice_get}
 use Rattle.nq_base.specs.declared.Event.{Event}
 use Rattle.nq_base.specs.declared.Party.{Party}
-use Rattle.nq_model.specs.Client.{Client}
-use Rattle.nq_model.specs.Hear.{hear}
-use Rattle.nq_model.specs.Message.{Packet}
-use Rattle.nq_model.specs.World.{Head, run}
+use Rattle.nq_model.specs.protocol.Client.{Client}
+use Rattle.nq_model.specs.protocol.Hear.{hear}
+use Rattle.nq_model.specs.protocol.Message.{Packet}
+use Rattle.nq_model.specs.protocol.World.{Head, run}
 use Rattle.nq_datagrams.specs.Incoming.{hears_in}
 use Rattle.nq_datagrams.specs.Laws.{IsOfTicket}
 use Rattle.nq_datagrams.specs.Messages.{FitsMessage, bytes_of}

@@ -4,10 +4,10 @@ use Rattle.nq_base.specs.declared.Event.{Event}
 use Rattle.nq_base.specs.declared.Party.{Party}
 use Rattle.nq_datagrams.specs.Messages.{FitsMessage}
 use Rattle.nq_datagrams.specs.Sent.{sent}
-use Rattle.nq_model.specs.Client.{ClientStep}
-use Rattle.nq_model.specs.Server.{ServerStep}
-use Rattle.nq_model.specs.Stepped.{most_sends}
-use Rattle.nq_model.specs.World.{Head, after_server, after_client, run, step}
+use Rattle.nq_model.specs.protocol.Client.{ClientStep}
+use Rattle.nq_model.specs.protocol.Server.{ServerStep}
+use Rattle.nq_model.specs.protocol.Stepped.{most_sends}
+use Rattle.nq_model.specs.protocol.World.{Head, after_server, after_client, run, step}
 use Rattle.nq_world.specs.Sending.{bytes_together}
 use Rattle.nq_world.specs.Shown.{FitsPacket, to_server}
 

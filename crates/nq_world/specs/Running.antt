@@ -5,14 +5,14 @@ use Rattle.nq_base.specs.declared.SkewBroken.{SkewBroken}
 use Rattle.nq_clock.specs.Counts.{SkewCounts}
 use Rattle.nq_clock.specs.Tracks.{Follows}
 use Rattle.nq_datagrams.specs.Messages.{FitsMessage, bytes_of}
-use Rattle.nq_model.specs.Change.{IsWithinBounds}
-use Rattle.nq_model.specs.Message.{Message}
-use Rattle.nq_model.specs.Skew.{IsWithinSkew}
-use Rattle.nq_model.specs.SkewBroken.{skew_broken}
-use Rattle.nq_model.specs.Stepped.{Stepped, too_many_events, no_packet, most_events, most_sent, tested_room, tested_skew, stepped}
-use Rattle.nq_model.specs.ServerStep.{boot}
-use Rattle.nq_model.specs.World.{Head, first_clients, first_kept, run, step}
-use Rattle.nq_model.specs.Bounds.{BootsWithin, KeepsBounds}
+use Rattle.nq_model.specs.protocol.Change.{IsWithinBounds}
+use Rattle.nq_model.specs.protocol.Message.{Message}
+use Rattle.nq_model.specs.protocol.Skew.{IsWithinSkew}
+use Rattle.nq_model.specs.protocol.SkewBroken.{skew_broken}
+use Rattle.nq_model.specs.protocol.Stepped.{Stepped, too_many_events, no_packet, most_events, most_sent, tested_room, tested_skew, stepped}
+use Rattle.nq_model.specs.protocol.ServerStep.{boot}
+use Rattle.nq_model.specs.protocol.World.{Head, first_clients, first_kept, run, step}
+use Rattle.nq_model.specs.laws.Bounds.{BootsWithin, KeepsBounds}
 use Rattle.walk_steps.specs.Within.{CarriesText, IsGiven, AreGiven, IsHeadWithin}
 use Rattle.nq_world.specs.Counting.{HasNumbersLeft}
 use Rattle.nq_world.specs.Shown.{Seen, Shows}

@@ -4,9 +4,9 @@ use Rattle.nq_base.specs.Plain.{plain}
 use Rattle.nq_base.specs.declared.Entry.{Entry}
 use Rattle.nq_base.specs.declared.Party.{Party}
 use Rattle.nq_datagrams.specs.Messages.{FitsMessage, bytes_of}
-use Rattle.nq_model.specs.Client.{Client}
-use Rattle.nq_model.specs.Message.{Message, Packet}
-use Rattle.nq_model.specs.World.{World}
+use Rattle.nq_model.specs.protocol.Client.{Client}
+use Rattle.nq_model.specs.protocol.Message.{Message, Packet}
+use Rattle.nq_model.specs.protocol.World.{World}
 use Rattle.nq_link.specs.Packets.{Datagram}
 
 -- a packet as it travels: its sender, its receiver, and the one spelling of its message

@@ -7,10 +7,10 @@ use Rattle.nq_base.specs.declared.Party.{Party}
 use Rattle.nq_datagrams.specs.Incoming.{datagram_in, hears_in}
 use Rattle.nq_datagrams.specs.Messages.{FitsMessage}
 use Rattle.nq_datagrams.specs.Sent.{sent}
-use Rattle.nq_model.specs.Client.{Client, ClientStep}
-use Rattle.nq_model.specs.Server.{ServerStep}
-use Rattle.nq_model.specs.ServerStep.{receive}
-use Rattle.nq_model.specs.World.{Head, World, after_server, after_client, after_hearing, sending_host, run, step}
+use Rattle.nq_model.specs.protocol.Client.{Client, ClientStep}
+use Rattle.nq_model.specs.protocol.Server.{ServerStep}
+use Rattle.nq_model.specs.protocol.ServerStep.{receive}
+use Rattle.nq_model.specs.protocol.World.{Head, World, after_server, after_client, after_hearing, sending_host, run, step}
 use Rattle.nq_link.specs.Packets.{Datagram}
 use Rattle.walk_steps.specs.Says.{SaysPlainly}
 use Rattle.nq_world.specs.Shown.{FitsPacket, Seen, Shows, sent_from, to_server}

@@ -3,7 +3,7 @@
 ghost use Rattle.std.specs.Prelude.{◌≡◌, ◌<◌, Some, length, slice_get};
 ghost use Rattle.nq_base.specs.declared.Event.{Event};
 ghost use Rattle.nq_base.specs.declared.Party.{Party};
-ghost use Rattle.nq_model.specs.Stepped.{most_events};
+ghost use Rattle.nq_model.specs.protocol.Stepped.{most_events};
 ghost use Rattle.nq_world.specs.Playing.{GoesOn, TakesIn};
 
 use crate::clients::{call, hear, restart, tick};

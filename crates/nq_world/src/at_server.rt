@@ -4,10 +4,10 @@ ghost use Rattle.std.specs.Prelude.{◌≡◌, ◌≤◌, ◌<◌, List, Some, O
 ghost use Rattle.nq_base.specs.declared.Event.{Event};
 ghost use Rattle.nq_base.specs.declared.Party.{Party};
 ghost use Rattle.nq_clock.specs.Tracks.{Follows};
-ghost use Rattle.nq_model.specs.Profile.{shortest_term};
-ghost use Rattle.nq_model.specs.SkewBroken.{skew_broken};
-ghost use Rattle.nq_model.specs.Stepped.{most_events};
-ghost use Rattle.nq_model.specs.World.{sending_host};
+ghost use Rattle.nq_model.specs.protocol.Profile.{shortest_term};
+ghost use Rattle.nq_model.specs.protocol.SkewBroken.{skew_broken};
+ghost use Rattle.nq_model.specs.protocol.Stepped.{most_events};
+ghost use Rattle.nq_model.specs.protocol.World.{sending_host};
 ghost use Rattle.nq_world.specs.Moving.{Clocks, received};
 ghost use Rattle.nq_world.specs.Playing.{GoesOn, TakesIn};
 

@@ -3,7 +3,7 @@
 ghost use Rattle.std.specs.Prelude.{◌≡◌, ◌<◌, ◌≤◌, ◌+◌, ◌^◌, [], Some, length, IfSome, IsNone};
 ghost use Rattle.nq_base.specs.declared.Event.{Event};
 ghost use Rattle.nq_datagrams.specs.Incoming.{hears_in};
-ghost use Rattle.nq_model.specs.ClientStep.{client_call, client_tick, next_incarnation, restart};
+ghost use Rattle.nq_model.specs.protocol.ClientStep.{client_call, client_tick, next_incarnation, restart};
 ghost use Rattle.nq_world.specs.Moving.{ActsAt, Clocks, called, heeded};
 
 use crate::clocks::{shown, time_after};

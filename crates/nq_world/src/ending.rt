@@ -1,7 +1,7 @@
 //! How an event ends: what it sent is added to the packets, and it is counted.
 
 ghost use Rattle.std.specs.Prelude.{◌≡◌, ◌<◌, ◌≤◌, ◌+◌, [], length, IfOk, OnOk, OnErr};
-ghost use Rattle.nq_model.specs.Stepped.{most_events};
+ghost use Rattle.nq_model.specs.protocol.Stepped.{most_events};
 ghost use Rattle.nq_world.specs.Moving.{Ends, HasRoom};
 
 use crate::sending::send;

@@ -2,8 +2,8 @@
 
 ghost use Rattle.std.specs.Prelude.{◌≡◌, ◌≤◌, ◌<◌, ◌^◌, ◌+◌, ℕ, List, [], length, take, OnOk};
 ghost use Rattle.nq_keeper.specs.StoredKeeper.{empty_kept};
-ghost use Rattle.nq_model.specs.Profile.{most_hosts, shortest_term, longest_term};
-ghost use Rattle.nq_model.specs.World.{first_kept};
+ghost use Rattle.nq_model.specs.protocol.Profile.{most_hosts, shortest_term, longest_term};
+ghost use Rattle.nq_model.specs.protocol.World.{first_kept};
 ghost use Rattle.nq_world.specs.First.{AreFirstFiles, Counts, Tells, file_change, heads_change, host_change, kept_first, told_as};
 
 use nq_base::{

@@ -5,12 +5,12 @@ ghost use Rattle.std.specs.Option.{ForSome, option_copied};
 ghost use Rattle.nq_base.specs.declared.Event.{Event};
 ghost use Rattle.nq_client.specs.State.{call_of};
 ghost use Rattle.nq_keeper.specs.Keeping.{Reads};
-ghost use Rattle.nq_model.specs.Change.{file_after, row_of_found};
-ghost use Rattle.nq_model.specs.Kept.{Kept, host_row};
-ghost use Rattle.nq_model.specs.Profile.{most_hosts};
-ghost use Rattle.nq_model.specs.Server.{serving};
-ghost use Rattle.nq_model.specs.Skew.{IsWithinSkew};
-ghost use Rattle.nq_model.specs.World.{Head};
+ghost use Rattle.nq_model.specs.protocol.Change.{file_after, row_of_found};
+ghost use Rattle.nq_model.specs.protocol.Kept.{Kept, host_row};
+ghost use Rattle.nq_model.specs.protocol.Profile.{most_hosts};
+ghost use Rattle.nq_model.specs.protocol.Server.{serving};
+ghost use Rattle.nq_model.specs.protocol.Skew.{IsWithinSkew};
+ghost use Rattle.nq_model.specs.protocol.World.{Head};
 ghost use Rattle.nq_world.specs.Playing.{IsAsBefore, IsThere, IsTimeOf, Plays};
 
 use crate::starting::stop_all;

@@ -2,8 +2,8 @@
 
 ghost use Rattle.std.specs.Prelude.{◌≡◌, ◌≤◌, ℕ, List, [], Some, length, IfOk, IfErr};
 ghost use Rattle.nq_keeper.specs.StoredKeeper.{empty_kept};
-ghost use Rattle.nq_model.specs.Profile.{longest_term, most_hosts, shortest_term};
-ghost use Rattle.nq_model.specs.World.{first_clients, first_kept};
+ghost use Rattle.nq_model.specs.protocol.Profile.{longest_term, most_hosts, shortest_term};
+ghost use Rattle.nq_model.specs.protocol.World.{first_clients, first_kept};
 ghost use Rattle.nq_script.specs.Heads.{FitsHead};
 ghost use Rattle.nq_world.specs.Beginning.{CountsBegin, NeverFails, beginning};
 ghost use Rattle.nq_world.specs.Counting.{TookIn};

@@ -3,8 +3,8 @@
 ghost use Rattle.std.specs.Prelude.{◌≡◌, ◌<◌, List, length, nat_lt, if◌then◌else◌};
 ghost use Rattle.nq_base.specs.declared.Event.{Event};
 ghost use Rattle.nq_clock.specs.Tracks.{Follows};
-ghost use Rattle.nq_model.specs.SkewBroken.{skew_broken};
-ghost use Rattle.nq_model.specs.Stepped.{most_events, no_packet, tested_room, tested_skew};
+ghost use Rattle.nq_model.specs.protocol.SkewBroken.{skew_broken};
+ghost use Rattle.nq_model.specs.protocol.Stepped.{most_events, no_packet, tested_room, tested_skew};
 ghost use Rattle.nq_world.specs.Answering.{IsOfTests, told};
 ghost use Rattle.nq_world.specs.Running.{stepped_seen};
 ghost use Rattle.nq_world.specs.declared.stepped.Stepped.{Stepped};

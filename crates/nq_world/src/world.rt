@@ -2,8 +2,8 @@
 
 ghost use Rattle.std.specs.Prelude.{◌≡◌, ◌<◌, ℕ, List, length};
 ghost use Rattle.nq_base.specs.declared.Event.{Event};
-ghost use Rattle.nq_model.specs.Stepped.{most_events};
-ghost use Rattle.nq_model.specs.World.{Head};
+ghost use Rattle.nq_model.specs.protocol.Stepped.{most_events};
+ghost use Rattle.nq_model.specs.protocol.World.{Head};
 ghost use Rattle.nq_world.specs.Playing.{CanCome, CountsFaults, GoesOn, HasSettings, Plays, Steps, TakesIn};
 
 use crate::stepped::Stepped;
@@ -33,8 +33,8 @@ pub struct World<K> {
 
 impl<K> Model for World<K> {
     ghost use Rattle.std.specs.Prelude.{◌≡◌, ◌≤◌, length};
-    ghost use Rattle.nq_model.specs.Profile.{longest_term};
-    ghost use Rattle.nq_model.specs.Stepped.{most_events};
+    ghost use Rattle.nq_model.specs.protocol.Profile.{longest_term};
+    ghost use Rattle.nq_model.specs.protocol.Stepped.{most_events};
     ghost use Rattle.nq_world.specs.Playing.{WorldOver};
 
     ghost Value = { WorldOver K };

@@ -21,15 +21,15 @@ use Rattle.walk_steps.proofs.ClientFacts.{Alone, push_in}
 use Rattle.nq_model.proofs.ClientLists.{used-lease-found}
 use Rattle.walk_steps.proofs.ClientMoves.{none-some, some-same}
 use Rattle.walk_files.proofs.PushLists.{is-at}
-use Rattle.nq_model.specs.Client.{Client, ClientStep, Job, Lease, Ticket, UnderWay, begun, lease_on, used_lease, marked_used, lets_read, lets_write}
-use Rattle.nq_model.specs.Client.{dirty_at, first_dirty, is_push_of, drop_dirty, is_push_at, clean_at, is_clean_at, drop_clean, Clean}
-use Rattle.nq_model.specs.ClientStep.{begins_call, is_called, sends_unless_cached, client_call, client_tick, at_time, sends_again, restart, starts}
-use Rattle.nq_model.specs.Hear.{vacates_lease, notes_notice, evicted, cancels, cancelled, wants_of, replied, goes_on, hear}
-use Rattle.nq_model.specs.Journal.{Each}
-use Rattle.nq_model.specs.Message.{Message}
-use Rattle.nq_model.specs.Send.{sends_request, after_seq, after_number, takes_push, gives_up, send_next}
-use Rattle.nq_model.specs.Settle.{answers, cached_body, held_body, pushed_body, clean_body, touched, reads_clean, reads_cached, after_read}
-use Rattle.nq_model.specs.Settle.{after_write, delays, marks_written, settle}
+use Rattle.nq_model.specs.protocol.Client.{Client, ClientStep, Job, Lease, Ticket, UnderWay, begun, lease_on, used_lease, marked_used, lets_read, lets_write}
+use Rattle.nq_model.specs.protocol.Client.{dirty_at, first_dirty, is_push_of, drop_dirty, is_push_at, clean_at, is_clean_at, drop_clean, Clean}
+use Rattle.nq_model.specs.protocol.ClientStep.{begins_call, is_called, sends_unless_cached, client_call, client_tick, at_time, sends_again, restart, starts}
+use Rattle.nq_model.specs.protocol.Hear.{vacates_lease, notes_notice, evicted, cancels, cancelled, wants_of, replied, goes_on, hear}
+use Rattle.nq_model.specs.laws.Journal.{Each}
+use Rattle.nq_model.specs.protocol.Message.{Message}
+use Rattle.nq_model.specs.protocol.Send.{sends_request, after_seq, after_number, takes_push, gives_up, send_next}
+use Rattle.nq_model.specs.protocol.Settle.{answers, cached_body, held_body, pushed_body, clean_body, touched, reads_clean, reads_cached, after_read}
+use Rattle.nq_model.specs.protocol.Settle.{after_write, delays, marks_written, settle}
 use Rattle.walk_steps.proofs.Rows.{find-passes, number-same, find-filter}
 use Rattle.walk_files.proofs.PlainParts.{IsPlain, PlainOf, plain-evicted, plain-answered, plain-named, plain-begins, plain-busy, plain-called, plain-replied}
 

@@ -8,10 +8,10 @@ use Rattle.walk_files.proofs.Cuts.{IsPlain, ArePlain, IsOf, IsExcusedIn, excused
 use Rattle.walk_files.proofs.HoldingSteps.{Between}
 use Rattle.walk_files.proofs.Holdings.{IsHeldBound, IsPastLoss, RefusedUnbound}
 use Rattle.walk_files.proofs.Waiting.{IsWaiting}
-use Rattle.nq_model.specs.Client.{Client, ClientStep, Lease, begun, lease_on, lets_write}
-use Rattle.nq_model.specs.Journal.{IsWithin, Each}
-use Rattle.nq_model.specs.Kept.{host_row}
-use Rattle.nq_model.specs.Server.{Server}
+use Rattle.nq_model.specs.protocol.Client.{Client, ClientStep, Lease, begun, lease_on, lets_write}
+use Rattle.nq_model.specs.laws.Journal.{IsWithin, Each}
+use Rattle.nq_model.specs.protocol.Kept.{host_row}
+use Rattle.nq_model.specs.protocol.Server.{Server}
 use Rattle.walk_steps.proofs.Packets.{In}
 
 pub record ClientExcused (s : Server) (c : Client) (journal : List Entry) : Type 0 where

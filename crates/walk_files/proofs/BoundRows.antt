@@ -13,14 +13,15 @@ use Rattle.walk_steps.proofs.ClientMoves.{some-same}
 use Rattle.walk_files.proofs.LateEndings.{late-end, late-opening}
 use Rattle.walk_steps.proofs.ServerChanges.{same-cover-table}
 use Rattle.walk_steps.proofs.ServerLives.{HasServed, booted-kept, booted-phase, between}
-use Rattle.nq_model.specs.CutOff.{Ends, IsLateEnd, IsLateOpening}
-use Rattle.nq_model.specs.Journal.{Each}
-use Rattle.nq_model.specs.Kept.{host_row}
-use Rattle.nq_model.specs.LeaseInterval.{claim_of, is_at_least, HasFitting, OutlivedBy, IsCovered}
-use Rattle.nq_model.specs.Profile.{skew, write_slack}
-use Rattle.nq_model.specs.Server.{Phase, serving, recovering, Server, ServerStep, standing, standing_in, quiet, with_table, keeping_with, last_table, last_in}
-use Rattle.nq_model.specs.ServerStep.{is_over, is_due, end_reading, at_time, opens, ends_writing, tick, crash, boot}
-use Rattle.nq_model.specs.Table.{Table, is_writing, find_row, with_rows}
+use Rattle.nq_model.specs.laws.CutOff.{Ends, IsLateEnd, IsLateOpening}
+use Rattle.nq_model.specs.laws.Journal.{Each}
+use Rattle.nq_model.specs.protocol.Kept.{host_row}
+use Rattle.nq_model.specs.laws.LeaseInterval.{claim_of, is_at_least, HasFitting, OutlivedBy, IsCovered}
+use Rattle.nq_model.specs.protocol.Profile.{skew, write_slack}
+use Rattle.nq_model.specs.protocol.Server.{Phase, serving, recovering, Server, ServerStep, standing, standing_in, quiet, with_table, keeping_with, last_table}
+use Rattle.nq_model.specs.protocol.Server.{last_in}
+use Rattle.nq_model.specs.protocol.ServerStep.{is_over, is_due, end_reading, at_time, opens, ends_writing, tick, crash, boot}
+use Rattle.nq_model.specs.protocol.Table.{Table, is_writing, find_row, with_rows}
 use Rattle.walk_files.proofs.LogRuns.{Alone, LogRuns}
 use Rattle.walk_steps.proofs.LogMoves.{timed}
 use Rattle.walk_steps.proofs.LogRows.{WasGranted, IsHeardOf, RowsHear, RowsGranted}

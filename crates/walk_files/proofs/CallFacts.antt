@@ -16,16 +16,16 @@ use Rattle.nq_base.specs.declared.Who.{Who}
 use Rattle.walk_files.proofs.CallsEntries.{entry_who, entry_call, entry_number, IsOpenAsTold}
 use Rattle.walk_files.proofs.Placed.{IsCachedBy, Placed, Spaced, call-told}
 use Rattle.walk_files.proofs.Quiet.{IsNoCall, open-more, open-before, OpenFits, ReadFits}
-use Rattle.nq_model.specs.Client.{UnderWay, for_call, Ticket}
+use Rattle.nq_model.specs.protocol.Client.{UnderWay, for_call, Ticket}
 use Rattle.nq_base.specs.Calls.{told}
-use Rattle.nq_model.specs.Journal.{Each, Exists, Throughout, AtEachPlace, IsCall, IsAnswer, IsOpen, call_of, told_by}
-use Rattle.nq_model.specs.Message.{Message, call, asker, sequence_of}
-use Rattle.nq_model.specs.Ordered.{IsCallBelow, HasOpen, IsOpenCall, IsBusyNext, IsBeforeCall, IsNumbered, IsResizeBy}
+use Rattle.nq_model.specs.laws.Journal.{Each, Exists, Throughout, AtEachPlace, IsCall, IsAnswer, IsOpen, call_of, told_by}
+use Rattle.nq_model.specs.protocol.Message.{Message, call, asker, sequence_of}
+use Rattle.nq_model.specs.laws.Ordered.{IsCallBelow, HasOpen, IsOpenCall, IsBusyNext, IsBeforeCall, IsNumbered, IsResizeBy}
 use Rattle.walk_steps.proofs.Members.{exists-in}
 use Rattle.walk_steps.proofs.Packets.{In}
 use Rattle.walk_steps.proofs.Incarnations.{who-same}
 use Rattle.walk_steps.proofs.Rows.{same-number, number-same}
-use Rattle.nq_model.specs.Table.{same_who}
+use Rattle.nq_model.specs.protocol.Table.{same_who}
 
 -- ---- the records
 

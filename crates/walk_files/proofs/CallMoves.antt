@@ -14,11 +14,11 @@ use Rattle.walk_files.proofs.CallFacts.{CallsAt, IsBounded, NoneDone, IsPut, Pen
 use Rattle.walk_files.proofs.CallFacts.{called-below, answered-below, resized-below, asks-told, Bounds, bounds-more}
 use Rattle.walk_files.proofs.Quiet.{IsNoChange, IsQuiet, told-more, before-more, OpenFits, open-fits-more, ReadFits, read-fits-more}
 use Rattle.walk_steps.proofs.ClientMoves.{some-same, none-some}
-use Rattle.nq_model.specs.Client.{UnderWay, for_call, Ticket}
+use Rattle.nq_model.specs.protocol.Client.{UnderWay, for_call, Ticket}
 use Rattle.nq_base.specs.Calls.{told}
-use Rattle.nq_model.specs.Journal.{Exists, Throughout, IsCall, IsAnswer, IsOpen}
-use Rattle.nq_model.specs.Message.{Message, call, asker, sequence_of}
-use Rattle.nq_model.specs.Ordered.{Writes, Resizes, IsBeforeCall, IsNumbered, IsResizeBy, IsWriteInOrder, IsResizeInOrder}
+use Rattle.nq_model.specs.laws.Journal.{Exists, Throughout, IsCall, IsAnswer, IsOpen}
+use Rattle.nq_model.specs.protocol.Message.{Message, call, asker, sequence_of}
+use Rattle.nq_model.specs.laws.Ordered.{Writes, Resizes, IsBeforeCall, IsNumbered, IsResizeBy, IsWriteInOrder, IsResizeInOrder}
 use Rattle.walk_steps.proofs.Packets.{In, in-last}
 
 -- ---- calls

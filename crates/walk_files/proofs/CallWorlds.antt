@@ -20,11 +20,11 @@ use Rattle.walk_files.proofs.ClientMoves.{IsBelow, Doing}
 use Rattle.walk_files.proofs.Quiet.{IsQuiet, foreign-quiet, OpenFits, open-fits-more, ReadFits, read-fits-later}
 use Rattle.walk_steps.proofs.ClientFacts.{fits_job, push_in}
 use Rattle.walk_steps.proofs.ClientMoves.{some-same}
-use Rattle.nq_model.specs.Client.{Client, ClientStep, Job, attaching, for_call, renewing, pushing, Ticket}
-use Rattle.nq_model.specs.Journal.{Each}
-use Rattle.nq_model.specs.Kept.{host_row}
-use Rattle.nq_model.specs.Message.{Packet, call, reply, asker, sequence_of}
-use Rattle.nq_model.specs.World.{World, from_host, after_client}
+use Rattle.nq_model.specs.protocol.Client.{Client, ClientStep, Job, attaching, for_call, renewing, pushing, Ticket}
+use Rattle.nq_model.specs.laws.Journal.{Each}
+use Rattle.nq_model.specs.protocol.Kept.{host_row}
+use Rattle.nq_model.specs.protocol.Message.{Packet, call, reply, asker, sequence_of}
+use Rattle.nq_model.specs.protocol.World.{World, from_host, after_client}
 use Rattle.walk_steps.proofs.OpenAt.{IsOpenAt}
 use Rattle.walk_steps.proofs.Sequences.{Drew}
 use Rattle.walk_steps.proofs.RunCases.{clients-after}

@@ -22,13 +22,13 @@ use Rattle.walk_files.proofs.Quiet.{IsNoCall}
 use Rattle.walk_steps.proofs.SendCases.{send-cases, pushed}
 use Rattle.walk_steps.proofs.SettleCases.{IsRead, IsSettling, settle-cases}
 use Rattle.walk_steps.proofs.ClientMoves.{some-same, none-some}
-use Rattle.nq_model.specs.Client.{ClientStep, UnderWay, Job, for_call, Ticket}
+use Rattle.nq_model.specs.protocol.Client.{ClientStep, UnderWay, Job, for_call, Ticket}
 use Rattle.nq_base.specs.Calls.{told}
-use Rattle.nq_model.specs.Journal.{Exists, IsAnswer, IsOpen, call_of}
-use Rattle.nq_model.specs.OfTheirCall.{Reads}
-use Rattle.nq_model.specs.Ordered.{Writes, Resizes, IsWriteInOrder, IsResizeInOrder}
-use Rattle.nq_model.specs.Send.{sends_request, after_seq, base_of, takes_push, gives_up, want_of, send_next}
-use Rattle.nq_model.specs.Settle.{said, answers, after_read, reads_cached, after_write, delays, marks_written, ticket_is_for_call, settle}
+use Rattle.nq_model.specs.laws.Journal.{Exists, IsAnswer, IsOpen, call_of}
+use Rattle.nq_model.specs.laws.OfTheirCall.{Reads}
+use Rattle.nq_model.specs.laws.Ordered.{Writes, Resizes, IsWriteInOrder, IsResizeInOrder}
+use Rattle.nq_model.specs.protocol.Send.{sends_request, after_seq, base_of, takes_push, gives_up, want_of, send_next}
+use Rattle.nq_model.specs.protocol.Settle.{said, answers, after_read, reads_cached, after_write, delays, marks_written, ticket_is_for_call, settle}
 
 -- ---- what the call under way asks
 

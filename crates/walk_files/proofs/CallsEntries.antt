@@ -3,9 +3,9 @@ use Rattle.std.proofs.Common.{◌≡◌, ◌≤◌, ℕ, List, Option, Some, Non
 use Rattle.nq_base.specs.declared.Entry.{Entry}
 use Rattle.nq_base.specs.declared.Entry.TheVariants.{C, W, R, S, L, G, F, B, Z, A}
 use Rattle.nq_base.specs.declared.Who.{Who}
-use Rattle.nq_model.specs.Client.{UnderWay}
+use Rattle.nq_model.specs.protocol.Client.{UnderWay}
 use Rattle.nq_base.specs.Calls.{told}
-use Rattle.nq_model.specs.Journal.{IsOpen, call_of}
+use Rattle.nq_model.specs.laws.Journal.{IsOpen, call_of}
 
 -- the incarnation that an entry is of
 abbrev pub entry_who : Entry → Option Who

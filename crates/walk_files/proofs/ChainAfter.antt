@@ -17,17 +17,17 @@ use Rattle.walk_files.proofs.ServerChains.{LineTo, line_stays, line_begins, line
 use Rattle.walk_files.proofs.ServerChains.{file_gone, NewGrant, NewReply, ChainEffect}
 use Rattle.walk_files.proofs.ChainFacts.{line_for, done_at, rev_at, HeldChains, GoesOnAs, InOrder, GrantFits, GivenChains, IsFenced, gone, ahead}
 use Rattle.walk_files.proofs.ChainFacts.{earlier, IsBoundOrFenced, bound, fenced, WriteChains, VerdictFits, LineChains, ChainFits}
-use Rattle.nq_model.specs.Chained.{OwnRow, IsChained, has_done, has_done_write, due, KnowsFile}
+use Rattle.nq_model.specs.laws.Chained.{OwnRow, IsChained, has_done, has_done_write, due, KnowsFile}
 use Rattle.walk_steps.proofs.ClientFacts.{Alone}
 use Rattle.walk_steps.proofs.ClientMoves.{some-same, none-some}
-use Rattle.nq_model.specs.Client.{Client, Lease, Ticket, lease_on, is_clean_in}
-use Rattle.nq_model.specs.Decide.{verdict_reply}
-use Rattle.nq_model.specs.Hear.{inc_of}
-use Rattle.nq_model.specs.Kept.{File, Kept, blocks_of, find_file, fresh_row, host_row}
-use Rattle.nq_model.specs.LeaseInterval.{is_at_least, requested_file}
-use Rattle.nq_model.specs.Message.{Packet, reply, asker, sequence_of}
-use Rattle.nq_model.specs.Server.{serving, Server, ServerStep, standing}
-use Rattle.nq_model.specs.Table.{Table, caches, is_writing, same_tag, tag_below, find_row, next_tag}
+use Rattle.nq_model.specs.protocol.Client.{Client, Lease, Ticket, lease_on, is_clean_in}
+use Rattle.nq_model.specs.protocol.Decide.{verdict_reply}
+use Rattle.nq_model.specs.protocol.Hear.{inc_of}
+use Rattle.nq_model.specs.protocol.Kept.{File, Kept, blocks_of, find_file, fresh_row, host_row}
+use Rattle.nq_model.specs.laws.LeaseInterval.{is_at_least, requested_file}
+use Rattle.nq_model.specs.protocol.Message.{Packet, reply, asker, sequence_of}
+use Rattle.nq_model.specs.protocol.Server.{serving, Server, ServerStep, standing}
+use Rattle.nq_model.specs.protocol.Table.{Table, caches, is_writing, same_tag, tag_below, find_row, next_tag}
 use Rattle.walk_steps.proofs.ClientSteps.{KnowsOf}
 use Rattle.walk_steps.proofs.CoverFacts.{IsTakeable}
 use Rattle.walk_steps.proofs.HostLine.{IsSettled}

@@ -12,20 +12,20 @@ use Rattle.walk_files.proofs.ChainFacts.{line_for, ChainFits}
 use Rattle.walk_files.proofs.ChainMoves.{mid-calls, mid-again, mid-passes}
 use Rattle.walk_files.proofs.ChainReplies.{Answered, mid-replied, mid-evicted}
 use Rattle.walk_files.proofs.ChainSends.{view_of, MidOf, mid-settles, mid-goes-on}
-use Rattle.nq_model.specs.Chained.{IsChained}
+use Rattle.nq_model.specs.laws.Chained.{IsChained}
 use Rattle.walk_steps.proofs.StepCases.{call-cases, unless-cached-cases, tick-cases, heard-cases}
 use Rattle.walk_steps.proofs.ClientCases.{Closed}
 use Rattle.walk_steps.proofs.ClientFacts.{DelayingOf}
 use Rattle.walk_steps.proofs.ClientMoves.{some-same, none-some}
 use Rattle.walk_steps.proofs.ClientWalk.{Replying, reply-keeps, notice-keeps, call-keeps, tick-keeps}
-use Rattle.nq_model.specs.Client.{Client, ClientStep, Job, begun, Ticket}
-use Rattle.nq_model.specs.ClientStep.{begins_call, is_called, says_busy, client_call, at_time, sends_again, client_tick}
-use Rattle.nq_model.specs.Hear.{inc_of, reply_counts, hear, replied, evicted, cancels}
-use Rattle.nq_model.specs.LeaseInterval.{claim_of, HasFitting, IsCovered}
-use Rattle.nq_model.specs.Message.{Message, Packet, reply}
-use Rattle.nq_model.specs.Server.{Phase, serving, recovering, Server, standing_in}
-use Rattle.nq_model.specs.Settle.{answers, names_losses, settle, ticket_is_for_call}
-use Rattle.nq_model.specs.Table.{Table}
+use Rattle.nq_model.specs.protocol.Client.{Client, ClientStep, Job, begun, Ticket}
+use Rattle.nq_model.specs.protocol.ClientStep.{begins_call, is_called, says_busy, client_call, at_time, sends_again, client_tick}
+use Rattle.nq_model.specs.protocol.Hear.{inc_of, reply_counts, hear, replied, evicted, cancels}
+use Rattle.nq_model.specs.laws.LeaseInterval.{claim_of, HasFitting, IsCovered}
+use Rattle.nq_model.specs.protocol.Message.{Message, Packet, reply}
+use Rattle.nq_model.specs.protocol.Server.{Phase, serving, recovering, Server, standing_in}
+use Rattle.nq_model.specs.protocol.Settle.{answers, names_losses, settle, ticket_is_for_call}
+use Rattle.nq_model.specs.protocol.Table.{Table}
 use Rattle.walk_steps.proofs.ClientSteps.{KnowsOf}
 use Rattle.walk_steps.proofs.CoverFacts.{IsTakeable}
 use Rattle.walk_steps.proofs.Mail.{packets_with, old-told}

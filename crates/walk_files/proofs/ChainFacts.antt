@@ -14,15 +14,15 @@ use Rattle.nq_base.specs.declared.Tag.{Tag}
 use Rattle.nq_base.specs.declared.Verdict.{Verdict}
 use Rattle.nq_base.specs.declared.Want.{Want}
 use Rattle.nq_base.specs.declared.Who.{Who}
-use Rattle.nq_model.specs.Chained.{OwnRow, IsChained, has_done_write, due, KnowsFile}
-use Rattle.nq_model.specs.Client.{Client, for_call, Lease, Revision, Ticket, UnderWay, lease_on, revision_of, revision_or_zero, is_clean_in}
-use Rattle.nq_model.specs.Decide.{verdict_reply}
-use Rattle.nq_model.specs.Hear.{inc_of}
-use Rattle.nq_model.specs.Kept.{File, Kept, find_file, host_row}
-use Rattle.nq_model.specs.LeaseInterval.{is_at_least}
-use Rattle.nq_model.specs.Message.{Packet, reply, sequence_of}
-use Rattle.nq_model.specs.Server.{Server, standing}
-use Rattle.nq_model.specs.Table.{Table, caches, is_writing, tag_below}
+use Rattle.nq_model.specs.laws.Chained.{OwnRow, IsChained, has_done_write, due, KnowsFile}
+use Rattle.nq_model.specs.protocol.Client.{Client, for_call, Lease, Revision, Ticket, UnderWay, lease_on, revision_of, revision_or_zero, is_clean_in}
+use Rattle.nq_model.specs.protocol.Decide.{verdict_reply}
+use Rattle.nq_model.specs.protocol.Hear.{inc_of}
+use Rattle.nq_model.specs.protocol.Kept.{File, Kept, find_file, host_row}
+use Rattle.nq_model.specs.laws.LeaseInterval.{is_at_least}
+use Rattle.nq_model.specs.protocol.Message.{Packet, reply, sequence_of}
+use Rattle.nq_model.specs.protocol.Server.{Server, standing}
+use Rattle.nq_model.specs.protocol.Table.{Table, caches, is_writing, tag_below}
 use Rattle.walk_steps.proofs.CoverFacts.{IsTakeable}
 use Rattle.walk_steps.proofs.Packets.{Asked, Told}
 

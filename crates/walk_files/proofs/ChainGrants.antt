@@ -11,14 +11,14 @@ use Rattle.walk_files.proofs.ChainSends.{view_of, MidOf, mid-answers}
 use Rattle.walk_steps.proofs.PartCases.{answers-call-cases, vacates-noticed-cases, reports-cases, if-broken-cases, takes-optional-cases}
 use Rattle.walk_steps.proofs.PartCases.{lease-done-cases, then-caches-cases, caches-push-cases, vacates-if-clean-cases}
 use Rattle.walk_steps.proofs.ClientMoves.{some-same, none-some}
-use Rattle.nq_model.specs.Client.{ClientStep, Lease, UnderWay, lease_on, drop_lease, notice_on, is_clean}
-use Rattle.nq_model.specs.Hear.{vacates_lease, vacates_noticed, loses, without_lease, push_refused, breaks, breaks_chain, holds, takes_grant}
-use Rattle.nq_model.specs.Hear.{takes_optional, answers_call, caches_block, then_caches, read_done, with_through, marks_through, lease_done}
-use Rattle.nq_model.specs.Hear.{knows_revision, ends_push, caches_push, push_done, pauses}
-use Rattle.nq_model.specs.Message.{Packet}
-use Rattle.nq_model.specs.Server.{Server}
-use Rattle.nq_model.specs.Settle.{answers, names_losses, ticket_is_for_call}
-use Rattle.nq_model.specs.Table.{tag_below}
+use Rattle.nq_model.specs.protocol.Client.{ClientStep, Lease, UnderWay, lease_on, drop_lease, notice_on, is_clean}
+use Rattle.nq_model.specs.protocol.Hear.{vacates_lease, vacates_noticed, loses, without_lease, push_refused, breaks, breaks_chain, holds, takes_grant}
+use Rattle.nq_model.specs.protocol.Hear.{takes_optional, answers_call, caches_block, then_caches, read_done, with_through, marks_through, lease_done}
+use Rattle.nq_model.specs.protocol.Hear.{knows_revision, ends_push, caches_push, push_done, pauses}
+use Rattle.nq_model.specs.protocol.Message.{Packet}
+use Rattle.nq_model.specs.protocol.Server.{Server}
+use Rattle.nq_model.specs.protocol.Settle.{answers, names_losses, ticket_is_for_call}
+use Rattle.nq_model.specs.protocol.Table.{tag_below}
 
 module _ (s : Server) (ps : List Packet) where
   free-idle : (t : ClientStep) → t.client.ticket ≡ None → ticket_is_for_call t.client.ticket ≡ false

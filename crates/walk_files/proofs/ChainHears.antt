@@ -11,16 +11,17 @@ use Rattle.nq_base.specs.declared.Who.{Who}
 use Rattle.walk_files.proofs.ChainFacts.{line_for, done_at, rev_at, GoesOnAs, IsFenced, gone, ahead, earlier, IsBoundOrFenced, bound, fenced}
 use Rattle.walk_files.proofs.ChainLists.{rev-put, known-put, known-put-other, some-put, unclean-wrote, unclean-lost}
 use Rattle.walk_files.proofs.ChainMoves.{View, Mid, Ready, mid-uses, mid-spends}
-use Rattle.nq_model.specs.Chained.{OwnRow, IsChained, due, KnowsFile}
+use Rattle.nq_model.specs.laws.Chained.{OwnRow, IsChained, due, KnowsFile}
 use Rattle.nq_model.proofs.ClientLists.{lease-after-put, put-lease-found, other-lease-put}
 use Rattle.walk_steps.proofs.ClientMoves.{some-same, none-some}
-use Rattle.nq_model.specs.Client.{for_call, Lease, Ticket, UnderWay, lease_on, put_lease, used_lease, other_dirty, revision_of, put_revision, is_clean_in}
-use Rattle.nq_model.specs.Hear.{other_push, granted_lease}
-use Rattle.nq_model.specs.LeaseInterval.{is_at_least}
-use Rattle.nq_model.specs.Message.{Packet}
-use Rattle.nq_model.specs.Server.{Server, standing}
-use Rattle.nq_model.specs.Settle.{with_write, ticket_is_for_call}
-use Rattle.nq_model.specs.Table.{caches, is_writing, tag_below}
+use Rattle.nq_model.specs.protocol.Client.{for_call, Lease, Ticket, UnderWay, lease_on, put_lease, used_lease, other_dirty, revision_of, put_revision}
+use Rattle.nq_model.specs.protocol.Client.{is_clean_in}
+use Rattle.nq_model.specs.protocol.Hear.{other_push, granted_lease}
+use Rattle.nq_model.specs.laws.LeaseInterval.{is_at_least}
+use Rattle.nq_model.specs.protocol.Message.{Packet}
+use Rattle.nq_model.specs.protocol.Server.{Server, standing}
+use Rattle.nq_model.specs.protocol.Settle.{with_write, ticket_is_for_call}
+use Rattle.nq_model.specs.protocol.Table.{caches, is_writing, tag_below}
 use Rattle.walk_steps.proofs.Modes.{writing-caches}
 use Rattle.walk_steps.proofs.Rows.{same-number}
 use Rattle.walk_steps.proofs.Tests.{is-other}

@@ -7,11 +7,11 @@ use Rattle.walk_files.proofs.ServerChains.{LineTo, line_stays, line_begins, line
 use Rattle.walk_files.proofs.ChainFacts.{line_for, ChainFits}
 use Rattle.walk_steps.proofs.ClientFacts.{Alone, fits_job}
 use Rattle.walk_steps.proofs.ClientMoves.{some-same, none-some}
-use Rattle.nq_model.specs.Client.{Client, attaching, Ticket, lease_on, is_clean_in}
-use Rattle.nq_model.specs.ClientStep.{fresh_client, attached_client}
-use Rattle.nq_model.specs.LeaseInterval.{requested_file}
-use Rattle.nq_model.specs.Message.{Packet, sequence_of}
-use Rattle.nq_model.specs.Server.{Server}
+use Rattle.nq_model.specs.protocol.Client.{Client, attaching, Ticket, lease_on, is_clean_in}
+use Rattle.nq_model.specs.protocol.ClientStep.{fresh_client, attached_client}
+use Rattle.nq_model.specs.laws.LeaseInterval.{requested_file}
+use Rattle.nq_model.specs.protocol.Message.{Packet, sequence_of}
+use Rattle.nq_model.specs.protocol.Server.{Server}
 use Rattle.walk_steps.proofs.HostLine.{LineFits}
 
 -- a client without leases, calls and delayed writes, whose request under way, if there is one, is to attach

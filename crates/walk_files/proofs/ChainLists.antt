@@ -6,16 +6,16 @@ use Rattle.nq_base.specs.declared.HostRow.{HostRow}
 use Rattle.nq_base.specs.declared.Push.{Push}
 use Rattle.nq_base.specs.declared.Request.{Request}
 use Rattle.walk_files.proofs.ChainFacts.{rev_at}
-use Rattle.nq_model.specs.Chained.{is_done, has_done}
+use Rattle.nq_model.specs.laws.Chained.{is_done, has_done}
 use Rattle.nq_model.proofs.ClientLists.{marked-before, marked-tag, marked-mode, marked-expiry, lease-before-drop, other-lease-dropped}
 use Rattle.nq_model.proofs.ClientLists.{used-lease-found, marked-blocks, any-overwritten, put-revision-found, other-revision-put}
 use Rattle.walk_steps.proofs.ClientMoves.{some-same, none-some}
 use Rattle.walk_steps.proofs.ClientWrites.{has-writes, writes-in-list, writes-under-way}
-use Rattle.nq_model.specs.Client.{Lease, Revision, lease_on, drop_lease, used_lease, marked_used, is_push_of, is_push_at, first_dirty, push_passes}
-use Rattle.nq_model.specs.Client.{drop_dirty, other_dirty, revision_of, revision_or_zero, put_revision, is_clean_in}
-use Rattle.nq_model.specs.Hear.{other_push}
-use Rattle.nq_model.specs.Message.{sequence_of}
-use Rattle.nq_model.specs.Settle.{with_write}
+use Rattle.nq_model.specs.protocol.Client.{Lease, Revision, lease_on, drop_lease, used_lease, marked_used, is_push_of, is_push_at, first_dirty, push_passes}
+use Rattle.nq_model.specs.protocol.Client.{drop_dirty, other_dirty, revision_of, revision_or_zero, put_revision, is_clean_in}
+use Rattle.nq_model.specs.protocol.Hear.{other_push}
+use Rattle.nq_model.specs.protocol.Message.{sequence_of}
+use Rattle.nq_model.specs.protocol.Settle.{with_write}
 use Rattle.walk_steps.proofs.Rows.{same-number}
 use Rattle.walk_steps.proofs.Tests.{is-other}
 

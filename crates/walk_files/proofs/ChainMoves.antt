@@ -12,19 +12,19 @@ use Rattle.nq_base.specs.declared.Who.{Who}
 use Rattle.walk_files.proofs.ChainFacts.{VerdictFits, line_for, done_at, rev_at, HeldChains, GrantFits, GivenChains, IsBoundOrFenced, IsPushed}
 use Rattle.walk_files.proofs.ChainFacts.{file_written, WriteChains, LineChains}
 use Rattle.walk_files.proofs.ChainLists.{WasLease, was-used, was-dropped, StillLease, still-used, still-dropped}
-use Rattle.nq_model.specs.Chained.{IsChained, has_done, due, KnowsFile}
+use Rattle.nq_model.specs.laws.Chained.{IsChained, has_done, due, KnowsFile}
 use Rattle.walk_steps.proofs.ClientMoves.{some-same, none-some}
 use Rattle.walk_steps.proofs.ClientWrites.{writes-under-way}
-use Rattle.nq_model.specs.Client.{Job, for_call, Lease, Revision, Ticket, UnderWay, lease_on, drop_lease, used_lease, is_push_of, push_passes}
-use Rattle.nq_model.specs.Client.{revision_of, is_clean_in}
-use Rattle.nq_model.specs.Decide.{verdict_reply}
-use Rattle.nq_model.specs.Hear.{wants_of, inc_of, cancelled}
-use Rattle.nq_model.specs.Kept.{Kept}
-use Rattle.nq_model.specs.LeaseInterval.{is_at_least, requested_file}
-use Rattle.nq_model.specs.Message.{Packet, reply, sequence_of}
-use Rattle.nq_model.specs.Server.{Server, standing}
-use Rattle.nq_model.specs.Settle.{ticket_is_for_call}
-use Rattle.nq_model.specs.Table.{Table, caches, is_writing, tag_below}
+use Rattle.nq_model.specs.protocol.Client.{Job, for_call, Lease, Revision, Ticket, UnderWay, lease_on, drop_lease, used_lease, is_push_of, push_passes}
+use Rattle.nq_model.specs.protocol.Client.{revision_of, is_clean_in}
+use Rattle.nq_model.specs.protocol.Decide.{verdict_reply}
+use Rattle.nq_model.specs.protocol.Hear.{wants_of, inc_of, cancelled}
+use Rattle.nq_model.specs.protocol.Kept.{Kept}
+use Rattle.nq_model.specs.laws.LeaseInterval.{is_at_least, requested_file}
+use Rattle.nq_model.specs.protocol.Message.{Packet, reply, sequence_of}
+use Rattle.nq_model.specs.protocol.Server.{Server, standing}
+use Rattle.nq_model.specs.protocol.Settle.{ticket_is_for_call}
+use Rattle.nq_model.specs.protocol.Table.{Table, caches, is_writing, tag_below}
 use Rattle.walk_steps.proofs.CoverFacts.{IsTakeable}
 use Rattle.walk_steps.proofs.Packets.{Told}
 use Rattle.walk_steps.proofs.Rows.{number-same}

@@ -17,19 +17,19 @@ use Rattle.walk_files.proofs.ChainHears.{mid-tells}
 use Rattle.walk_files.proofs.ChainLists.{unclean-ended, plain-undone}
 use Rattle.walk_files.proofs.ChainMoves.{Ready, NotDone, mid-spent, mid-cancels}
 use Rattle.walk_files.proofs.ChainSends.{view_of, MidOf}
-use Rattle.nq_model.specs.Chained.{is_done, has_done, due}
+use Rattle.nq_model.specs.laws.Chained.{is_done, has_done, due}
 use Rattle.walk_steps.proofs.PartCases.{caches-write-cases}
 use Rattle.walk_steps.proofs.RepliedCases.{OfCall, IsNamed, looked_up, created, attributes, replied-cases}
 use Rattle.walk_steps.proofs.StepCases.{evicted-cases}
 use Rattle.walk_steps.proofs.ClientFacts.{Alone, changes_file}
 use Rattle.walk_steps.proofs.ClientMoves.{none-some}
-use Rattle.nq_model.specs.Client.{Client, ClientStep, begun, Ticket, lease_on, is_clean}
-use Rattle.nq_model.specs.Decide.{verdict_reply}
-use Rattle.nq_model.specs.Hear.{answers_call, caches_block, purges, knows_revision, write_done, ends_push, spends, attached, replied, reply_counts}
-use Rattle.nq_model.specs.Hear.{cancels, notes_notice, evicted}
-use Rattle.nq_model.specs.LeaseInterval.{grant_in, requested_file}
-use Rattle.nq_model.specs.Message.{Packet, sequence_of}
-use Rattle.nq_model.specs.Server.{Server}
+use Rattle.nq_model.specs.protocol.Client.{Client, ClientStep, begun, Ticket, lease_on, is_clean}
+use Rattle.nq_model.specs.protocol.Decide.{verdict_reply}
+use Rattle.nq_model.specs.protocol.Hear.{answers_call, caches_block, purges, knows_revision, write_done, ends_push, spends, attached, replied, reply_counts}
+use Rattle.nq_model.specs.protocol.Hear.{cancels, notes_notice, evicted}
+use Rattle.nq_model.specs.laws.LeaseInterval.{grant_in, requested_file}
+use Rattle.nq_model.specs.protocol.Message.{Packet, sequence_of}
+use Rattle.nq_model.specs.protocol.Server.{Server}
 use Rattle.walk_steps.proofs.Rows.{number-same}
 use Rattle.nq_model.proofs.Finding.{number-other}
 use Rattle.walk_files.proofs.ChainGrants.{mid-answered, mid-leased, mid-pauses, mid-pushed, mid-read, mid-refused, mid-takes-optional, mid-vacates}

@@ -22,16 +22,16 @@ use Rattle.walk_steps.proofs.SettleCases.{IsSettling, IsWrite, CanWrite, Settled
 use Rattle.walk_steps.proofs.ClientFacts.{DelayingOf, push_in}
 use Rattle.walk_steps.proofs.ClientMoves.{some-same, none-some}
 use Rattle.walk_steps.proofs.ClientWrites.{writes-in-list, no-push}
-use Rattle.nq_model.specs.Client.{Client, ClientStep, Job, for_call, renewing, pushing, Lease, Notice, Ticket, UnderWay, lease_on, notice_on}
-use Rattle.nq_model.specs.Client.{is_clean, is_push_of, first_dirty, drop_dirty, is_live, is_clean_in, file_of_lease}
-use Rattle.nq_model.specs.LeaseInterval.{requested_file}
-use Rattle.nq_model.specs.Message.{Packet, sequence_of}
-use Rattle.nq_model.specs.Profile.{renewal}
-use Rattle.nq_model.specs.Send.{boot_of, sends_request, after_seq, after_number, base_of, takes_push, noticed_file, ending_file, is_to_push, least}
-use Rattle.nq_model.specs.Send.{sends_write, gives_up, want_of, shares_live, send_next}
-use Rattle.nq_model.specs.Server.{Server}
-use Rattle.nq_model.specs.Settle.{answers, reads_cached, after_read, after_write, delays, marks_written, settle, ticket_is_for_call}
-use Rattle.nq_model.specs.Table.{caches, is_writing}
+use Rattle.nq_model.specs.protocol.Client.{Client, ClientStep, Job, for_call, renewing, pushing, Lease, Notice, Ticket, UnderWay, lease_on, notice_on}
+use Rattle.nq_model.specs.protocol.Client.{is_clean, is_push_of, first_dirty, drop_dirty, is_live, is_clean_in, file_of_lease}
+use Rattle.nq_model.specs.laws.LeaseInterval.{requested_file}
+use Rattle.nq_model.specs.protocol.Message.{Packet, sequence_of}
+use Rattle.nq_model.specs.protocol.Profile.{renewal}
+use Rattle.nq_model.specs.protocol.Send.{boot_of, sends_request, after_seq, after_number, base_of, takes_push, noticed_file, ending_file, is_to_push, least}
+use Rattle.nq_model.specs.protocol.Send.{sends_write, gives_up, want_of, shares_live, send_next}
+use Rattle.nq_model.specs.protocol.Server.{Server}
+use Rattle.nq_model.specs.protocol.Settle.{answers, reads_cached, after_read, after_write, delays, marks_written, settle, ticket_is_for_call}
+use Rattle.nq_model.specs.protocol.Table.{caches, is_writing}
 use Rattle.walk_steps.proofs.Rows.{find-passes, same-number}
 use Rattle.walk_steps.proofs.ServerOutcomes.{base_in, file_changed_by}
 

@@ -9,16 +9,16 @@ use Rattle.walk_files.proofs.LineMoves.{line-same, replaced-there, replaced-othe
 use Rattle.walk_files.proofs.RowMoves.{rows-same, rows-ended, rows-loosened, rows-opened}
 use Rattle.walk_files.proofs.ServerChains.{RowsMove, LineTo, FilesGrow, rev_stays, rev_rises, FileMove, file_stays, file_changed}
 use Rattle.walk_files.proofs.ChainFacts.{line_for}
-use Rattle.nq_model.specs.Chained.{OwnRow, has_done_write}
+use Rattle.nq_model.specs.laws.Chained.{OwnRow, has_done_write}
 use Rattle.walk_steps.proofs.ClientMoves.{none-some}
 use Rattle.walk_steps.proofs.ServerEffects.{standing-serving}
 use Rattle.walk_steps.proofs.ServerLives.{HasServed}
-use Rattle.nq_model.specs.Client.{Ticket}
-use Rattle.nq_model.specs.Kept.{File, Kept, find_file, replace_file, fenced_file, with_files}
-use Rattle.nq_model.specs.Message.{Packet}
-use Rattle.nq_model.specs.Server.{serving, recovering, Server, standing, standing_in, quiet, keeping_with, with_table, last_in}
-use Rattle.nq_model.specs.ServerStep.{at_time, is_due, is_over, end_reading, fence, ends_writing, opens, tick, booted, boot, crash}
-use Rattle.nq_model.specs.Table.{Table, caches, is_writing, find_row, drop_row, with_rows, empty_table}
+use Rattle.nq_model.specs.protocol.Client.{Ticket}
+use Rattle.nq_model.specs.protocol.Kept.{File, Kept, find_file, replace_file, fenced_file, with_files}
+use Rattle.nq_model.specs.protocol.Message.{Packet}
+use Rattle.nq_model.specs.protocol.Server.{serving, recovering, Server, standing, standing_in, quiet, keeping_with, with_table, last_in}
+use Rattle.nq_model.specs.protocol.ServerStep.{at_time, is_due, is_over, end_reading, fence, ends_writing, opens, tick, booted, boot, crash}
+use Rattle.nq_model.specs.protocol.Table.{Table, caches, is_writing, find_row, drop_row, with_rows, empty_table}
 use Rattle.walk_steps.proofs.ServerTables.{BootsFit, BootsFitOf, RecoversBoot, NoneRecoveringOf, none-opened, StandingFits, StandingFitsOf}
 use Rattle.walk_steps.proofs.KeptChanges.{same-lines}
 use Rattle.walk_steps.proofs.RowChanges.{found-any, found-kept, find-row-dropped, unique-filtered}

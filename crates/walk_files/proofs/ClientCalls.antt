@@ -19,13 +19,13 @@ use Rattle.walk_steps.proofs.PartCases.{lease-done-cases, then-caches-cases, cac
 use Rattle.walk_steps.proofs.RepliedCases.{replied-cases}
 use Rattle.walk_steps.proofs.ClientFacts.{fits_job}
 use Rattle.walk_steps.proofs.ClientMoves.{some-same, none-some}
-use Rattle.nq_model.specs.Client.{Client, ClientStep, UnderWay, Job, attaching, for_call, renewing, pushing, Notice, Ticket, in_state, begun}
-use Rattle.nq_model.specs.Client.{notice_on, losses_of, other_losses, loss_list}
-use Rattle.nq_model.specs.Hear.{loses, vacates_lease, vacates_noticed, reports, without_lease, push_refused, breaks_chain, if_broken, holds}
-use Rattle.nq_model.specs.Hear.{takes_grant, takes_optional, answers_call, caches_block, then_caches, read_done, lease_done, caches_write, write_done}
-use Rattle.nq_model.specs.Hear.{purges, knows_revision, ends_push, caches_push, push_done, spends, replied, reply_counts}
-use Rattle.nq_model.specs.Message.{sequence_of}
-use Rattle.nq_model.specs.Settle.{answers, names_losses}
+use Rattle.nq_model.specs.protocol.Client.{Client, ClientStep, UnderWay, Job, attaching, for_call, renewing, pushing, Notice, Ticket, in_state, begun}
+use Rattle.nq_model.specs.protocol.Client.{notice_on, losses_of, other_losses, loss_list}
+use Rattle.nq_model.specs.protocol.Hear.{loses, vacates_lease, vacates_noticed, reports, without_lease, push_refused, breaks_chain, if_broken, holds}
+use Rattle.nq_model.specs.protocol.Hear.{takes_grant, takes_optional, answers_call, caches_block, then_caches, read_done, lease_done, caches_write, write_done}
+use Rattle.nq_model.specs.protocol.Hear.{purges, knows_revision, ends_push, caches_push, push_done, spends, replied, reply_counts}
+use Rattle.nq_model.specs.protocol.Message.{sequence_of}
+use Rattle.nq_model.specs.protocol.Settle.{answers, names_losses}
 
 module _ (line : HostRow) (Refused : ℕ → Type 0) (limit : ℕ) (mine : Who) (old : List Entry) where
   -- ---- where the request under way is spent

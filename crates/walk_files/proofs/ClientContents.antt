@@ -25,19 +25,20 @@ use Rattle.walk_files.proofs.ClientLookups.{IsBlock, clean-purged, found-purged,
 use Rattle.walk_files.proofs.ClientParts.{Part, part_of, history_in, IsKnown, IsOverKnown, IsFair, Mid, notes-entry, clean-fewer, dirty-fewer}
 use Rattle.walk_files.proofs.ClientParts.{ticket-fewer, sends-more, CanSend, sends-ticket, delays-write, forgets, confirms, sets, caches}
 use Rattle.walk_files.proofs.Facts.{Follows, follows, HadValue, value-follows, HadLength, SetsBlock, sets-follows, GrantTells}
-use Rattle.nq_model.specs.Contents.{changes, delayed_by}
-use Rattle.nq_model.specs.Told.{GrantIsOf}
-use Rattle.nq_model.specs.Client.{Clean, Client, ClientStep, Job, for_call, renewing, pushing, Notice, Revision, Ticket, UnderWay, begun, clean_at}
-use Rattle.nq_model.specs.Client.{purge, put_clean, dirty_at, drop_dirty, other_dirty, first_dirty, is_push_of, notice_on, put_revision, revision_of}
-use Rattle.nq_model.specs.Client.{revision_or_zero, is_revision, is_revision_before}
-use Rattle.nq_model.specs.ClientStep.{begins_call, is_called, says_busy, client_call, at_time, sends_again, client_tick}
-use Rattle.nq_model.specs.Hear.{vacates_lease, vacates_noticed, loss_entry, all_dirty, loses, reports, without_lease, push_refused, if_broken, holds}
-use Rattle.nq_model.specs.Hear.{takes_grant, takes_optional, answers_call, grant_caches, caches_block, then_caches, read_done, marks_through}
-use Rattle.nq_model.specs.Hear.{lease_done, purges, knows_revision, caches_write, ends_push, caches_push, push_done, spends, attached, pauses}
-use Rattle.nq_model.specs.Hear.{cancels, notes_notice, evicted, goes_on}
-use Rattle.nq_model.specs.Message.{Packet, call}
-use Rattle.nq_model.specs.Send.{sends_request, after_seq, after_number, takes_push, sends_write, gives_up, send_next}
-use Rattle.nq_model.specs.Settle.{answers, names_losses, said, reads_clean, touched, after_read, reads_cached, after_write, delays, marks_written, settle}
+use Rattle.nq_model.specs.laws.Contents.{changes, delayed_by}
+use Rattle.nq_model.specs.laws.Told.{GrantIsOf}
+use Rattle.nq_model.specs.protocol.Client.{Clean, Client, ClientStep, Job, for_call, renewing, pushing, Notice, Revision, Ticket, UnderWay, begun, clean_at}
+use Rattle.nq_model.specs.protocol.Client.{purge, put_clean, dirty_at, drop_dirty, other_dirty, first_dirty, is_push_of, notice_on, put_revision, revision_of}
+use Rattle.nq_model.specs.protocol.Client.{revision_or_zero, is_revision, is_revision_before}
+use Rattle.nq_model.specs.protocol.ClientStep.{begins_call, is_called, says_busy, client_call, at_time, sends_again, client_tick}
+use Rattle.nq_model.specs.protocol.Hear.{vacates_lease, vacates_noticed, loss_entry, all_dirty, loses, reports, without_lease, push_refused, if_broken, holds}
+use Rattle.nq_model.specs.protocol.Hear.{takes_grant, takes_optional, answers_call, grant_caches, caches_block, then_caches, read_done, marks_through}
+use Rattle.nq_model.specs.protocol.Hear.{lease_done, purges, knows_revision, caches_write, ends_push, caches_push, push_done, spends, attached, pauses}
+use Rattle.nq_model.specs.protocol.Hear.{cancels, notes_notice, evicted, goes_on}
+use Rattle.nq_model.specs.protocol.Message.{Packet, call}
+use Rattle.nq_model.specs.protocol.Send.{sends_request, after_seq, after_number, takes_push, sends_write, gives_up, send_next}
+use Rattle.nq_model.specs.protocol.Settle.{answers, names_losses, said, reads_clean, touched, after_read, reads_cached, after_write, delays, marks_written}
+use Rattle.nq_model.specs.protocol.Settle.{settle}
 use Rattle.walk_steps.proofs.Members.{find-in, in-filtered}
 use Rattle.walk_steps.proofs.Packets.{call-same}
 use Rattle.walk_steps.proofs.Rows.{choice, same-number}

@@ -26,14 +26,15 @@ use Rattle.walk_files.proofs.Quiet.{ReadFits}
 use Rattle.walk_steps.proofs.StepCases.{call-cases, unless-cached-cases, tick-cases, evicted-cases, heard-cases}
 use Rattle.walk_steps.proofs.ClientFacts.{Alone}
 use Rattle.walk_steps.proofs.ClientMoves.{some-same, none-some}
-use Rattle.nq_model.specs.Client.{Client, ClientStep, begun, losses_of, loss_list}
-use Rattle.nq_model.specs.ClientStep.{begins_call, is_called, says_busy, client_call, at_time, client_tick, next_incarnation, fresh_client, starts, restart}
+use Rattle.nq_model.specs.protocol.Client.{Client, ClientStep, begun, losses_of, loss_list}
+use Rattle.nq_model.specs.protocol.ClientStep.{begins_call, is_called, says_busy, client_call, at_time, client_tick, next_incarnation, fresh_client, starts}
+use Rattle.nq_model.specs.protocol.ClientStep.{restart}
 use Rattle.nq_base.specs.Calls.{told}
-use Rattle.nq_model.specs.Hear.{inc_of, cancels, evicted, goes_on, replied, hear}
-use Rattle.nq_model.specs.Journal.{Exists, IsCall, IsAnswer, IsOpen}
-use Rattle.nq_model.specs.Message.{Message, call, reply}
-use Rattle.nq_model.specs.Ordered.{HasOpen}
-use Rattle.nq_model.specs.Settle.{said, answers, names_losses, settle}
+use Rattle.nq_model.specs.protocol.Hear.{inc_of, cancels, evicted, goes_on, replied, hear}
+use Rattle.nq_model.specs.laws.Journal.{Exists, IsCall, IsAnswer, IsOpen}
+use Rattle.nq_model.specs.protocol.Message.{Message, call, reply}
+use Rattle.nq_model.specs.laws.Ordered.{HasOpen}
+use Rattle.nq_model.specs.protocol.Settle.{said, answers, names_losses, settle}
 use Rattle.walk_steps.proofs.Members.{exists-in}
 use Rattle.walk_steps.proofs.Packets.{In}
 

@@ -18,11 +18,11 @@ use Rattle.walk_files.proofs.FactPushes.{facts-pushes}
 use Rattle.walk_files.proofs.PushLists.{first-in}
 use Rattle.walk_files.proofs.ServerTells.{IsQuiet}
 use Rattle.walk_files.proofs.WritesFit.{JournalFits, Facts}
-use Rattle.nq_model.specs.Client.{ClientStep, Job, for_call, pushing, renewing, Ticket, UnderWay}
-use Rattle.nq_model.specs.Message.{Message, Packet, call}
-use Rattle.nq_model.specs.Send.{sends_request, after_seq, after_number, base_of, takes_push, sends_write, gives_up, send_next}
-use Rattle.nq_model.specs.Settle.{answers, names_losses, reads_cached, after_read, after_write, delays, marks_written, settle}
-use Rattle.nq_model.specs.World.{from_host}
+use Rattle.nq_model.specs.protocol.Client.{ClientStep, Job, for_call, pushing, renewing, Ticket, UnderWay}
+use Rattle.nq_model.specs.protocol.Message.{Message, Packet, call}
+use Rattle.nq_model.specs.protocol.Send.{sends_request, after_seq, after_number, base_of, takes_push, sends_write, gives_up, send_next}
+use Rattle.nq_model.specs.protocol.Settle.{answers, names_losses, reads_cached, after_read, after_write, delays, marks_written, settle}
+use Rattle.nq_model.specs.protocol.World.{from_host}
 use Rattle.walk_steps.proofs.Mail.{packets_with, packets-last}
 use Rattle.walk_steps.proofs.Packets.{In}
 

@@ -12,9 +12,9 @@ use Rattle.walk_files.proofs.ClientContents.{P, Spent, goes-mid, notice-mid, spe
 use Rattle.walk_files.proofs.ClientContents.{optional-spent, read-mid, lease-mid, through-known, resized-known, stored-mid}
 use Rattle.walk_files.proofs.ClientParts.{history_in, IsOverKnown}
 use Rattle.walk_files.proofs.Facts.{Tells}
-use Rattle.nq_model.specs.Client.{Client, ClientStep, Ticket, begun, clean_at, dirty_at, revision_of, revision_or_zero}
-use Rattle.nq_model.specs.Hear.{inc_of, reply_counts, answer_of, caches_write, knows_revision, spends, replied, hear}
-use Rattle.nq_model.specs.Message.{Message, Packet, reply}
+use Rattle.nq_model.specs.protocol.Client.{Client, ClientStep, Ticket, begun, clean_at, dirty_at, revision_of, revision_or_zero}
+use Rattle.nq_model.specs.protocol.Hear.{inc_of, reply_counts, answer_of, caches_write, knows_revision, spends, replied, hear}
+use Rattle.nq_model.specs.protocol.Message.{Message, Packet, reply}
 use Rattle.walk_steps.proofs.Packets.{Told}
 
 spent-clean : (c : Client) (file block : ℕ) → clean_at file block (spends (begun c)).client.clean ≡ clean_at file block c.clean

@@ -8,10 +8,10 @@ use Rattle.std.proofs.lemmas.Bool.{and_parts, and_from, false_from_ne_true, not_
 use Rattle.nq_base.specs.declared.Push.{Push}
 use Rattle.nq_model.proofs.ClientLists.{put-revision-found, other-revision-put}
 use Rattle.walk_steps.proofs.ClientMoves.{some-same, none-some}
-use Rattle.nq_model.specs.Client.{Clean, Revision, clean_at, is_clean_at, drop_clean, purge, put_clean, revision_of, put_revision, is_push_at}
-use Rattle.nq_model.specs.Client.{dirty_at, drop_dirty}
-use Rattle.nq_model.specs.Profile.{most_clean, at_most}
-use Rattle.nq_model.specs.Settle.{touched, overwritten, overwritten_at, with_write}
+use Rattle.nq_model.specs.protocol.Client.{Clean, Revision, clean_at, is_clean_at, drop_clean, purge, put_clean, revision_of, put_revision, is_push_at}
+use Rattle.nq_model.specs.protocol.Client.{dirty_at, drop_dirty}
+use Rattle.nq_model.specs.protocol.Profile.{most_clean, at_most}
+use Rattle.nq_model.specs.protocol.Settle.{touched, overwritten, overwritten_at, with_write}
 use Rattle.walk_steps.proofs.Members.{in-map}
 use Rattle.walk_steps.proofs.Packets.{In, in-append}
 use Rattle.walk_steps.proofs.Rows.{same-number, number-same, find-passes, find-filter, find-dropped, find-map}

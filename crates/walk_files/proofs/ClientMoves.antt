@@ -23,14 +23,14 @@ use Rattle.walk_files.proofs.CallsEntries.{entry_who, entry_call, entry_number}
 use Rattle.walk_files.proofs.Placed.{append-one}
 use Rattle.walk_files.proofs.Quiet.{IsQuiet, OpenFits, ReadFits}
 use Rattle.walk_steps.proofs.ClientMoves.{some-same, none-some}
-use Rattle.nq_model.specs.Client.{ClientStep, UnderWay, Job, for_call, Ticket, in_state}
-use Rattle.nq_model.specs.ClientStep.{sends_again}
-use Rattle.nq_model.specs.Hear.{loss_entry, loses, all_dirty, vacates_lease, without_lease, holds, caches_block, purges, knows_revision, ends_push}
-use Rattle.nq_model.specs.Hear.{with_through, marks_through, spends, attached, pauses, cancelled, cancels, notes_notice, wants_of}
-use Rattle.nq_model.specs.Message.{Message, asker, sequence_of}
-use Rattle.nq_model.specs.Ordered.{IsWriteInOrder}
-use Rattle.nq_model.specs.Send.{sends_request, after_seq, after_number, takes_push, gives_up}
-use Rattle.nq_model.specs.Settle.{said, answers, names_losses}
+use Rattle.nq_model.specs.protocol.Client.{ClientStep, UnderWay, Job, for_call, Ticket, in_state}
+use Rattle.nq_model.specs.protocol.ClientStep.{sends_again}
+use Rattle.nq_model.specs.protocol.Hear.{loss_entry, loses, all_dirty, vacates_lease, without_lease, holds, caches_block, purges, knows_revision, ends_push}
+use Rattle.nq_model.specs.protocol.Hear.{with_through, marks_through, spends, attached, pauses, cancelled, cancels, notes_notice, wants_of}
+use Rattle.nq_model.specs.protocol.Message.{Message, asker, sequence_of}
+use Rattle.nq_model.specs.laws.Ordered.{IsWriteInOrder}
+use Rattle.nq_model.specs.protocol.Send.{sends_request, after_seq, after_number, takes_push, gives_up}
+use Rattle.nq_model.specs.protocol.Settle.{said, answers, names_losses}
 use Rattle.walk_steps.proofs.Packets.{In}
 use Rattle.walk_steps.proofs.Rows.{choice}
 

@@ -17,15 +17,15 @@ use Rattle.walk_files.proofs.ClientLookups.{IsBlock, this-or-other, found-droppe
 use Rattle.walk_files.proofs.ClientLookups.{written-elsewhere, revision-after, revision-put}
 use Rattle.walk_files.proofs.Facts.{History, Follows, follows, HadValue, value-follows, SetsBlock, Tells, tells-follows}
 use Rattle.walk_files.proofs.Histories.{NoChanges, delayed-more}
-use Rattle.nq_model.specs.Contents.{changes, changes_of, delayed_by, delayed_value}
-use Rattle.nq_model.specs.Client.{Clean, ClientStep, Revision, Ticket, clean_at, drop_clean, dirty_at, put_revision, revision_of, revision_or_zero}
-use Rattle.nq_model.specs.Hear.{inc_of}
-use Rattle.nq_model.specs.Message.{Message, Packet, call, reply, sequence_of}
-use Rattle.nq_model.specs.Settle.{with_write}
+use Rattle.nq_model.specs.laws.Contents.{changes, changes_of, delayed_by, delayed_value}
+use Rattle.nq_model.specs.protocol.Client.{Clean, ClientStep, Revision, Ticket, clean_at, drop_clean, dirty_at, put_revision, revision_of, revision_or_zero}
+use Rattle.nq_model.specs.protocol.Hear.{inc_of}
+use Rattle.nq_model.specs.protocol.Message.{Message, Packet, call, reply, sequence_of}
+use Rattle.nq_model.specs.protocol.Settle.{with_write}
 use Rattle.walk_steps.proofs.Packets.{In, in-last, Told}
 use Rattle.walk_steps.proofs.Incarnations.{one-who}
 use Rattle.walk_steps.proofs.Rows.{same-number, number-same}
-use Rattle.nq_model.specs.Table.{same_who}
+use Rattle.nq_model.specs.protocol.Table.{same_who}
 
 -- what of a client's step speaks of contents
 pub record Part : Type 0 where

@@ -4,9 +4,9 @@ use Rattle.nq_base.specs.declared.Entry.{Entry}
 use Rattle.nq_base.specs.declared.Push.{Push}
 use Rattle.nq_base.specs.declared.Who.{Who}
 use Rattle.nq_model.proofs.Endings.{EndsIn, ends-first}
-use Rattle.nq_model.specs.CutOff.{Ends, IsCutOff, IsExcused}
-use Rattle.nq_model.specs.Hear.{loss_entry}
-use Rattle.nq_model.specs.Journal.{Each, Exists, AtEachPlace, IsWithin, Loses}
+use Rattle.nq_model.specs.laws.CutOff.{Ends, IsCutOff, IsExcused}
+use Rattle.nq_model.specs.protocol.Hear.{loss_entry}
+use Rattle.nq_model.specs.laws.Journal.{Each, Exists, AtEachPlace, IsWithin, Loses}
 use Rattle.walk_steps.proofs.Packets.{In}
 
 -- an entry is no delayed write, and no loss

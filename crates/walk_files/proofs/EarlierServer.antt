@@ -15,11 +15,11 @@ use Rattle.walk_files.proofs.ServerTells.{DecidedAt, decided-at, IsQuiet, AllQui
 use Rattle.walk_files.proofs.ServerTells.{same_lines, attaches_one, decides_one}
 use Rattle.walk_files.proofs.WritesFit.{IsClear, IsOpenPush, WritesFit}
 use Rattle.walk_files.proofs.EarlierStores.{Earlier, push-behind}
-use Rattle.nq_model.specs.Client.{Client}
-use Rattle.nq_model.specs.Journal.{Stores, IsStored}
-use Rattle.nq_model.specs.Kept.{host_row}
-use Rattle.nq_model.specs.Message.{Packet, asker, sequence_of}
-use Rattle.nq_model.specs.Server.{Server, ServerStep}
+use Rattle.nq_model.specs.protocol.Client.{Client}
+use Rattle.nq_model.specs.laws.Journal.{Stores, IsStored}
+use Rattle.nq_model.specs.protocol.Kept.{host_row}
+use Rattle.nq_model.specs.protocol.Message.{Packet, asker, sequence_of}
+use Rattle.nq_model.specs.protocol.Server.{Server, ServerStep}
 use Rattle.walk_steps.proofs.OpenAt.{IsOpenAt, OneOpenAt}
 use Rattle.walk_steps.proofs.HostLine.{IsSettled}
 use Rattle.walk_steps.proofs.Packets.{In, Asked, Mail}

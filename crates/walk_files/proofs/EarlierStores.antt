@@ -15,10 +15,10 @@ use Rattle.walk_files.proofs.WritesFit.{IsOpenPush, WritesFit}
 use Rattle.walk_files.proofs.Entries.{IsIdle, stored-skip, stored-covered, rising-split}
 use Rattle.walk_files.proofs.Held.{stored-drawn}
 use Rattle.walk_files.proofs.Stores.{StoresNumber, Rests}
-use Rattle.nq_model.specs.Client.{Client, ClientStep}
-use Rattle.nq_model.specs.Journal.{Throughout, Each}
-use Rattle.nq_model.specs.Message.{Message, Packet, call, asker}
-use Rattle.nq_model.specs.World.{from_host}
+use Rattle.nq_model.specs.protocol.Client.{Client, ClientStep}
+use Rattle.nq_model.specs.laws.Journal.{Throughout, Each}
+use Rattle.nq_model.specs.protocol.Message.{Message, Packet, call, asker}
+use Rattle.nq_model.specs.protocol.World.{from_host}
 use Rattle.walk_steps.proofs.Mail.{sent-calls, sent-host}
 use Rattle.walk_steps.proofs.Packets.{In, in-append, Asked}
 use Rattle.walk_files.proofs.StillFits.{push-sequence}

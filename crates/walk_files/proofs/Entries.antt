@@ -7,8 +7,8 @@ use Rattle.walk_files.proofs.WritesFit.{CoversNumber, IsRising}
 use Rattle.walk_files.proofs.HeldContents.{IsInside, content}
 use Rattle.walk_files.proofs.Stores.{Rests}
 use Rattle.nq_model.proofs.Lists.{each-append, each-map}
-use Rattle.nq_model.specs.Client.{ClientStep}
-use Rattle.nq_model.specs.Journal.{Throughout, Covers, Stores, IsStored, Each}
+use Rattle.nq_model.specs.protocol.Client.{ClientStep}
+use Rattle.nq_model.specs.laws.Journal.{Throughout, Covers, Stores, IsStored, Each}
 use Rattle.walk_steps.proofs.Packets.{In, in-right}
 use Rattle.walk_files.proofs.Accesses.{Accesses, neither, read, wrote}
 use Rattle.walk_files.proofs.PlainParts.{IsPlain}

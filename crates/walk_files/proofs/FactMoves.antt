@@ -15,11 +15,11 @@ use Rattle.walk_files.proofs.PushLists.{InWritten, is_other, is_longer, is_new, 
 use Rattle.walk_files.proofs.ServerTells.{IsQuiet, AllQuiet}
 use Rattle.walk_files.proofs.WritesFit.{CoversNumber, IsApart, IsOfWrites, IsRising, JournalFits, IsBehind, IsDirty, PushStands, waits, stored}
 use Rattle.walk_files.proofs.WritesFit.{IsPushed, LiesWithin, in_list, under_way, ListFits, IsOpenPush, PushesFit, Facts}
-use Rattle.nq_model.specs.Client.{Ticket, pushing, dirty_at}
-use Rattle.nq_model.specs.Journal.{Covers}
-use Rattle.nq_model.specs.Message.{Packet, call, sequence_of}
-use Rattle.nq_model.specs.Settle.{with_write, overwritten}
-use Rattle.nq_model.specs.World.{from_host}
+use Rattle.nq_model.specs.protocol.Client.{Ticket, pushing, dirty_at}
+use Rattle.nq_model.specs.laws.Journal.{Covers}
+use Rattle.nq_model.specs.protocol.Message.{Packet, call, sequence_of}
+use Rattle.nq_model.specs.protocol.Settle.{with_write, overwritten}
+use Rattle.nq_model.specs.protocol.World.{from_host}
 use Rattle.walk_steps.proofs.Packets.{In, Asked}
 use Rattle.walk_steps.proofs.TagFacts.{asked-before}
 

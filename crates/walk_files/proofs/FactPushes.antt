@@ -18,10 +18,10 @@ use Rattle.walk_files.proofs.JournalMoves.{store-covers}
 use Rattle.walk_files.proofs.PushLists.{in-dropped, dropped-in, in-other, other-in, left-push, is-at, apart-filter}
 use Rattle.walk_files.proofs.WritesFit.{CoversNumber, IsClear, JournalFits, IsBehind, IsDirty, PushStands, waits, stored, IsPushed, LiesWithin}
 use Rattle.walk_files.proofs.WritesFit.{in_list, under_way, IsOpenPush, Facts}
-use Rattle.nq_model.specs.Client.{Ticket, pushing, is_push_of, is_push_at, drop_dirty, other_dirty}
-use Rattle.nq_model.specs.Hear.{other_push, loss_entry}
-use Rattle.nq_model.specs.Message.{Packet, call, sequence_of}
-use Rattle.nq_model.specs.World.{from_host}
+use Rattle.nq_model.specs.protocol.Client.{Ticket, pushing, is_push_of, is_push_at, drop_dirty, other_dirty}
+use Rattle.nq_model.specs.protocol.Hear.{other_push, loss_entry}
+use Rattle.nq_model.specs.protocol.Message.{Packet, call, sequence_of}
+use Rattle.nq_model.specs.protocol.World.{from_host}
 use Rattle.walk_steps.proofs.Packets.{In, Asked}
 use Rattle.walk_steps.proofs.TagFacts.{asked-before}
 use Rattle.walk_steps.proofs.Rows.{same-number}

@@ -17,11 +17,11 @@ use Rattle.walk_files.proofs.JournalMoves.{covers-before}
 use Rattle.walk_files.proofs.ServerTells.{DecidedAt, decided-at, AllQuiet, Effects, without, goes_through, pushes, Decides, Attaches, Moves}
 use Rattle.walk_files.proofs.ServerTells.{same_lines, attaches_one, decides_one}
 use Rattle.walk_files.proofs.WritesFit.{CoversNumber, IsDirty, IsDecidedAs, PushStands, waits, stored, IsPushed, LiesWithin, ListFits, IsOpenPush, Facts}
-use Rattle.nq_model.specs.Client.{Ticket}
-use Rattle.nq_model.specs.Journal.{Covers}
-use Rattle.nq_model.specs.Kept.{host_row}
-use Rattle.nq_model.specs.Message.{Packet, asker, sequence_of}
-use Rattle.nq_model.specs.Server.{Server, ServerStep}
+use Rattle.nq_model.specs.protocol.Client.{Ticket}
+use Rattle.nq_model.specs.laws.Journal.{Covers}
+use Rattle.nq_model.specs.protocol.Kept.{host_row}
+use Rattle.nq_model.specs.protocol.Message.{Packet, asker, sequence_of}
+use Rattle.nq_model.specs.protocol.Server.{Server, ServerStep}
 use Rattle.walk_steps.proofs.OpenAt.{IsOpenAt, OneOpenAt}
 use Rattle.walk_steps.proofs.HostLine.{IsSettled}
 use Rattle.walk_steps.proofs.Packets.{In, Asked, Mail}

@@ -11,10 +11,10 @@ use Rattle.nq_base.specs.declared.Request.{Request}
 use Rattle.nq_base.specs.declared.Verdict.{Verdict}
 use Rattle.nq_base.specs.declared.Who.{Who}
 use Rattle.walk_files.proofs.Histories.{count-more, content-more, delayed-more, change-more}
-use Rattle.nq_model.specs.Contents.{changes_of, delayed_value, content_at, change_at}
-use Rattle.nq_model.specs.Told.{HasValue, HasLength, GrantIsOf, IsChangeBy}
-use Rattle.nq_model.specs.Kept.{File, find_file}
-use Rattle.nq_model.specs.Message.{Packet, asker, sequence_of}
+use Rattle.nq_model.specs.laws.Contents.{changes_of, delayed_value, content_at, change_at}
+use Rattle.nq_model.specs.laws.Told.{HasValue, HasLength, GrantIsOf, IsChangeBy}
+use Rattle.nq_model.specs.protocol.Kept.{File, find_file}
+use Rattle.nq_model.specs.protocol.Message.{Packet, asker, sequence_of}
 use Rattle.walk_steps.proofs.Packets.{Asked}
 
 -- a journal, the first lengths of files, and the next id

@@ -4,13 +4,13 @@ use Rattle.std.proofs.Common.{subst, ap, ◌∙◌, arith}
 use Rattle.std.proofs.lemmas.List.Folds.{find-append}
 use Rattle.walk_files.proofs.ChainFacts.{IsFenced, gone, ahead, earlier}
 use Rattle.walk_steps.proofs.ClientMoves.{some-same}
-use Rattle.nq_model.specs.Decide.{decides, creates, writes_through, stores, stores_recovering, wrote, resizes, removes, puts_off, commits}
-use Rattle.nq_model.specs.Kept.{File, Kept, find_file, replace_file, drop_file, new_file, written_file, resized_file, fenced_file, with_files}
-use Rattle.nq_model.specs.Kept.{with_new_file, with_row}
-use Rattle.nq_model.specs.Message.{Datagram}
-use Rattle.nq_model.specs.Server.{recovering, Server, ServerStep, quiet, drops, says, keeping, keeping_with, with_table, after_notices}
-use Rattle.nq_model.specs.ServerStep.{attaches, vacates, tells_later, serves, leases, receive, tick, at_time, opens, ends_writing, fence, crash, boot}
-use Rattle.nq_model.specs.Table.{Table}
+use Rattle.nq_model.specs.protocol.Decide.{decides, creates, writes_through, stores, stores_recovering, wrote, resizes, removes, puts_off, commits}
+use Rattle.nq_model.specs.protocol.Kept.{File, Kept, find_file, replace_file, drop_file, new_file, written_file, resized_file, fenced_file, with_files}
+use Rattle.nq_model.specs.protocol.Kept.{with_new_file, with_row}
+use Rattle.nq_model.specs.protocol.Message.{Datagram}
+use Rattle.nq_model.specs.protocol.Server.{recovering, Server, ServerStep, quiet, drops, says, keeping, keeping_with, with_table, after_notices}
+use Rattle.nq_model.specs.protocol.ServerStep.{attaches, vacates, tells_later, serves, leases, receive, tick, at_time, opens, ends_writing, fence, crash, boot}
+use Rattle.nq_model.specs.protocol.Table.{Table}
 use Rattle.walk_steps.proofs.ServerTables.{BootsFit, RecoversBoot, BootsFitOf}
 use Rattle.walk_steps.proofs.KeptChanges.{find-replaced, find-own-replaced, find-other-replaced, find-removed, find-not-removed}
 use Rattle.walk_steps.proofs.Rows.{same-number, number-same}

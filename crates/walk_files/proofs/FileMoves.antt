@@ -9,8 +9,8 @@ use Rattle.nq_base.specs.declared.Entry.{Entry}
 use Rattle.walk_steps.proofs.ClientMoves.{none-some}
 use Rattle.walk_files.proofs.Facts.{History, follows, IsFile, FilesFit, UnusedFit}
 use Rattle.walk_files.proofs.Histories.{NoChanges, count-same, count-changed, count-unchanged, content-changed}
-use Rattle.nq_model.specs.Contents.{changes, changes_of, after_change, with_length, content_at}
-use Rattle.nq_model.specs.Kept.{File, find_file, replace_file, drop_file, new_file, written_file, resized_file}
+use Rattle.nq_model.specs.laws.Contents.{changes, changes_of, after_change, with_length, content_at}
+use Rattle.nq_model.specs.protocol.Kept.{File, find_file, replace_file, drop_file, new_file, written_file, resized_file}
 use Rattle.walk_steps.proofs.KeptChanges.{found-replaced, find-not-removed, find-removed, found-added}
 use Rattle.walk_steps.proofs.Tests.{is-other}
 

@@ -14,20 +14,21 @@ use Rattle.walk_files.proofs.RowsReceived.{added-same}
 use Rattle.walk_files.proofs.ServerChains.{Claims, NoneCaches, FileMove, file_stays, file_gone}
 use Rattle.walk_files.proofs.ChainFacts.{line_for, done_at, IsFenced, gone, ahead, earlier, StandsWriting, PushesFit}
 use Rattle.walk_files.proofs.ChainLists.{fresh-undone}
-use Rattle.nq_model.specs.Chained.{OwnRow, is_done, has_done, has_done_write}
+use Rattle.nq_model.specs.laws.Chained.{OwnRow, is_done, has_done, has_done_write}
 use Rattle.walk_steps.proofs.ClientFacts.{changes_file}
 use Rattle.walk_steps.proofs.ClientMoves.{some-same, none-some}
 use Rattle.walk_steps.proofs.ServerEffects.{standing-serving}
-use Rattle.nq_model.specs.Ask.{marked}
-use Rattle.nq_model.specs.Client.{Client, Ticket}
-use Rattle.nq_model.specs.Decide.{Decision, commits, row_after, decides, creates, writes_through, stores, wrote, stores_recovering, resizes, removes, puts_off}
-use Rattle.nq_model.specs.Kept.{File, Kept, find_file, replace_file, drop_file, new_file, written_file, resized_file, host_row, with_row, with_files}
-use Rattle.nq_model.specs.Kept.{with_new_file}
-use Rattle.nq_model.specs.LeaseInterval.{requested_file}
-use Rattle.nq_model.specs.Message.{Packet, Datagram, request, asker, sequence_of}
-use Rattle.nq_model.specs.Server.{serving, Server, standing, quiet, drops, says, keeping, keeping_with, with_table, after_notices}
-use Rattle.nq_model.specs.ServerStep.{attaches, vacates, tells_later, serves, leases, receive}
-use Rattle.nq_model.specs.Table.{caches, is_writing, find_row, with_rows}
+use Rattle.nq_model.specs.protocol.Ask.{marked}
+use Rattle.nq_model.specs.protocol.Client.{Client, Ticket}
+use Rattle.nq_model.specs.protocol.Decide.{Decision, commits, row_after, decides, creates, writes_through, stores, wrote, stores_recovering, resizes, removes}
+use Rattle.nq_model.specs.protocol.Decide.{puts_off}
+use Rattle.nq_model.specs.protocol.Kept.{File, Kept, find_file, replace_file, drop_file, new_file, written_file, resized_file, host_row, with_row, with_files}
+use Rattle.nq_model.specs.protocol.Kept.{with_new_file}
+use Rattle.nq_model.specs.laws.LeaseInterval.{requested_file}
+use Rattle.nq_model.specs.protocol.Message.{Packet, Datagram, request, asker, sequence_of}
+use Rattle.nq_model.specs.protocol.Server.{serving, Server, standing, quiet, drops, says, keeping, keeping_with, with_table, after_notices}
+use Rattle.nq_model.specs.protocol.ServerStep.{attaches, vacates, tells_later, serves, leases, receive}
+use Rattle.nq_model.specs.protocol.Table.{caches, is_writing, find_row, with_rows}
 use Rattle.walk_steps.proofs.HostLine.{IsSettled}
 use Rattle.walk_steps.proofs.Packets.{Asked}
 use Rattle.walk_steps.proofs.ServerNumbers.{LinesFitOf}

@@ -6,18 +6,18 @@ use Rattle.nq_base.specs.declared.Mode.TheVariants.{Writing}
 use Rattle.nq_base.specs.declared.Row.{Row}
 use Rattle.nq_base.specs.declared.Tag.{Tag}
 use Rattle.walk_files.proofs.ChainFacts.{ChainFits, GrantFits, GoesOnAs, line_for, done_at, rev_at}
-use Rattle.nq_model.specs.Chained.{OwnRow, KnowsFile}
+use Rattle.nq_model.specs.laws.Chained.{OwnRow, KnowsFile}
 use Rattle.walk_steps.proofs.ClientMoves.{some-same}
 use Rattle.walk_steps.proofs.BoundBefore.{Stood}
 use Rattle.walk_files.proofs.BoundRows.{IsBound, bound-fitting, fitting-bound}
 use Rattle.walk_files.proofs.HoldingReplies.{TakesFit}
 use Rattle.walk_files.proofs.Holdings.{IsHeldBound}
-use Rattle.nq_model.specs.Client.{Client, Lease, Ticket, is_clean, lease_on, lets_write}
-use Rattle.nq_model.specs.Hear.{granted_lease}
-use Rattle.nq_model.specs.LeaseInterval.{claim_of, HasFitting}
-use Rattle.nq_model.specs.Message.{Packet}
-use Rattle.nq_model.specs.Server.{Server, standing}
-use Rattle.nq_model.specs.Table.{caches, is_writing, tag_below}
+use Rattle.nq_model.specs.protocol.Client.{Client, Lease, Ticket, is_clean, lease_on, lets_write}
+use Rattle.nq_model.specs.protocol.Hear.{granted_lease}
+use Rattle.nq_model.specs.laws.LeaseInterval.{claim_of, HasFitting}
+use Rattle.nq_model.specs.protocol.Message.{Packet}
+use Rattle.nq_model.specs.protocol.Server.{Server, standing}
+use Rattle.nq_model.specs.protocol.Table.{caches, is_writing, tag_below}
 use Rattle.walk_steps.proofs.CoverFacts.{IsTakeable}
 use Rattle.walk_steps.proofs.ServerTables.{BootsFitOf, StandingFitsOf}
 use Rattle.walk_steps.proofs.Modes.{writing-caches, at-least-writing}

@@ -20,12 +20,12 @@ use Rattle.walk_files.proofs.FactMoves.{facts-sends}
 use Rattle.walk_files.proofs.FactPushes.{dirty-clear, facts-loses, lost, lost-is, lost-fits, AllLosable, IsLosable}
 use Rattle.walk_files.proofs.PushLists.{apart-filter}
 use Rattle.walk_files.proofs.WritesFit.{IsDirty, AreApart, IsOpenPush, JournalFits, Facts}
-use Rattle.nq_model.specs.Client.{ClientStep, Notice, Ticket, is_push_of, notice_on, other_dirty}
-use Rattle.nq_model.specs.Hear.{vacates_lease, vacates_noticed, push_of, loss_entry, other_push, loses, reports, without_lease, push_refused}
-use Rattle.nq_model.specs.Hear.{breaks_chain, if_broken, holds, takes_optional, answers_call, caches_block, purges, knows_revision, then_caches}
-use Rattle.nq_model.specs.Hear.{read_done, marks_through, lease_done, caches_write, write_done, ends_push, caches_push, push_done, attached, pauses}
-use Rattle.nq_model.specs.Hear.{notes_notice}
-use Rattle.nq_model.specs.Message.{Message, Packet, call}
+use Rattle.nq_model.specs.protocol.Client.{ClientStep, Notice, Ticket, is_push_of, notice_on, other_dirty}
+use Rattle.nq_model.specs.protocol.Hear.{vacates_lease, vacates_noticed, push_of, loss_entry, other_push, loses, reports, without_lease, push_refused}
+use Rattle.nq_model.specs.protocol.Hear.{breaks_chain, if_broken, holds, takes_optional, answers_call, caches_block, purges, knows_revision, then_caches}
+use Rattle.nq_model.specs.protocol.Hear.{read_done, marks_through, lease_done, caches_write, write_done, ends_push, caches_push, push_done, attached, pauses}
+use Rattle.nq_model.specs.protocol.Hear.{notes_notice}
+use Rattle.nq_model.specs.protocol.Message.{Message, Packet, call}
 use Rattle.walk_steps.proofs.Mail.{packets_with, packets-last}
 use Rattle.walk_steps.proofs.Members.{in-filter, filter-in, in-push-of}
 use Rattle.walk_steps.proofs.Packets.{In, in-append, in-left, in-right}

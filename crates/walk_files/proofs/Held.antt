@@ -9,11 +9,11 @@ use Rattle.walk_files.proofs.Places.{last-same}
 use Rattle.walk_files.proofs.Stores.{StoreFits, Rests, stored-value}
 use Rattle.nq_model.proofs.JournalTests.{tells_write_on, tells_through, tells_stored, tells_last_value}
 use Rattle.nq_model.proofs.Telling.{tells_and, tells_or, tells_same}
-use Rattle.nq_model.specs.Journal.{Throughout, Stores, IsStored, IsWriteOn, IsThrough, cuts, since_cut, IsLastValue}
-use Rattle.nq_model.specs.Synchronized.{held_value}
-use Rattle.nq_model.specs.Tests.{Tells}
+use Rattle.nq_model.specs.laws.Journal.{Throughout, Stores, IsStored, IsWriteOn, IsThrough, cuts, since_cut, IsLastValue}
+use Rattle.nq_model.specs.laws.Synchronized.{held_value}
+use Rattle.nq_model.specs.laws.Tests.{Tells}
 use Rattle.walk_steps.proofs.Packets.{In}
-use Rattle.nq_model.specs.Undisturbed.{IsDelayedWrite, LeavesAlone, IsUndisturbed}
+use Rattle.nq_model.specs.laws.Undisturbed.{IsDelayedWrite, LeavesAlone, IsUndisturbed}
 
 -- a write of a block counts at the server: it is through, or an S covers it
 abbrev pub IsHeld : (journal : List Entry) (file block : ℕ) → Entry → Type 0

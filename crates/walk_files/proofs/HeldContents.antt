@@ -12,18 +12,18 @@ use Rattle.nq_base.specs.declared.Entry.TheVariants.{C, W, R, S, L, G, F, O, B, 
 use Rattle.nq_base.specs.declared.Who.{Who}
 use Rattle.walk_steps.proofs.ClientMoves.{some-same, none-some}
 use Rattle.walk_files.proofs.Histories.{count-changed, count-unchanged, content-stays, content-changed}
-use Rattle.nq_model.specs.Contents.{changes, changes_of, delayed_value, after_change, with_length, content_at}
+use Rattle.nq_model.specs.laws.Contents.{changes, changes_of, delayed_value, after_change, with_length, content_at}
 use Rattle.walk_files.proofs.WritesFit.{IsRising}
 use Rattle.walk_files.proofs.Held.{HasHeld, Skips, held-skip, held-cut, delayed-unheld}
 use Rattle.walk_files.proofs.Stores.{Rests}
 use Rattle.nq_model.proofs.JournalTests.{tells_who}
 use Rattle.nq_model.proofs.Telling.{tells_4, tells_same}
-use Rattle.nq_model.specs.Tests.{Tells}
-use Rattle.nq_model.specs.Journal.{Throughout, cuts, IsWriteOn, Stores}
+use Rattle.nq_model.specs.laws.Tests.{Tells}
+use Rattle.nq_model.specs.laws.Journal.{Throughout, cuts, IsWriteOn, Stores}
 use Rattle.walk_steps.proofs.Packets.{In}
 use Rattle.walk_steps.proofs.Worlds.{get-set-same, get-set-other}
 use Rattle.walk_steps.proofs.Rows.{number-same}
-use Rattle.nq_model.specs.Table.{same_who}
+use Rattle.nq_model.specs.protocol.Table.{same_who}
 
 -- ---- entries that change no file, or another
 

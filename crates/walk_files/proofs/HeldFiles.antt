@@ -6,14 +6,14 @@ use Rattle.nq_base.specs.declared.Entry.{Entry}
 use Rattle.nq_base.specs.declared.Entry.TheVariants.{W, S, F, Z}
 use Rattle.nq_base.specs.declared.Who.{Who}
 use Rattle.walk_steps.proofs.ClientMoves.{some-same, none-some}
-use Rattle.nq_model.specs.Contents.{changes, delayed_value, after_change}
+use Rattle.nq_model.specs.laws.Contents.{changes, delayed_value, after_change}
 use Rattle.walk_files.proofs.WritesFit.{IsRising}
 use Rattle.walk_files.proofs.Held.{held-through, held-store}
 use Rattle.walk_files.proofs.HeldContents.{HeldBlocks, IsInside, content, content-same, content-next, unchanged-skips, delayed-is, skip-all}
 use Rattle.walk_files.proofs.HeldContents.{set-block, lengthened, cut-blocks}
 use Rattle.walk_files.proofs.Stores.{StoreFits, Rests}
-use Rattle.nq_model.specs.Journal.{Throughout, IsWriteOn, Stores}
-use Rattle.nq_model.specs.Synchronized.{last_length}
+use Rattle.nq_model.specs.laws.Journal.{Throughout, IsWriteOn, Stores}
+use Rattle.nq_model.specs.laws.Synchronized.{last_length}
 use Rattle.walk_steps.proofs.Rows.{same-number}
 
 -- what a journal rests on

@@ -4,7 +4,7 @@ use Rattle.std.proofs.lemmas.Bool.Decides.{nat_tests}
 use Rattle.nq_base.specs.declared.Entry.{Entry}
 use Rattle.nq_base.specs.declared.Who.{Who}
 use Rattle.walk_steps.proofs.ClientMoves.{none-some}
-use Rattle.nq_model.specs.Contents.{changes, changes_of, delayed_value, after_change, content_at, change_at}
+use Rattle.nq_model.specs.laws.Contents.{changes, changes_of, delayed_value, after_change, content_at, change_at}
 use Rattle.walk_steps.proofs.Rows.{same-number}
 
 -- ---- one more entry

@@ -12,20 +12,20 @@ use Rattle.nq_base.specs.declared.Row.{Row}
 use Rattle.nq_base.specs.declared.Tag.{Tag}
 use Rattle.nq_base.specs.declared.Who.{Who}
 use Rattle.walk_files.proofs.ChainFacts.{ChainFits, PushesFit}
-use Rattle.nq_model.specs.Chained.{IsChained}
+use Rattle.nq_model.specs.laws.Chained.{IsChained}
 use Rattle.walk_steps.proofs.ClientMoves.{some-same}
 use Rattle.walk_files.proofs.WritesFit.{WritesFit, JournalFits}
 use Rattle.walk_steps.proofs.Runs.{Runs}
 use Rattle.nq_model.proofs.Lists.{each-append, each-map}
-use Rattle.nq_model.specs.Client.{Client, ClientStep, Lease, lease_on, lets_read, lets_write}
-use Rattle.nq_model.specs.Journal.{Each}
-use Rattle.nq_model.specs.Kept.{host_row}
-use Rattle.nq_model.specs.LeaseInterval.{claim_of, IsCovered, KeepsLeaseInterval, cover_end}
-use Rattle.nq_model.specs.Message.{Packet}
-use Rattle.nq_model.specs.Server.{Phase, serving, recovering, Server, standing, standing_in}
-use Rattle.nq_model.specs.Table.{is_writing, caches}
-use Rattle.nq_model.specs.World.{World}
-use Rattle.nq_model.specs.OneRequestPerSequence.{OpensOne}
+use Rattle.nq_model.specs.protocol.Client.{Client, ClientStep, Lease, lease_on, lets_read, lets_write}
+use Rattle.nq_model.specs.laws.Journal.{Each}
+use Rattle.nq_model.specs.protocol.Kept.{host_row}
+use Rattle.nq_model.specs.laws.LeaseInterval.{claim_of, IsCovered, KeepsLeaseInterval, cover_end}
+use Rattle.nq_model.specs.protocol.Message.{Packet}
+use Rattle.nq_model.specs.protocol.Server.{Phase, serving, recovering, Server, standing, standing_in}
+use Rattle.nq_model.specs.protocol.Table.{is_writing, caches}
+use Rattle.nq_model.specs.protocol.World.{World}
+use Rattle.nq_model.specs.laws.OneRequestPerSequence.{OpensOne}
 use Rattle.walk_steps.proofs.Worlds.{Holds}
 use Rattle.walk_steps.proofs.Modes.{writing-caches, at-least-writing, at-least-caching}
 use Rattle.walk_steps.proofs.Rows.{same-number, find-passes}
@@ -34,7 +34,7 @@ use Rattle.walk_files.proofs.Accesses.{Accesses, neither, read, wrote}
 use Rattle.walk_files.proofs.PlainParts.{IsPlain}
 use Rattle.walk_files.proofs.ServerLeaves.{HasWriting, HasCaching, one-holder}
 use Rattle.walk_files.proofs.Tags.{IsEntry, unclean-entry}
-use Rattle.nq_model.specs.Undisturbed.{LeavesAlone}
+use Rattle.nq_model.specs.laws.Undisturbed.{LeavesAlone}
 
 -- what is known of a world after a schedule
 pub record KnownOf (hosts most : ℕ) (w : World) (events : List Event) : Type 0 where

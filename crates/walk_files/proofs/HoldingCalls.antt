@@ -15,16 +15,16 @@ use Rattle.walk_files.proofs.HoldingReplies.{TakesFit, reply-keeps, notice-keeps
 use Rattle.walk_files.proofs.HoldingSteps.{Between, named, settled, sent-next}
 use Rattle.walk_files.proofs.Holdings.{view_of, IsHeldBound, IsPastLoss, fewer, notes}
 use Rattle.walk_files.proofs.Waiting.{IsWaiting}
-use Rattle.nq_model.specs.Client.{Client, ClientStep, Lease, Ticket, begun, lets_write}
-use Rattle.nq_model.specs.ClientStep.{begins_call, is_called, says_busy, client_call, at_time, sends_again, client_tick, starts, fresh_client}
-use Rattle.nq_model.specs.ClientStep.{next_incarnation, restart}
-use Rattle.nq_model.specs.Hear.{goes_on, evicted, cancels, replied, reply_counts, is_put_off, inc_of, hear}
-use Rattle.nq_model.specs.Kept.{host_row}
-use Rattle.nq_model.specs.LeaseInterval.{grant_in, requested_file}
-use Rattle.nq_model.specs.Message.{Message, reply}
-use Rattle.nq_model.specs.Server.{Server}
-use Rattle.nq_model.specs.Settle.{settle}
-use Rattle.nq_model.specs.Table.{is_writing}
+use Rattle.nq_model.specs.protocol.Client.{Client, ClientStep, Lease, Ticket, begun, lets_write}
+use Rattle.nq_model.specs.protocol.ClientStep.{begins_call, is_called, says_busy, client_call, at_time, sends_again, client_tick, starts, fresh_client}
+use Rattle.nq_model.specs.protocol.ClientStep.{next_incarnation, restart}
+use Rattle.nq_model.specs.protocol.Hear.{goes_on, evicted, cancels, replied, reply_counts, is_put_off, inc_of, hear}
+use Rattle.nq_model.specs.protocol.Kept.{host_row}
+use Rattle.nq_model.specs.laws.LeaseInterval.{grant_in, requested_file}
+use Rattle.nq_model.specs.protocol.Message.{Message, reply}
+use Rattle.nq_model.specs.protocol.Server.{Server}
+use Rattle.nq_model.specs.protocol.Settle.{settle}
+use Rattle.nq_model.specs.protocol.Table.{is_writing}
 use Rattle.walk_steps.proofs.Packets.{In}
 
 module _ (s : Server) (journal : List Entry) where

@@ -21,15 +21,15 @@ use Rattle.walk_files.proofs.HoldingSteps.{Between, answered, named}
 use Rattle.walk_files.proofs.HoldingWrites.{loses as loses-writes}
 use Rattle.walk_files.proofs.Holdings.{view_of, IsHeldBound, drops, holds as holds-lease, fewer}
 use Rattle.walk_files.proofs.Waiting.{IsWaiting, none-waiting, waiting-dirty, left-waiting}
-use Rattle.nq_model.specs.Client.{Client, ClientStep, Lease, Notice, Ticket, begun, is_clean, lease_on, notice_on, lets_write}
-use Rattle.nq_model.specs.Hear.{vacates_lease, vacates_noticed, loses, reports, without_lease, push_refused, granted_lease, breaks, breaks_chain}
-use Rattle.nq_model.specs.Hear.{holds, takes_grant, takes_optional, answers_call, caches_block, then_caches, purges, knows_revision, read_done}
-use Rattle.nq_model.specs.Hear.{lease_done, marks_through, caches_write, write_done, ends_push, caches_push, push_done, spends, attached, pauses}
-use Rattle.nq_model.specs.Hear.{cancels, cancelled, notes_notice, evicted, replied, reply_counts, answer_of, is_put_off}
-use Rattle.nq_model.specs.LeaseInterval.{grant_in, requested_file}
-use Rattle.nq_model.specs.Server.{Server}
-use Rattle.nq_model.specs.Settle.{answers, names_losses}
-use Rattle.nq_model.specs.Table.{is_writing, tag_below}
+use Rattle.nq_model.specs.protocol.Client.{Client, ClientStep, Lease, Notice, Ticket, begun, is_clean, lease_on, notice_on, lets_write}
+use Rattle.nq_model.specs.protocol.Hear.{vacates_lease, vacates_noticed, loses, reports, without_lease, push_refused, granted_lease, breaks, breaks_chain}
+use Rattle.nq_model.specs.protocol.Hear.{holds, takes_grant, takes_optional, answers_call, caches_block, then_caches, purges, knows_revision, read_done}
+use Rattle.nq_model.specs.protocol.Hear.{lease_done, marks_through, caches_write, write_done, ends_push, caches_push, push_done, spends, attached, pauses}
+use Rattle.nq_model.specs.protocol.Hear.{cancels, cancelled, notes_notice, evicted, replied, reply_counts, answer_of, is_put_off}
+use Rattle.nq_model.specs.laws.LeaseInterval.{grant_in, requested_file}
+use Rattle.nq_model.specs.protocol.Server.{Server}
+use Rattle.nq_model.specs.protocol.Settle.{answers, names_losses}
+use Rattle.nq_model.specs.protocol.Table.{is_writing, tag_below}
 
 -- what is known of a grant that is taken
 pub record TakesFit (s : Server) (c : Client) (file : ℕ) (g : Grant) (sent : ℕ) : Type 0 where

@@ -13,13 +13,14 @@ use Rattle.walk_steps.proofs.ClientMoves.{some-same, none-some}
 use Rattle.walk_files.proofs.Holdings.{view_of, Holding, uses, drops, fewer, notes}
 use Rattle.walk_files.proofs.HoldingWrites.{writes}
 use Rattle.walk_files.proofs.Waiting.{IsWaiting, none-waiting}
-use Rattle.nq_model.specs.Client.{ClientStep, Job, for_call, Lease, UnderWay, is_push_at, is_push_of, drop_dirty, first_dirty, is_clean, lease_on, lets_write}
-use Rattle.nq_model.specs.Message.{sequence_of}
-use Rattle.nq_model.specs.Send.{sends_request, after_seq, after_number, takes_push, sends_write, gives_up, read_want, want_of, send_next}
-use Rattle.nq_model.specs.Server.{Server}
+use Rattle.nq_model.specs.protocol.Client.{ClientStep, Job, for_call, Lease, UnderWay, is_push_at, is_push_of, drop_dirty, first_dirty, is_clean, lease_on}
+use Rattle.nq_model.specs.protocol.Client.{lets_write}
+use Rattle.nq_model.specs.protocol.Message.{sequence_of}
+use Rattle.nq_model.specs.protocol.Send.{sends_request, after_seq, after_number, takes_push, sends_write, gives_up, read_want, want_of, send_next}
+use Rattle.nq_model.specs.protocol.Server.{Server}
 use Rattle.walk_steps.proofs.Members.{in-filter, find-in}
 use Rattle.walk_steps.proofs.Packets.{In}
-use Rattle.nq_model.specs.Settle.{answers, reads_cached, after_read, after_write, delays, marks_written, names_losses, settle}
+use Rattle.nq_model.specs.protocol.Settle.{answers, reads_cached, after_read, after_write, delays, marks_written, names_losses, settle}
 
 module _ (s : Server) (journal : List Entry) where
   -- what holds between the parts of a step

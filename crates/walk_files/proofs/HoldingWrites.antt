@@ -13,11 +13,11 @@ use Rattle.walk_files.proofs.Cuts.{IsOf, IsExcusedIn, excused-past, AreCut, None
 use Rattle.walk_files.proofs.Holdings.{View, IsHeldBound, IsPastLoss, Holding, uses, held-used}
 use Rattle.walk_files.proofs.Waiting.{IsWaiting, in-written, IsWritten, lost-waited, left-waiting}
 use Rattle.walk_steps.proofs.Losses.{fold-losses}
-use Rattle.nq_model.specs.Client.{Lease, is_push_of, lease_on, marked_used, used_lease, dirty_at, other_dirty, lets_write}
-use Rattle.nq_model.specs.Hear.{push_of, other_push, loss_entry}
-use Rattle.nq_model.specs.Journal.{Loses, Each}
-use Rattle.nq_model.specs.Server.{Server}
-use Rattle.nq_model.specs.Settle.{with_write}
+use Rattle.nq_model.specs.protocol.Client.{Lease, is_push_of, lease_on, marked_used, used_lease, dirty_at, other_dirty, lets_write}
+use Rattle.nq_model.specs.protocol.Hear.{push_of, other_push, loss_entry}
+use Rattle.nq_model.specs.laws.Journal.{Loses, Each}
+use Rattle.nq_model.specs.protocol.Server.{Server}
+use Rattle.nq_model.specs.protocol.Settle.{with_write}
 use Rattle.walk_steps.proofs.Packets.{In}
 use Rattle.walk_steps.proofs.LogMoves.{timed}
 use Rattle.walk_steps.proofs.Rows.{same-number}

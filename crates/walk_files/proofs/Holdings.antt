@@ -14,13 +14,13 @@ use Rattle.walk_steps.proofs.ClientMoves.{none-some}
 use Rattle.walk_files.proofs.BoundRows.{IsBound}
 use Rattle.walk_files.proofs.Waiting.{IsWaiting}
 use Rattle.walk_files.proofs.Cuts.{IsPlain, IsOf, plain-of, IsExcusedIn, excused-more, AreCut, cut-more}
-use Rattle.nq_model.specs.Client.{ClientStep, Lease, Ticket, lease_on, drop_lease, put_lease, used_lease, marked_used, lets_write}
-use Rattle.nq_model.specs.Hear.{granted_lease}
-use Rattle.nq_model.specs.Journal.{Each}
-use Rattle.nq_model.specs.Kept.{host_row}
-use Rattle.nq_model.specs.Message.{sequence_of}
-use Rattle.nq_model.specs.Server.{Server}
-use Rattle.nq_model.specs.Table.{is_writing}
+use Rattle.nq_model.specs.protocol.Client.{ClientStep, Lease, Ticket, lease_on, drop_lease, put_lease, used_lease, marked_used, lets_write}
+use Rattle.nq_model.specs.protocol.Hear.{granted_lease}
+use Rattle.nq_model.specs.laws.Journal.{Each}
+use Rattle.nq_model.specs.protocol.Kept.{host_row}
+use Rattle.nq_model.specs.protocol.Message.{sequence_of}
+use Rattle.nq_model.specs.protocol.Server.{Server}
+use Rattle.nq_model.specs.protocol.Table.{is_writing}
 use Rattle.walk_steps.proofs.Packets.{In}
 use Rattle.walk_steps.proofs.Rows.{same-number}
 use Rattle.walk_steps.proofs.LogMoves.{is_timed, timed}

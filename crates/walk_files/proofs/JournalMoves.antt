@@ -5,8 +5,8 @@ use Rattle.nq_base.specs.declared.Entry.TheVariants.{C, W, R, S, L, G, F, O, B, 
 use Rattle.nq_base.specs.declared.Who.{Who}
 use Rattle.walk_files.proofs.WritesFit.{CoversNumber, IsClear, IsApart, JournalFits}
 use Rattle.nq_model.proofs.Lists.{each-of, exists-right}
-use Rattle.nq_model.specs.Fate.{IsFirstToCover, IsAccountedAt, IsAccounted}
-use Rattle.nq_model.specs.Journal.{Exists, Covers, Throughout}
+use Rattle.nq_model.specs.laws.Fate.{IsFirstToCover, IsAccountedAt, IsAccounted}
+use Rattle.nq_model.specs.laws.Journal.{Exists, Covers, Throughout}
 use Rattle.walk_steps.proofs.Members.{in-exists}
 use Rattle.walk_steps.proofs.Packets.{In}
 

@@ -2,8 +2,8 @@
 use Rattle.std.proofs.Common.{ℕ, List, [], ◌∷◌, ◌++◌, inr}
 use Rattle.nq_base.specs.declared.Entry.{Entry}
 use Rattle.nq_base.specs.declared.Who.{Who}
-use Rattle.nq_model.specs.Journal.{Each}
-use Rattle.nq_model.specs.Undisturbed.{LeavesAlone, IsUndisturbed}
+use Rattle.nq_model.specs.laws.Journal.{Each}
+use Rattle.nq_model.specs.laws.Undisturbed.{LeavesAlone, IsUndisturbed}
 
 -- more entries that leave them alone
 pub undisturbed-more : (who : Who) (file block number : ℕ) (es journal : List Entry) → Each (LeavesAlone who file) es

@@ -10,10 +10,10 @@ use Rattle.nq_base.specs.declared.Row.{Row}
 use Rattle.nq_base.specs.declared.Tag.{Tag}
 use Rattle.nq_base.specs.declared.Who.{Who}
 use Rattle.walk_steps.proofs.ClientMoves.{some-same, none-some}
-use Rattle.nq_model.specs.CutOff.{Given, last_grant, IsStoreOver, IsLateEnd, IsLongWait, IsLateOpening}
-use Rattle.nq_model.specs.Journal.{Each, Exists}
-use Rattle.nq_model.specs.Profile.{skew, write_slack}
-use Rattle.nq_model.specs.Table.{same_who, caches}
+use Rattle.nq_model.specs.laws.CutOff.{Given, last_grant, IsStoreOver, IsLateEnd, IsLongWait, IsLateOpening}
+use Rattle.nq_model.specs.laws.Journal.{Each, Exists}
+use Rattle.nq_model.specs.protocol.Profile.{skew, write_slack}
+use Rattle.nq_model.specs.protocol.Table.{same_who, caches}
 use Rattle.walk_files.proofs.LogRuns.{IsShortGrant}
 use Rattle.walk_steps.proofs.LogMoves.{timed}
 use Rattle.walk_steps.proofs.LogRows.{is_grant_to, WasGranted, IsHeardOf}

@@ -8,13 +8,13 @@ use Rattle.nq_base.specs.declared.Who.{Who}
 use Rattle.walk_files.proofs.ChainReplies.{undone-file}
 use Rattle.walk_files.proofs.ServerChains.{LineTo, line_stays, line_decides, NoneCaches, FileMove, file_stays, file_written, file_changed}
 use Rattle.walk_files.proofs.ChainFacts.{line_for, done_at, VerdictFits}
-use Rattle.nq_model.specs.Chained.{is_done, has_done, has_done_write}
-use Rattle.nq_model.specs.Client.{Ticket}
-use Rattle.nq_model.specs.Decide.{Decision, row_after}
-use Rattle.nq_model.specs.Kept.{File, Kept, blocks_of, find_file, replace_file, written_file, host_row, with_row}
-use Rattle.nq_model.specs.Message.{Packet, asker, sequence_of}
-use Rattle.nq_model.specs.Profile.{most_hosts}
-use Rattle.nq_model.specs.Server.{Server}
+use Rattle.nq_model.specs.laws.Chained.{is_done, has_done, has_done_write}
+use Rattle.nq_model.specs.protocol.Client.{Ticket}
+use Rattle.nq_model.specs.protocol.Decide.{Decision, row_after}
+use Rattle.nq_model.specs.protocol.Kept.{File, Kept, blocks_of, find_file, replace_file, written_file, host_row, with_row}
+use Rattle.nq_model.specs.protocol.Message.{Packet, asker, sequence_of}
+use Rattle.nq_model.specs.protocol.Profile.{most_hosts}
+use Rattle.nq_model.specs.protocol.Server.{Server}
 use Rattle.walk_steps.proofs.Packets.{Asked}
 use Rattle.walk_steps.proofs.KeptChanges.{own-line, other-line, find-own-replaced, find-other-replaced, same-lines}
 use Rattle.walk_steps.proofs.Rows.{same-number, number-same}

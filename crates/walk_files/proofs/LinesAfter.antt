@@ -4,12 +4,13 @@ use Rattle.nq_base.specs.declared.HostRow.{HostRow}
 use Rattle.nq_base.specs.declared.Request.{Request}
 use Rattle.nq_base.specs.declared.Verdict.{Verdict}
 use Rattle.nq_base.specs.declared.Who.{Who}
-use Rattle.nq_model.specs.Decide.{Decision, decides, creates, writes_through, stores, wrote, stores_recovering, resizes, removes, puts_off, commits, row_after}
-use Rattle.nq_model.specs.Kept.{Kept, host_row, with_row, with_files, with_new_file}
-use Rattle.nq_model.specs.Message.{Datagram, asker, request, sequence_of}
-use Rattle.nq_model.specs.Profile.{most_hosts}
-use Rattle.nq_model.specs.Server.{Server, ServerStep, quiet, drops, says, after_notices, keeping, keeping_with, with_table}
-use Rattle.nq_model.specs.ServerStep.{attaches, vacates, tells_later, serves, leases, receive}
+use Rattle.nq_model.specs.protocol.Decide.{Decision, decides, creates, writes_through, stores, wrote, stores_recovering, resizes, removes, puts_off, commits}
+use Rattle.nq_model.specs.protocol.Decide.{row_after}
+use Rattle.nq_model.specs.protocol.Kept.{Kept, host_row, with_row, with_files, with_new_file}
+use Rattle.nq_model.specs.protocol.Message.{Datagram, asker, request, sequence_of}
+use Rattle.nq_model.specs.protocol.Profile.{most_hosts}
+use Rattle.nq_model.specs.protocol.Server.{Server, ServerStep, quiet, drops, says, after_notices, keeping, keeping_with, with_table}
+use Rattle.nq_model.specs.protocol.ServerStep.{attaches, vacates, tells_later, serves, leases, receive}
 use Rattle.walk_steps.proofs.ServerNumbers.{LinesFitOf}
 use Rattle.walk_steps.proofs.KeptChanges.{other-line, own-line}
 use Rattle.walk_steps.proofs.Rows.{same-number}

@@ -5,15 +5,15 @@ use Rattle.nq_base.specs.declared.Question.{Question}
 use Rattle.nq_base.specs.declared.Row.{Row}
 use Rattle.nq_base.specs.declared.Want.{Want}
 use Rattle.nq_model.proofs.Lists.{each-map}
-use Rattle.nq_model.specs.Ask.{sharing_row, caching_row, shared_again, renewed_row}
-use Rattle.nq_model.specs.Journal.{Each}
-use Rattle.nq_model.specs.Kept.{File, Kept, find_file, with_files, with_new_file, with_row}
-use Rattle.nq_model.specs.Message.{Datagram}
-use Rattle.nq_model.specs.Profile.{shortest_term}
-use Rattle.nq_model.specs.Server.{Phase, serving, recovering, Server}
-use Rattle.nq_model.specs.ServerStep.{to_read, receive, fence, tick, booted, boot, crash}
-use Rattle.nq_model.specs.Table.{Table, caches, empty_table}
-use Rattle.nq_model.specs.World.{Head, start}
+use Rattle.nq_model.specs.protocol.Ask.{sharing_row, caching_row, shared_again, renewed_row}
+use Rattle.nq_model.specs.laws.Journal.{Each}
+use Rattle.nq_model.specs.protocol.Kept.{File, Kept, find_file, with_files, with_new_file, with_row}
+use Rattle.nq_model.specs.protocol.Message.{Datagram}
+use Rattle.nq_model.specs.protocol.Profile.{shortest_term}
+use Rattle.nq_model.specs.protocol.Server.{Phase, serving, recovering, Server}
+use Rattle.nq_model.specs.protocol.ServerStep.{to_read, receive, fence, tick, booted, boot, crash}
+use Rattle.nq_model.specs.protocol.Table.{Table, caches, empty_table}
+use Rattle.nq_model.specs.protocol.World.{Head, start}
 use Rattle.walk_steps.proofs.LogFits.{crash-now}
 use Rattle.walk_steps.proofs.LogGrants.{granted-tag}
 use Rattle.walk_steps.proofs.LogMoves.{timed, LogMoves, log-moves, tick-log-moves}

@@ -5,12 +5,12 @@ use Rattle.nq_base.specs.declared.Entry.TheVariants.{A, W, R}
 use Rattle.nq_base.specs.declared.Who.{Who}
 use Rattle.walk_files.proofs.JournalMoves.{covers-more}
 use Rattle.walk_files.proofs.WritesFit.{IsClear, IsRising}
-use Rattle.nq_model.specs.Client.{ClientStep}
-use Rattle.nq_model.specs.Journal.{Throughout, Each}
+use Rattle.nq_model.specs.protocol.Client.{ClientStep}
+use Rattle.nq_model.specs.laws.Journal.{Throughout, Each}
 use Rattle.walk_steps.proofs.Packets.{In}
 use Rattle.walk_files.proofs.Accesses.{Accesses, neither, read, wrote}
 use Rattle.walk_files.proofs.PlainParts.{IsPlain}
-use Rattle.nq_model.specs.Undisturbed.{IsDelayedWrite, LeavesAlone, IsUndisturbed}
+use Rattle.nq_model.specs.laws.Undisturbed.{IsDelayedWrite, LeavesAlone, IsUndisturbed}
 
 -- ---- later writes
 

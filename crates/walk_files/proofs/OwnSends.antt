@@ -11,10 +11,10 @@ use Rattle.walk_steps.proofs.ClientCases.{Core, core_of, after_request, Closed}
 use Rattle.walk_steps.proofs.ClientFacts.{Alone}
 use Rattle.walk_steps.proofs.ClientMoves.{none-some, some-same}
 use Rattle.walk_steps.proofs.ClientWalk.{reply-keeps, notice-keeps, call-keeps, tick-keeps}
-use Rattle.nq_model.specs.Client.{Client, ClientStep, Job, Ticket, begun}
-use Rattle.nq_model.specs.ClientStep.{client_call, client_tick, at_time}
-use Rattle.nq_model.specs.Hear.{hear, cancelled, wants_of}
-use Rattle.nq_model.specs.Message.{Message, Packet, call, asker}
+use Rattle.nq_model.specs.protocol.Client.{Client, ClientStep, Job, Ticket, begun}
+use Rattle.nq_model.specs.protocol.ClientStep.{client_call, client_tick, at_time}
+use Rattle.nq_model.specs.protocol.Hear.{hear, cancelled, wants_of}
+use Rattle.nq_model.specs.protocol.Message.{Message, Packet, call, asker}
 use Rattle.walk_steps.proofs.Packets.{In, in-last, Told, Mail}
 use Rattle.walk_steps.proofs.Worlds.{given-by}
 

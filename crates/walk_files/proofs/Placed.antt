@@ -11,13 +11,13 @@ use Rattle.nq_base.specs.declared.Told.{Told}
 use Rattle.nq_base.specs.declared.Who.{Who}
 use Rattle.walk_steps.proofs.ClientMoves.{none-some}
 use Rattle.nq_model.proofs.Lists.{exists-right, exists-append}
-use Rattle.nq_model.specs.Journal.{Each, Exists, Throughout, AtEachPlace, IsCall, IsAnswer, IsOpen, call_of, IsAnswerBy, told_by}
-use Rattle.nq_model.specs.Legal.{IsCountedBy}
-use Rattle.nq_model.specs.OfTheirCall.{Reads, IsOfItsCall, AreOfTheirCall}
-use Rattle.nq_model.specs.Ordered.{IsCallBelow, HasOpen, IsBusyNext, IsWriteInOrder, IsResizeInOrder, IsReadInOrder, IsInOrder, IsOrdered}
+use Rattle.nq_model.specs.laws.Journal.{Each, Exists, Throughout, AtEachPlace, IsCall, IsAnswer, IsOpen, call_of, IsAnswerBy, told_by}
+use Rattle.nq_model.specs.laws.Legal.{IsCountedBy}
+use Rattle.nq_model.specs.laws.OfTheirCall.{Reads, IsOfItsCall, AreOfTheirCall}
+use Rattle.nq_model.specs.laws.Ordered.{IsCallBelow, HasOpen, IsBusyNext, IsWriteInOrder, IsResizeInOrder, IsReadInOrder, IsInOrder, IsOrdered}
 use Rattle.walk_steps.proofs.Incarnations.{who-of}
 use Rattle.walk_steps.proofs.Rows.{same-number}
-use Rattle.nq_model.specs.Table.{same_who}
+use Rattle.nq_model.specs.protocol.Table.{same_who}
 
 -- the entry is a cached read of call q of an incarnation
 abbrev pub IsCachedBy : (who : Who) (q : ℕ) → Entry → Type 0

@@ -1,7 +1,7 @@
 -- Entries of a journal at their places, and the last value of which a fact holds.
 use Rattle.std.proofs.Common.{◌≡◌, ◌⊎◌, ℕ, Bool, true, false, List, [], ◌∷◌, if◌then◌else◌, refl, sym, subst, inl, inr}
 use Rattle.nq_base.specs.declared.Entry.{Entry}
-use Rattle.nq_model.specs.Journal.{Exists, Throughout, cuts, since_cut, IsLastValue}
+use Rattle.nq_model.specs.laws.Journal.{Exists, Throughout, cuts, since_cut, IsLastValue}
 use Rattle.walk_steps.proofs.Packets.{In}
 
 -- the entry stands in the journal, and this is what stands before it

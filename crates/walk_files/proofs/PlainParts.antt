@@ -20,14 +20,14 @@ use Rattle.walk_steps.proofs.StepCases.{evicted-cases}
 use Rattle.walk_steps.proofs.ClientFacts.{Alone, fits_job, push_in}
 use Rattle.walk_steps.proofs.ClientMoves.{some-same}
 use Rattle.nq_model.proofs.Lists.{each-append}
-use Rattle.nq_model.specs.Client.{Client, ClientStep, Job, Ticket, begun, notice_on}
-use Rattle.nq_model.specs.ClientStep.{begins_call, is_called, says_busy}
-use Rattle.nq_model.specs.Hear.{vacates_lease, notes_notice, evicted, cancels, spends, attached, pauses, marks_through, replied, reply_counts, loses}
-use Rattle.nq_model.specs.Hear.{all_dirty, other_push, loss_entry, reports, without_lease, push_refused, breaks_chain, if_broken, holds, takes_grant}
-use Rattle.nq_model.specs.Hear.{takes_optional, answers_call, caches_block, purges, knows_revision, read_done, lease_done, write_done, ends_push}
-use Rattle.nq_model.specs.Hear.{caches_push, push_done}
-use Rattle.nq_model.specs.Journal.{Each}
-use Rattle.nq_model.specs.Settle.{answers, names_losses}
+use Rattle.nq_model.specs.protocol.Client.{Client, ClientStep, Job, Ticket, begun, notice_on}
+use Rattle.nq_model.specs.protocol.ClientStep.{begins_call, is_called, says_busy}
+use Rattle.nq_model.specs.protocol.Hear.{vacates_lease, notes_notice, evicted, cancels, spends, attached, pauses, marks_through, replied, reply_counts, loses}
+use Rattle.nq_model.specs.protocol.Hear.{all_dirty, other_push, loss_entry, reports, without_lease, push_refused, breaks_chain, if_broken, holds, takes_grant}
+use Rattle.nq_model.specs.protocol.Hear.{takes_optional, answers_call, caches_block, purges, knows_revision, read_done, lease_done, write_done, ends_push}
+use Rattle.nq_model.specs.protocol.Hear.{caches_push, push_done}
+use Rattle.nq_model.specs.laws.Journal.{Each}
+use Rattle.nq_model.specs.protocol.Settle.{answers, names_losses}
 use Rattle.walk_steps.proofs.Rows.{number-same}
 
 -- an entry of a client that is neither a read nor a write

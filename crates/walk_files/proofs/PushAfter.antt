@@ -14,14 +14,14 @@ use Rattle.walk_files.proofs.ServerChains.{line_begins, line_decides, FileGrows,
 use Rattle.walk_files.proofs.ChainFacts.{line_for, done_at, rev_at, IsFenced, gone, ahead, earlier, IsBoundOrFenced, bound, fenced, IsPushed}
 use Rattle.walk_files.proofs.ChainFacts.{ChainFits, StandsWriting, PushFits, PushesFit}
 use Rattle.walk_files.proofs.ChainLists.{fresh-undone}
-use Rattle.nq_model.specs.Chained.{due}
+use Rattle.nq_model.specs.laws.Chained.{due}
 use Rattle.walk_steps.proofs.ClientMoves.{some-same, none-some}
 use Rattle.walk_steps.proofs.ClientWrites.{writes-under-way}
-use Rattle.nq_model.specs.Client.{Client, Ticket, is_push_of, push_passes, is_clean_in}
-use Rattle.nq_model.specs.Kept.{File, find_file, host_row}
-use Rattle.nq_model.specs.Message.{Packet, asker, sequence_of}
-use Rattle.nq_model.specs.Server.{Server, standing}
-use Rattle.nq_model.specs.Table.{is_writing, same_tag, tag_below, find_row, next_tag}
+use Rattle.nq_model.specs.protocol.Client.{Client, Ticket, is_push_of, push_passes, is_clean_in}
+use Rattle.nq_model.specs.protocol.Kept.{File, find_file, host_row}
+use Rattle.nq_model.specs.protocol.Message.{Packet, asker, sequence_of}
+use Rattle.nq_model.specs.protocol.Server.{Server, standing}
+use Rattle.nq_model.specs.protocol.Table.{is_writing, same_tag, tag_below, find_row, next_tag}
 use Rattle.walk_steps.proofs.ClientSteps.{KnowsOf}
 use Rattle.walk_steps.proofs.HostLine.{IsSettled}
 use Rattle.walk_steps.proofs.Packets.{Asked, Mail}

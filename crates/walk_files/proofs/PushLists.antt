@@ -6,9 +6,9 @@ use Rattle.std.proofs.lemmas.Bool.{and_parts, and_from, not-true}
 use Rattle.nq_base.specs.declared.Push.{Push}
 use Rattle.walk_steps.proofs.ClientMoves.{some-same, none-some}
 use Rattle.walk_files.proofs.WritesFit.{AreApart}
-use Rattle.nq_model.specs.Client.{is_push_of, is_push_at, first_dirty, dirty_at, drop_dirty, other_dirty}
-use Rattle.nq_model.specs.Hear.{other_push}
-use Rattle.nq_model.specs.Settle.{overwritten, overwritten_at, with_write}
+use Rattle.nq_model.specs.protocol.Client.{is_push_of, is_push_at, first_dirty, dirty_at, drop_dirty, other_dirty}
+use Rattle.nq_model.specs.protocol.Hear.{other_push}
+use Rattle.nq_model.specs.protocol.Settle.{overwritten, overwritten_at, with_write}
 use Rattle.walk_steps.proofs.Members.{in-filter, filter-in, in-map, map-in, find-in, find-absent}
 use Rattle.walk_steps.proofs.Packets.{In, in-left, in-right, in-append}
 use Rattle.walk_steps.proofs.Rows.{same-number, number-same, find-passes}

@@ -12,10 +12,10 @@ use Rattle.nq_base.specs.declared.Who.{Who}
 use Rattle.walk_files.proofs.CallsEntries.{entry_who}
 use Rattle.walk_files.proofs.Placed.{call-told}
 use Rattle.walk_steps.proofs.ClientMoves.{some-same}
-use Rattle.nq_model.specs.Journal.{Exists, Throughout, IsCall, IsAnswer, IsOpen, call_of}
-use Rattle.nq_model.specs.Message.{asker}
-use Rattle.nq_model.specs.OfTheirCall.{Reads}
-use Rattle.nq_model.specs.Ordered.{Writes, Resizes, IsBeforeCall, IsNumbered, IsWriteInOrder, IsResizeBy, IsResizeInOrder}
+use Rattle.nq_model.specs.laws.Journal.{Exists, Throughout, IsCall, IsAnswer, IsOpen, call_of}
+use Rattle.nq_model.specs.protocol.Message.{asker}
+use Rattle.nq_model.specs.laws.OfTheirCall.{Reads}
+use Rattle.nq_model.specs.laws.Ordered.{Writes, Resizes, IsBeforeCall, IsNumbered, IsWriteInOrder, IsResizeBy, IsResizeInOrder}
 
 -- the entry is no C and no A of an incarnation
 pub record IsNoCall (who : Who) (e : Entry) : Type 0 where

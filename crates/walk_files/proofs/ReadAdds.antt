@@ -24,16 +24,16 @@ use Rattle.walk_files.proofs.ReadSends.{Done, NewRead, OldRead}
 use Rattle.walk_files.proofs.ReadSteps.{ValuedBy, IsServedAnswer, IsNamedAnswer}
 use Rattle.walk_files.proofs.Stores.{Rests, standing-more}
 use Rattle.nq_model.proofs.Lists.{exists-right}
-use Rattle.nq_model.specs.Client.{Client, ClientStep, Lease, UnderWay, lets_read}
+use Rattle.nq_model.specs.protocol.Client.{Client, ClientStep, Lease, UnderWay, lets_read}
 use Rattle.nq_base.specs.Calls.{told}
-use Rattle.nq_model.specs.Journal.{Exists, Throughout, IsCall, IsAnswer, IsAnswerBy, call_of}
-use Rattle.nq_model.specs.Legal.{GivesValue, IsAnswerWith, IsCountedWith}
-use Rattle.nq_model.specs.Message.{Message, call, reply}
-use Rattle.nq_model.specs.OfTheirCall.{Reads}
-use Rattle.nq_model.specs.Server.{to_host}
-use Rattle.nq_model.specs.Settle.{cached_body}
-use Rattle.nq_model.specs.Stands.{IsStandingValue}
-use Rattle.nq_model.specs.World.{World, from_host}
+use Rattle.nq_model.specs.laws.Journal.{Exists, Throughout, IsCall, IsAnswer, IsAnswerBy, call_of}
+use Rattle.nq_model.specs.laws.Legal.{GivesValue, IsAnswerWith, IsCountedWith}
+use Rattle.nq_model.specs.protocol.Message.{Message, call, reply}
+use Rattle.nq_model.specs.laws.OfTheirCall.{Reads}
+use Rattle.nq_model.specs.protocol.Server.{to_host}
+use Rattle.nq_model.specs.protocol.Settle.{cached_body}
+use Rattle.nq_model.specs.laws.Stands.{IsStandingValue}
+use Rattle.nq_model.specs.protocol.World.{World, from_host}
 use Rattle.walk_steps.proofs.Mail.{sent-calls}
 use Rattle.walk_steps.proofs.Members.{in-exists, exists-in}
 use Rattle.walk_steps.proofs.Packets.{In, in-append, in-left, Asked, in-right}

@@ -16,15 +16,15 @@ use Rattle.walk_files.proofs.Places.{IsPlaced}
 use Rattle.walk_files.proofs.ReadParts.{ReadsNothing}
 use Rattle.walk_files.proofs.Stores.{Rests, standing-more}
 use Rattle.nq_model.proofs.Lists.{exists-right, exists-append}
-use Rattle.nq_model.specs.Client.{Client, ClientStep, UnderWay}
+use Rattle.nq_model.specs.protocol.Client.{Client, ClientStep, UnderWay}
 use Rattle.nq_base.specs.Calls.{told}
-use Rattle.nq_model.specs.Journal.{Exists, Throughout, IsAnswerBy, IsCounted, Each}
-use Rattle.nq_model.specs.Legal.{IsReading, GivesValue, IsAnswerWith}
-use Rattle.nq_model.specs.Message.{Message, Packet, call, reply}
-use Rattle.nq_model.specs.OfTheirCall.{Reads}
-use Rattle.nq_model.specs.Server.{to_host}
-use Rattle.nq_model.specs.Stands.{IsStandingValue}
-use Rattle.nq_model.specs.World.{World, from_host, after_client}
+use Rattle.nq_model.specs.laws.Journal.{Exists, Throughout, IsAnswerBy, IsCounted, Each}
+use Rattle.nq_model.specs.laws.Legal.{IsReading, GivesValue, IsAnswerWith}
+use Rattle.nq_model.specs.protocol.Message.{Message, Packet, call, reply}
+use Rattle.nq_model.specs.laws.OfTheirCall.{Reads}
+use Rattle.nq_model.specs.protocol.Server.{to_host}
+use Rattle.nq_model.specs.laws.Stands.{IsStandingValue}
+use Rattle.nq_model.specs.protocol.World.{World, from_host, after_client}
 use Rattle.walk_steps.proofs.RunCases.{clients-after}
 use Rattle.walk_steps.proofs.Mail.{none-to-host}
 use Rattle.walk_steps.proofs.Packets.{In, in-append, in-get, Asked, message-same}

@@ -20,13 +20,13 @@ use Rattle.walk_files.proofs.Places.{IsPlaced, last-same}
 use Rattle.walk_files.proofs.ReaderValues.{NoneWaits}
 use Rattle.walk_files.proofs.ReadParts.{TicketOfCall}
 use Rattle.nq_model.proofs.Lists.{exists-right, exists-map}
-use Rattle.nq_model.specs.Client.{Client, UnderWay}
-use Rattle.nq_model.specs.Journal.{Exists, Throughout, IsAnswerBy, IsCounted, IsWriteOn, IsLost, cuts, since_cut, IsLastValue, call_of, Loses}
-use Rattle.nq_model.specs.Legal.{IsReading, GivesValue, IsAnswerWith, IsCountedWith}
-use Rattle.nq_model.specs.Message.{Packet, reply}
-use Rattle.nq_model.specs.Server.{to_host}
-use Rattle.nq_model.specs.Stands.{Stands, IsStandingValue}
-use Rattle.nq_model.specs.World.{World}
+use Rattle.nq_model.specs.protocol.Client.{Client, UnderWay}
+use Rattle.nq_model.specs.laws.Journal.{Exists, Throughout, IsAnswerBy, IsCounted, IsWriteOn, IsLost, cuts, since_cut, IsLastValue, call_of, Loses}
+use Rattle.nq_model.specs.laws.Legal.{IsReading, GivesValue, IsAnswerWith, IsCountedWith}
+use Rattle.nq_model.specs.protocol.Message.{Packet, reply}
+use Rattle.nq_model.specs.protocol.Server.{to_host}
+use Rattle.nq_model.specs.laws.Stands.{Stands, IsStandingValue}
+use Rattle.nq_model.specs.protocol.World.{World}
 use Rattle.walk_steps.proofs.Members.{in-exists}
 use Rattle.walk_steps.proofs.Packets.{In, in-append, in-left, in-right, Asked}
 use Rattle.walk_steps.proofs.Worlds.{IsSent, by_host, by_server}

@@ -16,13 +16,13 @@ use Rattle.walk_steps.proofs.PartCases.{answers-call-cases, vacates-noticed-case
 use Rattle.walk_steps.proofs.PartCases.{lease-done-cases, then-caches-cases, caches-write-cases, caches-push-cases, vacates-if-clean-cases}
 use Rattle.walk_steps.proofs.SettleCases.{IsRead}
 use Rattle.walk_steps.proofs.ClientMoves.{none-some, some-same}
-use Rattle.nq_model.specs.Client.{Client, ClientStep, for_call, Ticket, UnderWay, begun, notice_on}
-use Rattle.nq_model.specs.Hear.{vacates_lease, spends, attached, pauses, marks_through, loses, all_dirty, loss_entry, reports, without_lease}
-use Rattle.nq_model.specs.Hear.{push_refused, breaks_chain, if_broken, holds, takes_grant, takes_optional, answers_call, answer_of, caches_block}
-use Rattle.nq_model.specs.Hear.{purges, knows_revision, then_caches, read_done, lease_done, write_done, ends_push, caches_push, push_done}
-use Rattle.nq_model.specs.Hear.{with_through}
-use Rattle.nq_model.specs.Message.{Message, call}
-use Rattle.nq_model.specs.Settle.{answers, names_losses, said}
+use Rattle.nq_model.specs.protocol.Client.{Client, ClientStep, for_call, Ticket, UnderWay, begun, notice_on}
+use Rattle.nq_model.specs.protocol.Hear.{vacates_lease, spends, attached, pauses, marks_through, loses, all_dirty, loss_entry, reports, without_lease}
+use Rattle.nq_model.specs.protocol.Hear.{push_refused, breaks_chain, if_broken, holds, takes_grant, takes_optional, answers_call, answer_of, caches_block}
+use Rattle.nq_model.specs.protocol.Hear.{purges, knows_revision, then_caches, read_done, lease_done, write_done, ends_push, caches_push, push_done}
+use Rattle.nq_model.specs.protocol.Hear.{with_through}
+use Rattle.nq_model.specs.protocol.Message.{Message, call}
+use Rattle.nq_model.specs.protocol.Settle.{answers, names_losses, said}
 use Rattle.walk_steps.proofs.Members.{in-reverse}
 use Rattle.walk_steps.proofs.Packets.{In, in-append, in-last, call-same}
 

@@ -14,11 +14,11 @@ use Rattle.walk_steps.proofs.SendCases.{send-cases, IsFree}
 use Rattle.walk_steps.proofs.SettleCases.{settle-moves, settle-cases, IsSettling, IsRead, Settled, ReadWaits, no_lease, no_block, settle-settles}
 use Rattle.walk_steps.proofs.ClientMoves.{none-some, some-same}
 use Rattle.walk_files.proofs.ReadParts.{IsDull, is_read, ReadsNothing, MadeFor, TicketOfCall, MadeOf}
-use Rattle.nq_model.specs.Client.{Client, ClientStep, Job, for_call, renewing, pushing, Lease, Ticket, UnderWay, lease_on, lets_read, first_dirty}
-use Rattle.nq_model.specs.Message.{Message, call}
-use Rattle.nq_model.specs.Send.{ending_file, sends_request, after_seq, after_number, takes_push, gives_up, send_next}
-use Rattle.nq_model.specs.Settle.{answers, reads_cached, after_read, after_write, delays, marks_written, settle, said, cached_body}
-use Rattle.nq_model.specs.Settle.{ticket_is_for_call, is_for_call}
+use Rattle.nq_model.specs.protocol.Client.{Client, ClientStep, Job, for_call, renewing, pushing, Lease, Ticket, UnderWay, lease_on, lets_read, first_dirty}
+use Rattle.nq_model.specs.protocol.Message.{Message, call}
+use Rattle.nq_model.specs.protocol.Send.{ending_file, sends_request, after_seq, after_number, takes_push, gives_up, send_next}
+use Rattle.nq_model.specs.protocol.Settle.{answers, reads_cached, after_read, after_write, delays, marks_written, settle, said, cached_body}
+use Rattle.nq_model.specs.protocol.Settle.{ticket_is_for_call, is_for_call}
 use Rattle.walk_steps.proofs.Packets.{In, in-last, call-same}
 
 -- the entry is a cached read, or the answer to one of these

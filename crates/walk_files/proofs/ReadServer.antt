@@ -15,7 +15,7 @@ use Rattle.walk_files.proofs.ClientMoves.{IsBelow}
 use Rattle.walk_files.proofs.CallWorlds.{CallsKnown}
 use Rattle.walk_steps.proofs.ClientMoves.{none-some, some-same}
 use Rattle.walk_files.proofs.ServerDelays.{Never}
-use Rattle.nq_model.specs.Contents.{delayed_by}
+use Rattle.nq_model.specs.laws.Contents.{delayed_by}
 use Rattle.walk_files.proofs.WritesFit.{IsRising}
 use Rattle.walk_files.proofs.ReadClient.{good-more}
 use Rattle.walk_files.proofs.ReadFacts.{IsServed, IsBacked, IsGood, ReadsFit, placed-append, get-append, served-more, backed-more, waits-more, standing-after}
@@ -27,17 +27,17 @@ use Rattle.walk_files.proofs.Stores.{Rests, standing-other, standing-more, Store
 use Rattle.nq_model.proofs.JournalTests.{tells_who}
 use Rattle.nq_model.proofs.Lists.{exists-append}
 use Rattle.nq_model.proofs.Telling.{tells_4, tells_same}
-use Rattle.nq_model.specs.Client.{Client, UnderWay}
-use Rattle.nq_model.specs.Journal.{Each, Exists, Throughout, IsAnswerBy, IsCounted}
-use Rattle.nq_model.specs.Kept.{File, find_file}
-use Rattle.nq_model.specs.Legal.{GivesValue}
-use Rattle.nq_model.specs.Message.{reply}
-use Rattle.nq_model.specs.Server.{Server, ServerStep, to_host}
-use Rattle.nq_model.specs.ServerStep.{serves, grants}
-use Rattle.nq_model.specs.Stands.{IsStandingValue}
-use Rattle.nq_model.specs.Table.{Table, same_who}
-use Rattle.nq_model.specs.Tests.{Tells}
-use Rattle.nq_model.specs.World.{World, after_server}
+use Rattle.nq_model.specs.protocol.Client.{Client, UnderWay}
+use Rattle.nq_model.specs.laws.Journal.{Each, Exists, Throughout, IsAnswerBy, IsCounted}
+use Rattle.nq_model.specs.protocol.Kept.{File, find_file}
+use Rattle.nq_model.specs.laws.Legal.{GivesValue}
+use Rattle.nq_model.specs.protocol.Message.{reply}
+use Rattle.nq_model.specs.protocol.Server.{Server, ServerStep, to_host}
+use Rattle.nq_model.specs.protocol.ServerStep.{serves, grants}
+use Rattle.nq_model.specs.laws.Stands.{IsStandingValue}
+use Rattle.nq_model.specs.protocol.Table.{Table, same_who}
+use Rattle.nq_model.specs.laws.Tests.{Tells}
+use Rattle.nq_model.specs.protocol.World.{World, after_server}
 use Rattle.walk_steps.proofs.Sequences.{asked-before-server}
 use Rattle.walk_steps.proofs.Members.{exists-in}
 use Rattle.walk_steps.proofs.Packets.{In, in-append, in-left, in-get, Asked, told-same, reply-same}

@@ -22,12 +22,12 @@ use Rattle.walk_steps.proofs.ClientMoves.{none-some, some-same}
 use Rattle.walk_files.proofs.ReadParts.{IsDull, is_read, ReadsNothing, MadeFor, TicketOfCall, IsLike, MadeOf, made-refused, made-optional, made-call}
 use Rattle.walk_files.proofs.ReadParts.{made-refusing, made-knows, made-pauses, made-attached, made-spends, made-read, made-leased, made-written}
 use Rattle.walk_files.proofs.ReadParts.{made-pushed}
-use Rattle.nq_model.specs.Client.{Client, ClientStep, for_call, Ticket, UnderWay, begun}
-use Rattle.nq_model.specs.ClientStep.{begins_call, is_called, says_busy, client_call, client_tick, at_time, sends_again}
+use Rattle.nq_model.specs.protocol.Client.{Client, ClientStep, for_call, Ticket, UnderWay, begun}
+use Rattle.nq_model.specs.protocol.ClientStep.{begins_call, is_called, says_busy, client_call, client_tick, at_time, sends_again}
 use Rattle.nq_base.specs.Calls.{told}
-use Rattle.nq_model.specs.Hear.{vacates_lease, notes_notice, evicted, cancels, cancelled, wants_of, replied, reply_counts, inc_of, hear}
-use Rattle.nq_model.specs.Message.{Message, call, reply}
-use Rattle.nq_model.specs.Settle.{answers, names_losses, settle, said}
+use Rattle.nq_model.specs.protocol.Hear.{vacates_lease, notes_notice, evicted, cancels, cancelled, wants_of, replied, reply_counts, inc_of, hear}
+use Rattle.nq_model.specs.protocol.Message.{Message, call, reply}
+use Rattle.nq_model.specs.protocol.Settle.{answers, names_losses, settle, said}
 use Rattle.walk_steps.proofs.Packets.{In, call-same}
 use Rattle.walk_files.proofs.ReadSends.{Done, OldRead, Quiet, ToldOf, done-quiet, settled-quiet, told-goes-on, told-made, told-sends, told-settles}
 

@@ -8,10 +8,10 @@ use Rattle.walk_files.proofs.WritesFit.{CoversNumber, IsRising}
 use Rattle.walk_files.proofs.Held.{HasHeld, IsHeld, last-of-undisturbed}
 use Rattle.walk_files.proofs.Places.{last-same, cut-in}
 use Rattle.walk_files.proofs.Stores.{StoresNumber, stored-value}
-use Rattle.nq_model.specs.Journal.{Throughout, Covers, Stores, Loses, IsStored, IsLost, since_cut}
-use Rattle.nq_model.specs.Stands.{Stands, IsStandingValue}
+use Rattle.nq_model.specs.laws.Journal.{Throughout, Covers, Stores, Loses, IsStored, IsLost, since_cut}
+use Rattle.nq_model.specs.laws.Stands.{Stands, IsStandingValue}
 use Rattle.walk_steps.proofs.Packets.{In}
-use Rattle.nq_model.specs.Undisturbed.{IsUndisturbed}
+use Rattle.nq_model.specs.laws.Undisturbed.{IsUndisturbed}
 
 -- what covers a write stores it or loses it
 covers-either : (e : Entry) (who : Who) (file block n v : ℕ) → Covers e (W who file block n 0 false)

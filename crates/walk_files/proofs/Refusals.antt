@@ -7,9 +7,9 @@ use Rattle.nq_base.specs.declared.Verdict.{Verdict}
 use Rattle.nq_base.specs.declared.Who.{Who}
 use Rattle.walk_files.proofs.ServerCalls.{IsWhy, undrawn, is_past, otherwise}
 use Rattle.walk_steps.proofs.Sequences.{asks-no-seq, reads-no-seq}
-use Rattle.nq_model.specs.Decide.{verdict_reply}
-use Rattle.nq_model.specs.Message.{sequence_of}
-use Rattle.nq_model.specs.Server.{Server}
+use Rattle.nq_model.specs.protocol.Decide.{verdict_reply}
+use Rattle.nq_model.specs.protocol.Message.{sequence_of}
+use Rattle.nq_model.specs.protocol.Server.{Server}
 use Rattle.walk_steps.proofs.ServerOutcomes.{line_of, IsPlain, attached_again, not_yet, no_entry, entry, no_attributes, attributes, no_file, no_block}
 use Rattle.walk_steps.proofs.ServerOutcomes.{decided_again, is_old}
 

@@ -8,18 +8,18 @@ use Rattle.nq_base.specs.declared.Row.{Row}
 use Rattle.nq_base.specs.declared.Verdict.{Verdict}
 use Rattle.nq_base.specs.declared.Who.{Who}
 use Rattle.walk_files.proofs.ChainFacts.{ChainFits, IsPushed, line_for, done_at, rev_at}
-use Rattle.nq_model.specs.Chained.{OwnRow, KnowsFile, has_done_write, due}
+use Rattle.nq_model.specs.laws.Chained.{OwnRow, KnowsFile, has_done_write, due}
 use Rattle.walk_steps.proofs.ClientFacts.{push_in}
 use Rattle.walk_steps.proofs.ClientMoves.{some-same, none-some}
 use Rattle.walk_files.proofs.FromChains.{bound-knows}
 use Rattle.walk_files.proofs.BoundRows.{bound-boot}
 use Rattle.walk_files.proofs.Holdings.{IsHeldBound}
 use Rattle.walk_files.proofs.Waiting.{IsWaiting}
-use Rattle.nq_model.specs.Client.{Client, Lease, Ticket, lease_on}
-use Rattle.nq_model.specs.Kept.{File, blocks_of, find_file, host_row}
-use Rattle.nq_model.specs.Message.{Packet}
-use Rattle.nq_model.specs.Server.{serving, Server, standing, standing_in}
-use Rattle.nq_model.specs.Table.{is_writing, find_row}
+use Rattle.nq_model.specs.protocol.Client.{Client, Lease, Ticket, lease_on}
+use Rattle.nq_model.specs.protocol.Kept.{File, blocks_of, find_file, host_row}
+use Rattle.nq_model.specs.protocol.Message.{Packet}
+use Rattle.nq_model.specs.protocol.Server.{serving, Server, standing, standing_in}
+use Rattle.nq_model.specs.protocol.Table.{is_writing, find_row}
 use Rattle.walk_steps.proofs.ServerTables.{BootsFit, BootsFitOf, ServesBoot, StandingFitsOf}
 use Rattle.walk_steps.proofs.Rows.{number-same}
 use Rattle.walk_steps.proofs.ServerCases.{found-file}

@@ -15,18 +15,18 @@ use Rattle.walk_steps.proofs.ClientMoves.{some-same, none-some}
 use Rattle.walk_steps.proofs.Covers.{granted-key}
 use Rattle.walk_steps.proofs.ServerEffects.{standing-serving}
 use Rattle.walk_steps.proofs.Sequences.{reads-no-seq}
-use Rattle.nq_model.specs.Ask.{marked, grant_of, sharing_row, caching_row, shared_again, renewed_row}
-use Rattle.nq_model.specs.Decide.{Decision, commits, row_after, decides, creates, writes_through, stores, wrote, stores_recovering, resizes, removes}
-use Rattle.nq_model.specs.Decide.{puts_off, in_the_way, verdict_reply}
-use Rattle.nq_model.specs.Hear.{inc_of}
-use Rattle.nq_model.specs.Kept.{File, Kept, host_row, with_row, with_files, with_new_file}
-use Rattle.nq_model.specs.LeaseInterval.{is_at_least, grant_in, requested_file}
-use Rattle.nq_model.specs.Message.{Message, Packet, reply, Datagram, request, asker, sequence_of}
-use Rattle.nq_model.specs.Profile.{most_hosts}
-use Rattle.nq_model.specs.Server.{serving, Server, ServerStep, standing, to_host, quiet, drops, says, notices, keeping, keeping_with, with_table}
-use Rattle.nq_model.specs.Server.{after_notices}
-use Rattle.nq_model.specs.ServerStep.{attaches, vacates, tells_later, serves, leases, to_read, access_of, receive}
-use Rattle.nq_model.specs.Table.{Table, caches, find_row, put_row, next_tag, with_rows, after_draw}
+use Rattle.nq_model.specs.protocol.Ask.{marked, grant_of, sharing_row, caching_row, shared_again, renewed_row}
+use Rattle.nq_model.specs.protocol.Decide.{Decision, commits, row_after, decides, creates, writes_through, stores, wrote, stores_recovering, resizes, removes}
+use Rattle.nq_model.specs.protocol.Decide.{puts_off, in_the_way, verdict_reply}
+use Rattle.nq_model.specs.protocol.Hear.{inc_of}
+use Rattle.nq_model.specs.protocol.Kept.{File, Kept, host_row, with_row, with_files, with_new_file}
+use Rattle.nq_model.specs.laws.LeaseInterval.{is_at_least, grant_in, requested_file}
+use Rattle.nq_model.specs.protocol.Message.{Message, Packet, reply, Datagram, request, asker, sequence_of}
+use Rattle.nq_model.specs.protocol.Profile.{most_hosts}
+use Rattle.nq_model.specs.protocol.Server.{serving, Server, ServerStep, standing, to_host, quiet, drops, says, notices, keeping, keeping_with, with_table}
+use Rattle.nq_model.specs.protocol.Server.{after_notices}
+use Rattle.nq_model.specs.protocol.ServerStep.{attaches, vacates, tells_later, serves, leases, to_read, access_of, receive}
+use Rattle.nq_model.specs.protocol.Table.{Table, caches, find_row, put_row, next_tag, with_rows, after_draw}
 use Rattle.walk_steps.proofs.Packets.{In, in-append, Asked, Told, told-same, reply-same}
 use Rattle.walk_steps.proofs.ServerSays.{verdict-inc, verdict-grant, plain-inc, plain-grant, notices-no-reply}
 use Rattle.walk_steps.proofs.LogGrants.{granted-tag}

@@ -16,14 +16,14 @@ use Rattle.walk_files.proofs.ServerChains.{Continues, RowFrom, row_fresh, row_on
 use Rattle.walk_steps.proofs.ClientMoves.{some-same, none-some}
 use Rattle.walk_steps.proofs.Covers.{granted-key}
 use Rattle.walk_steps.proofs.ServerEffects.{standing-serving}
-use Rattle.nq_model.specs.Ask.{marked, term_of, sharing_row, caching_row, shared_again, renewed_row}
-use Rattle.nq_model.specs.Kept.{File, find_file, host_row}
-use Rattle.nq_model.specs.LeaseInterval.{is_at_least}
-use Rattle.nq_model.specs.Message.{Packet}
-use Rattle.nq_model.specs.Server.{Phase, serving, recovering, Server, standing}
-use Rattle.nq_model.specs.ServerStep.{vacated_rows, is_over, is_due, end_reading}
-use Rattle.nq_model.specs.Table.{Table, caches, is_writing, same_tag, is_row_of, find_row, drop_row, drop_host, drop_rows_of, put_row, next_tag}
-use Rattle.nq_model.specs.Table.{with_rows, after_draw}
+use Rattle.nq_model.specs.protocol.Ask.{marked, term_of, sharing_row, caching_row, shared_again, renewed_row}
+use Rattle.nq_model.specs.protocol.Kept.{File, find_file, host_row}
+use Rattle.nq_model.specs.laws.LeaseInterval.{is_at_least}
+use Rattle.nq_model.specs.protocol.Message.{Packet}
+use Rattle.nq_model.specs.protocol.Server.{Phase, serving, recovering, Server, standing}
+use Rattle.nq_model.specs.protocol.ServerStep.{vacated_rows, is_over, is_due, end_reading}
+use Rattle.nq_model.specs.protocol.Table.{Table, caches, is_writing, same_tag, is_row_of, find_row, drop_row, drop_host, drop_rows_of, put_row, next_tag}
+use Rattle.nq_model.specs.protocol.Table.{with_rows, after_draw}
 use Rattle.walk_steps.proofs.Packets.{Asked}
 use Rattle.walk_steps.proofs.AskCases.{own_in, with_marked, with_waiter, IsGranted, shares_again, begins_sharing, begins_caching, renews_row}
 use Rattle.walk_steps.proofs.Modes.{at-least-more}

@@ -12,14 +12,15 @@ use Rattle.walk_files.proofs.RowMoves.{rows-attached}
 use Rattle.walk_files.proofs.ServerChains.{RowsMove, LineTo, line_stays, line_begins, FilesGrow, rev_stays, rev_rises, rev_gone}
 use Rattle.walk_files.proofs.ChainFacts.{VerdictFits}
 use Rattle.walk_steps.proofs.ClientMoves.{none-some}
-use Rattle.nq_model.specs.Ask.{marked}
-use Rattle.nq_model.specs.Decide.{Decision, commits, row_after, decides, creates, writes_through, stores, wrote, stores_recovering, resizes, removes, puts_off}
-use Rattle.nq_model.specs.Kept.{File, Kept, find_file, replace_file, drop_file, new_file, written_file, resized_file, host_row, with_row, with_files}
-use Rattle.nq_model.specs.Kept.{with_new_file}
-use Rattle.nq_model.specs.Message.{Packet, Datagram, request, asker, sequence_of}
-use Rattle.nq_model.specs.Server.{serving, Server, quiet, drops, says, keeping, keeping_with, with_table, after_notices}
-use Rattle.nq_model.specs.ServerStep.{attaches, vacates, tells_later, serves, leases, to_read, access_of, receive}
-use Rattle.nq_model.specs.Table.{find_row, with_rows, after_draw}
+use Rattle.nq_model.specs.protocol.Ask.{marked}
+use Rattle.nq_model.specs.protocol.Decide.{Decision, commits, row_after, decides, creates, writes_through, stores, wrote, stores_recovering, resizes, removes}
+use Rattle.nq_model.specs.protocol.Decide.{puts_off}
+use Rattle.nq_model.specs.protocol.Kept.{File, Kept, find_file, replace_file, drop_file, new_file, written_file, resized_file, host_row, with_row, with_files}
+use Rattle.nq_model.specs.protocol.Kept.{with_new_file}
+use Rattle.nq_model.specs.protocol.Message.{Packet, Datagram, request, asker, sequence_of}
+use Rattle.nq_model.specs.protocol.Server.{serving, Server, quiet, drops, says, keeping, keeping_with, with_table, after_notices}
+use Rattle.nq_model.specs.protocol.ServerStep.{attaches, vacates, tells_later, serves, leases, to_read, access_of, receive}
+use Rattle.nq_model.specs.protocol.Table.{find_row, with_rows, after_draw}
 use Rattle.walk_steps.proofs.Packets.{Asked}
 use Rattle.walk_steps.proofs.ServerNumbers.{LinesFitOf}
 use Rattle.walk_steps.proofs.ServerTables.{StandingFits, StandingFitsOf}

@@ -17,14 +17,14 @@ use Rattle.walk_files.proofs.RefusedPushes.{PushShape, push-shape}
 use Rattle.walk_files.proofs.BoundRows.{IsBound, covered-bound}
 use Rattle.walk_files.proofs.HoldingCalls.{HearsFit}
 use Rattle.walk_files.proofs.Holdings.{IsHeldBound}
-use Rattle.nq_model.specs.Client.{Client, Lease, Ticket, lease_on, lets_write}
-use Rattle.nq_model.specs.Decide.{verdict_reply}
-use Rattle.nq_model.specs.Hear.{inc_of, granted_lease, is_put_off}
-use Rattle.nq_model.specs.Kept.{host_row}
-use Rattle.nq_model.specs.LeaseInterval.{claim_of, IsCovered, cover_end, grant_in, requested_file}
-use Rattle.nq_model.specs.Message.{Packet, reply, sequence_of}
-use Rattle.nq_model.specs.Server.{Server}
-use Rattle.nq_model.specs.Table.{is_writing}
+use Rattle.nq_model.specs.protocol.Client.{Client, Lease, Ticket, lease_on, lets_write}
+use Rattle.nq_model.specs.protocol.Decide.{verdict_reply}
+use Rattle.nq_model.specs.protocol.Hear.{inc_of, granted_lease, is_put_off}
+use Rattle.nq_model.specs.protocol.Kept.{host_row}
+use Rattle.nq_model.specs.laws.LeaseInterval.{claim_of, IsCovered, cover_end, grant_in, requested_file}
+use Rattle.nq_model.specs.protocol.Message.{Packet, reply, sequence_of}
+use Rattle.nq_model.specs.protocol.Server.{Server}
+use Rattle.nq_model.specs.protocol.Table.{is_writing}
 use Rattle.walk_steps.proofs.ClientSteps.{KnowsOf}
 use Rattle.walk_steps.proofs.CoverFacts.{IsTakeable}
 use Rattle.walk_steps.proofs.Packets.{Told}

@@ -22,16 +22,16 @@ use Rattle.walk_files.proofs.Quiet.{IsQuiet, told-more}
 use Rattle.walk_files.proofs.ServerHears.{served-now, silent-quiet, refuse-reply}
 use Rattle.walk_files.proofs.ServerCalls.{IsStill, Outcome, line_same, line_begins, ServerDoes}
 use Rattle.walk_steps.proofs.ClientMoves.{some-same, none-some}
-use Rattle.nq_model.specs.Client.{Client}
-use Rattle.nq_model.specs.Journal.{Exists, IsCall, call_of}
-use Rattle.nq_model.specs.Kept.{File, host_row, with_row}
-use Rattle.nq_model.specs.Message.{Packet, reply, asker, Datagram, request}
-use Rattle.nq_model.specs.OfTheirCall.{Reads}
-use Rattle.nq_model.specs.Profile.{most_hosts}
-use Rattle.nq_model.specs.Server.{Server, to_host, keeping_with, with_table}
-use Rattle.nq_model.specs.ServerStep.{attaches, serves, grants, leases}
-use Rattle.nq_model.specs.Table.{Table, with_rows}
-use Rattle.nq_model.specs.World.{World}
+use Rattle.nq_model.specs.protocol.Client.{Client}
+use Rattle.nq_model.specs.laws.Journal.{Exists, IsCall, call_of}
+use Rattle.nq_model.specs.protocol.Kept.{File, host_row, with_row}
+use Rattle.nq_model.specs.protocol.Message.{Packet, reply, asker, Datagram, request}
+use Rattle.nq_model.specs.laws.OfTheirCall.{Reads}
+use Rattle.nq_model.specs.protocol.Profile.{most_hosts}
+use Rattle.nq_model.specs.protocol.Server.{Server, to_host, keeping_with, with_table}
+use Rattle.nq_model.specs.protocol.ServerStep.{attaches, serves, grants, leases}
+use Rattle.nq_model.specs.protocol.Table.{Table, with_rows}
+use Rattle.nq_model.specs.protocol.World.{World}
 use Rattle.walk_steps.proofs.KnownWorlds.{Known}
 use Rattle.walk_steps.proofs.Packets.{In, Asked}
 use Rattle.walk_steps.proofs.Worlds.{Holds}

@@ -19,11 +19,11 @@ use Rattle.walk_files.proofs.ClientMoves.{IsBelow}
 use Rattle.walk_files.proofs.Quiet.{IsNoCall, IsNoChange, IsQuiet, OpenFits, read-fits-later}
 use Rattle.walk_steps.proofs.ClientFacts.{fits_job}
 use Rattle.walk_steps.proofs.ClientMoves.{some-same, none-some}
-use Rattle.nq_model.specs.Client.{Client, Job, attaching, for_call, renewing, pushing, Ticket}
-use Rattle.nq_model.specs.Kept.{host_row}
-use Rattle.nq_model.specs.Message.{Packet, reply, asker, sequence_of}
-use Rattle.nq_model.specs.Server.{ServerStep, to_host}
-use Rattle.nq_model.specs.World.{World, after_server}
+use Rattle.nq_model.specs.protocol.Client.{Client, Job, attaching, for_call, renewing, pushing, Ticket}
+use Rattle.nq_model.specs.protocol.Kept.{host_row}
+use Rattle.nq_model.specs.protocol.Message.{Packet, reply, asker, sequence_of}
+use Rattle.nq_model.specs.protocol.Server.{ServerStep, to_host}
+use Rattle.nq_model.specs.protocol.World.{World, after_server}
 use Rattle.walk_steps.proofs.OpenAt.{IsOpenAt, OneOpenAt, Opens}
 use Rattle.walk_steps.proofs.Sequences.{asked-before-server}
 use Rattle.walk_steps.proofs.HostLine.{LineFits}

@@ -9,15 +9,15 @@ use Rattle.nq_base.specs.declared.Tag.{Tag}
 use Rattle.nq_base.specs.declared.Verdict.{Verdict}
 use Rattle.nq_base.specs.declared.Who.{Who}
 use Rattle.walk_files.proofs.ChainFacts.{line_for, done_at, VerdictFits}
-use Rattle.nq_model.specs.Chained.{OwnRow}
-use Rattle.nq_model.specs.Client.{Lease, Ticket, lease_on}
-use Rattle.nq_model.specs.Decide.{verdict_reply}
-use Rattle.nq_model.specs.Hear.{inc_of}
-use Rattle.nq_model.specs.Kept.{File, blocks_of, find_file, host_row}
-use Rattle.nq_model.specs.LeaseInterval.{is_at_least, grant_in, requested_file}
-use Rattle.nq_model.specs.Message.{Packet, reply, asker, sequence_of}
-use Rattle.nq_model.specs.Server.{serving, Server, ServerStep, standing}
-use Rattle.nq_model.specs.Table.{Table, caches, is_writing, same_tag, find_row, next_tag}
+use Rattle.nq_model.specs.laws.Chained.{OwnRow}
+use Rattle.nq_model.specs.protocol.Client.{Lease, Ticket, lease_on}
+use Rattle.nq_model.specs.protocol.Decide.{verdict_reply}
+use Rattle.nq_model.specs.protocol.Hear.{inc_of}
+use Rattle.nq_model.specs.protocol.Kept.{File, blocks_of, find_file, host_row}
+use Rattle.nq_model.specs.laws.LeaseInterval.{is_at_least, grant_in, requested_file}
+use Rattle.nq_model.specs.protocol.Message.{Packet, reply, asker, sequence_of}
+use Rattle.nq_model.specs.protocol.Server.{serving, Server, ServerStep, standing}
+use Rattle.nq_model.specs.protocol.Table.{Table, caches, is_writing, same_tag, find_row, next_tag}
 use Rattle.walk_steps.proofs.CoverFacts.{IsTakeable}
 use Rattle.walk_steps.proofs.Packets.{Asked, Told}
 

@@ -21,17 +21,18 @@ use Rattle.walk_files.proofs.FileMoves.{ChangesOnly, files-idle, unused-idle, fi
 use Rattle.walk_files.proofs.FileMoves.{written-values, resized-values}
 use Rattle.walk_files.proofs.Histories.{NoChanges, delayed-more}
 use Rattle.walk_files.proofs.ServerDoes.{file-value, file-length, sets-block, sets-length, is-change, IsTrue, history_of, Shows, refused-tells, verdict-tells}
-use Rattle.nq_model.specs.Contents.{delayed_value, after_change}
-use Rattle.nq_model.specs.Told.{GrantIsOf}
-use Rattle.nq_model.specs.Ask.{grant_of}
-use Rattle.nq_model.specs.Decide.{Decision, decides, creates, writes_through, stores, wrote, stores_recovering, resizes, removes, puts_off}
-use Rattle.nq_model.specs.Decide.{verdict_reply, row_after, commits}
-use Rattle.nq_model.specs.Hear.{inc_of}
-use Rattle.nq_model.specs.Kept.{File, blocks_of, find_file, host_row, with_row, with_files, with_new_file, written_file, resized_file, new_file, replace_file}
-use Rattle.nq_model.specs.Message.{Message, reply, Packet, Datagram, Reason, request, asker, sequence_of}
-use Rattle.nq_model.specs.Server.{Server, ServerStep, to_host, says, quiet, drops, notices, keeping, keeping_with, with_table, after_notices}
-use Rattle.nq_model.specs.ServerStep.{attaches, vacates, tells_later, serves, leases, grants, to_read, receive}
-use Rattle.nq_model.specs.Table.{Table}
+use Rattle.nq_model.specs.laws.Contents.{delayed_value, after_change}
+use Rattle.nq_model.specs.laws.Told.{GrantIsOf}
+use Rattle.nq_model.specs.protocol.Ask.{grant_of}
+use Rattle.nq_model.specs.protocol.Decide.{Decision, decides, creates, writes_through, stores, wrote, stores_recovering, resizes, removes, puts_off}
+use Rattle.nq_model.specs.protocol.Decide.{verdict_reply, row_after, commits}
+use Rattle.nq_model.specs.protocol.Hear.{inc_of}
+use Rattle.nq_model.specs.protocol.Kept.{File, blocks_of, find_file, host_row, with_row, with_files, with_new_file, written_file, resized_file, new_file}
+use Rattle.nq_model.specs.protocol.Kept.{replace_file}
+use Rattle.nq_model.specs.protocol.Message.{Message, reply, Packet, Datagram, Reason, request, asker, sequence_of}
+use Rattle.nq_model.specs.protocol.Server.{Server, ServerStep, to_host, says, quiet, drops, notices, keeping, keeping_with, with_table, after_notices}
+use Rattle.nq_model.specs.protocol.ServerStep.{attaches, vacates, tells_later, serves, leases, grants, to_read, receive}
+use Rattle.nq_model.specs.protocol.Table.{Table}
 use Rattle.walk_steps.proofs.Packets.{In, in-append, Asked, told-same, reply-same}
 use Rattle.walk_steps.proofs.ServerSays.{verdict-inc, plain-inc, notices-no-reply}
 use Rattle.walk_steps.proofs.Incarnations.{one-who}

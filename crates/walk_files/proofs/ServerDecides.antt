@@ -25,18 +25,18 @@ use Rattle.walk_files.proofs.ServerAnswers as answers
 use Rattle.walk_files.proofs.ServerAnswers.{asked-by, asker-bounded}
 use Rattle.walk_files.proofs.ServerCalls.{otherwise, AllRefuse, IsChange, Outcome, line_same, line_decided, ServerDoes}
 use Rattle.walk_steps.proofs.ClientMoves.{some-same, none-some}
-use Rattle.nq_model.specs.Client.{Client}
-use Rattle.nq_model.specs.Decide.{Decision, wrote, decides, creates, writes_through, stores, stores_recovering, resizes, removes, puts_off}
-use Rattle.nq_model.specs.Decide.{verdict_reply, row_after, commits}
-use Rattle.nq_model.specs.Journal.{Exists, IsCall}
-use Rattle.nq_model.specs.Kept.{File, host_row, with_row, with_files, with_new_file}
-use Rattle.nq_model.specs.Message.{reply, asker, Datagram, request, sequence_of}
-use Rattle.nq_model.specs.Ordered.{IsResizeInOrder}
-use Rattle.nq_model.specs.Profile.{most_hosts}
-use Rattle.nq_model.specs.Server.{Server, to_host, keeping, keeping_with, after_notices}
-use Rattle.nq_model.specs.ServerStep.{receive}
-use Rattle.nq_model.specs.Table.{Table, with_rows}
-use Rattle.nq_model.specs.World.{World}
+use Rattle.nq_model.specs.protocol.Client.{Client}
+use Rattle.nq_model.specs.protocol.Decide.{Decision, wrote, decides, creates, writes_through, stores, stores_recovering, resizes, removes, puts_off}
+use Rattle.nq_model.specs.protocol.Decide.{verdict_reply, row_after, commits}
+use Rattle.nq_model.specs.laws.Journal.{Exists, IsCall}
+use Rattle.nq_model.specs.protocol.Kept.{File, host_row, with_row, with_files, with_new_file}
+use Rattle.nq_model.specs.protocol.Message.{reply, asker, Datagram, request, sequence_of}
+use Rattle.nq_model.specs.laws.Ordered.{IsResizeInOrder}
+use Rattle.nq_model.specs.protocol.Profile.{most_hosts}
+use Rattle.nq_model.specs.protocol.Server.{Server, to_host, keeping, keeping_with, after_notices}
+use Rattle.nq_model.specs.protocol.ServerStep.{receive}
+use Rattle.nq_model.specs.protocol.Table.{Table, with_rows}
+use Rattle.nq_model.specs.protocol.World.{World}
 use Rattle.walk_steps.proofs.OpenAt.{IsOpenAt}
 use Rattle.walk_steps.proofs.KnownWorlds.{Known}
 use Rattle.walk_steps.proofs.Packets.{In, Asked}

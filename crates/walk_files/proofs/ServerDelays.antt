@@ -3,11 +3,11 @@ use Rattle.std.proofs.Common.{◌≡◌, ℕ, List, [], ◌∷◌, ◌++◌, Opt
 use Rattle.std.specs.Option.{option_or}
 use Rattle.nq_base.specs.declared.Entry.{Entry}
 use Rattle.nq_base.specs.declared.Who.{Who}
-use Rattle.nq_model.specs.Journal.{Each}
-use Rattle.nq_model.specs.Message.{Datagram}
-use Rattle.nq_model.specs.Server.{Server}
-use Rattle.nq_model.specs.ServerStep.{receive, tick, crash}
-use Rattle.nq_model.specs.Contents.{delayed_by, delayed_value}
+use Rattle.nq_model.specs.laws.Journal.{Each}
+use Rattle.nq_model.specs.protocol.Message.{Datagram}
+use Rattle.nq_model.specs.protocol.Server.{Server}
+use Rattle.nq_model.specs.protocol.ServerStep.{receive, tick, crash}
+use Rattle.nq_model.specs.laws.Contents.{delayed_by, delayed_value}
 use Rattle.walk_steps.proofs.ServerEntries.{OfServer, receive-each, tick-each}
 
 -- an entry that delays no write

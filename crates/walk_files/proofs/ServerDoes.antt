@@ -13,12 +13,12 @@ use Rattle.walk_steps.proofs.ClientMoves.{some-same, none-some}
 use Rattle.walk_files.proofs.Facts.{History, Follows, HadValue, HadLength, SetsBlock, Tells, IsDone, LineTells, IsFile, FilesFit, UnusedFit}
 use Rattle.walk_files.proofs.FileMoves.{ChangesOnly}
 use Rattle.walk_files.proofs.Histories.{count-changed, content-stays, content-changed, change-changed}
-use Rattle.nq_model.specs.Contents.{changes_of, after_change, with_length, content_at, change_at}
-use Rattle.nq_model.specs.Decide.{verdict_reply}
-use Rattle.nq_model.specs.Hear.{inc_of}
-use Rattle.nq_model.specs.Kept.{File, blocks_of, host_row}
-use Rattle.nq_model.specs.Message.{Packet, reply, asker}
-use Rattle.nq_model.specs.Server.{Server, ServerStep, to_host}
+use Rattle.nq_model.specs.laws.Contents.{changes_of, after_change, with_length, content_at, change_at}
+use Rattle.nq_model.specs.protocol.Decide.{verdict_reply}
+use Rattle.nq_model.specs.protocol.Hear.{inc_of}
+use Rattle.nq_model.specs.protocol.Kept.{File, blocks_of, host_row}
+use Rattle.nq_model.specs.protocol.Message.{Packet, reply, asker}
+use Rattle.nq_model.specs.protocol.Server.{Server, ServerStep, to_host}
 use Rattle.walk_steps.proofs.Packets.{In, Asked}
 use Rattle.walk_steps.proofs.Worlds.{get-set-other}
 

@@ -24,12 +24,12 @@ use Rattle.walk_files.proofs.LogRuns.{Alone as ServerAlone, LogRuns, none-recove
 use Rattle.walk_files.proofs.ServerPlain.{receive-plain, tick-plain, crash-plain}
 use Rattle.walk_files.proofs.Waiting.{IsWaiting}
 use Rattle.walk_steps.proofs.ServerLives.{HasServed}
-use Rattle.nq_model.specs.Client.{Client, attaching, Lease, Ticket, lease_on}
-use Rattle.nq_model.specs.Kept.{host_row}
-use Rattle.nq_model.specs.LeaseInterval.{claim_of, HasFitting}
-use Rattle.nq_model.specs.Message.{Packet, Datagram, request, asker, sequence_of}
-use Rattle.nq_model.specs.Server.{Server, standing}
-use Rattle.nq_model.specs.ServerStep.{receive, tick, crash}
+use Rattle.nq_model.specs.protocol.Client.{Client, attaching, Lease, Ticket, lease_on}
+use Rattle.nq_model.specs.protocol.Kept.{host_row}
+use Rattle.nq_model.specs.laws.LeaseInterval.{claim_of, HasFitting}
+use Rattle.nq_model.specs.protocol.Message.{Packet, Datagram, request, asker, sequence_of}
+use Rattle.nq_model.specs.protocol.Server.{Server, standing}
+use Rattle.nq_model.specs.protocol.ServerStep.{receive, tick, crash}
 use Rattle.walk_steps.proofs.TickLines.{tick-line}
 use Rattle.walk_steps.proofs.ClientSteps.{KnowsOf}
 use Rattle.walk_steps.proofs.HostLine.{IsSettled}

@@ -18,16 +18,16 @@ use Rattle.walk_files.proofs.Placed.{IsServedIn, IsServedInOrder, reads-called}
 use Rattle.walk_files.proofs.Quiet.{IsQuiet}
 use Rattle.walk_files.proofs.ServerCalls.{IsWhy, undrawn, Refuses, AllRefuse, line_same, ServerDoes}
 use Rattle.walk_steps.proofs.Sequences.{reads-no-seq}
-use Rattle.nq_model.specs.Journal.{Each, Exists, IsAnswerBy, call_of}
-use Rattle.nq_model.specs.Kept.{host_row}
-use Rattle.nq_model.specs.LeaseInterval.{requested_file}
-use Rattle.nq_model.specs.Message.{Message, Packet, call, reply, asker, Datagram, request, Reason}
-use Rattle.nq_model.specs.OfTheirCall.{Reads}
-use Rattle.nq_model.specs.Profile.{most_hosts, xid_end}
-use Rattle.nq_model.specs.Server.{Server, ServerStep, to_host, quiet, drops, says, notices, with_table, after_notices}
-use Rattle.nq_model.specs.ServerStep.{vacates, tells_later}
-use Rattle.nq_model.specs.Table.{Table}
-use Rattle.nq_model.specs.World.{World}
+use Rattle.nq_model.specs.laws.Journal.{Each, Exists, IsAnswerBy, call_of}
+use Rattle.nq_model.specs.protocol.Kept.{host_row}
+use Rattle.nq_model.specs.laws.LeaseInterval.{requested_file}
+use Rattle.nq_model.specs.protocol.Message.{Message, Packet, call, reply, asker, Datagram, request, Reason}
+use Rattle.nq_model.specs.laws.OfTheirCall.{Reads}
+use Rattle.nq_model.specs.protocol.Profile.{most_hosts, xid_end}
+use Rattle.nq_model.specs.protocol.Server.{Server, ServerStep, to_host, quiet, drops, says, notices, with_table, after_notices}
+use Rattle.nq_model.specs.protocol.ServerStep.{vacates, tells_later}
+use Rattle.nq_model.specs.protocol.Table.{Table}
+use Rattle.nq_model.specs.protocol.World.{World}
 use Rattle.walk_steps.proofs.KnownWorlds.{Known}
 use Rattle.walk_steps.proofs.Packets.{In, in-append, Asked, told-same, reply-same}
 use Rattle.walk_steps.proofs.Worlds.{Holds}

@@ -11,15 +11,15 @@ use Rattle.nq_base.specs.declared.Row.{Row}
 use Rattle.nq_base.specs.declared.Want.{Want}
 use Rattle.nq_base.specs.declared.Who.{Who}
 use Rattle.walk_steps.proofs.ClientMoves.{none-some, some-same}
-use Rattle.nq_model.specs.Ask.{conflicts, mode_conflicts}
-use Rattle.nq_model.specs.Decide.{Decision, decides, creates, writes_through, stores, stores_recovering, resizes, removes, puts_off, commits}
-use Rattle.nq_model.specs.Journal.{Each}
-use Rattle.nq_model.specs.Kept.{File, find_file, host_row}
-use Rattle.nq_model.specs.Message.{Datagram, request, asker, sequence_of}
-use Rattle.nq_model.specs.Server.{serving, Server, ServerStep, standing, standing_in, quiet, drops, says, keeping_with}
-use Rattle.nq_model.specs.ServerStep.{attaches, vacates, tells_later, serves, leases, access_of, grants, receive, tick, at_time, opens, ends_writing}
-use Rattle.nq_model.specs.ServerStep.{end_reading, is_over, is_due, crash}
-use Rattle.nq_model.specs.Table.{Table, is_writing, caches, find_row, drop_row, with_rows}
+use Rattle.nq_model.specs.protocol.Ask.{conflicts, mode_conflicts}
+use Rattle.nq_model.specs.protocol.Decide.{Decision, decides, creates, writes_through, stores, stores_recovering, resizes, removes, puts_off, commits}
+use Rattle.nq_model.specs.laws.Journal.{Each}
+use Rattle.nq_model.specs.protocol.Kept.{File, find_file, host_row}
+use Rattle.nq_model.specs.protocol.Message.{Datagram, request, asker, sequence_of}
+use Rattle.nq_model.specs.protocol.Server.{serving, Server, ServerStep, standing, standing_in, quiet, drops, says, keeping_with}
+use Rattle.nq_model.specs.protocol.ServerStep.{attaches, vacates, tells_later, serves, leases, access_of, grants, receive, tick, at_time, opens, ends_writing}
+use Rattle.nq_model.specs.protocol.ServerStep.{end_reading, is_over, is_due, crash}
+use Rattle.nq_model.specs.protocol.Table.{Table, is_writing, caches, find_row, drop_row, with_rows}
 use Rattle.walk_steps.proofs.ServerFacts.{IncsFit, IncsFitOf}
 use Rattle.walk_steps.proofs.ServerTables.{StandingFits, StandingFitsOf}
 use Rattle.walk_steps.proofs.Modes.{writing-caches}
@@ -29,7 +29,7 @@ use Rattle.walk_steps.proofs.Rows.{same-number, number-same, find-passes, found-
 use Rattle.walk_steps.proofs.ServerCases.{server-hears, server-ticks}
 use Rattle.walk_steps.proofs.ServerOutcomes.{IsFresh, IsCurrent, IsAsking, IsChanging, clash_with, file_changed_by, base_in}
 use Rattle.walk_steps.proofs.TableFits.{TableFits}
-use Rattle.nq_model.specs.Undisturbed.{LeavesAlone}
+use Rattle.nq_model.specs.laws.Undisturbed.{LeavesAlone}
 
 -- a writing row of an incarnation stands
 pub record HasWriting (table : Table) (who : Who) (file : ℕ) : Type 0 where

@@ -10,12 +10,12 @@ use Rattle.nq_base.specs.declared.Who.{Who}
 use Rattle.walk_files.proofs.ChainFacts.{IsFenced, gone, ahead, earlier}
 use Rattle.walk_steps.proofs.ClientMoves.{none-some, some-same}
 use Rattle.walk_files.proofs.Entries.{IsIdle}
-use Rattle.nq_model.specs.Decide.{decides, creates, writes_through, stores, stores_recovering, wrote, resizes, removes, puts_off, commits}
-use Rattle.nq_model.specs.Journal.{Each}
-use Rattle.nq_model.specs.Kept.{File, Kept, blocks_of, find_file, host_row}
-use Rattle.nq_model.specs.Message.{Packet, Datagram, request}
-use Rattle.nq_model.specs.Server.{serving, Server, ServerStep, quiet, drops, says}
-use Rattle.nq_model.specs.ServerStep.{attaches, vacates, tells_later, serves, leases, grants, receive, tick, opens, ends_writing, crash}
+use Rattle.nq_model.specs.protocol.Decide.{decides, creates, writes_through, stores, stores_recovering, wrote, resizes, removes, puts_off, commits}
+use Rattle.nq_model.specs.laws.Journal.{Each}
+use Rattle.nq_model.specs.protocol.Kept.{File, Kept, blocks_of, find_file, host_row}
+use Rattle.nq_model.specs.protocol.Message.{Packet, Datagram, request}
+use Rattle.nq_model.specs.protocol.Server.{serving, Server, ServerStep, quiet, drops, says}
+use Rattle.nq_model.specs.protocol.ServerStep.{attaches, vacates, tells_later, serves, leases, grants, receive, tick, opens, ends_writing, crash}
 use Rattle.walk_steps.proofs.Packets.{Asked}
 use Rattle.walk_steps.proofs.ServerTables.{BootsFit, BootsFitOf}
 use Rattle.walk_steps.proofs.ServerCases.{server-hears, server-ticks}

@@ -1,8 +1,8 @@
 -- The server makes no entries of delayed writes, and none of losses.
 use Rattle.std.proofs.Common.{ℕ}
-use Rattle.nq_model.specs.Message.{Datagram}
-use Rattle.nq_model.specs.Server.{Server}
-use Rattle.nq_model.specs.ServerStep.{receive, tick, crash}
+use Rattle.nq_model.specs.protocol.Message.{Datagram}
+use Rattle.nq_model.specs.protocol.Server.{Server}
+use Rattle.nq_model.specs.protocol.ServerStep.{receive, tick, crash}
 use Rattle.walk_files.proofs.Cuts.{IsPlain, ArePlain}
 use Rattle.walk_steps.proofs.ServerEntries.{OfServer, receive-each, tick-each}
 

@@ -16,16 +16,16 @@ use Rattle.nq_base.specs.declared.Who.{Who}
 use Rattle.walk_steps.proofs.ClientFacts.{push_in}
 use Rattle.walk_steps.proofs.ClientMoves.{some-same, none-some}
 use Rattle.walk_steps.proofs.Sequences.{reads-no-seq, asks-no-seq}
-use Rattle.nq_model.specs.Decide.{Decision, decides, creates, writes_through, stores, wrote, stores_recovering, resizes, removes, puts_off}
-use Rattle.nq_model.specs.Decide.{verdict_reply, commits, row_after}
-use Rattle.nq_model.specs.Hear.{inc_of, is_put_off}
-use Rattle.nq_model.specs.Kept.{File, Kept, host_row, with_row, with_files, with_new_file}
-use Rattle.nq_model.specs.Message.{Message, Packet, reply, asker, Reason, Datagram, request, too_long, no_message, no_call, other_rpc, other_program}
-use Rattle.nq_model.specs.Message.{other_version, unknown_procedure, garbage_vacated, garbage, sequence_of}
-use Rattle.nq_model.specs.Profile.{most_hosts}
-use Rattle.nq_model.specs.Server.{Server, ServerStep, to_host, quiet, drops, says, notices, after_notices, keeping, keeping_with, with_table}
-use Rattle.nq_model.specs.ServerStep.{attaches, vacates, tells_later, serves, leases, grants, receive}
-use Rattle.nq_model.specs.Table.{Table, with_rows}
+use Rattle.nq_model.specs.protocol.Decide.{Decision, decides, creates, writes_through, stores, wrote, stores_recovering, resizes, removes, puts_off}
+use Rattle.nq_model.specs.protocol.Decide.{verdict_reply, commits, row_after}
+use Rattle.nq_model.specs.protocol.Hear.{inc_of, is_put_off}
+use Rattle.nq_model.specs.protocol.Kept.{File, Kept, host_row, with_row, with_files, with_new_file}
+use Rattle.nq_model.specs.protocol.Message.{Message, Packet, reply, asker, Reason, Datagram, request, too_long, no_message, no_call, other_rpc, other_program}
+use Rattle.nq_model.specs.protocol.Message.{other_version, unknown_procedure, garbage_vacated, garbage, sequence_of}
+use Rattle.nq_model.specs.protocol.Profile.{most_hosts}
+use Rattle.nq_model.specs.protocol.Server.{Server, ServerStep, to_host, quiet, drops, says, notices, after_notices, keeping, keeping_with, with_table}
+use Rattle.nq_model.specs.protocol.ServerStep.{attaches, vacates, tells_later, serves, leases, grants, receive}
+use Rattle.nq_model.specs.protocol.Table.{Table, with_rows}
 use Rattle.walk_steps.proofs.Packets.{In, in-append, Asked, told-same, reply-same}
 use Rattle.walk_steps.proofs.ServerSays.{verdict-inc, plain-inc, notices-no-reply}
 use Rattle.walk_steps.proofs.ServerNumbers.{LinesFitOf}

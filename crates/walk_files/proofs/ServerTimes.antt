@@ -10,11 +10,11 @@ use Rattle.walk_files.proofs.FileMoves.{ChangesOnly, files-idle, unused-idle, fi
 use Rattle.walk_files.proofs.Histories.{NoChanges}
 use Rattle.walk_files.proofs.ServerContents.{IsFirst}
 use Rattle.walk_files.proofs.ServerDoes.{history_of, history_after, Shows}
-use Rattle.nq_model.specs.Kept.{File, find_file, host_row, replace_file, fenced_file, with_files}
-use Rattle.nq_model.specs.Message.{Packet, reply}
-use Rattle.nq_model.specs.Server.{serving, Server, ServerStep, to_host, quiet, keeping_with, with_table}
-use Rattle.nq_model.specs.ServerStep.{at_time, opens, is_over, is_due, end_reading, fence, ends_writing, tick, booted, boot, crash}
-use Rattle.nq_model.specs.Table.{find_row, with_rows}
+use Rattle.nq_model.specs.protocol.Kept.{File, find_file, host_row, replace_file, fenced_file, with_files}
+use Rattle.nq_model.specs.protocol.Message.{Packet, reply}
+use Rattle.nq_model.specs.protocol.Server.{serving, Server, ServerStep, to_host, quiet, keeping_with, with_table}
+use Rattle.nq_model.specs.protocol.ServerStep.{at_time, opens, is_over, is_due, end_reading, fence, ends_writing, tick, booted, boot, crash}
+use Rattle.nq_model.specs.protocol.Table.{find_row, with_rows}
 use Rattle.walk_steps.proofs.Packets.{In}
 use Rattle.walk_steps.proofs.ServerTables.{StandingFits, StandingFitsOf}
 use Rattle.walk_steps.proofs.Rows.{number-same}

@@ -27,14 +27,14 @@ use Rattle.walk_files.proofs.HeardFates.{mid-write-done, mid-pauses, mid-attache
 use Rattle.walk_files.proofs.PushLists.{left-push}
 use Rattle.walk_files.proofs.ServerTells.{Tells, later, decided}
 use Rattle.walk_files.proofs.WritesFit.{JournalFits, PushStands, waits, stored, IsPushed, IsDecidedAs, IsOpenPush, Facts}
-use Rattle.nq_model.specs.Client.{Client, ClientStep, Job, attaching, for_call, pushing, renewing, Ticket, begun}
-use Rattle.nq_model.specs.ClientStep.{begins_call, is_called, says_busy, client_call, at_time, sends_again, client_tick}
-use Rattle.nq_model.specs.Decide.{verdict_reply}
-use Rattle.nq_model.specs.Hear.{wants_of, cancelled, cancels, evicted, goes_on, loses, knows_revision, ends_push, answer_of, spends, is_put_off}
-use Rattle.nq_model.specs.Hear.{replied, reply_counts, hear, inc_of}
-use Rattle.nq_model.specs.Message.{Message, Packet, call, reply, sequence_of}
-use Rattle.nq_model.specs.Settle.{settle}
-use Rattle.nq_model.specs.World.{from_host}
+use Rattle.nq_model.specs.protocol.Client.{Client, ClientStep, Job, attaching, for_call, pushing, renewing, Ticket, begun}
+use Rattle.nq_model.specs.protocol.ClientStep.{begins_call, is_called, says_busy, client_call, at_time, sends_again, client_tick}
+use Rattle.nq_model.specs.protocol.Decide.{verdict_reply}
+use Rattle.nq_model.specs.protocol.Hear.{wants_of, cancelled, cancels, evicted, goes_on, loses, knows_revision, ends_push, answer_of, spends, is_put_off}
+use Rattle.nq_model.specs.protocol.Hear.{replied, reply_counts, hear, inc_of}
+use Rattle.nq_model.specs.protocol.Message.{Message, Packet, call, reply, sequence_of}
+use Rattle.nq_model.specs.protocol.Settle.{settle}
+use Rattle.nq_model.specs.protocol.World.{from_host}
 use Rattle.walk_steps.proofs.Sequences.{Seqs}
 use Rattle.walk_steps.proofs.Mail.{packets_with}
 use Rattle.walk_steps.proofs.Packets.{In, in-last, Asked}

@@ -12,16 +12,16 @@ use Rattle.nq_base.specs.declared.Request.{Request}
 use Rattle.nq_base.specs.declared.Row.{Row}
 use Rattle.nq_base.specs.declared.Who.{Who}
 use Rattle.walk_files.proofs.ChainFacts.{IsFenced, gone, ahead, earlier, IsBoundOrFenced, bound, fenced, done_at, rev_at}
-use Rattle.nq_model.specs.Chained.{IsChained, has_done, has_done_write, is_done, due}
+use Rattle.nq_model.specs.laws.Chained.{IsChained, has_done, has_done_write, is_done, due}
 use Rattle.walk_steps.proofs.ClientMoves.{some-same}
 use Rattle.walk_files.proofs.WritesFit.{WritesFit, IsClear, IsBehind}
-use Rattle.nq_model.specs.Client.{Client, ClientStep, Lease, lease_on}
-use Rattle.nq_model.specs.Journal.{Each}
-use Rattle.nq_model.specs.Kept.{host_row}
-use Rattle.nq_model.specs.Message.{Message, Packet, call, asker}
-use Rattle.nq_model.specs.Server.{standing}
-use Rattle.nq_model.specs.World.{World, after_client, from_host}
-use Rattle.nq_model.specs.OneRequestPerSequence.{IsOpenRequest, IsUnderWay}
+use Rattle.nq_model.specs.protocol.Client.{Client, ClientStep, Lease, lease_on}
+use Rattle.nq_model.specs.laws.Journal.{Each}
+use Rattle.nq_model.specs.protocol.Kept.{host_row}
+use Rattle.nq_model.specs.protocol.Message.{Message, Packet, call, asker}
+use Rattle.nq_model.specs.protocol.Server.{standing}
+use Rattle.nq_model.specs.protocol.World.{World, after_client, from_host}
+use Rattle.nq_model.specs.laws.OneRequestPerSequence.{IsOpenRequest, IsUnderWay}
 use Rattle.walk_steps.proofs.RunCases.{OfClients, clients-after}
 use Rattle.walk_steps.proofs.Mail.{other-asked}
 use Rattle.walk_steps.proofs.Packets.{In, in-append, Asked, message-same, call-same}
@@ -36,7 +36,7 @@ use Rattle.walk_files.proofs.OwnSends.{IsBy, AllOwn}
 use Rattle.walk_files.proofs.ServerLeaves.{HasWriting}
 use Rattle.walk_files.proofs.StillFits.{StillFits, Takes, push-writes, push-sequence, own-unsaved}
 use Rattle.walk_files.proofs.Tags.{IsEntry, unclean-entry, Follows}
-use Rattle.nq_model.specs.Undisturbed.{LeavesAlone, IsUndisturbed}
+use Rattle.nq_model.specs.laws.Undisturbed.{LeavesAlone, IsUndisturbed}
 
 -- ---- lists by place
 

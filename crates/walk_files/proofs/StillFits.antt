@@ -13,20 +13,20 @@ use Rattle.nq_base.specs.declared.Tag.{Tag}
 use Rattle.nq_base.specs.declared.Who.{Who}
 use Rattle.walk_files.proofs.ChainFacts.{ChainFits, PushesFit, StandsWriting, InOrder, GrantFits, IsFenced, gone, ahead, earlier, IsBoundOrFenced}
 use Rattle.walk_files.proofs.ChainFacts.{bound, fenced, done_at, rev_at}
-use Rattle.nq_model.specs.Chained.{IsChained, KnowsFile, has_done, has_done_write, due}
+use Rattle.nq_model.specs.laws.Chained.{IsChained, KnowsFile, has_done, has_done_write, due}
 use Rattle.walk_steps.proofs.ClientFacts.{push_in}
 use Rattle.walk_steps.proofs.ClientMoves.{none-some, some-same}
 use Rattle.walk_files.proofs.FactPushes.{dirty-clear}
 use Rattle.walk_files.proofs.JournalMoves.{store-covers, covers-more}
 use Rattle.walk_files.proofs.WritesFit.{WritesFit, CoversNumber, IsClear, IsRising, LiesWithin, in_list, under_way, PushStands, waits, stored}
 use Rattle.nq_model.proofs.Lists.{exists-left}
-use Rattle.nq_model.specs.Client.{Client, ClientStep, Lease, Ticket, lease_on, is_clean_in}
-use Rattle.nq_model.specs.Journal.{Covers, Throughout, Each}
-use Rattle.nq_model.specs.Kept.{host_row}
-use Rattle.nq_model.specs.LeaseInterval.{requested_file}
-use Rattle.nq_model.specs.Message.{Packet, sequence_of}
-use Rattle.nq_model.specs.Server.{Phase, serving, recovering, Server, standing, standing_in}
-use Rattle.nq_model.specs.Table.{is_writing, caches, tag_below}
+use Rattle.nq_model.specs.protocol.Client.{Client, ClientStep, Lease, Ticket, lease_on, is_clean_in}
+use Rattle.nq_model.specs.laws.Journal.{Covers, Throughout, Each}
+use Rattle.nq_model.specs.protocol.Kept.{host_row}
+use Rattle.nq_model.specs.laws.LeaseInterval.{requested_file}
+use Rattle.nq_model.specs.protocol.Message.{Packet, sequence_of}
+use Rattle.nq_model.specs.protocol.Server.{Phase, serving, recovering, Server, standing, standing_in}
+use Rattle.nq_model.specs.protocol.Table.{is_writing, caches, tag_below}
 use Rattle.walk_steps.proofs.CoverFacts.{IsTakeable}
 use Rattle.walk_steps.proofs.Packets.{In, in-append, Asked}
 use Rattle.walk_steps.proofs.ServerTables.{BootsFit, BootsFitOf, StandingFitsOf}
@@ -36,7 +36,7 @@ use Rattle.walk_files.proofs.Journals.{undisturbed-more}
 use Rattle.walk_files.proofs.Marks.{since-later, fresh-write}
 use Rattle.walk_files.proofs.ServerLeaves.{HasWriting}
 use Rattle.walk_files.proofs.Tags.{IsEntry, unclean-entry, Follows, keeps_tag, granted, lost}
-use Rattle.nq_model.specs.Undisturbed.{LeavesAlone, IsUndisturbed}
+use Rattle.nq_model.specs.laws.Undisturbed.{LeavesAlone, IsUndisturbed}
 
 pub record StillFits (s : Server) (c : Client) (ps : List Packet) (journal : List Entry) : Type 0 where
   -- an entry of delayed writes, none of which is covered, of a file whose lease is chained

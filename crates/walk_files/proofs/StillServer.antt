@@ -9,21 +9,21 @@ use Rattle.nq_base.specs.declared.Row.{Row}
 use Rattle.nq_base.specs.declared.Tag.{Tag}
 use Rattle.nq_base.specs.declared.Who.{Who}
 use Rattle.walk_files.proofs.ChainFacts.{IsFenced}
-use Rattle.nq_model.specs.Chained.{IsChained}
+use Rattle.nq_model.specs.laws.Chained.{IsChained}
 use Rattle.walk_steps.proofs.ClientFacts.{changes_file, fits_job, fits_attach, fits_renewal, push_in}
 use Rattle.walk_steps.proofs.ClientMoves.{none-some, some-same}
 use Rattle.walk_steps.proofs.BoundBefore.{Stood, StandsWriting}
 use Rattle.walk_files.proofs.ServerTells.{ServerTells, Moves, same_lines, attaches_one, decides_one}
 use Rattle.walk_files.proofs.WritesFit.{IsClear}
-use Rattle.nq_model.specs.Client.{Client, Job, Lease, Ticket, lease_on, is_clean_in}
-use Rattle.nq_model.specs.Journal.{Each}
-use Rattle.nq_model.specs.Kept.{host_row}
-use Rattle.nq_model.specs.Message.{call, asker, sequence_of}
-use Rattle.nq_model.specs.Server.{ServerStep, standing}
-use Rattle.nq_model.specs.Table.{is_writing}
-use Rattle.nq_model.specs.World.{World, after_server, from_host}
+use Rattle.nq_model.specs.protocol.Client.{Client, Job, Lease, Ticket, lease_on, is_clean_in}
+use Rattle.nq_model.specs.laws.Journal.{Each}
+use Rattle.nq_model.specs.protocol.Kept.{host_row}
+use Rattle.nq_model.specs.protocol.Message.{call, asker, sequence_of}
+use Rattle.nq_model.specs.protocol.Server.{ServerStep, standing}
+use Rattle.nq_model.specs.protocol.Table.{is_writing}
+use Rattle.nq_model.specs.protocol.World.{World, after_server, from_host}
 use Rattle.walk_steps.proofs.Sequences.{asked-before-server}
-use Rattle.nq_model.specs.OneRequestPerSequence.{IsOpenRequest, IsUnderWay}
+use Rattle.nq_model.specs.laws.OneRequestPerSequence.{IsOpenRequest, IsUnderWay}
 use Rattle.walk_steps.proofs.RunCases.{OfClients}
 use Rattle.walk_steps.proofs.Packets.{Asked}
 use Rattle.walk_steps.proofs.ServerSays.{AllSaid}
@@ -37,7 +37,7 @@ use Rattle.walk_files.proofs.ServerLeaves.{HasWriting}
 use Rattle.walk_files.proofs.StillClients.{F, in-place}
 use Rattle.walk_files.proofs.StillFits.{StillFits, push-writes}
 use Rattle.walk_files.proofs.Tags.{IsEntry, unclean-entry}
-use Rattle.nq_model.specs.Undisturbed.{LeavesAlone, IsUndisturbed}
+use Rattle.nq_model.specs.laws.Undisturbed.{LeavesAlone, IsUndisturbed}
 
 -- an incarnation has no open request that changes a file in another way than by a push
 abbrev pub ChangesNothing : World → Who → (file : ℕ) → Type 0

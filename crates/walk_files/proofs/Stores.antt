@@ -5,10 +5,10 @@ use Rattle.nq_base.specs.declared.Entry.TheVariants.{C, W, R, S, L, G, F, O, B, 
 use Rattle.nq_base.specs.declared.Who.{Who}
 use Rattle.walk_files.proofs.WritesFit.{CoversNumber, IsClear, IsRising}
 use Rattle.walk_files.proofs.Places.{IsPlaced, before-in, before-exists, last-same, cut-in}
-use Rattle.nq_model.specs.Journal.{Throughout, Covers, Stores, Loses, IsStored, IsLost, IsWriteOn, since_cut}
-use Rattle.nq_model.specs.Stands.{Stands, IsStandingValue}
+use Rattle.nq_model.specs.laws.Journal.{Throughout, Covers, Stores, Loses, IsStored, IsLost, IsWriteOn, since_cut}
+use Rattle.nq_model.specs.laws.Stands.{Stands, IsStandingValue}
 use Rattle.walk_steps.proofs.Packets.{In}
-use Rattle.nq_model.specs.Undisturbed.{LeavesAlone, IsUndisturbed}
+use Rattle.nq_model.specs.laws.Undisturbed.{LeavesAlone, IsUndisturbed}
 
 -- an S of the incarnation covers this number of the block
 abbrev pub StoresNumber : (journal : List Entry) (who : Who) (file block n : ℕ) → Type 0

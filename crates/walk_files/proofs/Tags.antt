@@ -22,18 +22,18 @@ use Rattle.walk_steps.proofs.StepCases.{call-cases, unless-cached-cases, tick-ca
 use Rattle.walk_steps.proofs.ClientFacts.{Alone, fits_job}
 use Rattle.nq_model.proofs.ClientLists.{marked-before, marked-tag, lease-before-drop, lease-after-put}
 use Rattle.walk_steps.proofs.ClientMoves.{some-same}
-use Rattle.nq_model.specs.Client.{Client, ClientStep, Job, Lease, Ticket, begun, lease_on, used_lease, drop_lease, notice_on, is_push_of, is_clean}
-use Rattle.nq_model.specs.Client.{push_passes}
-use Rattle.nq_model.specs.ClientStep.{begins_call, is_called, says_busy, client_call, client_tick, at_time, sends_again}
-use Rattle.nq_model.specs.Hear.{vacates_lease, notes_notice, evicted, cancels, spends, inc_of, attached, pauses, marks_through, replied, reply_counts}
-use Rattle.nq_model.specs.Hear.{hear, loses, all_dirty, push_of, loss_entry, reports, without_lease, push_refused, breaks_chain, breaks, holds}
-use Rattle.nq_model.specs.Hear.{granted_lease, takes_grant, takes_optional, answers_call, caches_block, purges, knows_revision, ends_push}
-use Rattle.nq_model.specs.Hear.{caches_push, vacates_noticed}
-use Rattle.nq_model.specs.LeaseInterval.{grant_in, requested_file}
-use Rattle.nq_model.specs.Message.{Message, reply}
-use Rattle.nq_model.specs.Send.{sends_request, after_seq, after_number, takes_push, gives_up, send_next}
-use Rattle.nq_model.specs.Settle.{answers, names_losses, after_read, after_write, reads_cached, delays, marks_written, settle}
-use Rattle.nq_model.specs.Table.{tag_below}
+use Rattle.nq_model.specs.protocol.Client.{Client, ClientStep, Job, Lease, Ticket, begun, lease_on, used_lease, drop_lease, notice_on, is_push_of, is_clean}
+use Rattle.nq_model.specs.protocol.Client.{push_passes}
+use Rattle.nq_model.specs.protocol.ClientStep.{begins_call, is_called, says_busy, client_call, client_tick, at_time, sends_again}
+use Rattle.nq_model.specs.protocol.Hear.{vacates_lease, notes_notice, evicted, cancels, spends, inc_of, attached, pauses, marks_through, replied, reply_counts}
+use Rattle.nq_model.specs.protocol.Hear.{hear, loses, all_dirty, push_of, loss_entry, reports, without_lease, push_refused, breaks_chain, breaks, holds}
+use Rattle.nq_model.specs.protocol.Hear.{granted_lease, takes_grant, takes_optional, answers_call, caches_block, purges, knows_revision, ends_push}
+use Rattle.nq_model.specs.protocol.Hear.{caches_push, vacates_noticed}
+use Rattle.nq_model.specs.laws.LeaseInterval.{grant_in, requested_file}
+use Rattle.nq_model.specs.protocol.Message.{Message, reply}
+use Rattle.nq_model.specs.protocol.Send.{sends_request, after_seq, after_number, takes_push, gives_up, send_next}
+use Rattle.nq_model.specs.protocol.Settle.{answers, names_losses, after_read, after_write, reads_cached, delays, marks_written, settle}
+use Rattle.nq_model.specs.protocol.Table.{tag_below}
 use Rattle.walk_steps.proofs.Members.{map-in, reverse-in, filter-in}
 use Rattle.walk_steps.proofs.Packets.{In, in-left, in-right}
 use Rattle.walk_steps.proofs.Rows.{same-number, number-same}

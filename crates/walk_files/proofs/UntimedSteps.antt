@@ -2,10 +2,10 @@
 use Rattle.std.proofs.Common.{◌≡◌, ℕ, true, List, [], Some, refl}
 use Rattle.nq_base.specs.declared.Call.{Call}
 use Rattle.nq_base.specs.declared.Entry.{Entry}
-use Rattle.nq_model.specs.Client.{Client, ClientStep, Ticket}
-use Rattle.nq_model.specs.ClientStep.{client_call, client_tick, restart}
-use Rattle.nq_model.specs.Hear.{hear}
-use Rattle.nq_model.specs.Message.{Message}
+use Rattle.nq_model.specs.protocol.Client.{Client, ClientStep, Ticket}
+use Rattle.nq_model.specs.protocol.ClientStep.{client_call, client_tick, restart}
+use Rattle.nq_model.specs.protocol.Hear.{hear}
+use Rattle.nq_model.specs.protocol.Message.{Message}
 use Rattle.walk_steps.proofs.ClientFacts.{fits_job}
 use Rattle.walk_steps.proofs.ClientEntries.{AnyCall, AnyLength, OfClient, any-going, any-lent, call-keeps, tick-keeps, hear-keeps, restart-keeps}
 use Rattle.walk_steps.proofs.LogMoves.{timed}

@@ -5,9 +5,9 @@ use Rattle.std.specs.List.{filter, list_any}
 use Rattle.std.proofs.lemmas.Bool.{and_parts, not-true, or_parts}
 use Rattle.nq_base.specs.declared.Push.{Push}
 use Rattle.walk_steps.proofs.ClientMoves.{some-same, none-some}
-use Rattle.nq_model.specs.Client.{is_push_of, is_push_at, other_dirty, push_passes, is_clean_in}
-use Rattle.nq_model.specs.Hear.{push_of, other_push}
-use Rattle.nq_model.specs.Settle.{overwritten, overwritten_at, with_write}
+use Rattle.nq_model.specs.protocol.Client.{is_push_of, is_push_at, other_dirty, push_passes, is_clean_in}
+use Rattle.nq_model.specs.protocol.Hear.{push_of, other_push}
+use Rattle.nq_model.specs.protocol.Settle.{overwritten, overwritten_at, with_write}
 use Rattle.walk_steps.proofs.Members.{in-filter, in-push-of}
 use Rattle.walk_steps.proofs.Packets.{In, in-append, in-last}
 use Rattle.walk_steps.proofs.Rows.{same-number, number-same}

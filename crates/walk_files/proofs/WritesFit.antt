@@ -10,9 +10,9 @@ use Rattle.nq_base.specs.declared.Request.{Request}
 use Rattle.nq_base.specs.declared.Verdict.{Verdict}
 use Rattle.nq_base.specs.declared.Who.{Who}
 use Rattle.walk_steps.proofs.ClientFacts.{IsPush}
-use Rattle.nq_model.specs.Client.{Client, Ticket}
-use Rattle.nq_model.specs.Journal.{Exists, Covers, Throughout}
-use Rattle.nq_model.specs.Message.{Packet, sequence_of}
+use Rattle.nq_model.specs.protocol.Client.{Client, Ticket}
+use Rattle.nq_model.specs.laws.Journal.{Exists, Covers, Throughout}
+use Rattle.nq_model.specs.protocol.Message.{Packet, sequence_of}
 use Rattle.walk_steps.proofs.Packets.{In, Asked}
 
 -- ---- the journal

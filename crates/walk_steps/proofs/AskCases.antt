@@ -5,10 +5,10 @@ use Rattle.nq_base.specs.declared.Asked.{Asked}
 use Rattle.nq_base.specs.declared.Question.{Question}
 use Rattle.nq_base.specs.declared.Row.{Row}
 use Rattle.nq_base.specs.declared.Want.{Want}
-use Rattle.nq_model.specs.Ask.{Reply, conflicts, shares, marked, term_of, sharing_row, caching_row, shared_again, renewed_row, with_waiting, put_off}
-use Rattle.nq_model.specs.Ask.{free, put_off_by_own, granted, no_lease, share_again, begin, renew, ask_for, ask_freely, ask_past, ask}
-use Rattle.nq_model.specs.Profile.{most_rows}
-use Rattle.nq_model.specs.Table.{Table, caches, find_row, put_row, with_rows, after_draw}
+use Rattle.nq_model.specs.protocol.Ask.{Reply, conflicts, shares, marked, term_of, sharing_row, caching_row, shared_again, renewed_row, with_waiting, put_off}
+use Rattle.nq_model.specs.protocol.Ask.{free, put_off_by_own, granted, no_lease, share_again, begin, renew, ask_for, ask_freely, ask_past, ask}
+use Rattle.nq_model.specs.protocol.Profile.{most_rows}
+use Rattle.nq_model.specs.protocol.Table.{Table, caches, find_row, put_row, with_rows, after_draw}
 use Rattle.walk_steps.proofs.Rows.{choice}
 
 -- the first row that conflicts with what is asked

@@ -9,12 +9,12 @@ use Rattle.nq_base.specs.declared.Tag.{Tag}
 use Rattle.nq_base.specs.declared.Want.{Want}
 use Rattle.nq_base.specs.declared.Who.{Who}
 use Rattle.walk_steps.proofs.ClientMoves.{none-some}
-use Rattle.nq_model.specs.Ask.{term_of, sharing_row, caching_row, shared_again, renewed_row, marked}
-use Rattle.nq_model.specs.Kept.{Kept}
-use Rattle.nq_model.specs.Message.{Datagram}
-use Rattle.nq_model.specs.Server.{Phase, serving, recovering, Server, standing, standing_in, last_table}
-use Rattle.nq_model.specs.ServerStep.{to_read, receive, is_over, end_reading, tick, boot}
-use Rattle.nq_model.specs.Table.{Table, is_writing, tag_below, next_tag, is_row_of, find_row, with_rows, after_draw, put_row}
+use Rattle.nq_model.specs.protocol.Ask.{term_of, sharing_row, caching_row, shared_again, renewed_row, marked}
+use Rattle.nq_model.specs.protocol.Kept.{Kept}
+use Rattle.nq_model.specs.protocol.Message.{Datagram}
+use Rattle.nq_model.specs.protocol.Server.{Phase, serving, recovering, Server, standing, standing_in, last_table}
+use Rattle.nq_model.specs.protocol.ServerStep.{to_read, receive, is_over, end_reading, tick, boot}
+use Rattle.nq_model.specs.protocol.Table.{Table, is_writing, tag_below, next_tag, is_row_of, find_row, with_rows, after_draw, put_row}
 use Rattle.walk_steps.proofs.TagFacts.{IsDrawn}
 use Rattle.walk_steps.proofs.ServerTables.{StandingFits, StandingFitsOf, NoneRecoveringOf, none-opened}
 use Rattle.walk_steps.proofs.AskCases.{with_marked, with_waiter, IsGranted, shares_again, begins_sharing, begins_caching, renews_row}

@@ -5,9 +5,10 @@ use Rattle.nq_base.specs.declared.Request.{Request}
 use Rattle.nq_base.specs.declared.Tag.{Tag}
 use Rattle.nq_base.specs.declared.Who.{Who}
 use Rattle.walk_steps.proofs.ClientFacts.{Alone, changes_file, fits_job}
-use Rattle.nq_model.specs.Client.{ClientStep, Job, attaching, Lease, Notice, Ticket, drop_lease, put_lease, used_lease, notice_on, drop_notice, lease_on}
-use Rattle.nq_model.specs.Hear.{wants_of, cancelled, granted_lease, with_notice}
-use Rattle.nq_model.specs.Message.{Message, call, asker, sequence_of}
+use Rattle.nq_model.specs.protocol.Client.{ClientStep, Job, attaching, Lease, Notice, Ticket, drop_lease, put_lease, used_lease, notice_on, drop_notice}
+use Rattle.nq_model.specs.protocol.Client.{lease_on}
+use Rattle.nq_model.specs.protocol.Hear.{wants_of, cancelled, granted_lease, with_notice}
+use Rattle.nq_model.specs.protocol.Message.{Message, call, asker, sequence_of}
 
 -- what the server and the other hosts can see of a client in the middle of a step: incarnation, time, request, numbers,
 -- leases, notices, and what it has sent in this step

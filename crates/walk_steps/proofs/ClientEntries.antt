@@ -16,19 +16,19 @@ use Rattle.nq_base.specs.declared.Tag.{Tag}
 use Rattle.nq_base.specs.declared.Value.{Value}
 use Rattle.nq_base.specs.declared.Want.{Want}
 use Rattle.nq_base.specs.declared.Who.{Who}
-use Rattle.nq_model.specs.Client.{Client, ClientStep, Job, for_call, Lease, Notice, Ticket, UnderWay, begun, lease_on}
-use Rattle.nq_model.specs.Client.{losses_of, loss_list, notice_on, lets_read}
-use Rattle.nq_model.specs.ClientStep.{begins_call, is_called, says_busy, client_call, at_time, sends_again, client_tick, starts, fresh_client}
-use Rattle.nq_model.specs.ClientStep.{next_incarnation, restart}
+use Rattle.nq_model.specs.protocol.Client.{Client, ClientStep, Job, for_call, Lease, Notice, Ticket, UnderWay, begun, lease_on}
+use Rattle.nq_model.specs.protocol.Client.{losses_of, loss_list, notice_on, lets_read}
+use Rattle.nq_model.specs.protocol.ClientStep.{begins_call, is_called, says_busy, client_call, at_time, sends_again, client_tick, starts, fresh_client}
+use Rattle.nq_model.specs.protocol.ClientStep.{next_incarnation, restart}
 use Rattle.nq_base.specs.Calls.{told}
-use Rattle.nq_model.specs.Hear.{vacates_lease, vacates_noticed, loses, reports, with_through, without_lease, push_refused, breaks_chain, if_broken}
-use Rattle.nq_model.specs.Hear.{granted_lease, holds, takes_grant, takes_optional, answers_call, caches_block, then_caches, purges, knows_revision}
-use Rattle.nq_model.specs.Hear.{read_done, lease_done, marks_through, caches_write, write_done, ends_push, caches_push, push_done, spends, attached}
-use Rattle.nq_model.specs.Hear.{pauses, counts_for_call, cancels, notes_notice, evicted, replied, reply_counts, answer_of, goes_on, hear, inc_of}
-use Rattle.nq_model.specs.Hear.{all_dirty}
-use Rattle.nq_model.specs.Message.{Message, reply}
-use Rattle.nq_model.specs.Send.{sends_request, after_seq, after_number, takes_push, sends_write, gives_up, send_next}
-use Rattle.nq_model.specs.Settle.{said, answers, reads_cached, after_read, after_write, delays, marks_written, names_losses, settle}
+use Rattle.nq_model.specs.protocol.Hear.{vacates_lease, vacates_noticed, loses, reports, with_through, without_lease, push_refused, breaks_chain, if_broken}
+use Rattle.nq_model.specs.protocol.Hear.{granted_lease, holds, takes_grant, takes_optional, answers_call, caches_block, then_caches, purges, knows_revision}
+use Rattle.nq_model.specs.protocol.Hear.{read_done, lease_done, marks_through, caches_write, write_done, ends_push, caches_push, push_done, spends, attached}
+use Rattle.nq_model.specs.protocol.Hear.{pauses, counts_for_call, cancels, notes_notice, evicted, replied, reply_counts, answer_of, goes_on, hear, inc_of}
+use Rattle.nq_model.specs.protocol.Hear.{all_dirty}
+use Rattle.nq_model.specs.protocol.Message.{Message, reply}
+use Rattle.nq_model.specs.protocol.Send.{sends_request, after_seq, after_number, takes_push, sends_write, gives_up, send_next}
+use Rattle.nq_model.specs.protocol.Settle.{said, answers, reads_cached, after_read, after_write, delays, marks_written, names_losses, settle}
 use Rattle.walk_steps.proofs.ClientFacts.{fits_job}
 use Rattle.walk_steps.proofs.PartCases.{answers-call-cases, vacates-noticed-cases, reports-cases, if-broken-cases, takes-optional-cases}
 use Rattle.walk_steps.proofs.PartCases.{lease-done-cases, then-caches-cases, caches-write-cases, caches-push-cases, vacates-if-clean-cases}

@@ -4,9 +4,10 @@ use Rattle.nq_base.specs.declared.Push.{Push}
 use Rattle.nq_base.specs.declared.Request.{Request}
 use Rattle.nq_base.specs.declared.Request.TheVariants.{Attach, Lookup, Create, GetAttr, Read, Write, GetLease, Resize, Remove}
 use Rattle.nq_base.specs.declared.Who.{Who}
-use Rattle.nq_model.specs.Client.{is_clean_in, Client, Job, attaching, for_call, renewing, pushing, Lease, Notice, Ticket, UnderWay, lease_on, notice_on}
-use Rattle.nq_model.specs.Hear.{wants_of}
-use Rattle.nq_model.specs.Message.{asker, sequence_of}
+use Rattle.nq_model.specs.protocol.Client.{is_clean_in, Client, Job, attaching, for_call, renewing, pushing, Lease, Notice, Ticket, UnderWay, lease_on}
+use Rattle.nq_model.specs.protocol.Client.{notice_on}
+use Rattle.nq_model.specs.protocol.Hear.{wants_of}
+use Rattle.nq_model.specs.protocol.Message.{asker, sequence_of}
 
 -- the file whose length or life a request changes
 abbrev pub changes_file : Request → Option ℕ

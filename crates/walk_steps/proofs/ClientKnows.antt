@@ -18,13 +18,13 @@ use Rattle.walk_steps.proofs.Packets.{Asked, Told, Mail}
 use Rattle.walk_steps.proofs.TagFacts.{IsDrawn, TagsFit, told-before, asked-before, tags-leases, used-from, dropped-from, tags-ticket, tags-adds}
 use Rattle.walk_steps.proofs.TagFacts.{tags-vacates, tags-holds, tags-notes}
 use Rattle.walk_steps.proofs.Worlds.{Going, going-closed}
-use Rattle.nq_model.specs.Client.{Lease, Notice, Ticket, Job, drop_lease, put_lease, used_lease, notice_on, drop_notice}
-use Rattle.nq_model.specs.Hear.{wants_of, inc_of, cancelled, granted_lease, with_notice}
-use Rattle.nq_model.specs.LeaseInterval.{requested_file}
-use Rattle.nq_model.specs.Message.{Packet, call, reply, asker, sequence_of}
-use Rattle.nq_model.specs.Server.{Server, standing}
-use Rattle.nq_model.specs.Table.{caches, tag_below}
-use Rattle.nq_model.specs.World.{from_host}
+use Rattle.nq_model.specs.protocol.Client.{Lease, Notice, Ticket, Job, drop_lease, put_lease, used_lease, notice_on, drop_notice}
+use Rattle.nq_model.specs.protocol.Hear.{wants_of, inc_of, cancelled, granted_lease, with_notice}
+use Rattle.nq_model.specs.laws.LeaseInterval.{requested_file}
+use Rattle.nq_model.specs.protocol.Message.{Packet, call, reply, asker, sequence_of}
+use Rattle.nq_model.specs.protocol.Server.{Server, standing}
+use Rattle.nq_model.specs.protocol.Table.{caches, tag_below}
+use Rattle.nq_model.specs.protocol.World.{from_host}
 
 -- a grant that a client is about to take
 pub record IsPending (s : Server) (events : List Event) (who : Who) (now : ℕ) (ps : List Packet) (file : ℕ) (g : Grant) (sent : ℕ) : Type 0 where

@@ -6,11 +6,11 @@ use Rattle.nq_base.specs.declared.Who.{Who}
 use Rattle.walk_steps.proofs.ClientFacts.{changes_file, fits_job, IsTicket, IsLease, Asking}
 use Rattle.nq_model.proofs.ClientLists.{marked-before, marked-term, marked-expiry, lease-before-drop, lease-after-put, used-lease-found}
 use Rattle.nq_model.proofs.ClientLists.{notice-before-drop, notice-after-put}
-use Rattle.nq_model.specs.Client.{Job, attaching, for_call, Lease, Notice, Ticket, UnderWay, lease_on, drop_lease, put_lease, notice_on, drop_notice}
-use Rattle.nq_model.specs.Client.{put_notice, marked_used, used_lease}
-use Rattle.nq_model.specs.Hear.{wants_of, cancelled}
-use Rattle.nq_model.specs.Message.{asker, sequence_of}
-use Rattle.nq_model.specs.Settle.{ticket_is_for_call}
+use Rattle.nq_model.specs.protocol.Client.{Job, attaching, for_call, Lease, Notice, Ticket, UnderWay, lease_on, drop_lease, put_lease, notice_on, drop_notice}
+use Rattle.nq_model.specs.protocol.Client.{put_notice, marked_used, used_lease}
+use Rattle.nq_model.specs.protocol.Hear.{wants_of, cancelled}
+use Rattle.nq_model.specs.protocol.Message.{asker, sequence_of}
+use Rattle.nq_model.specs.protocol.Settle.{ticket_is_for_call}
 
 pub some-same : {A : Type 0} (x y : A) → Some x ≡ Some y → x ≡ y
 some-same x y h = cc

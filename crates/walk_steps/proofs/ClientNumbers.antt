@@ -8,11 +8,12 @@ use Rattle.nq_base.specs.declared.Reply.{Reply}
 use Rattle.nq_base.specs.declared.Request.{Request}
 use Rattle.nq_base.specs.declared.Tag.{Tag}
 use Rattle.nq_base.specs.declared.Who.{Who}
-use Rattle.nq_model.specs.Client.{Client, ClientStep, begun, Ticket, lease_on}
-use Rattle.nq_model.specs.ClientStep.{client_call, client_tick, at_time, restart, starts, fresh_client}
-use Rattle.nq_model.specs.Hear.{inc_of, is_reply_to, reply_counts, hear, hear_reply, hear_notice, hear_call, goes_on, replied, holds_later, evicted, cancels}
-use Rattle.nq_model.specs.Message.{Message, Packet, call, reply, error, asker, sequence_of}
-use Rattle.nq_model.specs.Table.{same_who}
+use Rattle.nq_model.specs.protocol.Client.{Client, ClientStep, begun, Ticket, lease_on}
+use Rattle.nq_model.specs.protocol.ClientStep.{client_call, client_tick, at_time, restart, starts, fresh_client}
+use Rattle.nq_model.specs.protocol.Hear.{inc_of, is_reply_to, reply_counts, hear, hear_reply, hear_notice, hear_call, goes_on, replied, holds_later, evicted}
+use Rattle.nq_model.specs.protocol.Hear.{cancels}
+use Rattle.nq_model.specs.protocol.Message.{Message, Packet, call, reply, error, asker, sequence_of}
+use Rattle.nq_model.specs.protocol.Table.{same_who}
 use Rattle.walk_steps.proofs.ClientCases.{Core, core_of, Closed, Both}
 use Rattle.walk_steps.proofs.ClientMoves.{some-same, none-some, keeps-or-cancels}
 use Rattle.walk_steps.proofs.ClientWalk.{Replying, reply-keeps, notice-keeps, call-keeps, tick-keeps}

@@ -17,13 +17,13 @@ use Rattle.walk_steps.proofs.Packets.{Asked, Told, Mail}
 use Rattle.walk_steps.proofs.ServerKnows.{NoneHeard, NoneGiven}
 use Rattle.walk_steps.proofs.TagFacts.{TagsFit, told-before, asked-before}
 use Rattle.walk_steps.proofs.Worlds.{IsAt}
-use Rattle.nq_model.specs.Client.{Client, attaching, Lease, Notice, Ticket}
-use Rattle.nq_model.specs.ClientStep.{restart, starts, fresh_client, next_incarnation}
-use Rattle.nq_model.specs.Hear.{inc_of}
-use Rattle.nq_model.specs.Message.{Message, Packet, call, reply, asker}
-use Rattle.nq_model.specs.Server.{Server, standing}
-use Rattle.nq_model.specs.Skew.{ticks_of}
-use Rattle.nq_model.specs.World.{from_host}
+use Rattle.nq_model.specs.protocol.Client.{Client, attaching, Lease, Notice, Ticket}
+use Rattle.nq_model.specs.protocol.ClientStep.{restart, starts, fresh_client, next_incarnation}
+use Rattle.nq_model.specs.protocol.Hear.{inc_of}
+use Rattle.nq_model.specs.protocol.Message.{Message, Packet, call, reply, asker}
+use Rattle.nq_model.specs.protocol.Server.{Server, standing}
+use Rattle.nq_model.specs.protocol.Skew.{ticks_of}
+use Rattle.nq_model.specs.protocol.World.{from_host}
 
 -- ---- a restart
 

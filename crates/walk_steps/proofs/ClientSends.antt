@@ -9,17 +9,17 @@ use Rattle.nq_base.specs.declared.Reply.{Reply}
 use Rattle.nq_base.specs.declared.Refusal.{Refusal}
 use Rattle.nq_base.specs.declared.Request.{Request}
 use Rattle.nq_base.specs.declared.Tag.{Tag}
-use Rattle.nq_model.specs.Client.{Client, ClientStep, lease_on, notice_on, dirty_at, is_clean, revision_of, is_revision_before, Job, attaching}
-use Rattle.nq_model.specs.Client.{for_call, renewing, pushing, Notice, Ticket, UnderWay, begun}
-use Rattle.nq_model.specs.ClientStep.{client_call, client_tick, restart, begins_call, is_called, says_busy, sends_again, at_time, starts}
-use Rattle.nq_model.specs.Hear.{hear, waits_for, breaks, grant_caches, holds_caching, is_put_off, answer_of, answers_call, vacates_lease}
-use Rattle.nq_model.specs.Hear.{vacates_noticed, loses, reports_to, without_lease, push_refused, breaks_chain, if_broken, holds, takes_grant}
-use Rattle.nq_model.specs.Hear.{takes_optional, answers_call_of, caches_block, purges, knows_revision, then_caches, read_done, marks_through}
-use Rattle.nq_model.specs.Hear.{lease_done, caches_write, write_done, ends_push, caches_push, vacates_if_clean, push_done, spends, attached, pauses}
-use Rattle.nq_model.specs.Hear.{done_for_call, done_renewal, done_push, done, refused_push, refused, replied, cancels, notes_notice, evicted, goes_on}
-use Rattle.nq_model.specs.Message.{Message}
-use Rattle.nq_model.specs.Send.{sends_request, after_seq, after_number, takes_push, gives_up, send_next}
-use Rattle.nq_model.specs.Settle.{answers, names_losses, after_write, reads_cached, marks_written, settle}
+use Rattle.nq_model.specs.protocol.Client.{Client, ClientStep, lease_on, notice_on, dirty_at, is_clean, revision_of, is_revision_before, Job, attaching}
+use Rattle.nq_model.specs.protocol.Client.{for_call, renewing, pushing, Notice, Ticket, UnderWay, begun}
+use Rattle.nq_model.specs.protocol.ClientStep.{client_call, client_tick, restart, begins_call, is_called, says_busy, sends_again, at_time, starts}
+use Rattle.nq_model.specs.protocol.Hear.{hear, waits_for, breaks, grant_caches, holds_caching, is_put_off, answer_of, answers_call, vacates_lease}
+use Rattle.nq_model.specs.protocol.Hear.{vacates_noticed, loses, reports_to, without_lease, push_refused, breaks_chain, if_broken, holds, takes_grant}
+use Rattle.nq_model.specs.protocol.Hear.{takes_optional, answers_call_of, caches_block, purges, knows_revision, then_caches, read_done, marks_through}
+use Rattle.nq_model.specs.protocol.Hear.{lease_done, caches_write, write_done, ends_push, caches_push, vacates_if_clean, push_done, spends, attached, pauses}
+use Rattle.nq_model.specs.protocol.Hear.{done_for_call, done_renewal, done_push, done, refused_push, refused, replied, cancels, notes_notice, evicted, goes_on}
+use Rattle.nq_model.specs.protocol.Message.{Message}
+use Rattle.nq_model.specs.protocol.Send.{sends_request, after_seq, after_number, takes_push, gives_up, send_next}
+use Rattle.nq_model.specs.protocol.Settle.{answers, names_losses, after_write, reads_cached, marks_written, settle}
 use Rattle.walk_steps.proofs.SendCases.{send-cases}
 use Rattle.walk_steps.proofs.SettleCases.{settle-cases}
 use Rattle.walk_steps.proofs.StepCases.{call-cases, unless-cached-cases, tick-cases, evicted-cases, heard-cases}

@@ -24,15 +24,15 @@ use Rattle.walk_steps.proofs.Rows.{choice, same-number}
 use Rattle.walk_steps.proofs.ServerKnows.{NoneHeard, NoneGiven}
 use Rattle.walk_steps.proofs.TagFacts.{IsDrawn, tags-ticket}
 use Rattle.walk_steps.proofs.Worlds.{Going, IsAt, begun-going, timed-going}
-use Rattle.nq_model.specs.Client.{Client, ClientStep, begun, attaching, Lease, Notice, Ticket, lease_on}
-use Rattle.nq_model.specs.ClientStep.{client_call, client_tick, at_time}
-use Rattle.nq_model.specs.Hear.{inc_of, is_of_procedure, refusal_counts, is_reply_to, reply_counts, hear, hear_reply, hear_notice, hear_call, goes_on}
-use Rattle.nq_model.specs.Hear.{replied, holds_later, evicted, cancels}
-use Rattle.nq_model.specs.LeaseInterval.{claim_of, IsCovered}
-use Rattle.nq_model.specs.Message.{Message, Packet, call, reply, error, asker, sequence_of}
-use Rattle.nq_model.specs.Server.{Server, standing}
-use Rattle.nq_model.specs.Skew.{ticks_of}
-use Rattle.nq_model.specs.Table.{same_who}
+use Rattle.nq_model.specs.protocol.Client.{Client, ClientStep, begun, attaching, Lease, Notice, Ticket, lease_on}
+use Rattle.nq_model.specs.protocol.ClientStep.{client_call, client_tick, at_time}
+use Rattle.nq_model.specs.protocol.Hear.{inc_of, is_of_procedure, refusal_counts, is_reply_to, reply_counts, hear, hear_reply, hear_notice, hear_call, goes_on}
+use Rattle.nq_model.specs.protocol.Hear.{replied, holds_later, evicted, cancels}
+use Rattle.nq_model.specs.laws.LeaseInterval.{claim_of, IsCovered}
+use Rattle.nq_model.specs.protocol.Message.{Message, Packet, call, reply, error, asker, sequence_of}
+use Rattle.nq_model.specs.protocol.Server.{Server, standing}
+use Rattle.nq_model.specs.protocol.Skew.{ticks_of}
+use Rattle.nq_model.specs.protocol.Table.{same_who}
 
 -- between the steps of a client
 abbrev pub KnowsOf : HostRow → Server → List Event → Client → List Packet → Type 0

@@ -21,13 +21,13 @@ use Rattle.walk_steps.proofs.RepliedCases.{replied-cases}
 use Rattle.walk_steps.proofs.StepCases.{call-cases, unless-cached-cases, tick-cases, evicted-cases}
 use Rattle.walk_steps.proofs.SendWalk.{at-true, from-true, send-next-keeps}
 use Rattle.walk_steps.proofs.SettleWalk.{begun-call, settle-keeps}
-use Rattle.nq_model.specs.Client.{Client, ClientStep, attaching, for_call, renewing, pushing, begun, Notice, Ticket, notice_on, put_notice, is_clean}
-use Rattle.nq_model.specs.Client.{is_push_of, push_passes}
-use Rattle.nq_model.specs.ClientStep.{begins_call, is_called, says_busy, client_call, at_time, sends_again, client_tick}
-use Rattle.nq_model.specs.Hear.{wants_of, knows_revision, vacates_lease, answer_of, spends, attached, replied, reply_counts, cancelled, cancels}
-use Rattle.nq_model.specs.Hear.{noticed_tag, notes_notice, evicted, goes_on}
-use Rattle.nq_model.specs.LeaseInterval.{grant_in, requested_file}
-use Rattle.nq_model.specs.Settle.{answers, names_losses, settle}
+use Rattle.nq_model.specs.protocol.Client.{Client, ClientStep, attaching, for_call, renewing, pushing, begun, Notice, Ticket, notice_on, put_notice, is_clean}
+use Rattle.nq_model.specs.protocol.Client.{is_push_of, push_passes}
+use Rattle.nq_model.specs.protocol.ClientStep.{begins_call, is_called, says_busy, client_call, at_time, sends_again, client_tick}
+use Rattle.nq_model.specs.protocol.Hear.{wants_of, knows_revision, vacates_lease, answer_of, spends, attached, replied, reply_counts, cancelled, cancels}
+use Rattle.nq_model.specs.protocol.Hear.{noticed_tag, notes_notice, evicted, goes_on}
+use Rattle.nq_model.specs.laws.LeaseInterval.{grant_in, requested_file}
+use Rattle.nq_model.specs.protocol.Settle.{answers, names_losses, settle}
 
 -- ---- replies
 

@@ -7,9 +7,10 @@ use Rattle.walk_steps.proofs.ClientFacts.{push_in, Delaying}
 use Rattle.nq_model.proofs.ClientLists.{any-dropped, any-others, any-written, notice-before-drop, notice-after-put}
 use Rattle.walk_steps.proofs.ClientMoves.{none-some}
 use Rattle.walk_steps.proofs.Rows.{same-number}
-use Rattle.nq_model.specs.Client.{pushing, Notice, Ticket, is_push_of, notice_on, drop_notice, put_notice, push_passes, drop_dirty, other_dirty, is_clean_in}
-use Rattle.nq_model.specs.Hear.{other_push}
-use Rattle.nq_model.specs.Settle.{with_write}
+use Rattle.nq_model.specs.protocol.Client.{pushing, Notice, Ticket, is_push_of, notice_on, drop_notice, put_notice, push_passes, drop_dirty, other_dirty}
+use Rattle.nq_model.specs.protocol.Client.{is_clean_in}
+use Rattle.nq_model.specs.protocol.Hear.{other_push}
+use Rattle.nq_model.specs.protocol.Settle.{with_write}
 use Rattle.walk_steps.proofs.Tests.{is-other}
 
 -- a file is not clean where the list has writes of it, or those under way are of it

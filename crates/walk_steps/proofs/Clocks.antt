@@ -2,9 +2,9 @@
 use Rattle.std.proofs.Common.{◌≡◌, ◌<◌, ◌≤◌, ℕ, ◌+◌, Bool, true, false, nat_le, ◌==◌, List, [], ◌∷◌, ◌++◌, if◌then◌else◌, refl, ap, ◌∙◌, arith}
 use Rattle.std.proofs.lemmas.Bool.Decides.{nat_tests}
 use Rattle.nq_base.specs.declared.Event.{Event}
-use Rattle.nq_model.specs.LeaseInterval.{server_time_when, cover_end}
-use Rattle.nq_model.specs.Profile.{skew}
-use Rattle.nq_model.specs.Skew.{is_tick_of, server_ticks, ticks_of, IsWithinSkew}
+use Rattle.nq_model.specs.laws.LeaseInterval.{server_time_when, cover_end}
+use Rattle.nq_model.specs.protocol.Profile.{skew}
+use Rattle.nq_model.specs.protocol.Skew.{is_tick_of, server_ticks, ticks_of, IsWithinSkew}
 
 server-ticks-append : (xs ys : List Event) → server_ticks (xs ++ ys) ≡ server_ticks xs + server_ticks ys
 server-ticks-append [] ys = omega arith

@@ -8,12 +8,12 @@ use Rattle.nq_base.specs.declared.Tag.{Tag}
 use Rattle.nq_base.specs.declared.Who.{Who}
 use Rattle.nq_model.proofs.ClientLists.{marked-before, marked-tag, marked-mode, marked-term, marked-expiry, lease-before-drop, lease-after-put}
 use Rattle.walk_steps.proofs.Packets.{Told}
-use Rattle.nq_model.specs.Client.{Lease, Ticket, lease_on, drop_lease, put_lease, used_lease}
-use Rattle.nq_model.specs.Hear.{inc_of}
-use Rattle.nq_model.specs.LeaseInterval.{claim_of, IsCovered, cover_end, grant_in, requested_file}
-use Rattle.nq_model.specs.Message.{Packet, reply}
-use Rattle.nq_model.specs.Server.{Server}
-use Rattle.nq_model.specs.Table.{caches}
+use Rattle.nq_model.specs.protocol.Client.{Lease, Ticket, lease_on, drop_lease, put_lease, used_lease}
+use Rattle.nq_model.specs.protocol.Hear.{inc_of}
+use Rattle.nq_model.specs.laws.LeaseInterval.{claim_of, IsCovered, cover_end, grant_in, requested_file}
+use Rattle.nq_model.specs.protocol.Message.{Packet, reply}
+use Rattle.nq_model.specs.protocol.Server.{Server}
+use Rattle.nq_model.specs.protocol.Table.{caches}
 
 -- a lease that was asked for at a time with a term is covered, while the holder's clock is below its end
 abbrev pub IsCoveredWhile : Server → List Event → Who → (now file : ℕ) → Mode → Tag → (asked term : ℕ) → Type 0

@@ -14,10 +14,10 @@ use Rattle.walk_steps.proofs.ClientMoves.{some-same, none-some}
 use Rattle.walk_steps.proofs.Modes.{at-least-more, at-least-caching}
 use Rattle.walk_steps.proofs.RowChanges.{of-key, find-put, find-marked, mark, mark-is}
 use Rattle.walk_steps.proofs.Rows.{found-row}
-use Rattle.nq_model.specs.Ask.{marked, sharing_row, caching_row, shared_again, renewed_row, term_of}
-use Rattle.nq_model.specs.LeaseInterval.{claim_of, is_at_least, HasFitting, IsCovered}
-use Rattle.nq_model.specs.Server.{serving, Server}
-use Rattle.nq_model.specs.Table.{Table, caches, tag_below, is_row_of, find_row, put_row, with_rows, after_draw}
+use Rattle.nq_model.specs.protocol.Ask.{marked, sharing_row, caching_row, shared_again, renewed_row, term_of}
+use Rattle.nq_model.specs.laws.LeaseInterval.{claim_of, is_at_least, HasFitting, IsCovered}
+use Rattle.nq_model.specs.protocol.Server.{serving, Server}
+use Rattle.nq_model.specs.protocol.Table.{Table, caches, tag_below, is_row_of, find_row, put_row, with_rows, after_draw}
 
 -- a row goes on: the same holder and file, a kind that lets him do no less, a chain that began no later and a tag no
 -- earlier, and it ends no earlier

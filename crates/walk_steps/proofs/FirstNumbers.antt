@@ -8,11 +8,11 @@ use Rattle.std.proofs.lemmas.List.Sums.{sum_by-cons}
 use Rattle.std.specs.List.{All, AllByRecursion, sum_by}
 use Rattle.std.specs.Prelude.{replicate}
 use Rattle.nq_base.specs.Block.{zeros}
-use Rattle.nq_model.specs.Change.{AreApart, IsBody, IsFileWithin, IsHostWithin}
-use Rattle.nq_model.specs.Kept.{blocks_of, blocks_in_all, find_name, new_file, fresh_row}
-use Rattle.nq_model.specs.Profile.{most_hosts, same_bytes}
-use Rattle.nq_model.specs.ServerStep.{boot}
-use Rattle.nq_model.specs.World.{Head, first_files, first_row, start}
+use Rattle.nq_model.specs.protocol.Change.{AreApart, IsBody, IsFileWithin, IsHostWithin}
+use Rattle.nq_model.specs.protocol.Kept.{blocks_of, blocks_in_all, find_name, new_file, fresh_row}
+use Rattle.nq_model.specs.protocol.Profile.{most_hosts, same_bytes}
+use Rattle.nq_model.specs.protocol.ServerStep.{boot}
+use Rattle.nq_model.specs.protocol.World.{Head, first_files, first_row, start}
 use Rattle.nq_model.proofs.Finding.{same-number}
 use Rattle.nq_model.proofs.FreshFits.{blocks-first}
 use Rattle.nq_model.proofs.WithinBounds.{zeros-body}

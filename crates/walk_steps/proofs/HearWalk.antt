@@ -19,13 +19,13 @@ use Rattle.nq_model.proofs.ClientLists.{notice-before-drop, any-others}
 use Rattle.walk_steps.proofs.Rows.{choice, number-same, same-number}
 use Rattle.walk_steps.proofs.SendWalk.{at-true, from-true}
 use Rattle.walk_steps.proofs.SettleWalk.{IsIdle, answers-keeps, names-keeps, begun-call}
-use Rattle.nq_model.specs.Client.{Client, ClientStep, pushing, begun, Notice, Ticket, UnderWay, lease_on, put_lease, notice_on, is_clean, is_push_of}
-use Rattle.nq_model.specs.Client.{push_passes, revision_of, is_revision_before, dirty_at, is_clean_in}
-use Rattle.nq_model.specs.Hear.{vacates_lease, vacates_noticed, loses, waits_for, reports_to, reports, without_lease, push_refused, granted_lease}
-use Rattle.nq_model.specs.Hear.{breaks, breaks_chain, if_broken, holds, takes_grant, takes_optional, answers_call_of, answers_call, caches_block}
-use Rattle.nq_model.specs.Hear.{purges, knows_revision, grant_caches, then_caches, read_done, with_through, marks_through, lease_done, holds_caching}
-use Rattle.nq_model.specs.Hear.{caches_write, write_done, ends_push, caches_push, vacates_if_clean, push_done, spends, attached, pauses, other_push}
-use Rattle.nq_model.specs.Settle.{answers, names_losses}
+use Rattle.nq_model.specs.protocol.Client.{Client, ClientStep, pushing, begun, Notice, Ticket, UnderWay, lease_on, put_lease, notice_on, is_clean, is_push_of}
+use Rattle.nq_model.specs.protocol.Client.{push_passes, revision_of, is_revision_before, dirty_at, is_clean_in}
+use Rattle.nq_model.specs.protocol.Hear.{vacates_lease, vacates_noticed, loses, waits_for, reports_to, reports, without_lease, push_refused, granted_lease}
+use Rattle.nq_model.specs.protocol.Hear.{breaks, breaks_chain, if_broken, holds, takes_grant, takes_optional, answers_call_of, answers_call, caches_block}
+use Rattle.nq_model.specs.protocol.Hear.{purges, knows_revision, grant_caches, then_caches, read_done, with_through, marks_through, lease_done, holds_caching}
+use Rattle.nq_model.specs.protocol.Hear.{caches_write, write_done, ends_push, caches_push, vacates_if_clean, push_done, spends, attached, pauses, other_push}
+use Rattle.nq_model.specs.protocol.Settle.{answers, names_losses}
 
 -- no request is under way, and the client is attached
 pub record IsFree (t : ClientStep) : Type 0 where

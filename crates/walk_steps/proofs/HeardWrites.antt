@@ -3,12 +3,12 @@ use Rattle.std.proofs.Common.{◌≡◌, ◌≤◌, ℕ, zero, suc, List, [], �
 use Rattle.std.specs.List.{slice_get}
 use Rattle.nq_base.specs.declared.Entry.{Entry}
 use Rattle.nq_base.specs.declared.Who.{Who}
-use Rattle.nq_model.specs.Decide.{decides, creates, writes_through, stores, wrote, stores_recovering, resizes, removes, puts_off, commits}
-use Rattle.nq_model.specs.Message.{Datagram}
-use Rattle.nq_model.specs.Server.{Phase, serving, recovering, Server, quiet, drops, says, after_notices, keeping, keeping_with, with_table}
-use Rattle.nq_model.specs.ServerStep.{attaches, vacates, tells_later, serves, leases, receive, tick, at_time, opens, ends_writing}
-use Rattle.nq_model.specs.Table.{Table}
-use Rattle.nq_model.specs.RecoveriesWait.{WasStoredAt}
+use Rattle.nq_model.specs.protocol.Decide.{decides, creates, writes_through, stores, wrote, stores_recovering, resizes, removes, puts_off, commits}
+use Rattle.nq_model.specs.protocol.Message.{Datagram}
+use Rattle.nq_model.specs.protocol.Server.{Phase, serving, recovering, Server, quiet, drops, says, after_notices, keeping, keeping_with, with_table}
+use Rattle.nq_model.specs.protocol.ServerStep.{attaches, vacates, tells_later, serves, leases, receive, tick, at_time, opens, ends_writing}
+use Rattle.nq_model.specs.protocol.Table.{Table}
+use Rattle.nq_model.specs.laws.RecoveriesWait.{WasStoredAt}
 use Rattle.walk_steps.proofs.ServerCases.{server-hears, server-ticks}
 use Rattle.walk_steps.proofs.ServerNumbers.{PhaseWaits, PhaseWaitsOf, Waits}
 use Rattle.walk_steps.proofs.ServerOutcomes.{ServerCases}

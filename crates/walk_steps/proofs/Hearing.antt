@@ -10,11 +10,11 @@ use Rattle.walk_steps.proofs.ServerFacts.{IncsFitOf}
 use Rattle.walk_steps.proofs.ServerKnows.{NoneHeard, NoneGiven}
 use Rattle.walk_steps.proofs.ServerNumbers.{TermsFitOf, LinesFitOf}
 use Rattle.walk_steps.proofs.ServerTables.{BootsFitOf, StandingFitsOf}
-use Rattle.nq_model.specs.Client.{Lease, Notice, Ticket, lease_on}
-use Rattle.nq_model.specs.Kept.{host_row}
-use Rattle.nq_model.specs.LeaseInterval.{requested_file}
-use Rattle.nq_model.specs.Message.{Packet, Datagram, request}
-use Rattle.nq_model.specs.Server.{Server}
+use Rattle.nq_model.specs.protocol.Client.{Lease, Notice, Ticket, lease_on}
+use Rattle.nq_model.specs.protocol.Kept.{host_row}
+use Rattle.nq_model.specs.laws.LeaseInterval.{requested_file}
+use Rattle.nq_model.specs.protocol.Message.{Packet, Datagram, request}
+use Rattle.nq_model.specs.protocol.Server.{Server}
 
 -- what is known of the server, of one client and of the packets when the server hears a datagram
 pub record Hearing (ps : List Packet) (s : Server) (most sender : ℕ) (d : Datagram) (events : List Event) (who : Who) (now xid : ℕ) (attached : Bool)

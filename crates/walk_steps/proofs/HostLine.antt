@@ -8,11 +8,11 @@ use Rattle.nq_base.specs.declared.Tag.{Tag}
 use Rattle.nq_base.specs.declared.Who.{Who}
 use Rattle.walk_steps.proofs.ClientMoves.{some-same, none-some}
 use Rattle.walk_steps.proofs.Packets.{In, in-last, Asked, Told, message-same, not-both, call-same, Mail}
-use Rattle.nq_model.specs.Client.{Ticket, Notice}
-use Rattle.nq_model.specs.Hear.{inc_of}
-use Rattle.nq_model.specs.Message.{Packet, call, reply, asker, sequence_of}
-use Rattle.nq_model.specs.Server.{to_host}
-use Rattle.nq_model.specs.World.{from_host}
+use Rattle.nq_model.specs.protocol.Client.{Ticket, Notice}
+use Rattle.nq_model.specs.protocol.Hear.{inc_of}
+use Rattle.nq_model.specs.protocol.Message.{Packet, call, reply, asker, sequence_of}
+use Rattle.nq_model.specs.protocol.Server.{to_host}
+use Rattle.nq_model.specs.protocol.World.{from_host}
 
 -- a request that is decided once was decided, or is under way
 abbrev pub IsSettled : (ticket : Option Ticket) (decided x n : ℕ) → Type 0

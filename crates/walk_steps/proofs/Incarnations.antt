@@ -3,7 +3,7 @@ use Rattle.std.proofs.Common.{◌≡◌, ℕ, true}
 use Rattle.std.proofs.lemmas.Bool.{and_parts}
 use Rattle.nq_base.specs.declared.Who.{Who}
 use Rattle.walk_steps.proofs.Rows.{same-number}
-use Rattle.nq_model.specs.Table.{same_who}
+use Rattle.nq_model.specs.protocol.Table.{same_who}
 
 pub who-of : (h i k j : ℕ) → h ≡ k → i ≡ j → Path Who (record { host = h; inc = i }) (record { host = k; inc = j })
 who-of h i k j e f = cc

@@ -9,8 +9,8 @@ use Rattle.std.proofs.lemmas.List.{get_or-set_same, get_or-set_other, set_past, 
 use Rattle.std.proofs.lemmas.List.Folds.{find-append}
 use Rattle.std.proofs.lemmas.Option.{unwrap_or-slice_get}
 use Rattle.nq_base.specs.declared.HostRow.{HostRow}
-use Rattle.nq_model.specs.Kept.{File, Kept, find_file, replace_file, drop_file, fresh_row, host_row, with_row}
-use Rattle.nq_model.specs.ServerStep.{booted}
+use Rattle.nq_model.specs.protocol.Kept.{File, Kept, find_file, replace_file, drop_file, fresh_row, host_row, with_row}
+use Rattle.nq_model.specs.protocol.ServerStep.{booted}
 use Rattle.walk_steps.proofs.Rows.{same-number, number-same, find-passes, find-filter, find-dropped, find-map}
 use Rattle.walk_steps.proofs.Tests.{is-other}
 

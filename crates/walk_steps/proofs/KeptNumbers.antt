@@ -2,9 +2,9 @@
 use Rattle.std.proofs.Common.{◌≡◌, ◌≤◌, ℕ, ◌+◌, ◌==◌, not, List, [], ◌∷◌, Option, Some, None, if◌then◌else◌, refl, arith}
 use Rattle.std.proofs.lemmas.List.Elements.{All-nil, All-cons, All-head, All-tail, All-append, All-filter, All-weaker}
 use Rattle.nq_base.specs.declared.HostRow.{HostRow}
-use Rattle.nq_model.specs.Kept.{File, Kept, find_file, replace_file, drop_file, new_file, written_file, resized_file, fenced_file, with_row}
-use Rattle.nq_model.specs.Kept.{with_files, with_new_file}
-use Rattle.nq_model.specs.ServerStep.{fence, booted}
+use Rattle.nq_model.specs.protocol.Kept.{File, Kept, find_file, replace_file, drop_file, new_file, written_file, resized_file, fenced_file, with_row}
+use Rattle.nq_model.specs.protocol.Kept.{with_files, with_new_file}
+use Rattle.nq_model.specs.protocol.ServerStep.{fence, booted}
 use Rattle.nq_model.proofs.Finding.{choice}
 use Rattle.nq_model.proofs.FreshFits.{found-has}
 use Rattle.walk_steps.specs.Within.{RevisionsUpTo, GrewTo}

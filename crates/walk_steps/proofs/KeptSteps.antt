@@ -1,13 +1,13 @@
 -- What each step of the server does to the numbers that it keeps.
 use Rattle.std.proofs.Common.{◌≤◌, ◌<◌, ℕ, ◌+◌, refl, arith}
-use Rattle.nq_model.specs.ChangesOnce.{IsServerWithin, HasItsText}
-use Rattle.nq_model.specs.Decide.{decides, creates, writes_through, stores, wrote, stores_recovering, resizes, removes, puts_off, commits}
-use Rattle.nq_model.specs.Kept.{find_file}
-use Rattle.nq_model.specs.Message.{Datagram}
-use Rattle.nq_model.specs.Profile.{shortest_term, longest_term}
-use Rattle.nq_model.specs.Server.{Server, ServerStep, quiet, drops, says, keeping, keeping_with, with_table, after_notices}
-use Rattle.nq_model.specs.ServerStep.{attaches, vacates, tells_later, serves, leases, receive, ends_writing, opens, at_time, tick, boot, crash}
-use Rattle.nq_model.specs.Stepped.{most_events}
+use Rattle.nq_model.specs.laws.ChangesOnce.{IsServerWithin, HasItsText}
+use Rattle.nq_model.specs.protocol.Decide.{decides, creates, writes_through, stores, wrote, stores_recovering, resizes, removes, puts_off, commits}
+use Rattle.nq_model.specs.protocol.Kept.{find_file}
+use Rattle.nq_model.specs.protocol.Message.{Datagram}
+use Rattle.nq_model.specs.protocol.Profile.{shortest_term, longest_term}
+use Rattle.nq_model.specs.protocol.Server.{Server, ServerStep, quiet, drops, says, keeping, keeping_with, with_table, after_notices}
+use Rattle.nq_model.specs.protocol.ServerStep.{attaches, vacates, tells_later, serves, leases, receive, ends_writing, opens, at_time, tick, boot, crash}
+use Rattle.nq_model.specs.protocol.Stepped.{most_events}
 use Rattle.nq_model.proofs.EachChange.{bounds-are-kept}
 use Rattle.walk_steps.proofs.ServerCases.{server-hears, server-ticks}
 use Rattle.walk_steps.specs.Within.{GrewTo, IsServerAfter}

@@ -5,12 +5,12 @@ use Rattle.nq_base.specs.declared.Question.{Question}
 use Rattle.nq_base.specs.declared.Row.{Row}
 use Rattle.nq_base.specs.declared.Want.{Want}
 use Rattle.nq_base.specs.declared.Who.{Who}
-use Rattle.nq_model.specs.Ask.{term_of, marked, sharing_row, caching_row, shared_again, renewed_row}
-use Rattle.nq_model.specs.Message.{Datagram}
-use Rattle.nq_model.specs.Server.{Phase, serving, recovering, Server}
-use Rattle.nq_model.specs.ServerStep.{to_read, is_over, end_reading, receive, tick, boot, crash}
-use Rattle.nq_model.specs.Table.{Table, is_row_of, find_row, put_row, with_rows, after_draw, empty_table}
-use Rattle.nq_model.specs.RowsStandApart.{KeepsTags}
+use Rattle.nq_model.specs.protocol.Ask.{term_of, marked, sharing_row, caching_row, shared_again, renewed_row}
+use Rattle.nq_model.specs.protocol.Message.{Datagram}
+use Rattle.nq_model.specs.protocol.Server.{Phase, serving, recovering, Server}
+use Rattle.nq_model.specs.protocol.ServerStep.{to_read, is_over, end_reading, receive, tick, boot, crash}
+use Rattle.nq_model.specs.protocol.Table.{Table, is_row_of, find_row, put_row, with_rows, after_draw, empty_table}
+use Rattle.nq_model.specs.laws.RowsStandApart.{KeepsTags}
 use Rattle.walk_steps.proofs.AskCases.{with_marked, IsGranted, shares_again, begins_sharing, begins_caching, renews_row}
 use Rattle.walk_steps.proofs.RowChanges.{HasUniqueKeys, unique-filtered, of-key, found-put, found-kept, found-vacated, found-marked, mark-is}
 use Rattle.walk_steps.proofs.Rows.{found-row}

@@ -18,18 +18,18 @@ use Rattle.walk_steps.proofs.Rows.{same-number, number-same}
 use Rattle.walk_steps.proofs.ServerKnows.{Effect, Timely, knows-after}
 use Rattle.walk_steps.proofs.WorldClocks.{Clocked}
 use Rattle.walk_steps.proofs.Worlds.{IsAt, Holds, get-set-same, get-set-other, first-client, to-told}
-use Rattle.nq_model.specs.Client.{Client, ClientStep, Ticket}
-use Rattle.nq_model.specs.ClientStep.{client_call, client_tick, restart, fresh_client, attached_client}
-use Rattle.nq_model.specs.Hear.{inc_of, hear}
-use Rattle.nq_model.specs.Kept.{fresh_row, host_row}
-use Rattle.nq_model.specs.LeaseInterval.{claim_of, IsCovered, cover_end, CanTake, HeldAreCovered, TakeableAreCovered, KeepsLeaseInterval}
-use Rattle.nq_model.specs.Message.{Message, reply}
-use Rattle.nq_model.specs.Server.{Server, ServerStep}
-use Rattle.nq_model.specs.ServerStep.{boot}
-use Rattle.nq_model.specs.Profile.{most_hosts}
-use Rattle.nq_model.specs.Skew.{ticks_of}
-use Rattle.nq_model.specs.Table.{find_row}
-use Rattle.nq_model.specs.World.{Head, World, after_server, after_client, at_client, after_hearing, deliver_to_client, first_row, first_clients, start}
+use Rattle.nq_model.specs.protocol.Client.{Client, ClientStep, Ticket}
+use Rattle.nq_model.specs.protocol.ClientStep.{client_call, client_tick, restart, fresh_client, attached_client}
+use Rattle.nq_model.specs.protocol.Hear.{inc_of, hear}
+use Rattle.nq_model.specs.protocol.Kept.{fresh_row, host_row}
+use Rattle.nq_model.specs.laws.LeaseInterval.{claim_of, IsCovered, cover_end, CanTake, HeldAreCovered, TakeableAreCovered, KeepsLeaseInterval}
+use Rattle.nq_model.specs.protocol.Message.{Message, reply}
+use Rattle.nq_model.specs.protocol.Server.{Server, ServerStep}
+use Rattle.nq_model.specs.protocol.ServerStep.{boot}
+use Rattle.nq_model.specs.protocol.Profile.{most_hosts}
+use Rattle.nq_model.specs.protocol.Skew.{ticks_of}
+use Rattle.nq_model.specs.protocol.Table.{find_row}
+use Rattle.nq_model.specs.protocol.World.{Head, World, after_server, after_client, at_client, after_hearing, deliver_to_client, first_row, first_clients, start}
 
 -- ---- what each client and the server know
 

@@ -29,21 +29,21 @@ use Rattle.walk_steps.proofs.ServerTables.{boots-receive, boots-tick, boots-cras
 use Rattle.walk_steps.proofs.Unrowed.{IsUnrowed, unrowed-receive, unrowed-tick, unrowed-crash}
 use Rattle.walk_steps.proofs.WorldClocks.{Clocked, StillOf, StillIf, call-still, tick-still, hear-still, run-clocked}
 use Rattle.walk_steps.proofs.Worlds.{IsAt, Holds, get-set-same, get-set-other, to-server, to-told, run-holds, first-client}
-use Rattle.nq_model.specs.Bounds.{BootsWithin, KeepsBounds}
-use Rattle.nq_model.specs.LeaseIntervals.{LeaseIntervalInEveryRun}
-use Rattle.nq_model.specs.Client.{Client, ClientStep, attaching, Ticket}
-use Rattle.nq_model.specs.ClientStep.{client_call, client_tick, restart, starts, fresh_client, attached_client, next_incarnation}
-use Rattle.nq_model.specs.Hear.{hear}
-use Rattle.nq_model.specs.Kept.{Kept, File, host_row, with_row, with_files, with_new_file, find_file}
-use Rattle.nq_model.specs.LeaseInterval.{requested_file}
-use Rattle.nq_model.specs.Message.{Message, Packet, datagram_of, Datagram}
-use Rattle.nq_model.specs.Profile.{shortest_term}
-use Rattle.nq_model.specs.Server.{Phase, serving, recovering, Server, ServerStep, quiet}
-use Rattle.nq_model.specs.ServerStep.{receive, tick, crash, boot, booted, fence, opens, ends_writing}
-use Rattle.nq_model.specs.Skew.{IsWithinSkew}
-use Rattle.nq_model.specs.Table.{find_row}
-use Rattle.nq_model.specs.World.{Head, World, after_server, after_client, at_client, after_hearing, sending_host, deliver_to_client, deliver_to}
-use Rattle.nq_model.specs.World.{deliver, step, start, run}
+use Rattle.nq_model.specs.laws.Bounds.{BootsWithin, KeepsBounds}
+use Rattle.nq_model.specs.laws.LeaseIntervals.{LeaseIntervalInEveryRun}
+use Rattle.nq_model.specs.protocol.Client.{Client, ClientStep, attaching, Ticket}
+use Rattle.nq_model.specs.protocol.ClientStep.{client_call, client_tick, restart, starts, fresh_client, attached_client, next_incarnation}
+use Rattle.nq_model.specs.protocol.Hear.{hear}
+use Rattle.nq_model.specs.protocol.Kept.{Kept, File, host_row, with_row, with_files, with_new_file, find_file}
+use Rattle.nq_model.specs.laws.LeaseInterval.{requested_file}
+use Rattle.nq_model.specs.protocol.Message.{Message, Packet, datagram_of, Datagram}
+use Rattle.nq_model.specs.protocol.Profile.{shortest_term}
+use Rattle.nq_model.specs.protocol.Server.{Phase, serving, recovering, Server, ServerStep, quiet}
+use Rattle.nq_model.specs.protocol.ServerStep.{receive, tick, crash, boot, booted, fence, opens, ends_writing}
+use Rattle.nq_model.specs.protocol.Skew.{IsWithinSkew}
+use Rattle.nq_model.specs.protocol.Table.{find_row}
+use Rattle.nq_model.specs.protocol.World.{Head, World, after_server, after_client, at_client, after_hearing, sending_host, deliver_to_client, deliver_to}
+use Rattle.nq_model.specs.protocol.World.{deliver, step, start, run}
 use Rattle.walk_steps.proofs.Runs.{Served, none-served, Runs}
 use Rattle.walk_steps.proofs.NoCrash.{bounds-before}
 

@@ -4,11 +4,11 @@ use Rattle.std.proofs.lemmas.List.{length-append, length-replicate}
 use Rattle.std.proofs.lemmas.List.Elements.{filter-append}
 use Rattle.nq_base.specs.declared.Entry.{Entry}
 use Rattle.nq_base.specs.declared.HostRow.{HostRow}
-use Rattle.nq_model.specs.Kept.{File, find_file, new_file}
-use Rattle.nq_model.specs.Profile.{shortest_term, most_hosts}
-use Rattle.nq_model.specs.Server.{Server}
-use Rattle.nq_model.specs.ServerStep.{boot, crash}
-use Rattle.nq_model.specs.World.{Head, first_files, first_kept, start}
+use Rattle.nq_model.specs.protocol.Kept.{File, find_file, new_file}
+use Rattle.nq_model.specs.protocol.Profile.{shortest_term, most_hosts}
+use Rattle.nq_model.specs.protocol.Server.{Server}
+use Rattle.nq_model.specs.protocol.ServerStep.{boot, crash}
+use Rattle.nq_model.specs.protocol.World.{Head, first_files, first_kept, start}
 use Rattle.walk_steps.proofs.LogGrants.{GrantsFitOf}
 use Rattle.walk_steps.proofs.LogMoves.{is_timed, timed}
 use Rattle.walk_steps.proofs.LogRows.{RowsGranted, RowsHear}

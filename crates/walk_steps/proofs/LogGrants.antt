@@ -4,12 +4,12 @@ use Rattle.nq_base.specs.declared.Entry.{Entry}
 use Rattle.nq_base.specs.declared.Question.{Question}
 use Rattle.nq_base.specs.declared.Row.{Row}
 use Rattle.nq_base.specs.declared.Want.{Want}
-use Rattle.nq_model.specs.Ask.{sharing_row, caching_row, shared_again, renewed_row}
-use Rattle.nq_model.specs.Journal.{Each}
-use Rattle.nq_model.specs.Kept.{File, Kept, with_files}
-use Rattle.nq_model.specs.Server.{Phase, Server, standing_in}
-use Rattle.nq_model.specs.ServerStep.{fence}
-use Rattle.nq_model.specs.Table.{Table, next_tag}
+use Rattle.nq_model.specs.protocol.Ask.{sharing_row, caching_row, shared_again, renewed_row}
+use Rattle.nq_model.specs.laws.Journal.{Each}
+use Rattle.nq_model.specs.protocol.Kept.{File, Kept, with_files}
+use Rattle.nq_model.specs.protocol.Server.{Phase, Server, standing_in}
+use Rattle.nq_model.specs.protocol.ServerStep.{fence}
+use Rattle.nq_model.specs.protocol.Table.{Table, next_tag}
 use Rattle.walk_steps.proofs.AskCases.{IsGranted, shares_again, begins_sharing, begins_caching, renews_row}
 
 -- a grant was of a boot that served; one of the boot that served last is for its longest term at most, and its tag is one

@@ -14,14 +14,15 @@ use Rattle.nq_base.specs.declared.Tag.{Tag}
 use Rattle.nq_base.specs.declared.Want.{Want}
 use Rattle.nq_base.specs.declared.Who.{Who}
 use Rattle.nq_model.proofs.Lists.{each-map}
-use Rattle.nq_model.specs.Ask.{term_of, conflicts, marked, sharing_row, caching_row, shared_again, renewed_row}
-use Rattle.nq_model.specs.Journal.{Each}
-use Rattle.nq_model.specs.Kept.{Kept, host_row}
-use Rattle.nq_model.specs.Message.{Datagram}
-use Rattle.nq_model.specs.Profile.{skew}
-use Rattle.nq_model.specs.Server.{Phase, serving, recovering, Server, standing_in, standing, last_in}
-use Rattle.nq_model.specs.ServerStep.{to_read, is_over, end_reading, receive, tick, booted, boot, crash}
-use Rattle.nq_model.specs.Table.{Table, caches, is_writing, greater_mode, same_who, is_row_of, find_row, drop_row, put_row, with_rows, after_draw, empty_table}
+use Rattle.nq_model.specs.protocol.Ask.{term_of, conflicts, marked, sharing_row, caching_row, shared_again, renewed_row}
+use Rattle.nq_model.specs.laws.Journal.{Each}
+use Rattle.nq_model.specs.protocol.Kept.{Kept, host_row}
+use Rattle.nq_model.specs.protocol.Message.{Datagram}
+use Rattle.nq_model.specs.protocol.Profile.{skew}
+use Rattle.nq_model.specs.protocol.Server.{Phase, serving, recovering, Server, standing_in, standing, last_in}
+use Rattle.nq_model.specs.protocol.ServerStep.{to_read, is_over, end_reading, receive, tick, booted, boot, crash}
+use Rattle.nq_model.specs.protocol.Table.{Table, caches, is_writing, greater_mode, same_who, is_row_of, find_row, drop_row, put_row, with_rows, after_draw}
+use Rattle.nq_model.specs.protocol.Table.{empty_table}
 use Rattle.walk_steps.proofs.AskCases.{with_marked, IsGranted, shares_again, begins_sharing, begins_caching, renews_row}
 use Rattle.walk_steps.proofs.LogMoves.{timed, LogMoves, log-moves, tick-log-moves}
 use Rattle.walk_steps.proofs.LogTimes.{IsBy, LogBy}

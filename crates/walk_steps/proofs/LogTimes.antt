@@ -3,11 +3,11 @@ use Rattle.std.proofs.Common.{◌≡◌, ◌≤◌, ℕ, ◌+◌, ◌==◌, Bool
 use Rattle.std.specs.List.{find}
 use Rattle.nq_base.specs.declared.Entry.{Entry}
 use Rattle.nq_model.proofs.Lists.{each-map}
-use Rattle.nq_model.specs.Journal.{Each}
-use Rattle.nq_model.specs.Kept.{with_files, with_new_file, with_row}
-use Rattle.nq_model.specs.Message.{Datagram}
-use Rattle.nq_model.specs.Server.{Phase, serving, recovering, Server, last_in}
-use Rattle.nq_model.specs.ServerStep.{receive, tick, booted, boot, crash}
+use Rattle.nq_model.specs.laws.Journal.{Each}
+use Rattle.nq_model.specs.protocol.Kept.{with_files, with_new_file, with_row}
+use Rattle.nq_model.specs.protocol.Message.{Datagram}
+use Rattle.nq_model.specs.protocol.Server.{Phase, serving, recovering, Server, last_in}
+use Rattle.nq_model.specs.protocol.ServerStep.{receive, tick, booted, boot, crash}
 use Rattle.walk_steps.proofs.LogMoves.{timed, LogMoves, log-moves, tick-log-moves}
 
 -- an entry's time is not after this one

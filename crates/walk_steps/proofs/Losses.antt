@@ -5,7 +5,7 @@ use Rattle.std.specs.Prelude.{reverse}
 use Rattle.nq_base.specs.declared.Entry.{Entry}
 use Rattle.nq_base.specs.declared.Push.{Push}
 use Rattle.nq_base.specs.declared.Who.{Who}
-use Rattle.nq_model.specs.Hear.{loss_entry}
+use Rattle.nq_model.specs.protocol.Hear.{loss_entry}
 use Rattle.walk_steps.proofs.Packets.{In}
 
 -- the losses of some entries over a journal, one after the other

@@ -10,19 +10,19 @@ use Rattle.nq_base.specs.declared.Request.{Request}
 use Rattle.nq_base.specs.declared.Row.{Row}
 use Rattle.nq_base.specs.declared.Verdict.{Verdict}
 use Rattle.nq_base.specs.declared.Who.{Who}
-use Rattle.nq_model.specs.Ask.{ask}
-use Rattle.nq_model.specs.Decide.{Decision, decides, creates, writes_through, stores, stores_recovering, resizes, removes, puts_off, to_change}
-use Rattle.nq_model.specs.Decide.{unless_told, unless_conflict, decide_create, decide_push, decide_write_in, decide_write, decide_push_recovering}
-use Rattle.nq_model.specs.Decide.{decide_write_recovering, decide_resize, decide_remove, decide_in, decide, row_after}
-use Rattle.nq_model.specs.Kept.{File, blocks_in_all, find_file, can_be_kept}
-use Rattle.nq_model.specs.Message.{sequence_of}
-use Rattle.nq_model.specs.Profile.{inc_end, seq_end, rev_end, most_files, most_blocks, most_ids}
-use Rattle.nq_model.specs.Server.{Phase, serving, recovering, Server}
-use Rattle.nq_model.specs.ServerStep.{row_of_attach}
-use Rattle.nq_model.specs.Stepped.{most_events, most_sent}
-use Rattle.nq_model.specs.Table.{Table, find_row}
+use Rattle.nq_model.specs.protocol.Ask.{ask}
+use Rattle.nq_model.specs.protocol.Decide.{Decision, decides, creates, writes_through, stores, stores_recovering, resizes, removes, puts_off, to_change}
+use Rattle.nq_model.specs.protocol.Decide.{unless_told, unless_conflict, decide_create, decide_push, decide_write_in, decide_write, decide_push_recovering}
+use Rattle.nq_model.specs.protocol.Decide.{decide_write_recovering, decide_resize, decide_remove, decide_in, decide, row_after}
+use Rattle.nq_model.specs.protocol.Kept.{File, blocks_in_all, find_file, can_be_kept}
+use Rattle.nq_model.specs.protocol.Message.{sequence_of}
+use Rattle.nq_model.specs.protocol.Profile.{inc_end, seq_end, rev_end, most_files, most_blocks, most_ids}
+use Rattle.nq_model.specs.protocol.Server.{Phase, serving, recovering, Server}
+use Rattle.nq_model.specs.protocol.ServerStep.{row_of_attach}
+use Rattle.nq_model.specs.protocol.Stepped.{most_events, most_sent}
+use Rattle.nq_model.specs.protocol.Table.{Table, find_row}
 use Rattle.nq_model.proofs.FreshFits.{found-has}
-use Rattle.nq_model.specs.RepliesAreOwed.{goes_out, is_out_of_bounds}
+use Rattle.nq_model.specs.laws.RepliesAreOwed.{goes_out, is_out_of_bounds}
 use Rattle.walk_steps.proofs.Rows.{choice}
 use Rattle.walk_steps.proofs.Tests.{is-not-at-most}
 use Rattle.walk_steps.specs.Within.{RevisionsUpTo}

@@ -11,12 +11,12 @@ use Rattle.walk_steps.proofs.ClientMoves.{some-same, none-some, keeps-or-cancels
 use Rattle.walk_steps.proofs.Packets.{In, in-left, in-append, Asked, message-same, told-same, not-both, reply-same, IsReplied, Mail, IsFewer, fewer}
 use Rattle.walk_steps.proofs.Packets.{mail-sends, mail-adds, mail-again, Told}
 use Rattle.walk_steps.proofs.ServerSays.{IsSaid, said_reply, said_error, said_notice, AllSaid}
-use Rattle.nq_model.specs.Client.{Job, Ticket}
-use Rattle.nq_model.specs.Hear.{wants_of, inc_of, cancelled}
-use Rattle.nq_model.specs.LeaseInterval.{grant_in, requested_file}
-use Rattle.nq_model.specs.Message.{Message, Packet, call, reply, error, asker}
-use Rattle.nq_model.specs.Server.{to_host}
-use Rattle.nq_model.specs.World.{from_host}
+use Rattle.nq_model.specs.protocol.Client.{Job, Ticket}
+use Rattle.nq_model.specs.protocol.Hear.{wants_of, inc_of, cancelled}
+use Rattle.nq_model.specs.laws.LeaseInterval.{grant_in, requested_file}
+use Rattle.nq_model.specs.protocol.Message.{Message, Packet, call, reply, error, asker}
+use Rattle.nq_model.specs.protocol.Server.{to_host}
+use Rattle.nq_model.specs.protocol.World.{from_host}
 
 -- the packets after what a client sent in the step so far
 abbrev pub packets_with : List Packet → (host : ℕ) → List Message → List Packet

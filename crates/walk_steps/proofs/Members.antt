@@ -5,9 +5,9 @@ use Rattle.std.specs.List.{find, filter}
 use Rattle.std.specs.Prelude.{reverse}
 use Rattle.nq_base.specs.declared.Push.{Push}
 use Rattle.walk_steps.proofs.ClientMoves.{some-same, none-some}
-use Rattle.nq_model.specs.Client.{is_push_of}
-use Rattle.nq_model.specs.Hear.{push_of}
-use Rattle.nq_model.specs.Journal.{Each, Exists}
+use Rattle.nq_model.specs.protocol.Client.{is_push_of}
+use Rattle.nq_model.specs.protocol.Hear.{push_of}
+use Rattle.nq_model.specs.laws.Journal.{Each, Exists}
 use Rattle.walk_steps.proofs.Packets.{In, in-left, in-right, in-last}
 use Rattle.walk_steps.proofs.Rows.{same-number}
 

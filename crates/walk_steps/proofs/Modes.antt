@@ -2,8 +2,8 @@
 use Rattle.std.proofs.Common.{◌≡◌, Bool, true, false, if◌then◌else◌, refl}
 use Rattle.nq_base.specs.declared.Mode.{Mode}
 use Rattle.nq_base.specs.declared.Mode.TheVariants.{NonCaching, Reading, Writing}
-use Rattle.nq_model.specs.LeaseInterval.{is_at_least}
-use Rattle.nq_model.specs.Table.{caches, is_writing, greater_mode}
+use Rattle.nq_model.specs.laws.LeaseInterval.{is_at_least}
+use Rattle.nq_model.specs.protocol.Table.{caches, is_writing, greater_mode}
 
 pub writing-caches : (mode : Mode) → is_writing mode ≡ true → caches mode ≡ true
 writing-caches NonCaching h = cc

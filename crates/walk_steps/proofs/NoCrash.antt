@@ -2,8 +2,8 @@
 use Rattle.std.proofs.Common.{◌≡◌, ℕ, zero, suc, Bool, true, false, List, [], ◌∷◌, ◌++◌, arith}
 use Rattle.std.specs.Prelude.{All}
 use Rattle.nq_base.specs.declared.Event.{Event}
-use Rattle.nq_model.specs.Bounds.{BootsWithin, KeepsBounds}
-use Rattle.nq_model.specs.World.{Head}
+use Rattle.nq_model.specs.laws.Bounds.{BootsWithin, KeepsBounds}
+use Rattle.nq_model.specs.protocol.World.{Head}
 
 -- a schedule within bounds was so before its last event
 pub bounds-before : (most : ℕ) (head : Head) (e : Event) (earlier : List Event) → KeepsBounds most head (e ∷ earlier) → KeepsBounds most head earlier

@@ -1,7 +1,7 @@
 -- In a run of few events no request goes out of bounds.
 use Rattle.std.proofs.Common.{length, arith}
-use Rattle.nq_model.specs.Kept.{host_row}
-use Rattle.nq_model.specs.World.{World, sending_host, run}
+use Rattle.nq_model.specs.protocol.Kept.{host_row}
+use Rattle.nq_model.specs.protocol.World.{World, sending_host, run}
 use Rattle.walk_steps.proofs.Packets.{in-get}
 use Rattle.walk_steps.proofs.Worlds.{Holds, to-server, run-holds}
 use Rattle.walk_steps.specs.Within.{GrewTo, NoneGoesOut}

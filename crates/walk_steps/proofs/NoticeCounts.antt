@@ -4,8 +4,8 @@ use Rattle.std.specs.Prelude.{filter, find, Some, None, ◌⊎◌}
 use mathlib.Core.Logic.{inl, inr}
 use Rattle.std.proofs.lemmas.Bool.{and_parts, and_from, cases_eq, cases_lt, ltb-true, lt-ltb}
 use Rattle.nq_base.specs.declared.Row.{Row}
-use Rattle.nq_model.specs.Ask.{conflicts}
-use Rattle.nq_model.specs.Table.{find_row, is_row_of}
+use Rattle.nq_model.specs.protocol.Ask.{conflicts}
+use Rattle.nq_model.specs.protocol.Table.{find_row, is_row_of}
 use Rattle.nq_base.specs.declared.Access.{Access}
 use Rattle.walk_steps.proofs.RowChanges.{is-clash, has-key, own-key}
 use Rattle.walk_steps.proofs.Rows.{choice}

@@ -15,13 +15,13 @@ use Rattle.walk_steps.proofs.Packets.{Asked, in-get}
 use Rattle.walk_steps.proofs.SentTimes.{sent-in-order}
 use Rattle.walk_steps.proofs.WorldSequences.{Draws, run-draws}
 use Rattle.walk_steps.proofs.Worlds.{Holds, run-holds}
-use Rattle.nq_model.specs.OneRequestPerSequence.{Asks, AsksOnce, OneRequestPerSequence, IsUnderWay, IsOpenRequest, OpensOne, OneOpenInEveryRun}
-use Rattle.nq_model.specs.OneRequestPerSequence.{AnswersRequest, WasSentBefore, RepliesComeAfter}
-use Rattle.nq_model.specs.Client.{Client, Ticket}
-use Rattle.nq_model.specs.Hear.{inc_of}
-use Rattle.nq_model.specs.Kept.{host_row}
-use Rattle.nq_model.specs.Message.{call, sequence_of}
-use Rattle.nq_model.specs.World.{Head, World, from_host, run}
+use Rattle.nq_model.specs.laws.OneRequestPerSequence.{Asks, AsksOnce, OneRequestPerSequence, IsUnderWay, IsOpenRequest, OpensOne, OneOpenInEveryRun}
+use Rattle.nq_model.specs.laws.OneRequestPerSequence.{AnswersRequest, WasSentBefore, RepliesComeAfter}
+use Rattle.nq_model.specs.protocol.Client.{Client, Ticket}
+use Rattle.nq_model.specs.protocol.Hear.{inc_of}
+use Rattle.nq_model.specs.protocol.Kept.{host_row}
+use Rattle.nq_model.specs.protocol.Message.{call, sequence_of}
+use Rattle.nq_model.specs.protocol.World.{Head, World, from_host, run}
 
 asked-of : (w : World) (place host xid : ℕ) (r : Request) (who : Who) (n : ℕ) → Asks w.packets place host xid r who n → Asked w.packets host xid r
 asked-of w place host xid r who n a = in-get w.packets place (from_host host (call xid r)) a.sent

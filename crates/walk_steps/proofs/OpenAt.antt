@@ -5,10 +5,10 @@ use Rattle.nq_base.specs.declared.HostRow.{HostRow}
 use Rattle.nq_base.specs.declared.Request.{Request}
 use Rattle.nq_base.specs.declared.Who.{Who}
 use Rattle.walk_steps.proofs.Packets.{Asked}
-use Rattle.nq_model.specs.Client.{Client}
-use Rattle.nq_model.specs.Kept.{host_row}
-use Rattle.nq_model.specs.Message.{Packet, asker, sequence_of}
-use Rattle.nq_model.specs.World.{World}
+use Rattle.nq_model.specs.protocol.Client.{Client}
+use Rattle.nq_model.specs.protocol.Kept.{host_row}
+use Rattle.nq_model.specs.protocol.Message.{Packet, asker, sequence_of}
+use Rattle.nq_model.specs.protocol.World.{World}
 
 -- a request of the kept incarnation has a sequence above the kept one
 pub record IsOpenAt (line : HostRow) (ps : List Packet) (host x : ℕ) (r : Request) : Type 0 where

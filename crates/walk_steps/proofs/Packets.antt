@@ -7,12 +7,12 @@ use Rattle.nq_base.specs.declared.Reply.{Reply}
 use Rattle.nq_base.specs.declared.Request.{Request}
 use Rattle.nq_base.specs.declared.Who.{Who}
 use Rattle.walk_steps.proofs.ClientMoves.{some-same, none-some}
-use Rattle.nq_model.specs.Client.{Ticket}
-use Rattle.nq_model.specs.Hear.{wants_of, inc_of}
-use Rattle.nq_model.specs.LeaseInterval.{grant_in, requested_file}
-use Rattle.nq_model.specs.Message.{Message, Packet, call, reply, asker}
-use Rattle.nq_model.specs.Server.{to_host}
-use Rattle.nq_model.specs.World.{from_host}
+use Rattle.nq_model.specs.protocol.Client.{Ticket}
+use Rattle.nq_model.specs.protocol.Hear.{wants_of, inc_of}
+use Rattle.nq_model.specs.laws.LeaseInterval.{grant_in, requested_file}
+use Rattle.nq_model.specs.protocol.Message.{Message, Packet, call, reply, asker}
+use Rattle.nq_model.specs.protocol.Server.{to_host}
+use Rattle.nq_model.specs.protocol.World.{from_host}
 
 -- an element is in a list
 abbrev pub In : {A : Type 0} → List A → A → Type 0

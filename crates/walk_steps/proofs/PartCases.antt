@@ -4,12 +4,12 @@ use Rattle.std.proofs.lemmas.Bool.{and_parts, not-true}
 use Rattle.nq_base.specs.declared.Answer.{Answer}
 use Rattle.nq_base.specs.declared.Grant.{Grant}
 use Rattle.nq_base.specs.declared.Push.{Push}
-use Rattle.nq_model.specs.Client.{ClientStep, Lease, Notice, UnderWay, lease_on, notice_on, is_clean, dirty_at, revision_of, is_revision_before}
-use Rattle.nq_model.specs.Hear.{vacates_lease, vacates_noticed, waits_for, reports_to, reports, breaks, breaks_chain, if_broken, takes_grant}
-use Rattle.nq_model.specs.Hear.{takes_optional, answers_call_of, answers_call, grant_caches, caches_block, then_caches, marks_through, lease_done}
-use Rattle.nq_model.specs.Hear.{holds_caching, purges, caches_write, caches_push, vacates_if_clean}
-use Rattle.nq_model.specs.Settle.{answers, names_losses}
-use Rattle.nq_model.specs.Table.{tag_below}
+use Rattle.nq_model.specs.protocol.Client.{ClientStep, Lease, Notice, UnderWay, lease_on, notice_on, is_clean, dirty_at, revision_of, is_revision_before}
+use Rattle.nq_model.specs.protocol.Hear.{vacates_lease, vacates_noticed, waits_for, reports_to, reports, breaks, breaks_chain, if_broken, takes_grant}
+use Rattle.nq_model.specs.protocol.Hear.{takes_optional, answers_call_of, answers_call, grant_caches, caches_block, then_caches, marks_through, lease_done}
+use Rattle.nq_model.specs.protocol.Hear.{holds_caching, purges, caches_write, caches_push, vacates_if_clean}
+use Rattle.nq_model.specs.protocol.Settle.{answers, names_losses}
+use Rattle.nq_model.specs.protocol.Table.{tag_below}
 use Rattle.walk_steps.proofs.Rows.{choice}
 
 -- the call under way is answered, if there is one

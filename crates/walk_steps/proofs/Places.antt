@@ -5,10 +5,10 @@ use Rattle.nq_base.specs.declared.Reply.{Reply}
 use Rattle.walk_steps.proofs.ClientMoves.{none-some}
 use Rattle.walk_steps.proofs.Packets.{In, in-get}
 use Rattle.walk_steps.proofs.ServerSays.{IsReplyTo}
-use Rattle.nq_model.specs.OneRequestPerSequence.{AnswersRequest}
-use Rattle.nq_model.specs.Message.{Packet, call, reply}
-use Rattle.nq_model.specs.Server.{to_host}
-use Rattle.nq_model.specs.World.{from_host}
+use Rattle.nq_model.specs.laws.OneRequestPerSequence.{AnswersRequest}
+use Rattle.nq_model.specs.protocol.Message.{Packet, call, reply}
+use Rattle.nq_model.specs.protocol.Server.{to_host}
+use Rattle.nq_model.specs.protocol.World.{from_host}
 
 -- what is in a list has a place
 pub in-place : {A : Type 0} (xs : List A) (x : A) → In xs x → (j : ℕ) × (j < length xs) × (slice_get xs j ≡ Some x)

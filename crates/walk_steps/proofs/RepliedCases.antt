@@ -11,10 +11,10 @@ use Rattle.nq_base.specs.declared.Value.{Value}
 use Rattle.nq_base.specs.declared.Want.{Want}
 use Rattle.nq_base.specs.declared.Who.{Who}
 use Rattle.walk_steps.proofs.ClientFacts.{fits_job, fits_call}
-use Rattle.nq_model.specs.Client.{Client, ClientStep, Job, for_call, pushing, Ticket, begun}
-use Rattle.nq_model.specs.Hear.{spends, attached, pauses, answers_call, answer_of, is_put_off, counts_for_call, read_done, lease_done, write_done}
-use Rattle.nq_model.specs.Hear.{knows_revision, takes_optional, push_done, push_refused, done, done_for_call, done_renewal, done_push, refused}
-use Rattle.nq_model.specs.Hear.{refused_push, replied, reply_counts, refusal_counts, is_of_procedure}
+use Rattle.nq_model.specs.protocol.Client.{Client, ClientStep, Job, for_call, pushing, Ticket, begun}
+use Rattle.nq_model.specs.protocol.Hear.{spends, attached, pauses, answers_call, answer_of, is_put_off, counts_for_call, read_done, lease_done, write_done}
+use Rattle.nq_model.specs.protocol.Hear.{knows_revision, takes_optional, push_done, push_refused, done, done_for_call, done_renewal, done_push, refused}
+use Rattle.nq_model.specs.protocol.Hear.{refused_push, replied, reply_counts, refusal_counts, is_of_procedure}
 use Rattle.walk_steps.proofs.Rows.{choice}
 
 -- the request under way is of the call

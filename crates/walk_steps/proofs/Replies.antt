@@ -10,14 +10,15 @@ use Rattle.nq_base.specs.declared.Row.{Row}
 use Rattle.nq_base.specs.declared.Verdict.{Verdict}
 use Rattle.nq_base.specs.declared.Want.{Want}
 use Rattle.nq_base.specs.declared.Who.{Who}
-use Rattle.nq_model.specs.Ask.{grant_of}
-use Rattle.nq_model.specs.Decide.{verdict_reply, decides, creates, writes_through, stores, stores_recovering, wrote, resizes, removes, puts_off, commits}
-use Rattle.nq_model.specs.Hear.{inc_of}
-use Rattle.nq_model.specs.LeaseInterval.{grant_in, requested_file}
-use Rattle.nq_model.specs.Message.{Message, Packet, reply, Datagram, request, asker, sequence_of}
-use Rattle.nq_model.specs.Server.{Server, to_host, notices, after_notices, keeping, keeping_with, with_table, quiet, drops, says}
-use Rattle.nq_model.specs.ServerStep.{to_read, attaches, vacates, tells_later, serves, leases, receive}
-use Rattle.nq_model.specs.Table.{find_row, put_row, with_rows, after_draw}
+use Rattle.nq_model.specs.protocol.Ask.{grant_of}
+use Rattle.nq_model.specs.protocol.Decide.{verdict_reply, decides, creates, writes_through, stores, stores_recovering, wrote, resizes, removes, puts_off}
+use Rattle.nq_model.specs.protocol.Decide.{commits}
+use Rattle.nq_model.specs.protocol.Hear.{inc_of}
+use Rattle.nq_model.specs.laws.LeaseInterval.{grant_in, requested_file}
+use Rattle.nq_model.specs.protocol.Message.{Message, Packet, reply, Datagram, request, asker, sequence_of}
+use Rattle.nq_model.specs.protocol.Server.{Server, to_host, notices, after_notices, keeping, keeping_with, with_table, quiet, drops, says}
+use Rattle.nq_model.specs.protocol.ServerStep.{to_read, attaches, vacates, tells_later, serves, leases, receive}
+use Rattle.nq_model.specs.protocol.Table.{find_row, put_row, with_rows, after_draw}
 use Rattle.walk_steps.proofs.ClientMoves.{some-same, none-some}
 use Rattle.walk_steps.proofs.Packets.{In, in-last, told-same, reply-same}
 use Rattle.walk_steps.proofs.ServerSays.{notices-no-reply, verdict-inc, verdict-grant, plain-inc, plain-grant}

@@ -6,14 +6,14 @@ use Rattle.nq_base.specs.declared.Party.{Party}
 use Rattle.nq_base.specs.declared.Reply.{Reply}
 use Rattle.nq_base.specs.declared.Request.{Request}
 use Rattle.nq_base.specs.declared.Who.{Who}
-use Rattle.nq_model.specs.Client.{Client, ClientStep}
-use Rattle.nq_model.specs.ClientStep.{client_call, client_tick, restart}
-use Rattle.nq_model.specs.Hear.{hear, inc_of}
-use Rattle.nq_model.specs.Message.{Message, Packet, reply, asker, datagram_of, request}
-use Rattle.nq_model.specs.Server.{ServerStep, to_host, quiet}
-use Rattle.nq_model.specs.ServerStep.{receive, tick, crash, opens, ends_writing}
-use Rattle.nq_model.specs.World.{Head, World, from_host, after_server, after_client, at_client, after_hearing, sending_host, deliver_to_client}
-use Rattle.nq_model.specs.World.{deliver_to, deliver, step, start, run}
+use Rattle.nq_model.specs.protocol.Client.{Client, ClientStep}
+use Rattle.nq_model.specs.protocol.ClientStep.{client_call, client_tick, restart}
+use Rattle.nq_model.specs.protocol.Hear.{hear, inc_of}
+use Rattle.nq_model.specs.protocol.Message.{Message, Packet, reply, asker, datagram_of, request}
+use Rattle.nq_model.specs.protocol.Server.{ServerStep, to_host, quiet}
+use Rattle.nq_model.specs.protocol.ServerStep.{receive, tick, crash, opens, ends_writing}
+use Rattle.nq_model.specs.protocol.World.{Head, World, from_host, after_server, after_client, at_client, after_hearing, sending_host, deliver_to_client}
+use Rattle.nq_model.specs.protocol.World.{deliver_to, deliver, step, start, run}
 use Rattle.walk_steps.proofs.Mail.{none-to-host}
 use Rattle.walk_steps.proofs.Packets.{In, in-left, in-append, in-get, Asked, Told}
 use Rattle.walk_steps.proofs.Worlds.{Holds, to-server, run-holds}

@@ -10,15 +10,15 @@ use Rattle.nq_base.specs.declared.Row.{Row}
 use Rattle.nq_base.specs.declared.Verdict.{Verdict}
 use Rattle.nq_base.specs.declared.Want.{Want}
 use Rattle.nq_base.specs.declared.Who.{Who}
-use Rattle.nq_model.specs.Ask.{grant_of}
-use Rattle.nq_model.specs.Decide.{Decision, in_the_way, verdict_reply, decides, creates, writes_through, stores, stores_recovering, resizes, removes}
-use Rattle.nq_model.specs.Decide.{puts_off, commits}
-use Rattle.nq_model.specs.Hear.{inc_of}
-use Rattle.nq_model.specs.Kept.{blocks_of}
-use Rattle.nq_model.specs.Message.{Message, Packet, reply, asker, Datagram, request, sequence_of}
-use Rattle.nq_model.specs.Server.{Server, to_host, says, quiet, drops, notices}
-use Rattle.nq_model.specs.ServerStep.{to_read, attaches, vacates, tells_later, serves, leases, receive}
-use Rattle.nq_model.specs.Table.{Table}
+use Rattle.nq_model.specs.protocol.Ask.{grant_of}
+use Rattle.nq_model.specs.protocol.Decide.{Decision, in_the_way, verdict_reply, decides, creates, writes_through, stores, stores_recovering, resizes, removes}
+use Rattle.nq_model.specs.protocol.Decide.{puts_off, commits}
+use Rattle.nq_model.specs.protocol.Hear.{inc_of}
+use Rattle.nq_model.specs.protocol.Kept.{blocks_of}
+use Rattle.nq_model.specs.protocol.Message.{Message, Packet, reply, asker, Datagram, request, sequence_of}
+use Rattle.nq_model.specs.protocol.Server.{Server, to_host, says, quiet, drops, notices}
+use Rattle.nq_model.specs.protocol.ServerStep.{to_read, attaches, vacates, tells_later, serves, leases, receive}
+use Rattle.nq_model.specs.protocol.Table.{Table}
 use Rattle.walk_steps.proofs.Packets.{In, in-append, told-same, reply-same}
 use Rattle.walk_steps.proofs.ServerSays.{notices-no-reply, verdict-inc, plain-inc}
 use Rattle.walk_steps.proofs.AskCases.{IsGranted}

@@ -8,9 +8,9 @@ use Rattle.nq_base.specs.declared.Access.{Access}
 use Rattle.nq_base.specs.declared.Row.{Row}
 use Rattle.nq_base.specs.declared.Tag.{Tag}
 use Rattle.nq_base.specs.declared.Who.{Who}
-use Rattle.nq_model.specs.Ask.{mode_conflicts, conflicts, marked}
-use Rattle.nq_model.specs.ServerStep.{vacated_rows}
-use Rattle.nq_model.specs.Table.{same_tag, is_row_of, find_row, drop_row, drop_host, drop_rows_of, row_before, insert_row, put_row}
+use Rattle.nq_model.specs.protocol.Ask.{mode_conflicts, conflicts, marked}
+use Rattle.nq_model.specs.protocol.ServerStep.{vacated_rows}
+use Rattle.nq_model.specs.protocol.Table.{same_tag, is_row_of, find_row, drop_row, drop_host, drop_rows_of, row_before, insert_row, put_row}
 use Rattle.walk_steps.proofs.Rows.{same-number, number-same, find-passes, find-none, find-filter, find-dropped, find-map, insert-step}
 
 -- no two rows are of one file and host

@@ -9,13 +9,13 @@ use Rattle.nq_base.specs.declared.Row.{Row}
 use Rattle.nq_base.specs.declared.Tag.{Tag}
 use Rattle.nq_base.specs.declared.Want.{Want}
 use Rattle.nq_base.specs.declared.Who.{Who}
-use Rattle.nq_model.specs.Ask.{conflicts, term_of, sharing_row, caching_row, shared_again, renewed_row}
-use Rattle.nq_model.specs.Decide.{in_the_way}
-use Rattle.nq_model.specs.Message.{Datagram, call, request}
-use Rattle.nq_model.specs.Profile.{most_hosts, xid_end}
-use Rattle.nq_model.specs.Server.{Server, to_host, notices, quiet, with_table}
-use Rattle.nq_model.specs.ServerStep.{to_read, receive, vacates, vacated_rows}
-use Rattle.nq_model.specs.Table.{Table, caches, next_tag, find_row, is_row_of, drop_row, with_rows}
+use Rattle.nq_model.specs.protocol.Ask.{conflicts, term_of, sharing_row, caching_row, shared_again, renewed_row}
+use Rattle.nq_model.specs.protocol.Decide.{in_the_way}
+use Rattle.nq_model.specs.protocol.Message.{Datagram, call, request}
+use Rattle.nq_model.specs.protocol.Profile.{most_hosts, xid_end}
+use Rattle.nq_model.specs.protocol.Server.{Server, to_host, notices, quiet, with_table}
+use Rattle.nq_model.specs.protocol.ServerStep.{to_read, receive, vacates, vacated_rows}
+use Rattle.nq_model.specs.protocol.Table.{Table, caches, next_tag, find_row, is_row_of, drop_row, with_rows}
 use Rattle.walk_steps.proofs.AskCases.{IsGranted, shares_again, begins_sharing, begins_caching, renews_row, with_marked}
 use Rattle.walk_steps.proofs.RowChanges.{find-row-dropped}
 use Rattle.walk_steps.proofs.Rows.{number-same}

@@ -2,11 +2,11 @@
 use Rattle.std.proofs.Common.{◌≡◌, ◌<◌, ◌≤◌, ◌⊎◌, ℕ, ◌+◌, ◌==◌, Bool, true, false, List, Some, sym, subst, arith, inl, inr, if◌then◌else◌}
 use Rattle.std.specs.Prelude.{Option}
 use Rattle.nq_base.specs.declared.Row.{Row}
-use Rattle.nq_model.specs.Kept.{Kept}
-use Rattle.nq_model.specs.Profile.{shortest_term, granted_term}
-use Rattle.nq_model.specs.Server.{Phase, serving, recovering, Server, last_table}
-use Rattle.nq_model.specs.ServerStep.{boot}
-use Rattle.nq_model.specs.Table.{Table, caches, is_writing, is_row_of, find_row, put_row, empty_table}
+use Rattle.nq_model.specs.protocol.Kept.{Kept}
+use Rattle.nq_model.specs.protocol.Profile.{shortest_term, granted_term}
+use Rattle.nq_model.specs.protocol.Server.{Phase, serving, recovering, Server, last_table}
+use Rattle.nq_model.specs.protocol.ServerStep.{boot}
+use Rattle.nq_model.specs.protocol.Table.{Table, caches, is_writing, is_row_of, find_row, put_row, empty_table}
 use Rattle.walk_steps.proofs.RowChanges.{found-put}
 
 -- a row was heard by now; where it does not let its holder write it ends later than now; and where it does not let him cache

@@ -3,7 +3,7 @@ use Rattle.std.proofs.Common.{◌≡◌, ℕ, Bool, true, false, ◌&&◌, ◌==
 use Rattle.std.proofs.lemmas.Bool.{and_parts}
 use Rattle.nq_base.specs.declared.Row.{Row}
 pub use Rattle.nq_model.proofs.Finding.{choice, decided, same-number, number-same, find-passes, find-none, find-filter, find-dropped, find-map}
-use Rattle.nq_model.specs.Table.{is_row_of, find_row, insert_row}
+use Rattle.nq_model.specs.protocol.Table.{is_row_of, find_row, insert_row}
 
 -- a row that was looked up is of that file and host
 pub found-row : (file host : ℕ) (rows : List Row) (row : Row) → find_row file host rows ≡ Some row → (row.file ≡ file) × (row.who.host ≡ host)

@@ -11,14 +11,14 @@ use Rattle.nq_base.specs.declared.Row.{Row}
 use Rattle.nq_base.specs.declared.Tag.{Tag}
 use Rattle.nq_base.specs.declared.Want.{Want}
 use Rattle.nq_base.specs.declared.Who.{Who}
-use Rattle.nq_model.specs.Ask.{marked, term_of, sharing_row, caching_row, shared_again, renewed_row}
-use Rattle.nq_model.specs.Decide.{decides, creates, writes_through, stores, stores_recovering, wrote, resizes, removes, puts_off, commits}
-use Rattle.nq_model.specs.Kept.{File}
-use Rattle.nq_model.specs.LeaseInterval.{requested_file}
-use Rattle.nq_model.specs.Message.{Datagram, request, asker}
-use Rattle.nq_model.specs.Server.{Server, after_notices, keeping, keeping_with, with_table, quiet, drops, says}
-use Rattle.nq_model.specs.ServerStep.{access_of, to_read, vacated_rows, attaches, vacates, tells_later, serves, leases, receive}
-use Rattle.nq_model.specs.Table.{Table, same_tag, find_row, is_row_of, drop_row, drop_host, drop_rows_of, put_row, with_rows, after_draw}
+use Rattle.nq_model.specs.protocol.Ask.{marked, term_of, sharing_row, caching_row, shared_again, renewed_row}
+use Rattle.nq_model.specs.protocol.Decide.{decides, creates, writes_through, stores, stores_recovering, wrote, resizes, removes, puts_off, commits}
+use Rattle.nq_model.specs.protocol.Kept.{File}
+use Rattle.nq_model.specs.laws.LeaseInterval.{requested_file}
+use Rattle.nq_model.specs.protocol.Message.{Datagram, request, asker}
+use Rattle.nq_model.specs.protocol.Server.{Server, after_notices, keeping, keeping_with, with_table, quiet, drops, says}
+use Rattle.nq_model.specs.protocol.ServerStep.{access_of, to_read, vacated_rows, attaches, vacates, tells_later, serves, leases, receive}
+use Rattle.nq_model.specs.protocol.Table.{Table, same_tag, find_row, is_row_of, drop_row, drop_host, drop_rows_of, put_row, with_rows, after_draw}
 use Rattle.walk_steps.proofs.ClientMoves.{some-same}
 use Rattle.walk_steps.proofs.AskCases.{IsGranted, shares_again, begins_sharing, begins_caching, renews_row, clash_in, own_in, with_marked}
 use Rattle.walk_steps.proofs.RowChanges.{HasUniqueKeys, mark, mark-is, found-marked, find-marked, found-put, find-put, found-kept, found-vacated}

@@ -6,11 +6,11 @@ use Rattle.nq_base.specs.declared.Grant.{Grant}
 use Rattle.nq_base.specs.declared.Mode.{Mode}
 use Rattle.nq_base.specs.declared.Tag.{Tag}
 use Rattle.nq_model.proofs.ClientLists.{lease-before-drop, lease-after-put, marked-before}
-use Rattle.nq_model.specs.Client.{ClientStep, Lease, Notice, lease_on, drop_lease, put_lease, marked_used, used_lease, notice_on, is_live, lets_read}
-use Rattle.nq_model.specs.Client.{lets_write}
-use Rattle.nq_model.specs.Hear.{vacates_lease, vacates_noticed, loses, reports, breaks_chain, if_broken}
-use Rattle.nq_model.specs.Settle.{answers, names_losses}
-use Rattle.nq_model.specs.Table.{caches, is_writing}
+use Rattle.nq_model.specs.protocol.Client.{ClientStep, Lease, Notice, lease_on, drop_lease, put_lease, marked_used, used_lease, notice_on, is_live, lets_read}
+use Rattle.nq_model.specs.protocol.Client.{lets_write}
+use Rattle.nq_model.specs.protocol.Hear.{vacates_lease, vacates_noticed, loses, reports, breaks_chain, if_broken}
+use Rattle.nq_model.specs.protocol.Settle.{answers, names_losses}
+use Rattle.nq_model.specs.protocol.Table.{caches, is_writing}
 use Rattle.walk_steps.proofs.PartCases.{vacates-noticed-cases, reports-cases, if-broken-cases}
 
 -- each lease that runs and caches is of a length that its file had

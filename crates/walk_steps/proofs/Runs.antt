@@ -8,9 +8,9 @@ use Rattle.walk_steps.proofs.ServerLives.{HasServed}
 use Rattle.walk_steps.proofs.ServerNumbers.{TermsFitOf, LinesFitOf}
 use Rattle.walk_steps.proofs.ServerTables.{BootsFitOf, StandingFitsOf, NoneRecoveringOf, none-of-boots}
 use Rattle.walk_steps.proofs.Unrowed.{IsUnrowed}
-use Rattle.nq_model.specs.Client.{Client}
-use Rattle.nq_model.specs.Server.{Server}
-use Rattle.nq_model.specs.World.{World}
+use Rattle.nq_model.specs.protocol.Client.{Client}
+use Rattle.nq_model.specs.protocol.Server.{Server}
+use Rattle.nq_model.specs.protocol.World.{World}
 
 -- what holds of the server alone: some boot served, terms are no longer than this
 pub record Served (most : ℕ) (s : Server) : Type 0 where

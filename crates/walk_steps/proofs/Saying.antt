@@ -11,11 +11,11 @@ use Rattle.nq_base.specs.declared.Reply.{Reply as Answer}
 use Rattle.nq_base.specs.declared.Request.{Request}
 use Rattle.nq_base.specs.declared.Row.{Row}
 use Rattle.nq_base.specs.declared.Who.{Who}
-use Rattle.nq_model.specs.Decide.{decides, creates, writes_through, stores, stores_recovering, resizes, removes, puts_off, commits}
-use Rattle.nq_model.specs.Message.{Message, Packet, Datagram, call, reply}
-use Rattle.nq_model.specs.Profile.{xid_end}
-use Rattle.nq_model.specs.Server.{Server, to_host, notices, quiet, drops, says}
-use Rattle.nq_model.specs.ServerStep.{grants, attaches, vacates, tells_later, serves, leases, receive, ends_writing, opens, tick, crash}
+use Rattle.nq_model.specs.protocol.Decide.{decides, creates, writes_through, stores, stores_recovering, resizes, removes, puts_off, commits}
+use Rattle.nq_model.specs.protocol.Message.{Message, Packet, Datagram, call, reply}
+use Rattle.nq_model.specs.protocol.Profile.{xid_end}
+use Rattle.nq_model.specs.protocol.Server.{Server, to_host, notices, quiet, drops, says}
+use Rattle.nq_model.specs.protocol.ServerStep.{grants, attaches, vacates, tells_later, serves, leases, receive, ends_writing, opens, tick, crash}
 use Rattle.walk_steps.proofs.ServerCases.{server-hears, server-ticks}
 use Rattle.walk_steps.specs.Says.{SaysPlainly, ServerSaysPlainly}
 

@@ -9,12 +9,12 @@ use Rattle.nq_base.specs.declared.Push.{Push}
 use Rattle.nq_base.specs.declared.Request.{Request}
 use Rattle.nq_model.proofs.ClientLists.{lease-file, first-is-of}
 use Rattle.walk_steps.proofs.ClientMoves.{some-same, none-some}
-use Rattle.nq_model.specs.Client.{Client, ClientStep, Job, for_call, renewing, Lease, Notice, Ticket, UnderWay, lease_on, notice_on, is_clean}
-use Rattle.nq_model.specs.Client.{first_dirty, file_of_lease, file_of_notice}
-use Rattle.nq_model.specs.Send.{least_with, sends_request, after_seq, pushes_these, pushes, noticed_file, ending_file, read_want, want_of}
-use Rattle.nq_model.specs.Send.{sends_write, next_write, next_put, gives_up, next_change, asks, next_of_call, next_of_under_way, renews_lease, renews}
-use Rattle.nq_model.specs.Send.{renewed_file, is_to_renew, is_asking, then_renews, then_calls, pushes_due, then_pushes, then_ending, send_next}
-use Rattle.nq_model.specs.Send.{shares_live, least}
+use Rattle.nq_model.specs.protocol.Client.{Client, ClientStep, Job, for_call, renewing, Lease, Notice, Ticket, UnderWay, lease_on, notice_on, is_clean}
+use Rattle.nq_model.specs.protocol.Client.{first_dirty, file_of_lease, file_of_notice}
+use Rattle.nq_model.specs.protocol.Send.{least_with, sends_request, after_seq, pushes_these, pushes, noticed_file, ending_file, read_want, want_of}
+use Rattle.nq_model.specs.protocol.Send.{sends_write, next_write, next_put, gives_up, next_change, asks, next_of_call, next_of_under_way, renews_lease, renews}
+use Rattle.nq_model.specs.protocol.Send.{renewed_file, is_to_renew, is_asking, then_renews, then_calls, pushes_due, then_pushes, then_ending, send_next}
+use Rattle.nq_model.specs.protocol.Send.{shares_live, least}
 use Rattle.walk_steps.proofs.Rows.{choice, number-same}
 use Rattle.walk_steps.proofs.Tests.{is-at-most, none-there}
 

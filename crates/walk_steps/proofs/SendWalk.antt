@@ -14,12 +14,12 @@ use Rattle.nq_model.proofs.ClientLists.{dropped-lease}
 use Rattle.walk_steps.proofs.ClientMoves.{some-same, none-some, attached-with-call, IsNext, draws, sends, drops}
 use Rattle.walk_steps.proofs.SendCases.{NothingToPush, IsFree, noticed-one, no-noticed, send-cases}
 use Rattle.walk_steps.proofs.ClientWrites.{has-writes, pushes as pushes_write, asks as asks_delaying, no-push}
-use Rattle.nq_model.specs.Client.{Client, ClientStep, Job, attaching, for_call, renewing, pushing, Lease, Notice, Ticket, UnderWay, lease_on}
-use Rattle.nq_model.specs.Client.{notice_on, is_push_of, first_dirty, drop_dirty, drop_lease, push_passes}
-use Rattle.nq_model.specs.Hear.{wants_of}
-use Rattle.nq_model.specs.Message.{asker, sequence_of}
-use Rattle.nq_model.specs.Send.{sends_request, after_seq, after_number, base_of, takes_push, pushes_these, noticed_file, read_want, want_of}
-use Rattle.nq_model.specs.Send.{sends_write, gives_up, send_next}
+use Rattle.nq_model.specs.protocol.Client.{Client, ClientStep, Job, attaching, for_call, renewing, pushing, Lease, Notice, Ticket, UnderWay, lease_on}
+use Rattle.nq_model.specs.protocol.Client.{notice_on, is_push_of, first_dirty, drop_dirty, drop_lease, push_passes}
+use Rattle.nq_model.specs.protocol.Hear.{wants_of}
+use Rattle.nq_model.specs.protocol.Message.{asker, sequence_of}
+use Rattle.nq_model.specs.protocol.Send.{sends_request, after_seq, after_number, base_of, takes_push, pushes_these, noticed_file, read_want, want_of}
+use Rattle.nq_model.specs.protocol.Send.{sends_write, gives_up, send_next}
 use Rattle.nq_model.proofs.Finding.{number-other}
 
 -- a fact of a flag that is known

@@ -4,8 +4,8 @@ use Rattle.nq_base.specs.declared.Event.{Event}
 use Rattle.walk_steps.proofs.Rows.{choice}
 use Rattle.walk_steps.proofs.Tests.{is-below, is-not-below}
 use Rattle.walk_steps.proofs.WorldClocks.{run-clocked}
-use Rattle.nq_model.specs.OneRequestPerSequence.{sent_time}
-use Rattle.nq_model.specs.World.{Head, run}
+use Rattle.nq_model.specs.laws.OneRequestPerSequence.{sent_time}
+use Rattle.nq_model.specs.protocol.World.{Head, run}
 
 -- the server's clock never goes back
 clock-goes-on : (head : Head) (e : Event) (earlier : List Event) → (run head earlier).server.now ≤ (run head (e ∷ earlier)).server.now

@@ -17,15 +17,16 @@ use Rattle.walk_steps.proofs.Rows.{choice, same-number}
 use Rattle.walk_steps.proofs.ServerKnows.{NoneHeard, NoneGiven}
 use Rattle.walk_steps.proofs.TagFacts.{asked-before}
 use Rattle.walk_steps.proofs.Worlds.{Going, going-closed, IsAt, begun-going, timed-going, given-by}
-use Rattle.nq_model.specs.Client.{Client, ClientStep, begun, Ticket, lease_on}
-use Rattle.nq_model.specs.ClientStep.{client_call, client_tick, at_time, restart, starts, fresh_client, next_incarnation}
-use Rattle.nq_model.specs.Hear.{inc_of, is_reply_to, reply_counts, hear, hear_reply, hear_notice, hear_call, goes_on, replied, holds_later, evicted, cancels}
-use Rattle.nq_model.specs.Message.{Message, Packet, call, reply, error, asker, sequence_of}
-use Rattle.nq_model.specs.Table.{same_who}
-use Rattle.nq_model.specs.World.{from_host}
+use Rattle.nq_model.specs.protocol.Client.{Client, ClientStep, begun, Ticket, lease_on}
+use Rattle.nq_model.specs.protocol.ClientStep.{client_call, client_tick, at_time, restart, starts, fresh_client, next_incarnation}
+use Rattle.nq_model.specs.protocol.Hear.{inc_of, is_reply_to, reply_counts, hear, hear_reply, hear_notice, hear_call, goes_on, replied, holds_later, evicted}
+use Rattle.nq_model.specs.protocol.Hear.{cancels}
+use Rattle.nq_model.specs.protocol.Message.{Message, Packet, call, reply, error, asker, sequence_of}
+use Rattle.nq_model.specs.protocol.Table.{same_who}
+use Rattle.nq_model.specs.protocol.World.{from_host}
 use Rattle.walk_steps.proofs.ServerSays.{IsSaid, said_reply, said_error, said_notice, AllSaid}
 use Rattle.walk_steps.proofs.ServerOutcomes.{only_asks}
-use Rattle.nq_model.specs.LeaseInterval.{requested_file}
+use Rattle.nq_model.specs.laws.LeaseInterval.{requested_file}
 
 -- ---- the sequences that a host's client drew
 

@@ -3,14 +3,14 @@ use Rattle.std.proofs.Common.{◌≡◌, ◌≤◌, ℕ, ◌+◌, Bool, true, fa
 use Rattle.std.specs.List.{find, filter}
 use Rattle.nq_base.specs.declared.Entry.{Entry}
 use Rattle.nq_base.specs.declared.Row.{Row}
-use Rattle.nq_model.specs.Kept.{Kept}
-use Rattle.nq_model.specs.Message.{Datagram}
-use Rattle.nq_model.specs.Server.{Phase, serving, recovering, Server}
-use Rattle.nq_model.specs.ServerStep.{boot}
-use Rattle.nq_model.specs.Table.{Table, is_row_of, find_row, empty_table}
-use Rattle.nq_model.specs.RecoveriesWait.{WaitsLong, RecoveryWaits}
-use Rattle.nq_model.specs.RowsStandApart.{AreOfKeptIncarnations, WritesAlone, KeepsTags, StandApart, RowsStandApart}
-use Rattle.nq_model.specs.ServerAlone.{Coming, datagram, ticks, crashes, step_for, server_after, first_boot, booted_last, entries_since_boot}
+use Rattle.nq_model.specs.protocol.Kept.{Kept}
+use Rattle.nq_model.specs.protocol.Message.{Datagram}
+use Rattle.nq_model.specs.protocol.Server.{Phase, serving, recovering, Server}
+use Rattle.nq_model.specs.protocol.ServerStep.{boot}
+use Rattle.nq_model.specs.protocol.Table.{Table, is_row_of, find_row, empty_table}
+use Rattle.nq_model.specs.laws.RecoveriesWait.{WaitsLong, RecoveryWaits}
+use Rattle.nq_model.specs.laws.RowsStandApart.{AreOfKeptIncarnations, WritesAlone, KeepsTags, StandApart, RowsStandApart}
+use Rattle.nq_model.specs.protocol.ServerAlone.{Coming, datagram, ticks, crashes, step_for, server_after, first_boot, booted_last, entries_since_boot}
 use Rattle.walk_steps.proofs.HeardWrites.{HeardWrites, StoredBy, hears-writes, writes-receive, writes-tick}
 use Rattle.walk_steps.proofs.KeptTags.{own-keys, keeps-receive, keeps-tick, keeps-crash}
 use Rattle.walk_steps.proofs.RowChanges.{HasUniqueKeys, of-key}

@@ -14,21 +14,21 @@ use Rattle.nq_base.specs.declared.Row.{Row}
 use Rattle.nq_base.specs.declared.Verdict.{Verdict}
 use Rattle.nq_base.specs.declared.Want.{Want}
 use Rattle.nq_base.specs.declared.Who.{Who}
-use Rattle.nq_model.specs.Ask.{free, put_off_by_own, granted, no_lease, ask}
-use Rattle.nq_model.specs.Decide.{Decision, to_change, unless_asked, unless_conflict, decide_create, lets_push, decide_push, decide_write_in}
-use Rattle.nq_model.specs.Decide.{decide_write, decide_push_recovering, decide_write_recovering, decide_resize, decide_remove, decide_in, decide}
-use Rattle.nq_model.specs.Decide.{decided_once, decides, creates, writes_through, stores, stores_recovering, resizes, removes, in_the_way}
-use Rattle.nq_model.specs.Decide.{verdict_reply, row_after, commits, commits_within}
-use Rattle.nq_model.specs.Kept.{File, blocks_of, blocks_in_all, find_file, find_name, can_be_kept, can_rise}
-use Rattle.nq_model.specs.Message.{Message, call, reply, error, datagram_of, Datagram, too_long, no_message, no_call, other_rpc, other_program}
-use Rattle.nq_model.specs.Message.{other_version, unknown_procedure, garbage_vacated, garbage, request, was_too_long, was_no_message, was_no_call}
-use Rattle.nq_model.specs.Message.{wrong_host, old_incarnation, out_of_bounds, no_reply_owed, asker, sequence_of}
-use Rattle.nq_model.specs.Profile.{most_hosts, most_files, most_blocks, most_blocks_of_file, most_ids}
-use Rattle.nq_model.specs.Server.{Phase, serving, recovering, Server, ServerStep, quiet, drops, replies, with_table}
-use Rattle.nq_model.specs.ServerStep.{row_of_attach, attaches, attach_later, attach, look_up, get_attr, read, read_block, read_of, get_lease}
-use Rattle.nq_model.specs.ServerStep.{lease_of, tells_later, serves, to_read, access_of, is_attach, look, perform, not_attached, admit}
-use Rattle.nq_model.specs.ServerStep.{answer_request, receive, at_time, opens, is_due, end_reading, ends_writing, end_writing, tick_in, tick}
-use Rattle.nq_model.specs.Table.{Table, find_row, with_rows}
+use Rattle.nq_model.specs.protocol.Ask.{free, put_off_by_own, granted, no_lease, ask}
+use Rattle.nq_model.specs.protocol.Decide.{Decision, to_change, unless_asked, unless_conflict, decide_create, lets_push, decide_push, decide_write_in}
+use Rattle.nq_model.specs.protocol.Decide.{decide_write, decide_push_recovering, decide_write_recovering, decide_resize, decide_remove, decide_in, decide}
+use Rattle.nq_model.specs.protocol.Decide.{decided_once, decides, creates, writes_through, stores, stores_recovering, resizes, removes, in_the_way}
+use Rattle.nq_model.specs.protocol.Decide.{verdict_reply, row_after, commits, commits_within}
+use Rattle.nq_model.specs.protocol.Kept.{File, blocks_of, blocks_in_all, find_file, find_name, can_be_kept, can_rise}
+use Rattle.nq_model.specs.protocol.Message.{Message, call, reply, error, datagram_of, Datagram, too_long, no_message, no_call, other_rpc, other_program}
+use Rattle.nq_model.specs.protocol.Message.{other_version, unknown_procedure, garbage_vacated, garbage, request, was_too_long, was_no_message, was_no_call}
+use Rattle.nq_model.specs.protocol.Message.{wrong_host, old_incarnation, out_of_bounds, no_reply_owed, asker, sequence_of}
+use Rattle.nq_model.specs.protocol.Profile.{most_hosts, most_files, most_blocks, most_blocks_of_file, most_ids}
+use Rattle.nq_model.specs.protocol.Server.{Phase, serving, recovering, Server, ServerStep, quiet, drops, replies, with_table}
+use Rattle.nq_model.specs.protocol.ServerStep.{row_of_attach, attaches, attach_later, attach, look_up, get_attr, read, read_block, read_of, get_lease}
+use Rattle.nq_model.specs.protocol.ServerStep.{lease_of, tells_later, serves, to_read, access_of, is_attach, look, perform, not_attached, admit}
+use Rattle.nq_model.specs.protocol.ServerStep.{answer_request, receive, at_time, opens, is_due, end_reading, ends_writing, end_writing, tick_in, tick}
+use Rattle.nq_model.specs.protocol.Table.{Table, find_row, with_rows}
 use Rattle.walk_steps.proofs.AskCases.{with_waiter, IsGranted, asks}
 use Rattle.walk_steps.proofs.Rows.{choice, same-number, find-passes}
 use Rattle.walk_steps.proofs.Tests.{is-below, is-not-below, is-at-most, is-not-at-most, is-above, is-same, none-there}

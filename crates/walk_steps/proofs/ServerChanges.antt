@@ -29,18 +29,18 @@ use Rattle.walk_steps.proofs.ServerMoves.{first_line}
 use Rattle.walk_steps.proofs.ServerOutcomes.{line_of, IsFrom, IsCurrent, IsFresh, IsChanging, CanStore, clash_with}
 use Rattle.walk_steps.proofs.ServerSays.{verdict-inc, verdict-grant}
 use Rattle.walk_steps.proofs.TagFacts.{IsDrawn}
-use Rattle.nq_model.specs.Ask.{marked}
-use Rattle.nq_model.specs.Client.{Lease, Notice, Ticket}
-use Rattle.nq_model.specs.Decide.{Decision, decides, creates, writes_through, stores, wrote, stores_recovering, resizes, removes, puts_off}
-use Rattle.nq_model.specs.Decide.{in_the_way, verdict_reply, commits, row_after}
-use Rattle.nq_model.specs.Kept.{File, host_row, with_row, with_files, with_new_file}
-use Rattle.nq_model.specs.LeaseInterval.{claim_of, is_at_least, HasFitting, IsCovered, requested_file}
-use Rattle.nq_model.specs.Message.{Packet, reply, asker, Datagram, request, sequence_of}
-use Rattle.nq_model.specs.Profile.{write_slack, most_hosts}
-use Rattle.nq_model.specs.Server.{Phase, serving, recovering, Server, ServerStep, standing_in, to_host, quiet, after_notices, keeping, keeping_with}
-use Rattle.nq_model.specs.Server.{with_table}
-use Rattle.nq_model.specs.ServerStep.{attaches, vacates, vacated_rows}
-use Rattle.nq_model.specs.Table.{Table, caches, same_tag, tag_below, find_row, drop_row, drop_host, drop_rows_of, with_rows}
+use Rattle.nq_model.specs.protocol.Ask.{marked}
+use Rattle.nq_model.specs.protocol.Client.{Lease, Notice, Ticket}
+use Rattle.nq_model.specs.protocol.Decide.{Decision, decides, creates, writes_through, stores, wrote, stores_recovering, resizes, removes, puts_off}
+use Rattle.nq_model.specs.protocol.Decide.{in_the_way, verdict_reply, commits, row_after}
+use Rattle.nq_model.specs.protocol.Kept.{File, host_row, with_row, with_files, with_new_file}
+use Rattle.nq_model.specs.laws.LeaseInterval.{claim_of, is_at_least, HasFitting, IsCovered, requested_file}
+use Rattle.nq_model.specs.protocol.Message.{Packet, reply, asker, Datagram, request, sequence_of}
+use Rattle.nq_model.specs.protocol.Profile.{write_slack, most_hosts}
+use Rattle.nq_model.specs.protocol.Server.{Phase, serving, recovering, Server, ServerStep, standing_in, to_host, quiet, after_notices, keeping, keeping_with}
+use Rattle.nq_model.specs.protocol.Server.{with_table}
+use Rattle.nq_model.specs.protocol.ServerStep.{attaches, vacates, vacated_rows}
+use Rattle.nq_model.specs.protocol.Table.{Table, caches, same_tag, tag_below, find_row, drop_row, drop_host, drop_rows_of, with_rows}
 
 -- a cover stays where it does in the table, and the boot that served last is the same
 pub covered-tables : (s t : Server) (phase : Phase) (who : Who) (file : ℕ) (mode : Mode) (tag : Tag) (until : ℕ) → t.kept.opened ≡ s.kept.opened

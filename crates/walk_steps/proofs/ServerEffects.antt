@@ -31,18 +31,18 @@ use Rattle.walk_steps.proofs.ServerSays.{plain-inc, plain-grant}
 use Rattle.walk_steps.proofs.ServerTables.{StandingFits}
 use Rattle.walk_steps.proofs.TableFits.{TableFits}
 use Rattle.walk_steps.proofs.TagFacts.{IsDrawn}
-use Rattle.nq_model.specs.Ask.{conflicts, grant_of, sharing_row, caching_row, shared_again, renewed_row, term_of}
-use Rattle.nq_model.specs.Client.{Lease, Notice, Ticket, lease_on}
-use Rattle.nq_model.specs.Decide.{in_the_way, verdict_reply}
-use Rattle.nq_model.specs.Hear.{inc_of}
-use Rattle.nq_model.specs.Kept.{File, Kept, with_row, host_row}
-use Rattle.nq_model.specs.LeaseInterval.{grant_in}
-use Rattle.nq_model.specs.Message.{Message, Packet, reply, RpcError, asker, Reason, Datagram, request, too_long, no_message, no_call, other_rpc}
-use Rattle.nq_model.specs.Message.{other_program, other_version, unknown_procedure, garbage_vacated, garbage, sequence_of}
-use Rattle.nq_model.specs.Profile.{skew, shortest_term, granted_term, xid_end}
-use Rattle.nq_model.specs.Server.{serving, Server, ServerStep, standing, to_host, quiet, drops, says, replies, notices, after_notices, with_table}
-use Rattle.nq_model.specs.ServerStep.{tells_later, serves, leases, to_read, is_attach}
-use Rattle.nq_model.specs.Table.{Table, caches, tag_below, is_row_of, find_row, put_row, with_rows, after_draw, next_tag}
+use Rattle.nq_model.specs.protocol.Ask.{conflicts, grant_of, sharing_row, caching_row, shared_again, renewed_row, term_of}
+use Rattle.nq_model.specs.protocol.Client.{Lease, Notice, Ticket, lease_on}
+use Rattle.nq_model.specs.protocol.Decide.{in_the_way, verdict_reply}
+use Rattle.nq_model.specs.protocol.Hear.{inc_of}
+use Rattle.nq_model.specs.protocol.Kept.{File, Kept, with_row, host_row}
+use Rattle.nq_model.specs.laws.LeaseInterval.{grant_in}
+use Rattle.nq_model.specs.protocol.Message.{Message, Packet, reply, RpcError, asker, Reason, Datagram, request, too_long, no_message, no_call, other_rpc}
+use Rattle.nq_model.specs.protocol.Message.{other_program, other_version, unknown_procedure, garbage_vacated, garbage, sequence_of}
+use Rattle.nq_model.specs.protocol.Profile.{skew, shortest_term, granted_term, xid_end}
+use Rattle.nq_model.specs.protocol.Server.{serving, Server, ServerStep, standing, to_host, quiet, drops, says, replies, notices, after_notices, with_table}
+use Rattle.nq_model.specs.protocol.ServerStep.{tells_later, serves, leases, to_read, is_attach}
+use Rattle.nq_model.specs.protocol.Table.{Table, caches, tag_below, is_row_of, find_row, put_row, with_rows, after_draw, next_tag}
 use Rattle.walk_steps.proofs.Sequences.{asks-no-seq, reads-no-seq}
 
 -- rows of a filtered table are found under their keys

@@ -9,13 +9,13 @@ use Rattle.nq_base.specs.declared.Row.{Row}
 use Rattle.nq_base.specs.declared.Tag.{Tag}
 use Rattle.nq_base.specs.declared.Verdict.{Verdict}
 use Rattle.nq_base.specs.declared.Who.{Who}
-use Rattle.nq_model.specs.Decide.{Decision, decides, creates, writes_through, stores, stores_recovering, resizes, removes, puts_off, commits}
-use Rattle.nq_model.specs.Journal.{Each}
-use Rattle.nq_model.specs.Kept.{File, blocks_of}
-use Rattle.nq_model.specs.Message.{Message, Datagram, Reason}
-use Rattle.nq_model.specs.Server.{Server, says, quiet, drops}
-use Rattle.nq_model.specs.ServerStep.{attaches, vacates, tells_later, grants, serves, leases, receive, tick, opens, ends_writing}
-use Rattle.nq_model.specs.Table.{Table}
+use Rattle.nq_model.specs.protocol.Decide.{Decision, decides, creates, writes_through, stores, stores_recovering, resizes, removes, puts_off, commits}
+use Rattle.nq_model.specs.laws.Journal.{Each}
+use Rattle.nq_model.specs.protocol.Kept.{File, blocks_of}
+use Rattle.nq_model.specs.protocol.Message.{Message, Datagram, Reason}
+use Rattle.nq_model.specs.protocol.Server.{Server, says, quiet, drops}
+use Rattle.nq_model.specs.protocol.ServerStep.{attaches, vacates, tells_later, grants, serves, leases, receive, tick, opens, ends_writing}
+use Rattle.nq_model.specs.protocol.Table.{Table}
 use Rattle.walk_steps.proofs.ServerCases.{server-hears, server-ticks}
 
 -- the forms: what a server makes of a datagram, and in a tick of its clock

@@ -7,13 +7,13 @@ use Rattle.nq_base.specs.declared.Question.{Question}
 use Rattle.nq_base.specs.declared.Row.{Row}
 use Rattle.nq_base.specs.declared.Want.{Want}
 use Rattle.nq_base.specs.declared.Who.{Who}
-use Rattle.nq_model.specs.Ask.{term_of, marked, sharing_row, caching_row, shared_again, renewed_row}
-use Rattle.nq_model.specs.Kept.{File, Kept, find_file, replace_file, drop_file, with_files, with_new_file, with_row, host_row}
-use Rattle.nq_model.specs.Message.{Datagram, too_long}
-use Rattle.nq_model.specs.Profile.{write_slack}
-use Rattle.nq_model.specs.Server.{Phase, serving, recovering, Server, standing_in, last_table, last_in}
-use Rattle.nq_model.specs.ServerStep.{to_read, receive, is_over, end_reading, fence, tick, boot, crash}
-use Rattle.nq_model.specs.Table.{Table, is_row_of, find_row, put_row, drop_host, with_rows, after_draw, empty_table}
+use Rattle.nq_model.specs.protocol.Ask.{term_of, marked, sharing_row, caching_row, shared_again, renewed_row}
+use Rattle.nq_model.specs.protocol.Kept.{File, Kept, find_file, replace_file, drop_file, with_files, with_new_file, with_row, host_row}
+use Rattle.nq_model.specs.protocol.Message.{Datagram, too_long}
+use Rattle.nq_model.specs.protocol.Profile.{write_slack}
+use Rattle.nq_model.specs.protocol.Server.{Phase, serving, recovering, Server, standing_in, last_table, last_in}
+use Rattle.nq_model.specs.protocol.ServerStep.{to_read, receive, is_over, end_reading, fence, tick, boot, crash}
+use Rattle.nq_model.specs.protocol.Table.{Table, is_row_of, find_row, put_row, drop_host, with_rows, after_draw, empty_table}
 use Rattle.walk_steps.proofs.AskCases.{own_in, with_marked, IsGranted, shares_again, begins_sharing, begins_caching, renews_row}
 use Rattle.walk_steps.proofs.KeptChanges.{same-incs, later-incs, other-line}
 use Rattle.walk_steps.proofs.RowChanges.{HasUniqueKeys, unique-filtered, of-key, found-put, found-kept, found-vacated, find-host-dropped}

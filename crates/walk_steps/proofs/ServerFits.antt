@@ -1,10 +1,10 @@
 -- All facts about a server alone, and each of its steps keeps them.
 use Rattle.std.proofs.Common.{◌≡◌, ◌≤◌, ℕ, None, sym, arith}
-use Rattle.nq_model.specs.Kept.{Kept}
-use Rattle.nq_model.specs.Profile.{shortest_term}
-use Rattle.nq_model.specs.Server.{Server}
-use Rattle.nq_model.specs.ServerStep.{boot}
-use Rattle.nq_model.specs.Table.{empty_table}
+use Rattle.nq_model.specs.protocol.Kept.{Kept}
+use Rattle.nq_model.specs.protocol.Profile.{shortest_term}
+use Rattle.nq_model.specs.protocol.Server.{Server}
+use Rattle.nq_model.specs.protocol.ServerStep.{boot}
+use Rattle.nq_model.specs.protocol.Table.{empty_table}
 use Rattle.walk_steps.proofs.RowTimes.{TimesFitOf, times-boot}
 use Rattle.walk_steps.proofs.ServerFacts.{IncsFitOf, incs-boot}
 use Rattle.walk_steps.proofs.ServerNumbers.{TermsFitOf, IdsFitOf, IdsFit, LinesFitOf, LinesFit, PhaseWaitsOf, terms-boot, ids-boot, lines-boot, waits-boot}

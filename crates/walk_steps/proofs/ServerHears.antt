@@ -18,12 +18,12 @@ use Rattle.walk_steps.proofs.ServerEffects.{marked-drawn, marked-rows, waiter-bo
 use Rattle.walk_steps.proofs.ServerEffects.{leases-granted}
 use Rattle.walk_steps.proofs.ServerKnows.{Effect}
 use Rattle.walk_steps.proofs.ServerOutcomes.{wanted_by, ServerCases}
-use Rattle.nq_model.specs.Client.{Lease, Notice, Ticket}
-use Rattle.nq_model.specs.Decide.{in_the_way}
-use Rattle.nq_model.specs.Message.{Packet, Datagram}
-use Rattle.nq_model.specs.Server.{Server}
-use Rattle.nq_model.specs.ServerStep.{to_read, access_of, receive}
-use Rattle.nq_model.specs.Table.{is_row_of}
+use Rattle.nq_model.specs.protocol.Client.{Lease, Notice, Ticket}
+use Rattle.nq_model.specs.protocol.Decide.{in_the_way}
+use Rattle.nq_model.specs.protocol.Message.{Packet, Datagram}
+use Rattle.nq_model.specs.protocol.Server.{Server}
+use Rattle.nq_model.specs.protocol.ServerStep.{to_read, access_of, receive}
+use Rattle.nq_model.specs.protocol.Table.{is_row_of}
 
 module _ (ps : List Packet) (s : Server) (most sender next : ℕ) (d : Datagram) (events : List Event) (who : Who) (now xid : ℕ) (attached : Bool)
     (ticket : Option Ticket) (leased : List Lease) (noticed : List Notice)

@@ -18,17 +18,17 @@ use Rattle.walk_steps.proofs.CoverFacts.{IsCoveredWhile, IsShort, IsTakeable, Co
 use Rattle.walk_steps.proofs.HostLine.{LineFits, IsSettled, IsDecidedBy}
 use Rattle.walk_steps.proofs.Packets.{In, in-append, Asked, Told, told-same, not-both, call-same, reply-same, Mail}
 use Rattle.walk_steps.proofs.TagFacts.{IsDrawn, TagsFit}
-use Rattle.nq_model.specs.Client.{Lease, Notice, Ticket, lease_on}
-use Rattle.nq_model.specs.Hear.{inc_of}
-use Rattle.nq_model.specs.Kept.{host_row}
-use Rattle.nq_model.specs.LeaseInterval.{claim_of, is_at_least, IsCovered, cover_end, grant_in, requested_file}
-use Rattle.nq_model.specs.Message.{Packet, call, reply, error, RpcError, asker, sequence_of}
-use Rattle.nq_model.specs.Profile.{skew}
-use Rattle.nq_model.specs.Server.{serving, Server, ServerStep, standing, to_host}
-use Rattle.nq_model.specs.ServerStep.{is_attach}
-use Rattle.nq_model.specs.Skew.{server_ticks, ticks_of}
-use Rattle.nq_model.specs.Table.{caches, tag_below, find_row}
-use Rattle.nq_model.specs.World.{from_host}
+use Rattle.nq_model.specs.protocol.Client.{Lease, Notice, Ticket, lease_on}
+use Rattle.nq_model.specs.protocol.Hear.{inc_of}
+use Rattle.nq_model.specs.protocol.Kept.{host_row}
+use Rattle.nq_model.specs.laws.LeaseInterval.{claim_of, is_at_least, IsCovered, cover_end, grant_in, requested_file}
+use Rattle.nq_model.specs.protocol.Message.{Packet, call, reply, error, RpcError, asker, sequence_of}
+use Rattle.nq_model.specs.protocol.Profile.{skew}
+use Rattle.nq_model.specs.protocol.Server.{serving, Server, ServerStep, standing, to_host}
+use Rattle.nq_model.specs.protocol.ServerStep.{is_attach}
+use Rattle.nq_model.specs.protocol.Skew.{server_ticks, ticks_of}
+use Rattle.nq_model.specs.protocol.Table.{caches, tag_below, find_row}
+use Rattle.nq_model.specs.protocol.World.{from_host}
 
 -- nothing is heard or given between steps
 abbrev pub NoneHeard : ℕ → Tag → Type 0

@@ -26,15 +26,15 @@ use Rattle.walk_steps.proofs.ServerNumbers.{TermsFitOf}
 use Rattle.walk_steps.proofs.ServerTables.{BootsFit, BootsFitOf, RecoversBoot, StandingFits, StandingFitsOf}
 use Rattle.walk_steps.proofs.TableFits.{TableFits}
 use Rattle.walk_steps.proofs.TagFacts.{IsDrawn}
-use Rattle.nq_model.specs.Client.{Lease, Notice, Ticket}
-use Rattle.nq_model.specs.Kept.{File, Kept, host_row, find_file, with_files}
-use Rattle.nq_model.specs.LeaseInterval.{claim_of, HasFitting, OutlivedBy, IsCovered, cover_end}
-use Rattle.nq_model.specs.Message.{Packet}
-use Rattle.nq_model.specs.Profile.{skew, write_slack}
-use Rattle.nq_model.specs.Server.{Phase, serving, recovering, Server, standing, standing_in, quiet, keeping_with, with_table, last_table, last_in}
-use Rattle.nq_model.specs.ServerStep.{is_over, is_due, end_reading, fence, at_time, opens, ends_writing, tick, boot, booted, boot_phase, crash}
-use Rattle.nq_model.specs.Skew.{server_ticks, ticks_of, IsWithinSkew}
-use Rattle.nq_model.specs.Table.{Table, caches, is_writing, tag_below, find_row, drop_row, with_rows}
+use Rattle.nq_model.specs.protocol.Client.{Lease, Notice, Ticket}
+use Rattle.nq_model.specs.protocol.Kept.{File, Kept, host_row, find_file, with_files}
+use Rattle.nq_model.specs.laws.LeaseInterval.{claim_of, HasFitting, OutlivedBy, IsCovered, cover_end}
+use Rattle.nq_model.specs.protocol.Message.{Packet}
+use Rattle.nq_model.specs.protocol.Profile.{skew, write_slack}
+use Rattle.nq_model.specs.protocol.Server.{Phase, serving, recovering, Server, standing, standing_in, quiet, keeping_with, with_table, last_table, last_in}
+use Rattle.nq_model.specs.protocol.ServerStep.{is_over, is_due, end_reading, fence, at_time, opens, ends_writing, tick, boot, booted, boot_phase, crash}
+use Rattle.nq_model.specs.protocol.Skew.{server_ticks, ticks_of, IsWithinSkew}
+use Rattle.nq_model.specs.protocol.Table.{Table, caches, is_writing, tag_below, find_row, drop_row, with_rows}
 
 -- what a step of the server alone does to what runs by a client's clock
 pub record Lives (s t : Server) (e : Event) (events : List Event) (who : Who) (now : ℕ) : Type 0 where

@@ -10,15 +10,16 @@ use Rattle.nq_base.specs.declared.Tag.{Tag}
 use Rattle.nq_base.specs.declared.Verdict.{Verdict}
 use Rattle.nq_base.specs.declared.Want.{Want}
 use Rattle.nq_base.specs.declared.Who.{Who}
-use Rattle.nq_model.specs.Ask.{marked}
-use Rattle.nq_model.specs.Decide.{decides, creates, writes_through, stores, wrote, stores_recovering, resizes, removes, puts_off, commits}
-use Rattle.nq_model.specs.Kept.{File, Kept, find_file, replace_file, drop_file, written_file, resized_file, with_files, with_new_file, with_row, host_row}
-use Rattle.nq_model.specs.Message.{Datagram, request}
-use Rattle.nq_model.specs.Profile.{write_slack}
-use Rattle.nq_model.specs.Server.{Phase, serving, recovering, Server, ServerStep, quiet, drops, says, after_notices, keeping, keeping_with, with_table}
-use Rattle.nq_model.specs.ServerStep.{attaches, vacates, vacated_rows, tells_later, serves, leases, to_read, receive, is_due, end_reading, fence}
-use Rattle.nq_model.specs.ServerStep.{ends_writing, opens, at_time, tick}
-use Rattle.nq_model.specs.Table.{Table, find_row, drop_row, put_row, drop_host, drop_rows_of, with_rows, after_draw}
+use Rattle.nq_model.specs.protocol.Ask.{marked}
+use Rattle.nq_model.specs.protocol.Decide.{decides, creates, writes_through, stores, wrote, stores_recovering, resizes, removes, puts_off, commits}
+use Rattle.nq_model.specs.protocol.Kept.{File, Kept, find_file, replace_file, drop_file, written_file, resized_file, with_files, with_new_file, with_row}
+use Rattle.nq_model.specs.protocol.Kept.{host_row}
+use Rattle.nq_model.specs.protocol.Message.{Datagram, request}
+use Rattle.nq_model.specs.protocol.Profile.{write_slack}
+use Rattle.nq_model.specs.protocol.Server.{Phase, serving, recovering, Server, ServerStep, quiet, drops, says, after_notices, keeping, keeping_with, with_table}
+use Rattle.nq_model.specs.protocol.ServerStep.{attaches, vacates, vacated_rows, tells_later, serves, leases, to_read, receive, is_due, end_reading, fence}
+use Rattle.nq_model.specs.protocol.ServerStep.{ends_writing, opens, at_time, tick}
+use Rattle.nq_model.specs.protocol.Table.{Table, find_row, drop_row, put_row, drop_host, drop_rows_of, with_rows, after_draw}
 use Rattle.walk_steps.proofs.AskCases.{clash_in, own_in, has_room, with_marked, with_waiter, IsGranted}
 use Rattle.walk_steps.proofs.ServerCases.{server-hears, server-ticks}
 use Rattle.walk_steps.proofs.ServerOutcomes.{line_of, wanted_by, IsCurrent, IsAsking, CanCreate, CanStore, clash_with, ServerCases}

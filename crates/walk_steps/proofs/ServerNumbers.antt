@@ -3,12 +3,12 @@ use Rattle.std.proofs.Common.{◌≡◌, ◌≢◌, ◌<◌, ◌≤◌, ◌⊎�
 use Rattle.std.proofs.Common.{length, refl, sym, subst, ap, ◌∙◌, arith, inl, inr}
 use Rattle.std.proofs.lemmas.Bool.{cases_eq}
 use Rattle.nq_base.specs.declared.HostRow.{HostRow}
-use Rattle.nq_model.specs.Kept.{File, Kept, find_file, replace_file, drop_file, new_file, fenced_file, with_files, with_new_file, with_row}
-use Rattle.nq_model.specs.Message.{Datagram}
-use Rattle.nq_model.specs.Profile.{skew, write_slack, shortest_term, most_hosts}
-use Rattle.nq_model.specs.Server.{Phase, serving, recovering, Server, last_in}
-use Rattle.nq_model.specs.ServerStep.{receive, fence, tick, booted, boot, crash}
-use Rattle.nq_model.specs.Table.{Table}
+use Rattle.nq_model.specs.protocol.Kept.{File, Kept, find_file, replace_file, drop_file, new_file, fenced_file, with_files, with_new_file, with_row}
+use Rattle.nq_model.specs.protocol.Message.{Datagram}
+use Rattle.nq_model.specs.protocol.Profile.{skew, write_slack, shortest_term, most_hosts}
+use Rattle.nq_model.specs.protocol.Server.{Phase, serving, recovering, Server, last_in}
+use Rattle.nq_model.specs.protocol.ServerStep.{receive, fence, tick, booted, boot, crash}
+use Rattle.nq_model.specs.protocol.Table.{Table}
 use Rattle.walk_steps.proofs.KeptChanges.{length-with-row, found-replaced, find-not-removed, find-removed, found-added}
 use Rattle.walk_steps.proofs.ServerCases.{found-file}
 use Rattle.walk_steps.proofs.ServerMoves.{phase-moves, ServerMoves, server-moves, receive-keeps, tick-moves, tick-keeps}

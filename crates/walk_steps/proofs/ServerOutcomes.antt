@@ -13,18 +13,19 @@ use Rattle.nq_base.specs.declared.Tag.{Tag}
 use Rattle.nq_base.specs.declared.Verdict.{Verdict}
 use Rattle.nq_base.specs.declared.Want.{Want}
 use Rattle.nq_base.specs.declared.Who.{Who}
-use Rattle.nq_model.specs.Ask.{conflicts, marked, grant_of}
-use Rattle.nq_model.specs.Decide.{decides, creates, writes_through, stores, stores_recovering, resizes, removes, puts_off, in_the_way, verdict_reply, commits}
-use Rattle.nq_model.specs.Kept.{File, blocks_of, blocks_in_all, find_file, find_name, can_rise, host_row}
-use Rattle.nq_model.specs.LeaseInterval.{requested_file}
-use Rattle.nq_model.specs.Message.{Message, error, Datagram, too_long, no_message, no_call, other_rpc, other_program, other_version}
-use Rattle.nq_model.specs.Message.{unknown_procedure, garbage_vacated, garbage, request, rpc_mismatch, program_unavailable, program_mismatch}
-use Rattle.nq_model.specs.Message.{procedure_unavailable, garbage_arguments, Reason, asker, sequence_of, reply}
-use Rattle.nq_model.specs.Profile.{most_hosts, most_files, most_blocks, most_blocks_of_file, most_ids}
-use Rattle.nq_model.specs.Server.{serving, recovering, Server, ServerStep, quiet, drops, says, replies, with_table}
-use Rattle.nq_model.specs.ServerStep.{attaches, vacates, tells_later, serves, leases, to_read, access_of, is_attach, at_time, opens, is_due}
-use Rattle.nq_model.specs.ServerStep.{end_reading, ends_writing}
-use Rattle.nq_model.specs.Table.{Table, is_writing, find_row, put_row, with_rows, after_draw}
+use Rattle.nq_model.specs.protocol.Ask.{conflicts, marked, grant_of}
+use Rattle.nq_model.specs.protocol.Decide.{decides, creates, writes_through, stores, stores_recovering, resizes, removes, puts_off, in_the_way, verdict_reply}
+use Rattle.nq_model.specs.protocol.Decide.{commits}
+use Rattle.nq_model.specs.protocol.Kept.{File, blocks_of, blocks_in_all, find_file, find_name, can_rise, host_row}
+use Rattle.nq_model.specs.laws.LeaseInterval.{requested_file}
+use Rattle.nq_model.specs.protocol.Message.{Message, error, Datagram, too_long, no_message, no_call, other_rpc, other_program, other_version}
+use Rattle.nq_model.specs.protocol.Message.{unknown_procedure, garbage_vacated, garbage, request, rpc_mismatch, program_unavailable, program_mismatch}
+use Rattle.nq_model.specs.protocol.Message.{procedure_unavailable, garbage_arguments, Reason, asker, sequence_of, reply}
+use Rattle.nq_model.specs.protocol.Profile.{most_hosts, most_files, most_blocks, most_blocks_of_file, most_ids}
+use Rattle.nq_model.specs.protocol.Server.{serving, recovering, Server, ServerStep, quiet, drops, says, replies, with_table}
+use Rattle.nq_model.specs.protocol.ServerStep.{attaches, vacates, tells_later, serves, leases, to_read, access_of, is_attach, at_time, opens, is_due}
+use Rattle.nq_model.specs.protocol.ServerStep.{end_reading, ends_writing}
+use Rattle.nq_model.specs.protocol.Table.{Table, is_writing, find_row, put_row, with_rows, after_draw}
 use Rattle.walk_steps.proofs.AskCases.{clash_in, own_in, has_room, with_marked, with_waiter, IsGranted}
 
 -- the error that a datagram which is no request is answered with

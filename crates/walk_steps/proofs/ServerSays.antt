@@ -16,16 +16,17 @@ use Rattle.walk_steps.proofs.Rows.{number-same}
 use Rattle.walk_steps.proofs.ServerCases.{server-hears}
 use Rattle.walk_steps.proofs.ServerOutcomes.{error_for, IsPlain, unattached, attached_again, not_yet, no_entry, entry, no_attributes, attributes}
 use Rattle.walk_steps.proofs.ServerOutcomes.{no_file, no_block, decided_again, is_old}
-use Rattle.nq_model.specs.Decide.{Decision, decides, creates, writes_through, stores, stores_recovering, resizes, removes, puts_off, verdict_reply, commits}
-use Rattle.nq_model.specs.Kept.{File}
-use Rattle.nq_model.specs.Hear.{wants_of, inc_of}
-use Rattle.nq_model.specs.LeaseInterval.{grant_in, requested_file}
-use Rattle.nq_model.specs.Message.{Message, Packet, call, reply, error, RpcError, asker, Reason, Datagram, request, too_long, no_message, no_call}
-use Rattle.nq_model.specs.Message.{other_rpc, other_program, other_version, unknown_procedure, garbage_vacated, garbage, sequence_of}
-use Rattle.nq_model.specs.Profile.{xid_end}
-use Rattle.nq_model.specs.Server.{Server, to_host, says, quiet, drops, notices}
-use Rattle.nq_model.specs.ServerStep.{attaches, vacates, tells_later, serves, leases, receive}
-use Rattle.nq_model.specs.Table.{Table}
+use Rattle.nq_model.specs.protocol.Decide.{Decision, decides, creates, writes_through, stores, stores_recovering, resizes, removes, puts_off, verdict_reply}
+use Rattle.nq_model.specs.protocol.Decide.{commits}
+use Rattle.nq_model.specs.protocol.Kept.{File}
+use Rattle.nq_model.specs.protocol.Hear.{wants_of, inc_of}
+use Rattle.nq_model.specs.laws.LeaseInterval.{grant_in, requested_file}
+use Rattle.nq_model.specs.protocol.Message.{Message, Packet, call, reply, error, RpcError, asker, Reason, Datagram, request, too_long, no_message, no_call}
+use Rattle.nq_model.specs.protocol.Message.{other_rpc, other_program, other_version, unknown_procedure, garbage_vacated, garbage, sequence_of}
+use Rattle.nq_model.specs.protocol.Profile.{xid_end}
+use Rattle.nq_model.specs.protocol.Server.{Server, to_host, says, quiet, drops, notices}
+use Rattle.nq_model.specs.protocol.ServerStep.{attaches, vacates, tells_later, serves, leases, receive}
+use Rattle.nq_model.specs.protocol.Table.{Table}
 
 -- notices are no replies
 pub notices-no-reply : (xid : ℕ) (rows : List Row) (host x : ℕ) (a : Reply) → In (notices xid rows) (to_host host (reply x a)) → ⊥

@@ -8,16 +8,16 @@ use Rattle.nq_base.specs.declared.Row.{Row}
 use Rattle.nq_base.specs.declared.Tag.{Tag}
 use Rattle.nq_base.specs.declared.Want.{Want}
 use Rattle.nq_base.specs.declared.Who.{Who}
-use Rattle.nq_model.specs.Ask.{marked, sharing_row, caching_row, shared_again, renewed_row}
-use Rattle.nq_model.specs.Decide.{in_the_way, decides, creates, writes_through, stores, stores_recovering, resizes, removes, puts_off, commits}
-use Rattle.nq_model.specs.Kept.{Kept}
-use Rattle.nq_model.specs.Message.{Datagram, Packet}
-use Rattle.nq_model.specs.Profile.{most_hosts, xid_end}
-use Rattle.nq_model.specs.Server.{Server, last_in, notices, quiet, drops, says}
-use Rattle.nq_model.specs.ServerStep.{access_of, to_read, end_reading, attaches, vacates, vacated_rows, tells_later, serves, leases, opens}
-use Rattle.nq_model.specs.ServerStep.{ends_writing, receive, tick, boot, crash}
-use Rattle.nq_model.specs.Table.{Table, empty_table, after_draw, find_row, is_row_of, put_row, drop_row, same_tag, with_rows}
-use Rattle.nq_model.specs.ServerAlone.{Coming, datagram, ticks, crashes, step_for, server_after, first_boot}
+use Rattle.nq_model.specs.protocol.Ask.{marked, sharing_row, caching_row, shared_again, renewed_row}
+use Rattle.nq_model.specs.protocol.Decide.{in_the_way, decides, creates, writes_through, stores, stores_recovering, resizes, removes, puts_off, commits}
+use Rattle.nq_model.specs.protocol.Kept.{Kept}
+use Rattle.nq_model.specs.protocol.Message.{Datagram, Packet}
+use Rattle.nq_model.specs.protocol.Profile.{most_hosts, xid_end}
+use Rattle.nq_model.specs.protocol.Server.{Server, last_in, notices, quiet, drops, says}
+use Rattle.nq_model.specs.protocol.ServerStep.{access_of, to_read, end_reading, attaches, vacates, vacated_rows, tells_later, serves, leases, opens}
+use Rattle.nq_model.specs.protocol.ServerStep.{ends_writing, receive, tick, boot, crash}
+use Rattle.nq_model.specs.protocol.Table.{Table, empty_table, after_draw, find_row, is_row_of, put_row, drop_row, same_tag, with_rows}
+use Rattle.nq_model.specs.protocol.ServerAlone.{Coming, datagram, ticks, crashes, step_for, server_after, first_boot}
 use Rattle.walk_steps.proofs.AskCases.{IsGranted, shares_again, begins_sharing, begins_caching, renews_row}
 use Rattle.walk_steps.proofs.RowChanges.{mark, find-put, find-marked, none-filtered, of-key}
 use Rattle.walk_steps.proofs.Rows.{choice, found-row}

@@ -4,12 +4,12 @@ use Rattle.std.proofs.Common.{sym, subst, ap, ◌∙◌, arith}
 use Rattle.std.specs.Prelude.{is_some}
 use Rattle.nq_base.specs.declared.Row.{Row}
 use Rattle.nq_base.specs.declared.Who.{Who}
-use Rattle.nq_model.specs.Kept.{File, Kept, find_file, replace_file, drop_file, new_file, fenced_file, with_files, with_new_file, with_row}
-use Rattle.nq_model.specs.Message.{Datagram}
-use Rattle.nq_model.specs.Profile.{write_slack}
-use Rattle.nq_model.specs.Server.{Phase, serving, recovering, Server, standing_in, standing, last_table, last_in}
-use Rattle.nq_model.specs.ServerStep.{vacated_rows, to_read, receive, is_over, end_reading, fence, tick, boot_phase, booted, boot, crash}
-use Rattle.nq_model.specs.Table.{Table, is_row_of, find_row, drop_row, put_row, drop_host, drop_rows_of, with_rows, after_draw, empty_table}
+use Rattle.nq_model.specs.protocol.Kept.{File, Kept, find_file, replace_file, drop_file, new_file, fenced_file, with_files, with_new_file, with_row}
+use Rattle.nq_model.specs.protocol.Message.{Datagram}
+use Rattle.nq_model.specs.protocol.Profile.{write_slack}
+use Rattle.nq_model.specs.protocol.Server.{Phase, serving, recovering, Server, standing_in, standing, last_table, last_in}
+use Rattle.nq_model.specs.protocol.ServerStep.{vacated_rows, to_read, receive, is_over, end_reading, fence, tick, boot_phase, booted, boot, crash}
+use Rattle.nq_model.specs.protocol.Table.{Table, is_row_of, find_row, drop_row, put_row, drop_host, drop_rows_of, with_rows, after_draw, empty_table}
 use Rattle.walk_steps.proofs.KeptChanges.{is-kept-replaced, find-added, find-not-removed}
 use Rattle.walk_steps.proofs.RowChanges.{HasUniqueKeys, unique-filtered, found-kept, found-vacated, unique-vacated, find-file-dropped}
 use Rattle.walk_steps.proofs.Rows.{found-row}

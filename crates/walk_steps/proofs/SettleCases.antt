@@ -9,10 +9,11 @@ use Rattle.nq_base.specs.declared.Push.{Push}
 use Rattle.nq_base.specs.declared.Value.{Value}
 use Rattle.nq_model.proofs.ClientLists.{any-written}
 use Rattle.walk_steps.proofs.ClientMoves.{some-same, none-some}
-use Rattle.nq_model.specs.Client.{Client, ClientStep, Lease, UnderWay, lease_on, lets_read, lets_write, notice_on, is_clean, is_push_of, is_push_at, dirty_at}
-use Rattle.nq_model.specs.Settle.{answers, reads_cached, settle_body, cached_body, settle_read, after_write, delays, marks_written, after_delay}
-use Rattle.nq_model.specs.Settle.{settle_write_in, settle_write, settle_sync, settle_put, settle_call, ticket_is_for_call, settle_under_way, settle}
-use Rattle.nq_model.specs.Settle.{is_full, with_write}
+use Rattle.nq_model.specs.protocol.Client.{Client, ClientStep, Lease, UnderWay, lease_on, lets_read, lets_write, notice_on, is_clean, is_push_of, is_push_at}
+use Rattle.nq_model.specs.protocol.Client.{dirty_at}
+use Rattle.nq_model.specs.protocol.Settle.{answers, reads_cached, settle_body, cached_body, settle_read, after_write, delays, marks_written, after_delay}
+use Rattle.nq_model.specs.protocol.Settle.{settle_write_in, settle_write, settle_sync, settle_put, settle_call, ticket_is_for_call, settle_under_way, settle}
+use Rattle.nq_model.specs.protocol.Settle.{is_full, with_write}
 use Rattle.walk_steps.proofs.Rows.{choice, number-same}
 use Rattle.walk_steps.proofs.Tests.{is-at-most, is-not-at-most, none-there}
 

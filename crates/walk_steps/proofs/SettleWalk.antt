@@ -9,8 +9,8 @@ use Rattle.walk_steps.proofs.ClientFacts.{Asking, AskingOf}
 use Rattle.walk_steps.proofs.ClientMoves.{attached-with-call, ends-call, begins, uses}
 use Rattle.walk_steps.proofs.ClientWrites.{delays as delays_write}
 use Rattle.walk_steps.proofs.SettleCases.{IsSettling, settle-cases}
-use Rattle.nq_model.specs.Client.{Client, ClientStep, UnderWay, dirty_at}
-use Rattle.nq_model.specs.Settle.{answers, names_losses, after_read, reads_cached, after_write, delays, marks_written, ticket_is_for_call, settle}
+use Rattle.nq_model.specs.protocol.Client.{Client, ClientStep, UnderWay, dirty_at}
+use Rattle.nq_model.specs.protocol.Settle.{answers, names_losses, after_read, reads_cached, after_write, delays, marks_written, ticket_is_for_call, settle}
 
 -- whether the call's own request is under way
 abbrev pub IsIdle : ClientStep → Type 0

@@ -7,8 +7,8 @@ use Rattle.nq_base.specs.Name.{IsName, IsNameByte}
 use Rattle.nq_base.specs.declared.Call.{Call}
 use Rattle.nq_base.specs.declared.Event.{Event}
 use Rattle.nq_base.specs.declared.Request.{Request}
-use Rattle.nq_model.specs.Message.{Packet, call}
-use Rattle.nq_model.specs.World.{Head, from_host, start, run}
+use Rattle.nq_model.specs.protocol.Message.{Packet, call}
+use Rattle.nq_model.specs.protocol.World.{Head, from_host, start, run}
 use Rattle.walk_steps.proofs.ClientMoves.{some-same}
 use Rattle.walk_steps.specs.Within.{CarriesText, NumbersAreMet}
 use Rattle.walk_steps.proofs.GivenRuns.{given-run}

@@ -4,11 +4,11 @@ use Rattle.nq_base.specs.Block.{filled, zeros}
 use Rattle.nq_base.specs.declared.Call.{Call}
 use Rattle.nq_base.specs.declared.Event.{Event}
 use Rattle.walk_steps.proofs.NoCrash.{no-crash-within, one-first}
-use Rattle.nq_model.specs.Bounds.{BootsWithin}
+use Rattle.nq_model.specs.laws.Bounds.{BootsWithin}
 use Rattle.walk_steps.specs.IntervalsMet.{IsMet, IsMetInRecovery, holds_running, is_recovering}
 use Rattle.std.specs.Prelude.{slice_get, All}
 use Rattle.nq_model.proofs.SkewTest.{skew-test-is-sound}
-use Rattle.nq_model.specs.World.{Head, run}
+use Rattle.nq_model.specs.protocol.World.{Head, run}
 use Rattle.walk_steps.proofs.GivenRuns.{given-run}
 
 -- two hosts, one file of one block

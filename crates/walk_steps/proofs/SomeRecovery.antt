@@ -4,17 +4,17 @@ use Rattle.nq_base.specs.Block.{filled, zeros}
 use Rattle.nq_base.specs.declared.Mode.{Mode}
 use Rattle.nq_base.specs.declared.Request.{Request}
 use Rattle.nq_base.specs.declared.Who.{Who}
-use Rattle.nq_model.specs.Ask.{grant_of, sharing_row, caching_row, shared_again, renewed_row, put_off, free, put_off_by_own, granted, no_lease}
-use Rattle.nq_model.specs.Decide.{decides, creates, writes_through, stores, wrote, stores_recovering, resizes, removes, puts_off, commits}
-use Rattle.nq_model.specs.Kept.{Kept, new_file, written_file, resized_file, fenced_file, with_row, with_files, with_new_file}
-use Rattle.nq_model.specs.Message.{request}
-use Rattle.nq_model.specs.Server.{Server, recovering, quiet, drops, says, after_notices, keeping, keeping_with, with_table}
-use Rattle.nq_model.specs.ServerStep.{attaches, tells_later, serves, leases, vacates, ends_writing, opens, at_time, boot, crash}
-use Rattle.nq_model.specs.Table.{Table, empty_table, with_rows, after_draw, find_row}
-use Rattle.nq_model.specs.World.{first_kept}
+use Rattle.nq_model.specs.protocol.Ask.{grant_of, sharing_row, caching_row, shared_again, renewed_row, put_off, free, put_off_by_own, granted, no_lease}
+use Rattle.nq_model.specs.protocol.Decide.{decides, creates, writes_through, stores, wrote, stores_recovering, resizes, removes, puts_off, commits}
+use Rattle.nq_model.specs.protocol.Kept.{Kept, new_file, written_file, resized_file, fenced_file, with_row, with_files, with_new_file}
+use Rattle.nq_model.specs.protocol.Message.{request}
+use Rattle.nq_model.specs.protocol.Server.{Server, recovering, quiet, drops, says, after_notices, keeping, keeping_with, with_table}
+use Rattle.nq_model.specs.protocol.ServerStep.{attaches, tells_later, serves, leases, vacates, ends_writing, opens, at_time, boot, crash}
+use Rattle.nq_model.specs.protocol.Table.{Table, empty_table, with_rows, after_draw, find_row}
+use Rattle.nq_model.specs.protocol.World.{first_kept}
 use Rattle.walk_steps.specs.RecoveriesAreMet.{is_writer_to_go, RecoveriesAreMet}
-use Rattle.nq_model.specs.RecoveriesWait.{WasStoredAt}
-use Rattle.nq_model.specs.ServerAlone.{Coming, datagram, ticks, crashes, server_after, first_boot, entries_since_boot}
+use Rattle.nq_model.specs.laws.RecoveriesWait.{WasStoredAt}
+use Rattle.nq_model.specs.protocol.ServerAlone.{Coming, datagram, ticks, crashes, server_after, first_boot, entries_since_boot}
 
 -- two hosts, one file of one block
 abbrev kept : Kept

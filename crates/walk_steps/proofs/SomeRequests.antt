@@ -7,14 +7,14 @@ use Rattle.nq_base.specs.declared.Event.{Event}
 use Rattle.nq_base.specs.declared.Reply.{Reply}
 use Rattle.nq_base.specs.declared.Request.{Request}
 use Rattle.walk_steps.proofs.NoCrash.{no-crash-within}
-use Rattle.nq_model.specs.OneRequestPerSequence.{IsOpenRequest}
+use Rattle.nq_model.specs.laws.OneRequestPerSequence.{IsOpenRequest}
 use Rattle.walk_steps.specs.RequestsMet.{IsAskedTwice}
 use Rattle.nq_model.proofs.SkewTest.{skew-test-is-sound}
-use Rattle.nq_model.specs.Client.{Client, Job, Ticket}
-use Rattle.nq_model.specs.ClientStep.{fresh_client}
-use Rattle.nq_model.specs.Message.{reply}
-use Rattle.nq_model.specs.Server.{to_host}
-use Rattle.nq_model.specs.World.{Head, run}
+use Rattle.nq_model.specs.protocol.Client.{Client, Job, Ticket}
+use Rattle.nq_model.specs.protocol.ClientStep.{fresh_client}
+use Rattle.nq_model.specs.protocol.Message.{reply}
+use Rattle.nq_model.specs.protocol.Server.{to_host}
+use Rattle.nq_model.specs.protocol.World.{Head, run}
 use Rattle.walk_steps.proofs.GivenRuns.{given-run}
 
 -- two hosts, one file of one block

@@ -9,16 +9,16 @@ use Rattle.nq_base.specs.declared.Request.{Request}
 use Rattle.nq_base.specs.declared.Tag.{Tag}
 use Rattle.nq_base.specs.declared.Who.{Who}
 use Rattle.walk_steps.proofs.ClientMoves.{some-same}
-use Rattle.nq_model.specs.Client.{Client, ClientStep, Ticket, UnderWay, begun, lease_on, losses_of, is_clean}
-use Rattle.nq_model.specs.ClientStep.{begins_call, is_called, sends_unless_cached, tell_losses, call_past_losses, says_busy, losses_for, changed_file}
-use Rattle.nq_model.specs.ClientStep.{client_call, at_time, sends_again, tick_asking, client_tick}
-use Rattle.nq_model.specs.Hear.{vacates_lease, notes_notice, evicted, cancels, holds_later, inc_of, reply_counts, is_reply_to, replied, goes_on}
-use Rattle.nq_model.specs.Hear.{hear_reply, hear_call, hear}
-use Rattle.nq_model.specs.Message.{Message, call, reply, error}
-use Rattle.nq_model.specs.Profile.{patience}
-use Rattle.nq_model.specs.Send.{send_next}
-use Rattle.nq_model.specs.Settle.{names_losses, settle}
-use Rattle.nq_model.specs.Table.{same_who}
+use Rattle.nq_model.specs.protocol.Client.{Client, ClientStep, Ticket, UnderWay, begun, lease_on, losses_of, is_clean}
+use Rattle.nq_model.specs.protocol.ClientStep.{begins_call, is_called, sends_unless_cached, tell_losses, call_past_losses, says_busy, losses_for, changed_file}
+use Rattle.nq_model.specs.protocol.ClientStep.{client_call, at_time, sends_again, tick_asking, client_tick}
+use Rattle.nq_model.specs.protocol.Hear.{vacates_lease, notes_notice, evicted, cancels, holds_later, inc_of, reply_counts, is_reply_to, replied, goes_on}
+use Rattle.nq_model.specs.protocol.Hear.{hear_reply, hear_call, hear}
+use Rattle.nq_model.specs.protocol.Message.{Message, call, reply, error}
+use Rattle.nq_model.specs.protocol.Profile.{patience}
+use Rattle.nq_model.specs.protocol.Send.{send_next}
+use Rattle.nq_model.specs.protocol.Settle.{names_losses, settle}
+use Rattle.nq_model.specs.protocol.Table.{same_who}
 use Rattle.walk_steps.proofs.Incarnations.{who-same}
 use Rattle.walk_steps.proofs.Rows.{choice, same-number}
 use Rattle.walk_steps.proofs.Tests.{is-at-most, is-not-at-most}

@@ -8,17 +8,17 @@ use Rattle.nq_base.specs.declared.Request.{Request}
 use Rattle.nq_base.specs.declared.Tag.{Tag}
 use Rattle.nq_base.specs.declared.Value.{Value}
 use Rattle.nq_base.specs.declared.Who.{Who}
-use Rattle.nq_model.specs.Client.{Client, ClientStep, Job, for_call, renewing, pushing, Notice, Ticket, UnderWay, begun, lease_on, notice_on}
-use Rattle.nq_model.specs.Client.{dirty_at, is_clean, revision_of, is_revision_before}
-use Rattle.nq_model.specs.ClientStep.{client_tick, at_time, sends_again}
-use Rattle.nq_model.specs.Hear.{hear, inc_of, reply_counts, spends, attached, pauses, marks_through, cancels, cancelled, vacates_lease}
-use Rattle.nq_model.specs.Hear.{vacates_noticed, notes_notice, evicted, loses, without_lease, holds, breaks, breaks_chain, if_broken, takes_grant}
-use Rattle.nq_model.specs.Hear.{takes_optional, answers_call, reports_to, waits_for, caches_block, then_caches, caches_write, caches_push, purges}
-use Rattle.nq_model.specs.Hear.{knows_revision, ends_push, push_done, push_refused, read_done, lease_done, write_done, replied, grant_caches}
-use Rattle.nq_model.specs.Hear.{holds_caching}
-use Rattle.nq_model.specs.Message.{Message, call, reply, asker}
-use Rattle.nq_model.specs.Send.{sends_request, after_seq, after_number, takes_push, gives_up, send_next}
-use Rattle.nq_model.specs.Settle.{answers, names_losses, reads_cached, after_read, after_write, marks_written, settle}
+use Rattle.nq_model.specs.protocol.Client.{Client, ClientStep, Job, for_call, renewing, pushing, Notice, Ticket, UnderWay, begun, lease_on, notice_on}
+use Rattle.nq_model.specs.protocol.Client.{dirty_at, is_clean, revision_of, is_revision_before}
+use Rattle.nq_model.specs.protocol.ClientStep.{client_tick, at_time, sends_again}
+use Rattle.nq_model.specs.protocol.Hear.{hear, inc_of, reply_counts, spends, attached, pauses, marks_through, cancels, cancelled, vacates_lease}
+use Rattle.nq_model.specs.protocol.Hear.{vacates_noticed, notes_notice, evicted, loses, without_lease, holds, breaks, breaks_chain, if_broken, takes_grant}
+use Rattle.nq_model.specs.protocol.Hear.{takes_optional, answers_call, reports_to, waits_for, caches_block, then_caches, caches_write, caches_push, purges}
+use Rattle.nq_model.specs.protocol.Hear.{knows_revision, ends_push, push_done, push_refused, read_done, lease_done, write_done, replied, grant_caches}
+use Rattle.nq_model.specs.protocol.Hear.{holds_caching}
+use Rattle.nq_model.specs.protocol.Message.{Message, call, reply, asker}
+use Rattle.nq_model.specs.protocol.Send.{sends_request, after_seq, after_number, takes_push, gives_up, send_next}
+use Rattle.nq_model.specs.protocol.Settle.{answers, names_losses, reads_cached, after_read, after_write, marks_written, settle}
 use Rattle.walk_steps.proofs.ClientFacts.{Alone, fits_job}
 use Rattle.walk_steps.proofs.PartCases.{answers-call-cases, vacates-if-clean-cases, lease-done-cases}
 use Rattle.walk_steps.proofs.RepliedCases.{replied-cases}

@@ -5,16 +5,16 @@ use Rattle.nq_base.specs.declared.Call.{Call}
 use Rattle.nq_base.specs.declared.Event.{Event}
 use Rattle.nq_base.specs.declared.Party.{Party}
 use Rattle.walk_steps.proofs.NoCrash.{bounds-before}
-use Rattle.nq_model.specs.Bounds.{KeepsBounds}
-use Rattle.nq_model.specs.Client.{Client, ClientStep}
-use Rattle.nq_model.specs.ClientStep.{client_call, client_tick, restart}
-use Rattle.nq_model.specs.Hear.{hear}
-use Rattle.nq_model.specs.Message.{Packet, datagram_of}
-use Rattle.nq_model.specs.Server.{ServerStep}
-use Rattle.nq_model.specs.ServerStep.{receive, tick, crash}
-use Rattle.nq_model.specs.Skew.{IsWithinSkew}
-use Rattle.nq_model.specs.World.{Head, World, after_server, after_client, at_client, after_hearing, sending_host, deliver_to_client, deliver_to}
-use Rattle.nq_model.specs.World.{deliver, run, step}
+use Rattle.nq_model.specs.laws.Bounds.{KeepsBounds}
+use Rattle.nq_model.specs.protocol.Client.{Client, ClientStep}
+use Rattle.nq_model.specs.protocol.ClientStep.{client_call, client_tick, restart}
+use Rattle.nq_model.specs.protocol.Hear.{hear}
+use Rattle.nq_model.specs.protocol.Message.{Packet, datagram_of}
+use Rattle.nq_model.specs.protocol.Server.{ServerStep}
+use Rattle.nq_model.specs.protocol.ServerStep.{receive, tick, crash}
+use Rattle.nq_model.specs.protocol.Skew.{IsWithinSkew}
+use Rattle.nq_model.specs.protocol.World.{Head, World, after_server, after_client, at_client, after_hearing, sending_host, deliver_to_client, deliver_to}
+use Rattle.nq_model.specs.protocol.World.{deliver, run, step}
 use Rattle.walk_steps.proofs.RunCases.{During}
 use Rattle.walk_steps.proofs.Clocks.{within-before}
 

@@ -11,10 +11,10 @@ use Rattle.nq_base.specs.declared.Mode.TheVariants.{NonCaching, Reading, Writing
 use Rattle.nq_base.specs.declared.Question.{Question}
 use Rattle.nq_base.specs.declared.Row.{Row}
 use Rattle.nq_base.specs.declared.Want.{Want}
-use Rattle.nq_model.specs.Ask.{mode_conflicts, conflicts, marked, term_of, sharing_row, caching_row, shared_again, renewed_row}
-use Rattle.nq_model.specs.Kept.{File, find_file}
-use Rattle.nq_model.specs.ServerStep.{access_of, access_of_mode}
-use Rattle.nq_model.specs.Table.{Table, tag_below, caches, is_writing, greater_mode, is_row_of, find_row, put_row, with_rows, after_draw}
+use Rattle.nq_model.specs.protocol.Ask.{mode_conflicts, conflicts, marked, term_of, sharing_row, caching_row, shared_again, renewed_row}
+use Rattle.nq_model.specs.protocol.Kept.{File, find_file}
+use Rattle.nq_model.specs.protocol.ServerStep.{access_of, access_of_mode}
+use Rattle.nq_model.specs.protocol.Table.{Table, tag_below, caches, is_writing, greater_mode, is_row_of, find_row, put_row, with_rows, after_draw}
 use Rattle.walk_steps.proofs.AskCases.{clash_in, with_marked, with_waiter, IsGranted, shares_again, begins_sharing, begins_caching, renews_row}
 use Rattle.walk_steps.proofs.RowChanges.{HasUniqueKeys, of-key, found-put, unique-put, found-marked, mark, mark-is, unique-marked, no-clash}
 use Rattle.walk_steps.proofs.Rows.{found-row}

@@ -8,13 +8,13 @@ use Rattle.nq_base.specs.declared.Tag.{Tag}
 use Rattle.nq_base.specs.declared.Who.{Who}
 use Rattle.nq_model.proofs.ClientLists.{marked-before, marked-tag, lease-before-drop, lease-after-put, notice-before-drop, notice-after-put}
 use Rattle.walk_steps.proofs.Packets.{In, in-last, Asked, Told, message-same, not-both, call-same}
-use Rattle.nq_model.specs.Client.{Lease, Notice, Ticket, lease_on, drop_lease, put_lease, used_lease, notice_on, drop_notice}
-use Rattle.nq_model.specs.Hear.{inc_of, noticed_tag, with_notice}
-use Rattle.nq_model.specs.LeaseInterval.{grant_in, requested_file}
-use Rattle.nq_model.specs.Message.{Message, Packet, call, reply}
-use Rattle.nq_model.specs.Server.{to_host}
-use Rattle.nq_model.specs.Table.{tag_below, later_tag}
-use Rattle.nq_model.specs.World.{from_host}
+use Rattle.nq_model.specs.protocol.Client.{Lease, Notice, Ticket, lease_on, drop_lease, put_lease, used_lease, notice_on, drop_notice}
+use Rattle.nq_model.specs.protocol.Hear.{inc_of, noticed_tag, with_notice}
+use Rattle.nq_model.specs.laws.LeaseInterval.{grant_in, requested_file}
+use Rattle.nq_model.specs.protocol.Message.{Message, Packet, call, reply}
+use Rattle.nq_model.specs.protocol.Server.{to_host}
+use Rattle.nq_model.specs.protocol.Table.{tag_below, later_tag}
+use Rattle.nq_model.specs.protocol.World.{from_host}
 
 -- a tag was drawn by a boot up to this one, and in this one among the first so many
 abbrev pub IsDrawn : (boot drawn : ℕ) → Tag → Type 0

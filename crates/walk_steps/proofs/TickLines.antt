@@ -3,10 +3,10 @@ use Rattle.std.proofs.Common.{◌≡◌, ℕ, List, refl}
 use Rattle.nq_base.specs.declared.Row.{Row}
 use Rattle.walk_steps.proofs.ServerCases.{server-ticks}
 use Rattle.walk_steps.proofs.ServerFacts.{fence-lines}
-use Rattle.nq_model.specs.Kept.{find_file, host_row}
-use Rattle.nq_model.specs.Server.{Server, quiet, with_table, keeping_with}
-use Rattle.nq_model.specs.ServerStep.{tick, opens, ends_writing, at_time}
-use Rattle.nq_model.specs.Table.{with_rows}
+use Rattle.nq_model.specs.protocol.Kept.{find_file, host_row}
+use Rattle.nq_model.specs.protocol.Server.{Server, quiet, with_table, keeping_with}
+use Rattle.nq_model.specs.protocol.ServerStep.{tick, opens, ends_writing, at_time}
+use Rattle.nq_model.specs.protocol.Table.{with_rows}
 
 waits-line : (s : Server) (now host : ℕ) → host_row (quiet (at_time s now)).server.kept host ≡ host_row s.kept host
 unfolding quiet at_time

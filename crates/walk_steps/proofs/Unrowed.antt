@@ -17,16 +17,16 @@ use Rattle.walk_steps.proofs.ServerCases.{server-hears, server-ticks}
 use Rattle.walk_steps.proofs.ServerOutcomes.{wanted_by, ServerCases, IsAsking}
 use Rattle.walk_steps.proofs.ServerTables.{StandingFits, StandingFitsOf, NoneRecovering, none-of-boots}
 use Rattle.walk_steps.proofs.TableFits.{TableFits}
-use Rattle.nq_model.specs.Ask.{marked, sharing_row, caching_row, shared_again, renewed_row, term_of}
-use Rattle.nq_model.specs.Client.{Lease, Notice, Ticket}
-use Rattle.nq_model.specs.Decide.{decides, creates, writes_through, stores, wrote, stores_recovering, resizes, removes, puts_off, commits}
-use Rattle.nq_model.specs.Kept.{File}
-use Rattle.nq_model.specs.LeaseInterval.{requested_file}
-use Rattle.nq_model.specs.Message.{Packet, asker, Datagram, request}
-use Rattle.nq_model.specs.Server.{Phase, serving, recovering, Server, quiet, drops, says, after_notices, keeping, keeping_with, with_table}
-use Rattle.nq_model.specs.ServerStep.{attaches, vacates, tells_later, serves, leases, to_read, access_of, receive, is_over, end_reading, at_time}
-use Rattle.nq_model.specs.ServerStep.{opens, ends_writing, tick, boot, crash}
-use Rattle.nq_model.specs.Table.{Table, is_row_of, find_row, put_row, drop_row, with_rows, after_draw, empty_table}
+use Rattle.nq_model.specs.protocol.Ask.{marked, sharing_row, caching_row, shared_again, renewed_row, term_of}
+use Rattle.nq_model.specs.protocol.Client.{Lease, Notice, Ticket}
+use Rattle.nq_model.specs.protocol.Decide.{decides, creates, writes_through, stores, wrote, stores_recovering, resizes, removes, puts_off, commits}
+use Rattle.nq_model.specs.protocol.Kept.{File}
+use Rattle.nq_model.specs.laws.LeaseInterval.{requested_file}
+use Rattle.nq_model.specs.protocol.Message.{Packet, asker, Datagram, request}
+use Rattle.nq_model.specs.protocol.Server.{Phase, serving, recovering, Server, quiet, drops, says, after_notices, keeping, keeping_with, with_table}
+use Rattle.nq_model.specs.protocol.ServerStep.{attaches, vacates, tells_later, serves, leases, to_read, access_of, receive, is_over, end_reading, at_time}
+use Rattle.nq_model.specs.protocol.ServerStep.{opens, ends_writing, tick, boot, crash}
+use Rattle.nq_model.specs.protocol.Table.{Table, is_row_of, find_row, put_row, drop_row, with_rows, after_draw, empty_table}
 
 -- no row is of this incarnation
 abbrev pub IsUnrowed : Who → List Row → Type 0

@@ -18,16 +18,17 @@ use Rattle.walk_steps.proofs.Rows.{choice, same-number, number-same}
 use Rattle.walk_steps.proofs.ServerKnows.{NoneHeard, NoneGiven}
 use Rattle.walk_steps.proofs.ServerMoves.{receive-keeps, tick-keeps as server-tick-keeps}
 use Rattle.walk_steps.proofs.Worlds.{IsAt, Holds, given-by, get-set-same, get-set-other, first-client, to-told, run-holds}
-use Rattle.nq_model.specs.Client.{Client, ClientStep, begun, Ticket, lease_on}
-use Rattle.nq_model.specs.ClientStep.{client_call, client_tick, at_time, restart, starts, fresh_client, attached_client}
-use Rattle.nq_model.specs.Hear.{inc_of, is_reply_to, reply_counts, hear, hear_reply, hear_notice, hear_call, goes_on, replied, holds_later, evicted, cancels}
-use Rattle.nq_model.specs.Message.{Message, Packet, call, reply, error, datagram_of}
-use Rattle.nq_model.specs.Server.{ServerStep}
-use Rattle.nq_model.specs.ServerStep.{receive, tick, crash, boot}
-use Rattle.nq_model.specs.Skew.{is_server_tick, is_tick_of, server_ticks, ticks_of}
-use Rattle.nq_model.specs.Table.{same_who}
-use Rattle.nq_model.specs.World.{Head, World, after_server, after_client, at_client, after_hearing, sending_host, deliver_to_client, deliver_to}
-use Rattle.nq_model.specs.World.{deliver, step, start, run}
+use Rattle.nq_model.specs.protocol.Client.{Client, ClientStep, begun, Ticket, lease_on}
+use Rattle.nq_model.specs.protocol.ClientStep.{client_call, client_tick, at_time, restart, starts, fresh_client, attached_client}
+use Rattle.nq_model.specs.protocol.Hear.{inc_of, is_reply_to, reply_counts, hear, hear_reply, hear_notice, hear_call, goes_on, replied, holds_later, evicted}
+use Rattle.nq_model.specs.protocol.Hear.{cancels}
+use Rattle.nq_model.specs.protocol.Message.{Message, Packet, call, reply, error, datagram_of}
+use Rattle.nq_model.specs.protocol.Server.{ServerStep}
+use Rattle.nq_model.specs.protocol.ServerStep.{receive, tick, crash, boot}
+use Rattle.nq_model.specs.protocol.Skew.{is_server_tick, is_tick_of, server_ticks, ticks_of}
+use Rattle.nq_model.specs.protocol.Table.{same_who}
+use Rattle.nq_model.specs.protocol.World.{Head, World, after_server, after_client, at_client, after_hearing, sending_host, deliver_to_client, deliver_to}
+use Rattle.nq_model.specs.protocol.World.{deliver, step, start, run}
 
 -- ---- a client in the middle of a step
 

@@ -7,16 +7,16 @@ use Rattle.nq_base.specs.declared.Event.{Event}
 use Rattle.nq_base.specs.declared.Party.{Party}
 use Rattle.nq_base.specs.declared.Request.{Request}
 use Rattle.nq_base.specs.declared.Who.{Who}
-use Rattle.nq_model.specs.Client.{Client, ClientStep}
-use Rattle.nq_model.specs.ClientStep.{client_call, client_tick, restart, attached_client, fresh_client}
-use Rattle.nq_model.specs.ChangesOnce.{HasItsText}
-use Rattle.nq_model.specs.Decided.{HasText}
-use Rattle.nq_model.specs.Hear.{hear}
-use Rattle.nq_model.specs.Message.{Message, Datagram, request, Packet, call, asker, datagram_of, sequence_of}
-use Rattle.nq_model.specs.Server.{ServerStep}
-use Rattle.nq_model.specs.Stepped.{most_events}
-use Rattle.nq_model.specs.World.{Head, World, from_host, after_server, after_client, at_client, after_hearing, sending_host, deliver_to_client}
-use Rattle.nq_model.specs.World.{deliver_to, deliver, step, start, run}
+use Rattle.nq_model.specs.protocol.Client.{Client, ClientStep}
+use Rattle.nq_model.specs.protocol.ClientStep.{client_call, client_tick, restart, attached_client, fresh_client}
+use Rattle.nq_model.specs.laws.ChangesOnce.{HasItsText}
+use Rattle.nq_model.specs.protocol.Decided.{HasText}
+use Rattle.nq_model.specs.protocol.Hear.{hear}
+use Rattle.nq_model.specs.protocol.Message.{Message, Datagram, request, Packet, call, asker, datagram_of, sequence_of}
+use Rattle.nq_model.specs.protocol.Server.{ServerStep}
+use Rattle.nq_model.specs.protocol.Stepped.{most_events}
+use Rattle.nq_model.specs.protocol.World.{Head, World, from_host, after_server, after_client, at_client, after_hearing, sending_host, deliver_to_client}
+use Rattle.nq_model.specs.protocol.World.{deliver_to, deliver, step, start, run}
 use Rattle.walk_steps.proofs.Mail.{sent-calls}
 use Rattle.walk_steps.proofs.Packets.{In, in-append, in-get, Asked}
 use Rattle.walk_steps.proofs.Sequences.{asked-before-server}

@@ -6,22 +6,22 @@ use Rattle.std.specs.Prelude.{◌⊎◌}
 use mathlib.Core.Logic.{inl, inr}
 use Rattle.nq_base.specs.declared.Event.{Event}
 use Rattle.nq_base.specs.declared.Party.{Party}
-use Rattle.nq_model.specs.Client.{Client, ClientStep}
-use Rattle.nq_model.specs.ClientStep.{client_call, client_tick, restart}
-use Rattle.nq_model.specs.Hear.{hear}
-use Rattle.nq_model.specs.Message.{Message, Packet, datagram_of}
-use Rattle.nq_model.specs.Server.{Server, ServerStep}
-use Rattle.nq_model.specs.ServerStep.{receive, tick, crash}
-use Rattle.nq_model.specs.World.{Head, World, from_host, after_server, after_client, at_client, after_hearing, sending_host, deliver_to_client}
-use Rattle.nq_model.specs.World.{deliver_to, deliver, step, first_kept, start, run}
-use Rattle.nq_model.specs.EventsSendFew.{EventsSendFew}
-use Rattle.nq_model.specs.RowsStandApart.{HasOneRowEach}
-use Rattle.nq_model.specs.ServerAlone.{Coming, datagram, ticks, crashes, step_for, server_after, first_boot}
+use Rattle.nq_model.specs.protocol.Client.{Client, ClientStep}
+use Rattle.nq_model.specs.protocol.ClientStep.{client_call, client_tick, restart}
+use Rattle.nq_model.specs.protocol.Hear.{hear}
+use Rattle.nq_model.specs.protocol.Message.{Message, Packet, datagram_of}
+use Rattle.nq_model.specs.protocol.Server.{Server, ServerStep}
+use Rattle.nq_model.specs.protocol.ServerStep.{receive, tick, crash}
+use Rattle.nq_model.specs.protocol.World.{Head, World, from_host, after_server, after_client, at_client, after_hearing, sending_host, deliver_to_client}
+use Rattle.nq_model.specs.protocol.World.{deliver_to, deliver, step, first_kept, start, run}
+use Rattle.nq_model.specs.laws.EventsSendFew.{EventsSendFew}
+use Rattle.nq_model.specs.laws.RowsStandApart.{HasOneRowEach}
+use Rattle.nq_model.specs.protocol.ServerAlone.{Coming, datagram, ticks, crashes, step_for, server_after, first_boot}
 use Rattle.walk_steps.proofs.ServerAlone.{rows-stand-apart}
 use Rattle.walk_steps.proofs.ClientSends.{call-sends, tick-sends, hears-sends, restart-sends}
 use Rattle.walk_steps.proofs.NoticeCounts.{HostedBelow}
 use Rattle.walk_steps.proofs.ServerSends.{all-hosted, receive-few, tick-none, crash-none}
-use Rattle.nq_model.specs.Profile.{most_hosts}
+use Rattle.nq_model.specs.protocol.Profile.{most_hosts}
 
 -- ---- what an event does to the server
 

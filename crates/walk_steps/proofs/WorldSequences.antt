@@ -13,14 +13,14 @@ use Rattle.walk_steps.proofs.Rows.{same-number, number-same}
 use Rattle.walk_steps.proofs.Sequences.{Seqs, seqs-more, Drew, DrewIf, call-draws, tick-draws, restart-draws, hear-draws, asked-before-server}
 use Rattle.walk_steps.proofs.ServerSays.{IsReplyTo, IsSaid, said_reply, said_error, said_notice, AllSaid}
 use Rattle.walk_steps.proofs.Worlds.{IsAt, Holds, get-set-same, get-set-other, to-told, received-said, tick-said, crash-said, run-holds, set-there}
-use Rattle.nq_model.specs.Client.{Client, ClientStep}
-use Rattle.nq_model.specs.ClientStep.{client_call, client_tick, restart}
-use Rattle.nq_model.specs.Hear.{hear}
-use Rattle.nq_model.specs.Message.{Message, Packet, call, reply, error, datagram_of}
-use Rattle.nq_model.specs.Server.{ServerStep, to_host}
-use Rattle.nq_model.specs.ServerStep.{receive, tick, crash}
-use Rattle.nq_model.specs.World.{Head, World, from_host, after_server, after_client, at_client, after_hearing, sending_host, deliver_to_client}
-use Rattle.nq_model.specs.World.{deliver_to, deliver, step, start, run}
+use Rattle.nq_model.specs.protocol.Client.{Client, ClientStep}
+use Rattle.nq_model.specs.protocol.ClientStep.{client_call, client_tick, restart}
+use Rattle.nq_model.specs.protocol.Hear.{hear}
+use Rattle.nq_model.specs.protocol.Message.{Message, Packet, call, reply, error, datagram_of}
+use Rattle.nq_model.specs.protocol.Server.{ServerStep, to_host}
+use Rattle.nq_model.specs.protocol.ServerStep.{receive, tick, crash}
+use Rattle.nq_model.specs.protocol.World.{Head, World, from_host, after_server, after_client, at_client, after_hearing, sending_host, deliver_to_client}
+use Rattle.nq_model.specs.protocol.World.{deliver_to, deliver, step, start, run}
 
 -- ---- the invariant
 

@@ -22,16 +22,17 @@ use Rattle.walk_steps.proofs.Packets.{In, in-right, in-append, in-last, in-get, 
 use Rattle.walk_steps.proofs.Rows.{choice, same-number, number-same}
 use Rattle.walk_steps.proofs.ServerCases.{request-sent, server-ticks}
 use Rattle.walk_steps.proofs.ServerSays.{IsSaid, said_reply, said_error, said_notice, AllSaid, all-said}
-use Rattle.nq_model.specs.Client.{Client, ClientStep, begun, attaching, Ticket, lease_on}
-use Rattle.nq_model.specs.ClientStep.{client_call, client_tick, at_time, restart, starts, fresh_client, attached_client, next_incarnation}
-use Rattle.nq_model.specs.Hear.{inc_of, is_reply_to, reply_counts, hear, hear_reply, hear_notice, hear_call, goes_on, replied, holds_later, evicted, cancels}
-use Rattle.nq_model.specs.LeaseInterval.{requested_file}
-use Rattle.nq_model.specs.Message.{Message, Packet, call, reply, error, asker, request, datagram_of}
-use Rattle.nq_model.specs.Server.{Server, ServerStep, to_host, quiet}
-use Rattle.nq_model.specs.ServerStep.{receive, tick, crash, opens, ends_writing, at_time as at_server_time}
-use Rattle.nq_model.specs.Table.{same_who}
-use Rattle.nq_model.specs.World.{Head, World, from_host, after_server, after_client, at_client, after_hearing, sending_host, deliver_to_client}
-use Rattle.nq_model.specs.World.{deliver_to, deliver, step, first_clients, start, run}
+use Rattle.nq_model.specs.protocol.Client.{Client, ClientStep, begun, attaching, Ticket, lease_on}
+use Rattle.nq_model.specs.protocol.ClientStep.{client_call, client_tick, at_time, restart, starts, fresh_client, attached_client, next_incarnation}
+use Rattle.nq_model.specs.protocol.Hear.{inc_of, is_reply_to, reply_counts, hear, hear_reply, hear_notice, hear_call, goes_on, replied, holds_later, evicted}
+use Rattle.nq_model.specs.protocol.Hear.{cancels}
+use Rattle.nq_model.specs.laws.LeaseInterval.{requested_file}
+use Rattle.nq_model.specs.protocol.Message.{Message, Packet, call, reply, error, asker, request, datagram_of}
+use Rattle.nq_model.specs.protocol.Server.{Server, ServerStep, to_host, quiet}
+use Rattle.nq_model.specs.protocol.ServerStep.{receive, tick, crash, opens, ends_writing, at_time as at_server_time}
+use Rattle.nq_model.specs.protocol.Table.{same_who}
+use Rattle.nq_model.specs.protocol.World.{Head, World, from_host, after_server, after_client, at_client, after_hearing, sending_host, deliver_to_client}
+use Rattle.nq_model.specs.protocol.World.{deliver_to, deliver, step, first_clients, start, run}
 
 -- ---- lists by place
 

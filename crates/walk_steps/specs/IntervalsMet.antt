@@ -1,12 +1,12 @@
 -- There is a schedule after which a client holds a lease that runs: the premises of the law are met.
 use Rattle.std.specs.Prelude.{◌&&◌, ℕ, Bool, true, false, List, Option, None, Some, IsTrue, nat_lt, slice_get}
 use Rattle.nq_base.specs.declared.Event.{Event}
-use Rattle.nq_model.specs.Client.{Client, Lease, lease_on}
-use Rattle.nq_model.specs.Server.{Phase, serving, recovering}
-use Rattle.nq_model.specs.Skew.{IsWithinSkew}
-use Rattle.nq_model.specs.Table.{caches}
-use Rattle.nq_model.specs.World.{Head, run}
-use Rattle.nq_model.specs.Bounds.{KeepsBounds}
+use Rattle.nq_model.specs.protocol.Client.{Client, Lease, lease_on}
+use Rattle.nq_model.specs.protocol.Server.{Phase, serving, recovering}
+use Rattle.nq_model.specs.protocol.Skew.{IsWithinSkew}
+use Rattle.nq_model.specs.protocol.Table.{caches}
+use Rattle.nq_model.specs.protocol.World.{Head, run}
+use Rattle.nq_model.specs.laws.Bounds.{KeepsBounds}
 
 -- whether a lease is a caching one, and runs by the client's clock
 abbrev pub lease_runs : Client → Option Lease → Bool

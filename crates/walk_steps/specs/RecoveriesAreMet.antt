@@ -1,11 +1,11 @@
 -- That the laws of a server alone speak of something: a server with a row, which crashes and stores while it recovers.
 use Rattle.std.specs.Prelude.{◌≡◌, ℕ, Bool, true, false, ◌&&◌, List, ◌++◌, Option, Some, None}
 use Rattle.nq_base.specs.declared.Row.{Row}
-use Rattle.nq_model.specs.Kept.{Kept}
-use Rattle.nq_model.specs.Server.{recovering, last_table}
-use Rattle.nq_model.specs.Table.{Table, is_writing, find_row}
-use Rattle.nq_model.specs.RecoveriesWait.{WasStoredAt}
-use Rattle.nq_model.specs.ServerAlone.{Coming, server_after, first_boot, entries_since_boot}
+use Rattle.nq_model.specs.protocol.Kept.{Kept}
+use Rattle.nq_model.specs.protocol.Server.{recovering, last_table}
+use Rattle.nq_model.specs.protocol.Table.{Table, is_writing, find_row}
+use Rattle.nq_model.specs.laws.RecoveriesWait.{WasStoredAt}
+use Rattle.nq_model.specs.protocol.ServerAlone.{Coming, server_after, first_boot, entries_since_boot}
 
 -- whether a row is found that lets its holder write, and that its holder is told to give up
 abbrev pub is_writer_to_go : Option Row → Bool

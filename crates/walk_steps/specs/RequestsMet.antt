@@ -3,14 +3,14 @@ use Rattle.std.specs.Prelude.{◌≡◌, ℕ, List, ◌∷◌, Some, slice_get}
 use Rattle.nq_base.specs.declared.Event.{Event}
 use Rattle.nq_base.specs.declared.Reply.{Reply}
 use Rattle.nq_base.specs.declared.Request.{Request}
-use Rattle.nq_model.specs.Bounds.{KeepsBounds}
-use Rattle.nq_model.specs.Client.{Client, Ticket}
-use Rattle.nq_model.specs.Hear.{inc_of}
-use Rattle.nq_model.specs.Message.{reply}
-use Rattle.nq_model.specs.Server.{to_host}
-use Rattle.nq_model.specs.Skew.{IsWithinSkew}
-use Rattle.nq_model.specs.World.{Head, run}
-use Rattle.nq_model.specs.OneRequestPerSequence.{IsOpenRequest}
+use Rattle.nq_model.specs.laws.Bounds.{KeepsBounds}
+use Rattle.nq_model.specs.protocol.Client.{Client, Ticket}
+use Rattle.nq_model.specs.protocol.Hear.{inc_of}
+use Rattle.nq_model.specs.protocol.Message.{reply}
+use Rattle.nq_model.specs.protocol.Server.{to_host}
+use Rattle.nq_model.specs.protocol.Skew.{IsWithinSkew}
+use Rattle.nq_model.specs.protocol.World.{Head, run}
+use Rattle.nq_model.specs.laws.OneRequestPerSequence.{IsOpenRequest}
 
 -- the premises are met, and not in vain: after some schedule within skew a request is open of which two packets were sent;
 -- after a restart of its client it is open still; and once the first packet came to the server instead, there is a reply

@@ -2,9 +2,9 @@
 use Rattle.std.specs.Prelude.{◌≡◌, ℕ, All, map}
 use Rattle.nq_base.specs.Plain.{plain}
 use Rattle.nq_base.specs.declared.Party.{Party}
-use Rattle.nq_model.specs.Message.{Datagram}
-use Rattle.nq_model.specs.Server.{Server, ServerStep}
-use Rattle.nq_model.specs.ServerStep.{receive, tick, crash}
+use Rattle.nq_model.specs.protocol.Message.{Datagram}
+use Rattle.nq_model.specs.protocol.Server.{Server, ServerStep}
+use Rattle.nq_model.specs.protocol.ServerStep.{receive, tick, crash}
 
 -- each packet is the server's own, and each entry is as it is compared, since none names losses
 pub record SaysPlainly (t : ServerStep) : Type 0 where

@@ -6,15 +6,15 @@ use Rattle.nq_base.specs.declared.Event.{Event}
 use Rattle.nq_base.specs.declared.Party.{Party}
 use Rattle.nq_base.specs.declared.Request.{Request}
 use Rattle.nq_base.specs.declared.Who.{Who}
-use Rattle.nq_model.specs.Change.{IsWithinBounds}
-use Rattle.nq_model.specs.Decided.{HasText}
-use Rattle.nq_model.specs.Kept.{File, Kept, host_row}
-use Rattle.nq_model.specs.Message.{Message, Packet, call, request, datagram_of, asker}
-use Rattle.nq_model.specs.Profile.{shortest_term, longest_term, most_hosts, most_files, most_blocks, most_blocks_of_file}
-use Rattle.nq_model.specs.Server.{Server}
-use Rattle.nq_model.specs.Stepped.{most_events, most_sent}
-use Rattle.nq_model.specs.World.{Head, World, run}
-use Rattle.nq_model.specs.RepliesAreOwed.{is_out_of_bounds}
+use Rattle.nq_model.specs.protocol.Change.{IsWithinBounds}
+use Rattle.nq_model.specs.protocol.Decided.{HasText}
+use Rattle.nq_model.specs.protocol.Kept.{File, Kept, host_row}
+use Rattle.nq_model.specs.protocol.Message.{Message, Packet, call, request, datagram_of, asker}
+use Rattle.nq_model.specs.protocol.Profile.{shortest_term, longest_term, most_hosts, most_files, most_blocks, most_blocks_of_file}
+use Rattle.nq_model.specs.protocol.Server.{Server}
+use Rattle.nq_model.specs.protocol.Stepped.{most_events, most_sent}
+use Rattle.nq_model.specs.protocol.World.{Head, World, run}
+use Rattle.nq_model.specs.laws.RepliesAreOwed.{is_out_of_bounds}
 
 -- if a message is a request, its name is a name, and its body a block of bytes
 abbrev pub CarriesText : Message → Type 0

@@ -1,7 +1,7 @@
 //! The order of calls.
 
 ghost use Rattle.law_runs.specs.CallsMet.{AreMet};
-ghost use Rattle.nq_model.specs.CallsAreOrdered.{OrderedInEveryRun, ReadsAreOfTheirCallInEveryRun};
+ghost use Rattle.nq_model.specs.laws.CallsAreOrdered.{OrderedInEveryRun, ReadsAreOfTheirCallInEveryRun};
 
 /// After every schedule within skew the calls of each incarnation stand in the order of their numbers and have one answer at
 /// most; two are open together only where the later one is answered `busy` at once. Each write and each change of a length is

@@ -1,6 +1,6 @@
 //! What becomes of delayed writes.
 
-ghost use Rattle.nq_model.specs.WritesAreAccounted.{AccountedInEveryRun, EachHasItsFateInEveryRun, WaitingAreUnsavedInEveryRun};
+ghost use Rattle.nq_model.specs.laws.WritesAreAccounted.{AccountedInEveryRun, EachHasItsFateInEveryRun, WaitingAreUnsavedInEveryRun};
 ghost use Rattle.law_runs.specs.FatesMet.{HasEachFate};
 
 /// After every schedule within skew the journal accounts for its delayed writes: no delayed write is covered by two entries,

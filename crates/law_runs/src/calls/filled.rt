@@ -2,7 +2,7 @@
 //! proof stands in `proofs/`.
 
 ghost use Rattle.law_runs.specs.FilledMet.{FilledBodiesAreMet};
-ghost use Rattle.nq_model.specs.BodiesAreFilled.{BodiesAreFilledInEveryRun};
+ghost use Rattle.nq_model.specs.laws.BodiesAreFilled.{BodiesAreFilledInEveryRun};
 
 /// After every schedule whose calls bring filled bodies, each body repeats one word: of the blocks that the server keeps, of every
 /// packet that was sent, and of what clients have. So the number in a journal determines all 4096 bytes. No clock matters to it.

@@ -1,6 +1,6 @@
 //! What a chained lease tells of its file.
 
-ghost use Rattle.nq_model.specs.ChainedLeasesKnow.{ChainedLeasesKnowTheFile};
+ghost use Rattle.nq_model.specs.laws.ChainedLeasesKnow.{ChainedLeasesKnowTheFile};
 ghost use Rattle.law_runs.specs.ChainsMet.{ChainsAreMet};
 
 /// After every schedule within skew: where a client holds a caching lease, and the row of its incarnation stands with a chain

@@ -1,6 +1,6 @@
 //! The ends of writing leases.
 
-ghost use Rattle.nq_model.specs.EndingsComeLate.{EndingsComeLate};
+ghost use Rattle.nq_model.specs.laws.EndingsComeLate.{EndingsComeLate};
 ghost use Rattle.law_runs.specs.EndingsMet.{EndsSometime};
 
 /// After every schedule within skew each end of a writing lease in silence comes late enough in the journal: write slack after

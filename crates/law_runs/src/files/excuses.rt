@@ -1,7 +1,7 @@
 //! Losses of delayed writes.
 
 ghost use Rattle.law_runs.specs.ExcusesMet.{IsLostSometime};
-ghost use Rattle.nq_model.specs.LossesAreExcused.{LossesAreExcused, UnsavedFilesAreBoundOrExcused};
+ghost use Rattle.nq_model.specs.laws.LossesAreExcused.{LossesAreExcused, UnsavedFilesAreBoundOrExcused};
 
 /// After every schedule within skew each loss is excused: an entry that ends its client's writing lease on the file, a silent end
 /// of it or the end of a recovery, stands after every write that the loss covers and before the loss, and comes late enough

@@ -1,7 +1,7 @@
 //! The tags of leases.
 
 ghost use Rattle.law_runs.specs.TagsMet.{IsPastSometime};
-ghost use Rattle.nq_model.specs.TagsAreInOrder.{StandingTableGrows, TagsAreDrawnInOrder, VacatedTagsArePast};
+ghost use Rattle.nq_model.specs.laws.TagsAreInOrder.{StandingTableGrows, TagsAreDrawnInOrder, VacatedTagsArePast};
 
 /// After every schedule that is within skew, each tag of a lease that is held, of a notice that waits, of a packet or of a
 /// row that stands was drawn: at some moment the table of the boot that it names stood, and had drawn it. That boot is no

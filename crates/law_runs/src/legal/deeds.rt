@@ -1,7 +1,7 @@
 //! Each ok has its deed.
 
 ghost use Rattle.law_runs.specs.DeedsMet.{DeedsAreMet};
-ghost use Rattle.nq_model.specs.OksHaveTheirDeeds.{OksHaveTheirDeedsInEveryRun};
+ghost use Rattle.nq_model.specs.laws.OksHaveTheirDeeds.{OksHaveTheirDeedsInEveryRun};
 
 /// After every schedule within skew the deed of each ok stands before it. To a `write` or `put`: a W of its call with that block
 /// and value. To a `resize` or `remove`: a Z with that length. To a `read` or `fetch`: an R with that value, from the cache or in

@@ -1,7 +1,7 @@
 //! Kept blocks are held.
 
 ghost use Rattle.law_runs.specs.HeldMet.{HeldAreMet};
-ghost use Rattle.nq_model.specs.BlocksAreHeld.{KeptBlocksAreHeldInEveryRun};
+ghost use Rattle.nq_model.specs.laws.BlocksAreHeld.{KeptBlocksAreHeldInEveryRun};
 
 /// After every schedule within skew, over all crashes, each block of each kept file has the value of the last write on it, by
 /// place, that went through or was stored and that no change of the length cut after it, or 0; and a file has the length that

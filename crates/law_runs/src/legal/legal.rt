@@ -1,6 +1,6 @@
 //! Reads are legal.
 
-ghost use Rattle.nq_model.specs.ReadsAreLegal.{ReadsAreLegalInEveryRun};
+ghost use Rattle.nq_model.specs.laws.ReadsAreLegal.{ReadsAreLegalInEveryRun};
 ghost use Rattle.law_runs.specs.LegalMet.{ReadsAreMet};
 
 /// After every schedule within skew the journal is legal: each counted read gives the value of the last write before it that

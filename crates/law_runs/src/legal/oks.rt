@@ -1,9 +1,9 @@
 //! What an ok says.
 
 ghost use Rattle.law_runs.specs.OksMet.{IsSyncedOnce};
-ghost use Rattle.nq_model.specs.AnswersAreOfTheirCalls.{AnswersAreOfTheirCallsInEveryRun};
-ghost use Rattle.nq_model.specs.BusyIsSaidAtOnce.{BusyIsSaidAtOnceInEveryRun};
-ghost use Rattle.nq_model.specs.OksAreKept.{SynchronizedInEveryRun};
+ghost use Rattle.nq_model.specs.laws.AnswersAreOfTheirCalls.{AnswersAreOfTheirCallsInEveryRun};
+ghost use Rattle.nq_model.specs.laws.BusyIsSaidAtOnce.{BusyIsSaidAtOnceInEveryRun};
+ghost use Rattle.nq_model.specs.laws.OksAreKept.{SynchronizedInEveryRun};
 
 /// After every schedule within skew each ok is kept. To a put: its write is through, or an S before the answer covers it. To a
 /// sync: each delayed write of the incarnation on the file before the answer is covered by an S, or by an L that an A before

@@ -1,7 +1,7 @@
 //! Losses and the answers that name them.
 
 ghost use Rattle.law_runs.specs.ReportsMet.{IsLostAndNamed};
-ghost use Rattle.nq_model.specs.LossesAreReported.{LossesFitInEveryRun, ReportedInEveryRun};
+ghost use Rattle.nq_model.specs.laws.LossesAreReported.{LossesFitInEveryRun, ReportedInEveryRun};
 
 /// After every schedule the losses that a client has not told yet are the L of its incarnation that no A names, in their
 /// order, and none is on the file of a `sync`, `resize` or `remove` under way.

@@ -1,7 +1,7 @@
 //! What can still be stored is undisturbed, and what can not was fenced.
 
 ghost use Rattle.law_runs.specs.UndisturbedMet.{BoundAndFencedAreMet};
-ghost use Rattle.nq_model.specs.WritesAreUndisturbed.{DelayedWritesAreUndisturbed, UnsavedFilesAreBoundOrFenced};
+ghost use Rattle.nq_model.specs.laws.WritesAreUndisturbed.{DelayedWritesAreUndisturbed, UnsavedFilesAreBoundOrFenced};
 
 /// After every schedule within skew, a file with delayed writes at a client is held for writing; and the client's row stands and
 /// the file is kept at the revision that is due, or these writes can not be stored any more, by the file's revision, by a later

@@ -1,7 +1,7 @@
 //! Files that are known to be clean.
 
 ghost use Rattle.std.specs.Prelude.{◌≡◌, IsTrue};
-ghost use Rattle.nq_model.specs.Client.{is_clean_in};
+ghost use Rattle.nq_model.specs.protocol.Client.{is_clean_in};
 
 use crate::dirty::dirty::Dirty;
 use crate::dirty::vacancy::Vacancy;
@@ -19,7 +19,7 @@ pub struct Clean<'a> {
 
 impl<'a> Model for Clean<'a> {
     ghost use Rattle.std.specs.Prelude.{IsTrue};
-    ghost use Rattle.nq_model.specs.Client.{is_clean_in};
+    ghost use Rattle.nq_model.specs.protocol.Client.{is_clean_in};
     ghost use Rattle.nq_client_parts.specs.Delayed.{CleanFile};
 
     ghost Value = { CleanFile };

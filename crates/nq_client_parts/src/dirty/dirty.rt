@@ -1,10 +1,10 @@
 //! The delayed writes of a client.
 
 ghost use Rattle.std.specs.Prelude.{◌≡◌, ◌≤◌, ◌+◌, ◌↔◌, [], None, false, true, length, is_some, slice_get, option_copied, option_map, IsTrue, IsSome, IfSome, IfNone, IsOk, IfOk, OnOk, OnErr};
-ghost use Rattle.nq_model.specs.Client.{is_push_of, push_passes, dirty_at, first_dirty, drop_dirty, other_dirty, is_clean_in};
-ghost use Rattle.nq_model.specs.Hear.{all_dirty_in, loss_of, losses_in, other_push};
-ghost use Rattle.nq_model.specs.Profile.{most_dirty};
-ghost use Rattle.nq_model.specs.Settle.{dirty_body, pending_in, is_full_in, write_in};
+ghost use Rattle.nq_model.specs.protocol.Client.{is_push_of, push_passes, dirty_at, first_dirty, drop_dirty, other_dirty, is_clean_in};
+ghost use Rattle.nq_model.specs.protocol.Hear.{all_dirty_in, loss_of, losses_in, other_push};
+ghost use Rattle.nq_model.specs.protocol.Profile.{most_dirty};
+ghost use Rattle.nq_model.specs.protocol.Settle.{dirty_body, pending_in, is_full_in, write_in};
 ghost use Rattle.nq_client_parts.specs.declared.dirty.fault.DirtyFault.{DirtyFault};
 
 use crate::dirty::clean::Clean;
@@ -29,8 +29,8 @@ pub struct Dirty {
 impl Model for Dirty {
     ghost use Rattle.std.specs.Prelude.{◌≤◌};
     ghost use Rattle.indexmap.specs.IndexMap.{spare};
-    ghost use Rattle.nq_model.specs.Profile.{most_dirty};
-    ghost use Rattle.nq_model.specs.Settle.{pending_in};
+    ghost use Rattle.nq_model.specs.protocol.Profile.{most_dirty};
+    ghost use Rattle.nq_model.specs.protocol.Settle.{pending_in};
     ghost use Rattle.nq_client_parts.specs.Delayed.{Delayed};
     ghost use Rattle.nq_client_parts.specs.DirtyEntries.{delayed};
 

@@ -3,9 +3,9 @@
 ghost use Rattle.std.specs.Prelude.{◌≡◌, ◌<◌, ◌^◌, map, true, IfSome};
 ghost use Rattle.nq_client_parts.specs.ByFile.{Ascends};
 ghost use Rattle.nq_client_parts.specs.Leases.{lease_in, file_of_row};
-ghost use Rattle.nq_model.specs.Client.{lease_on};
-ghost use Rattle.nq_model.specs.Hear.{holds_caching};
-ghost use Rattle.nq_model.specs.Send.{ending_in, is_to_push_in, is_to_renew_in, renewed_in};
+ghost use Rattle.nq_model.specs.protocol.Client.{lease_on};
+ghost use Rattle.nq_model.specs.protocol.Hear.{holds_caching};
+ghost use Rattle.nq_model.specs.protocol.Send.{ending_in, is_to_push_in, is_to_renew_in, renewed_in};
 
 use crate::dirty::dirty::Dirty;
 use crate::holding::Held;

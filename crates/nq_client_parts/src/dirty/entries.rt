@@ -4,9 +4,9 @@ ghost use Rattle.std.specs.Prelude.{◌≡◌, ◌≤◌, ◌<◌, ◌+◌, ◌=
 ghost use Rattle.std.specs.List.{find};
 ghost use Rattle.std.specs.Option.{option_map};
 ghost use Rattle.indexmap.specs.IndexMap.{keys, spare};
-ghost use Rattle.nq_model.specs.Client.{is_push_of, dirty_at, first_dirty, drop_dirty, other_dirty};
-ghost use Rattle.nq_model.specs.Hear.{loss_of};
-ghost use Rattle.nq_model.specs.Settle.{write_in};
+ghost use Rattle.nq_model.specs.protocol.Client.{is_push_of, dirty_at, first_dirty, drop_dirty, other_dirty};
+ghost use Rattle.nq_model.specs.protocol.Hear.{loss_of};
+ghost use Rattle.nq_model.specs.protocol.Settle.{write_in};
 ghost use Rattle.nq_client_parts.specs.DirtyEntries.{delayed};
 
 use indexmap::IndexMap;

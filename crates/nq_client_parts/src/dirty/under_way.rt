@@ -1,9 +1,9 @@
 //! The push under way.
 
 ghost use Rattle.std.specs.Prelude.{◌≡◌, ◌≤◌, ◌+◌, ◌++◌, length, map, option_copied, true};
-ghost use Rattle.nq_model.specs.Client.{is_push_of, push_passes};
-ghost use Rattle.nq_model.specs.Hear.{push_of, loss_of};
-ghost use Rattle.nq_model.specs.Settle.{pushed_body};
+ghost use Rattle.nq_model.specs.protocol.Client.{is_push_of, push_passes};
+ghost use Rattle.nq_model.specs.protocol.Hear.{push_of, loss_of};
+ghost use Rattle.nq_model.specs.protocol.Settle.{pushed_body};
 
 use crate::dirty::entries::Key;
 use nq_base::{Block, FileId, Loss, Losses, Push, Spare};

@@ -14,7 +14,7 @@ pub struct Vacancy {
 }
 
 impl Model for Vacancy {
-    ghost use Rattle.nq_model.specs.Client.{Notice};
+    ghost use Rattle.nq_model.specs.protocol.Client.{Notice};
 
     ghost Value = { Notice };
 

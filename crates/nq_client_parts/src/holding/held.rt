@@ -1,7 +1,7 @@
 //! What is held on a file.
 
 ghost use Rattle.std.specs.Prelude.{◌≡◌, Some, option_copied};
-ghost use Rattle.nq_model.specs.Client.{is_live, lets_read, lets_write, renew_due};
+ghost use Rattle.nq_model.specs.protocol.Client.{is_live, lets_read, lets_write, renew_due};
 
 use crate::holding::lease::Lease;
 use nq_base::{Mode, Ticks};

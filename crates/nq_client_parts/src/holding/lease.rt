@@ -1,7 +1,7 @@
 //! A lease as its holder has it.
 
 ghost use Rattle.std.specs.Prelude.{◌≡◌, ◌+◌, ◌&&◌, nat_lt, nat_le};
-ghost use Rattle.nq_model.specs.Profile.{renewal};
+ghost use Rattle.nq_model.specs.protocol.Profile.{renewal};
 
 use nq_base::{FileId, Tag, Ticks};
 

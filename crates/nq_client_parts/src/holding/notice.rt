@@ -1,7 +1,7 @@
 //! A notice that waits.
 
 ghost use Rattle.std.specs.Prelude.{◌≡◌};
-ghost use Rattle.nq_model.specs.Table.{later_tag};
+ghost use Rattle.nq_model.specs.protocol.Table.{later_tag};
 
 use nq_base::{FileId, Tag};
 use std::marker::Model;
@@ -14,7 +14,7 @@ pub struct Notice {
 }
 
 impl Model for Notice {
-    ghost use Rattle.nq_model.specs.Client.{Notice as Waiting};
+    ghost use Rattle.nq_model.specs.protocol.Client.{Notice as Waiting};
 
     ghost Value = { Waiting };
 

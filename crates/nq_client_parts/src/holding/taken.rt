@@ -2,8 +2,8 @@
 
 ghost use Rattle.std.specs.Prelude.{◌≡◌, ◌+◌, ◌<◌, ◌^◌, Some, if◌then◌else◌};
 ghost use Rattle.nq_client_parts.specs.HoldingLeases.{lease_of};
-ghost use Rattle.nq_model.specs.Hear.{granted_lease};
-ghost use Rattle.nq_model.specs.Table.{tag_below};
+ghost use Rattle.nq_model.specs.protocol.Hear.{granted_lease};
+ghost use Rattle.nq_model.specs.protocol.Table.{tag_below};
 
 use crate::holding::held::Held;
 use crate::holding::lease::Lease;
@@ -83,7 +83,7 @@ fn follows(held: &Tag, since: &Tag) -> Take
 }
 
 /// A lease as it is granted.
-#[tactic(auto, unfolding(nq_model::specs::Hear::granted_lease))]
+#[tactic(auto, unfolding(nq_model::specs::protocol::Hear::granted_lease))]
 fn granted(file: FileId, grant: &Grant, sent: Ticks) -> Held
     requires { sent + grant.now.term < 2 ^ 64 }
     ensures { lease_of result ≡ Some (granted_lease file grant.now sent) }

@@ -4,9 +4,9 @@ ghost use Rattle.std.specs.Prelude.{◌≡◌, ◌<◌, ◌^◌, ◌&&◌, not, 
 ghost use Rattle.nq_directory.specs.Names.{named};
 ghost use Rattle.nq_client_parts.specs.HoldingLeases.{passes};
 ghost use Rattle.nq_client_parts.specs.Takes.{is_broken};
-ghost use Rattle.nq_model.specs.Client.{is_live};
-ghost use Rattle.nq_model.specs.Profile.{same_bytes};
-ghost use Rattle.nq_model.specs.Table.{tag_below};
+ghost use Rattle.nq_model.specs.protocol.Client.{is_live};
+ghost use Rattle.nq_model.specs.protocol.Profile.{same_bytes};
+ghost use Rattle.nq_model.specs.protocol.Table.{tag_below};
 ghost use Rattle.nq_directory.specs.Asking.{goes_on, is_later, is_reading, with_page};
 ghost use Rattle.nq_directory.specs.NameCacheNames.{empty_list, found_as, list_of, other_lists};
 

@@ -2,9 +2,9 @@
 
 ghost use Rattle.std.specs.Prelude.{is_some};
 ghost use Rattle.nq_keeper.specs.Asking.{Asks};
-ghost use Rattle.nq_model.specs.Change.{row_of_found, heads_of, space_of};
-ghost use Rattle.nq_model.specs.Decided.{effect_of_create, effect_of_write, effect_of_write_recovering, effect_of_resize, effect_of_remove, effect_of, no_effect};
-ghost use Rattle.nq_model.specs.Kept.{find_file, find_name, blocks_in_all};
+ghost use Rattle.nq_model.specs.protocol.Change.{row_of_found, heads_of, space_of};
+ghost use Rattle.nq_model.specs.protocol.Decided.{effect_of_create, effect_of_write, effect_of_write_recovering, effect_of_resize, effect_of_remove, effect_of, no_effect};
+ghost use Rattle.nq_model.specs.protocol.Kept.{find_file, find_name, blocks_in_all};
 ghost use Rattle.nq_keeper.specs.RequestsCapped.{capped};
 
 use crate::requests::effects;

@@ -4,11 +4,11 @@ ghost use Rattle.std.specs.Prelude.{◌≡◌, ◌<◌, All, IfNone, IfSome, Som
 ghost use Rattle.std.specs.Option.{ForSome};
 ghost use Rattle.nq_base.specs.Block.{filled};
 ghost use Rattle.nq_base.specs.declared.Request.{Request as Asked};
-ghost use Rattle.nq_model.specs.Change.{Fits, IsBody, IsChangeWithin};
-ghost use Rattle.nq_model.specs.Decided.{HasText, decided, decided_before, no_effect, change_of, change_with, fresh_decided, is_decided_once, sequence_decided, attach_decided, if_fresh, effect_of, row_with};
-ghost use Rattle.nq_model.specs.Kept.{can_be_kept, host_row};
-ghost use Rattle.nq_model.specs.Message.{asker};
-ghost use Rattle.nq_model.specs.Profile.{most_hosts};
+ghost use Rattle.nq_model.specs.protocol.Change.{Fits, IsBody, IsChangeWithin};
+ghost use Rattle.nq_model.specs.protocol.Decided.{HasText, decided, decided_before, no_effect, change_of, change_with, fresh_decided, is_decided_once, sequence_decided, attach_decided, if_fresh, effect_of, row_with};
+ghost use Rattle.nq_model.specs.protocol.Kept.{can_be_kept, host_row};
+ghost use Rattle.nq_model.specs.protocol.Message.{asker};
+ghost use Rattle.nq_model.specs.protocol.Profile.{most_hosts};
 ghost use Rattle.nq_keeper.specs.RequestsCapped.{capped};
 ghost use Rattle.nq_keeper.specs.Deciding.{Decides, IsOfHost, IsOfSequence, Gives, LeavesGiven};
 

@@ -1,8 +1,8 @@
 //! What a fresh request comes to, by what is kept. Nothing here reads or changes a keeper.
 
 ghost use Rattle.std.specs.Prelude.{◌≡◌, ◌<◌, nat_lt};
-ghost use Rattle.nq_model.specs.Change.{raised_row};
-ghost use Rattle.nq_model.specs.Decided.{decided_before, change_with, no_effect, creation, block_write, length_change, removal, row_with, effect_of_create, effect_of_push, effect_of_write_in, effect_of_write, effect_of_resize, effect_of_remove};
+ghost use Rattle.nq_model.specs.protocol.Change.{raised_row};
+ghost use Rattle.nq_model.specs.protocol.Decided.{decided_before, change_with, no_effect, creation, block_write, length_change, removal, row_with, effect_of_create, effect_of_push, effect_of_write_in, effect_of_write, effect_of_resize, effect_of_remove};
 ghost use Rattle.nq_keeper.specs.RequestsCapped.{capped};
 
 use crate::raised;
@@ -24,7 +24,7 @@ const MOST_BLOCKS_OF_FILE: u32 = 1024;
 const MOST_IDS: u32 = 0x8000_0000;
 
 /// A decision that changes nothing.
-#[tactic(auto, unfolding(nq_model::specs::Decided::no_effect, crate::specs::RequestsCapped::capped))]
+#[tactic(auto, unfolding(nq_model::specs::protocol::Decided::no_effect, crate::specs::RequestsCapped::capped))]
 pub(crate) fn none(verdict: Verdict) -> Effect
     ensures { result ≡ capped (no_effect verdict) }
 {
@@ -39,7 +39,7 @@ pub(crate) fn none(verdict: Verdict) -> Effect
 }
 
 /// A file is made.
-#[tactic(auto, unfolding(nq_model::specs::Decided::creation, crate::specs::RequestsCapped::capped, crate::specs::Capped::capped_row))]
+#[tactic(auto, unfolding(nq_model::specs::protocol::Decided::creation, crate::specs::RequestsCapped::capped, crate::specs::Capped::capped_row))]
 fn made(heads: &Heads, name: &Name, blocks: u32) -> Effect
     requires { heads.now.next < 2147483648 }
     ensures { result ≡ capped (creation heads.now name.now blocks) }
@@ -66,7 +66,7 @@ fn made(heads: &Heads, name: &Name, blocks: u32) -> Effect
 }
 
 /// A block is written.
-#[tactic(auto, unfolding(nq_model::specs::Decided::block_write, nq_model::specs::Change::raised_row, crate::specs::RequestsCapped::capped, crate::specs::Capped::capped_row))]
+#[tactic(auto, unfolding(nq_model::specs::protocol::Decided::block_write, nq_model::specs::protocol::Change::raised_row, crate::specs::RequestsCapped::capped, crate::specs::Capped::capped_row))]
 fn written(row: &FileRow, block: BlockNo, body: Block) -> Effect
     ensures { result ≡ capped (block_write row.now block body) }
 {
@@ -87,7 +87,7 @@ fn written(row: &FileRow, block: BlockNo, body: Block) -> Effect
 }
 
 /// A file gets another length.
-#[tactic(auto, unfolding(nq_model::specs::Decided::length_change, nq_model::specs::Change::raised_row, crate::specs::RequestsCapped::capped, crate::specs::Capped::capped_row))]
+#[tactic(auto, unfolding(nq_model::specs::protocol::Decided::length_change, nq_model::specs::protocol::Change::raised_row, crate::specs::RequestsCapped::capped, crate::specs::Capped::capped_row))]
 fn resized(row: &FileRow, blocks: u32) -> Effect
     ensures { result ≡ capped (length_change row.now blocks) }
 {
@@ -103,7 +103,7 @@ fn resized(row: &FileRow, blocks: u32) -> Effect
 }
 
 /// A file is taken away.
-#[tactic(auto, unfolding(nq_model::specs::Decided::removal, crate::specs::RequestsCapped::capped))]
+#[tactic(auto, unfolding(nq_model::specs::protocol::Decided::removal, crate::specs::RequestsCapped::capped))]
 fn removed(row: &FileRow) -> Effect
     ensures { result ≡ capped (removal row.now) }
 {
@@ -268,7 +268,7 @@ pub(crate) fn row_after(who: &Who, seq: Seq, effect: &Effect) -> HostRow
 }
 
 /// The change in which an effect is kept, together with the row of the host that asked.
-#[tactic(auto, unfolding(nq_model::specs::Decided::change_with))]
+#[tactic(auto, unfolding(nq_model::specs::protocol::Decided::change_with))]
 pub(crate) fn change_of(who: Who, seq: Seq, effect: Effect) -> Change
     ensures { result ≡ change_with who seq effect }
 {

@@ -3,8 +3,8 @@
 ghost use Rattle.std.specs.Prelude.{◌≡◌, ◌<◌, ℕ, IfOk, Some};
 ghost use Rattle.std.specs.Option.{ForSome};
 ghost use Rattle.nq_keeper.specs.Keeping.{Reads, LeavesOne};
-ghost use Rattle.nq_model.specs.Change.{row_of_found};
-ghost use Rattle.nq_model.specs.Kept.{find_file, find_name};
+ghost use Rattle.nq_model.specs.protocol.Change.{row_of_found};
+ghost use Rattle.nq_model.specs.protocol.Kept.{find_file, find_name};
 ghost use Rattle.nq_keeper.specs.Reading.{read_out};
 
 use crate::{KeepFault, Keeper};

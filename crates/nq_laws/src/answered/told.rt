@@ -2,14 +2,14 @@
 //! in `proofs/`.
 
 ghost use Rattle.nq_laws.specs.ToldMet.{NoRoomIsMet, RefusalsAreMet, TellingsAreMet};
-ghost use Rattle.nq_model.specs.LossesAreNamed.{LossesAreNamedInEveryRun};
+ghost use Rattle.nq_model.specs.laws.LossesAreNamed.{LossesAreNamedInEveryRun};
 ghost use Rattle.nq_laws.specs.RefusalsHaveCauses.{RefusalsHaveCauses};
 ghost use Rattle.nq_laws.specs.RefusedAnswers.{OnlyMomentsRefuse, OnlyNamesRefuse, OnlyRangesRefuse};
-ghost use Rattle.nq_model.specs.AnswersHaveCauses.{AnswersHaveCauses};
-ghost use Rattle.nq_model.specs.AnswersTellWhatWas.{AnswersTellWhatWas};
-ghost use Rattle.nq_model.specs.FullHasItsCause.{FullHasItsCause};
-ghost use Rattle.nq_model.specs.RefusalsAreOfTheirCalls.{RefusalsAreOfTheirCallsInEveryRun};
-ghost use Rattle.nq_model.specs.RepliesTellWhatWas.{RepliesTellWhatWas};
+ghost use Rattle.nq_model.specs.laws.AnswersHaveCauses.{AnswersHaveCauses};
+ghost use Rattle.nq_model.specs.laws.AnswersTellWhatWas.{AnswersTellWhatWas};
+ghost use Rattle.nq_model.specs.laws.FullHasItsCause.{FullHasItsCause};
+ghost use Rattle.nq_model.specs.laws.RefusalsAreOfTheirCalls.{RefusalsAreOfTheirCallsInEveryRun};
+ghost use Rattle.nq_model.specs.laws.RepliesTellWhatWas.{RepliesTellWhatWas};
 
 /// After every schedule, what a reply to LOOKUP, CREATE or GETATTR tells of a file was so at the server at some moment when the
 /// request had been sent: the file of that name had that id, or the file had that length and that revision.

@@ -5,9 +5,9 @@ ghost use Rattle.nq_base.specs.declared.Request.{Request as Asks};
 ghost use Rattle.nq_datagrams.specs.Messages.{FitsMessage};
 ghost use Rattle.nq_datagrams.specs.Sent.{FitsPacket, sent};
 ghost use Rattle.nq_lease.specs.Telling.{Tells, own_rows, told_among, told_rows};
-ghost use Rattle.nq_model.specs.Message.{call};
-ghost use Rattle.nq_model.specs.Profile.{xid_end};
-ghost use Rattle.nq_model.specs.Server.{notices as notices_of, to_host};
+ghost use Rattle.nq_model.specs.protocol.Message.{call};
+ghost use Rattle.nq_model.specs.protocol.Profile.{xid_end};
+ghost use Rattle.nq_model.specs.protocol.Server.{notices as notices_of, to_host};
 
 use crate::{Table, is_in_the_way};
 use nq_base::{Access, FileId, Host, NoMemory, Party, Request, Row, RowKey};

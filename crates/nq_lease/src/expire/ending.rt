@@ -7,8 +7,8 @@ ghost use Rattle.nq_lease.specs.Ending.{Fences, LeavesFenced, IsDueBy, fence_of,
 ghost use Rattle.nq_keeper.specs.Capped.{capped_row};
 ghost use Rattle.nq_keeper.specs.Keeping.{Commits, LeavesTwo};
 ghost use Rattle.nq_lease.specs.Rows.{key_of};
-ghost use Rattle.nq_model.specs.Change.{Fits, FitsFile, raised_row};
-ghost use Rattle.nq_model.specs.ServerStep.{is_due};
+ghost use Rattle.nq_model.specs.protocol.Change.{Fits, FitsFile, raised_row};
+ghost use Rattle.nq_model.specs.protocol.ServerStep.{is_due};
 
 use crate::Table;
 use nq_base::{Change, FileId, FileRow, Row, RowKey, Ticks, Who};

@@ -2,8 +2,8 @@
 
 ghost use Rattle.std.specs.Prelude.{◌≡◌, ◌<◌, IsTrue, IfSome, None, find};
 ghost use Rattle.std.specs.Option.{option_map};
-ghost use Rattle.nq_model.specs.ServerStep.{is_due as is_row_due, end_reading as without_ended};
-ghost use Rattle.nq_model.specs.Table.{find_row, with_rows};
+ghost use Rattle.nq_model.specs.protocol.ServerStep.{is_due as is_row_due, end_reading as without_ended};
+ghost use Rattle.nq_model.specs.protocol.Table.{find_row, with_rows};
 ghost use Rattle.nq_lease.specs.Rows.{key_of as key_of_row};
 
 use crate::Table;
@@ -61,7 +61,7 @@ pub fn due(table: &Table, now: Ticks) -> Option<RowKey>
 }
 
 /// Drops the reading and non-caching rows whose lease is over.
-#[tactic(auto, unfolding(nq_model::specs::Table::with_rows))]
+#[tactic(auto, unfolding(nq_model::specs::protocol::Table::with_rows))]
 pub fn end_reading(table: &mut Table, now: Ticks)
     ensures { table.new ≡ with_rows table.old (without_ended now table.old.rows) }
 {

@@ -2,10 +2,10 @@
 
 ghost use Rattle.std.specs.Prelude.{◌≡◌, ◌+◌, ◌^◌, ◌<◌, ◌≤◌, Some, None, IsSome, length, false};
 ghost use Rattle.std.specs.Option.{ForSome};
-ghost use Rattle.nq_model.specs.Ask.{ask as asked_of, ask_freely as asked_freely, ask_for, put_off as told_to_wait, with_waiting, begin as begun, share_again as shares_again, granted as grants};
+ghost use Rattle.nq_model.specs.protocol.Ask.{ask as asked_of, ask_freely as asked_freely, ask_for, put_off as told_to_wait, with_waiting, begin as begun, share_again as shares_again, granted as grants};
 ghost use Rattle.nq_base.specs.declared.Asked.{Asked};
-ghost use Rattle.nq_model.specs.Profile.{most_rows};
-ghost use Rattle.nq_model.specs.Table.{after_draw, put_row, find_row, caches};
+ghost use Rattle.nq_model.specs.protocol.Profile.{most_rows};
+ghost use Rattle.nq_model.specs.protocol.Table.{after_draw, put_row, find_row, caches};
 
 use crate::Table;
 use crate::changes::MOST_ROWS;
@@ -16,7 +16,7 @@ use nq_base::{Asked, Clash, Question, Row, RowKey, Want};
 const END_OF_CLOCKS: u64 = 1 << 62;
 
 /// Draws the tag that a row has, and puts the row in.
-#[tactic(auto, unfolding(nq_model::specs::Table::after_draw, nq_model::specs::Table::with_rows))]
+#[tactic(auto, unfolding(nq_model::specs::protocol::Table::after_draw, nq_model::specs::protocol::Table::with_rows))]
 fn enter(table: &mut Table, row: &Row)
     requires drawn { table.old.drawn < 2 ^ 63 }
     requires room { length table.old.rows ≡ most_rows → IsSome (find_row row.now.file row.now.who.host table.old.rows) }
@@ -41,7 +41,7 @@ fn wait(table: &mut Table, question: &Question, own: &Option<Row>)
 }
 
 /// Case 1: a row of another host is in the way. Such rows are to be given up, and the asker is put off.
-#[tactic(auto, unfolding(nq_model::specs::Ask::put_off, nq_model::specs::Table::with_rows))]
+#[tactic(auto, unfolding(nq_model::specs::protocol::Ask::put_off, nq_model::specs::protocol::Table::with_rows))]
 fn put_off(table: &mut Table, question: &Question, row: Row, own: &Option<Row>) -> Asked
     requires drawn { table.old.drawn < 2 ^ 63 }
     requires early { question.now.time < 2 ^ 62 }
@@ -54,7 +54,7 @@ fn put_off(table: &mut Table, question: &Question, row: Row, own: &Option<Row>) 
 }
 
 /// A row is put in with its fresh tag, and granted.
-#[tactic(auto, unfolding(nq_model::specs::Ask::granted))]
+#[tactic(auto, unfolding(nq_model::specs::protocol::Ask::granted))]
 fn granted(table: &mut Table, question: &Question, row: &Row, term: u32) -> Asked
     requires drawn { table.old.drawn < 2 ^ 63 }
     requires room { length table.old.rows ≡ most_rows → IsSome (find_row row.now.file row.now.who.host table.old.rows) }
@@ -66,7 +66,7 @@ fn granted(table: &mut Table, question: &Question, row: &Row, term: u32) -> Aske
 }
 
 /// Case 4: the asker's own row is non-caching. Its lease runs on until the row's end.
-#[tactic(auto, unfolding(nq_model::specs::Ask::shared_again))]
+#[tactic(auto, unfolding(nq_model::specs::protocol::Ask::shared_again))]
 fn share_again(table: &mut Table, question: &Question, own: &Row) -> Asked
     requires drawn { table.old.drawn < 2 ^ 63 }
     requires there { find_row own.now.file own.now.who.host table.old.rows ≡ Some own.now }
@@ -83,7 +83,7 @@ fn share_again(table: &mut Table, question: &Question, own: &Row) -> Asked
 
 /// Cases 5 and 6: the asker has no row. It gets a non-caching one where the file is shared, else one of the wanted kind, and
 /// none where the table is full.
-#[tactic(auto, unfolding(nq_model::specs::Ask::no_lease))]
+#[tactic(auto, unfolding(nq_model::specs::protocol::Ask::no_lease))]
 fn begin(table: &mut Table, question: &Question, want: &Want) -> Asked
     requires drawn { table.old.drawn < 2 ^ 63 }
     requires early { question.now.time < 2 ^ 62 }
@@ -103,7 +103,7 @@ fn begin(table: &mut Table, question: &Question, want: &Want) -> Asked
 }
 
 /// Cases 3, 4 and 7: the asker has a row of its own, which is to be given up, is non-caching, or is renewed.
-#[tactic(auto, unfolding(nq_model::specs::Ask::put_off_by_own, nq_model::specs::Ask::renewed_row))]
+#[tactic(auto, unfolding(nq_model::specs::protocol::Ask::put_off_by_own, nq_model::specs::protocol::Ask::renewed_row))]
 fn go_on(table: &mut Table, question: &Question, want: &Want, own: &Row) -> Asked
     requires drawn { table.old.drawn < 2 ^ 63 }
     requires early { question.now.time < 2 ^ 62 }
@@ -128,7 +128,7 @@ fn go_on(table: &mut Table, question: &Question, want: &Want, own: &Row) -> Aske
 }
 
 /// Cases 2 to 7: no row of another host is in the way.
-#[tactic(auto, unfolding(nq_model::specs::Ask::free))]
+#[tactic(auto, unfolding(nq_model::specs::protocol::Ask::free))]
 fn ask_freely(table: &mut Table, question: &Question, own: &Option<Row>) -> Asked
     requires drawn { table.old.drawn < 2 ^ 63 }
     requires early { question.now.time < 2 ^ 62 }

@@ -1,8 +1,8 @@
 //! The rows with which an asker is entered, and the grants that it gets.
 
 ghost use Rattle.std.specs.Prelude.{◌≡◌, ◌+◌, ◌^◌, ◌<◌};
-ghost use Rattle.nq_model.specs.Ask.{term_of, grant_of, sharing_row, caching_row, shared_again, renewed_row};
-ghost use Rattle.nq_model.specs.Table.{greater_mode};
+ghost use Rattle.nq_model.specs.protocol.Ask.{term_of, grant_of, sharing_row, caching_row, shared_again, renewed_row};
+ghost use Rattle.nq_model.specs.protocol.Table.{greater_mode};
 
 use crate::Table;
 use nq_base::{Grant, Mode, Question, Row, Ticks, Want};
@@ -35,7 +35,7 @@ fn greater(mode: Mode, other: Mode) -> Mode
 }
 
 /// The grant of a row as it then stands.
-#[tactic(auto, unfolding(nq_model::specs::Ask::grant_of))]
+#[tactic(auto, unfolding(nq_model::specs::protocol::Ask::grant_of))]
 pub(crate) fn grant(question: &Question, row: &Row, term: u32) -> Grant
     ensures { result ≡ grant_of question.now row.now term }
 {
@@ -50,7 +50,7 @@ pub(crate) fn grant(question: &Question, row: &Row, term: u32) -> Grant
 }
 
 /// A new non-caching row of the asker.
-#[tactic(auto, unfolding(nq_model::specs::Ask::sharing_row))]
+#[tactic(auto, unfolding(nq_model::specs::protocol::Ask::sharing_row))]
 pub(crate) fn sharing(table: &Table, question: &Question, term: u32) -> Row
     requires drawn { table.now.drawn < 2 ^ 63 }
     requires early { question.now.time < 2 ^ 62 }
@@ -71,7 +71,7 @@ pub(crate) fn sharing(table: &Table, question: &Question, term: u32) -> Row
 }
 
 /// A new row of the asker, of the kind that is wanted.
-#[tactic(auto, unfolding(nq_model::specs::Ask::caching_row))]
+#[tactic(auto, unfolding(nq_model::specs::protocol::Ask::caching_row))]
 pub(crate) fn caching(table: &Table, question: &Question, mode: Mode, term: u32) -> Row
     requires drawn { table.now.drawn < 2 ^ 63 }
     requires early { question.now.time < 2 ^ 62 }
@@ -92,7 +92,7 @@ pub(crate) fn caching(table: &Table, question: &Question, mode: Mode, term: u32)
 }
 
 /// The asker's non-caching row with a fresh tag.
-#[tactic(auto, unfolding(nq_model::specs::Ask::shared_again))]
+#[tactic(auto, unfolding(nq_model::specs::protocol::Ask::shared_again))]
 pub(crate) fn sharing_again(table: &Table, own: &Row) -> Row
     requires { table.now.drawn < 2 ^ 63 }
     ensures { result ≡ shared_again table.now own.now }
@@ -107,7 +107,7 @@ pub(crate) fn sharing_again(table: &Table, own: &Row) -> Row
 
 /// The asker's caching row with a fresh tag, of the greater kind and until the later time. Where it becomes writing, a
 /// write counts as heard now.
-#[tactic(auto, unfolding(nq_model::specs::Ask::renewed_row))]
+#[tactic(auto, unfolding(nq_model::specs::protocol::Ask::renewed_row))]
 pub(crate) fn renewed(table: &Table, question: &Question, own: &Row, mode: Mode, term: u32) -> Row
     requires drawn { table.now.drawn < 2 ^ 63 }
     requires early { question.now.time < 2 ^ 62 }

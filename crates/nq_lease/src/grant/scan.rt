@@ -2,8 +2,8 @@
 
 ghost use Rattle.std.specs.Prelude.{◌≡◌, find, is_some};
 ghost use Rattle.std.specs.List.{list_any};
-ghost use Rattle.nq_model.specs.Ask.{conflicts, shares};
-ghost use Rattle.nq_model.specs.Table.{caches};
+ghost use Rattle.nq_model.specs.protocol.Ask.{conflicts, shares};
+ghost use Rattle.nq_model.specs.protocol.Table.{caches};
 
 use crate::{Table, is_in_the_way};
 use nq_base::{Access, FileId, Host, Mode, Row};

@@ -2,8 +2,8 @@
 
 ghost use Rattle.std.specs.Prelude.{◌≡◌, ◌<◌, ◌≤◌, ◌+◌, ◌↔◌, [], List, Some, length, map, slice_get, IsTrue, IfOk, OnOk, OnErr};
 ghost use Rattle.nq_base.specs.declared.Event.{Event};
-ghost use Rattle.nq_model.specs.Client.{Client};
-ghost use Rattle.nq_model.specs.World.{World};
+ghost use Rattle.nq_model.specs.protocol.Client.{Client};
+ghost use Rattle.nq_model.specs.protocol.World.{World};
 ghost use Rattle.nq_name_server.specs.Around.{datagram, datagram_of, flushed_one, new_around, sent_one, shown};
 ghost use Rattle.nq_name_server.specs.Outside.{found_by};
 ghost use Rattle.nq_link.specs.Packets.{Datagram};

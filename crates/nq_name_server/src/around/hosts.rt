@@ -2,8 +2,8 @@
 
 ghost use Rattle.std.specs.Prelude.{◌≡◌, ◌<◌, ◌^◌, ◌≤◌, ◌↔◌, ◌&&◌, not, true, [], ◌++◌, List, length, Some, option_map, slice_get, slice_set, vec_len, IsTrue, IfOk, OnErr, OnOk};
 ghost use Rattle.nq_base.specs.declared.Event.{Event};
-ghost use Rattle.nq_model.specs.Client.{Client};
-ghost use Rattle.nq_model.specs.World.{World};
+ghost use Rattle.nq_model.specs.protocol.Client.{Client};
+ghost use Rattle.nq_model.specs.protocol.World.{World};
 ghost use Rattle.nq_directory.specs.Asking.{Asks, heard, lists_dir};
 ghost use Rattle.nq_directory.specs.NameCacheNames.{Names, before_call, new_names};
 ghost use Rattle.nq_name_server.specs.Around.{IsAsked, asked_as, once_sent, over, to_server};

@@ -3,7 +3,7 @@
 ghost use Rattle.std.specs.Prelude.{◌≡◌, ◌<◌, ◌≤◌, ◌^◌, ◌↔◌, [], ◌∷◌, List, IfOk, IsTrue, OnErr, OnOk};
 ghost use Rattle.nq_base.specs.declared.Event.{Event};
 ghost use Rattle.nq_directory.specs.Reading.{dir_vacated_in};
-ghost use Rattle.nq_model.specs.World.{World};
+ghost use Rattle.nq_model.specs.protocol.World.{World};
 ghost use Rattle.nq_name_server.specs.Around.{IsHeldUp, once_sent, over, served_by};
 ghost use Rattle.nq_name_server.specs.Outside.{served_vacated};
 ghost use Rattle.nq_name_server.specs.Serving.{holds_up, puts_off, reads_dir, ticks, vacates};

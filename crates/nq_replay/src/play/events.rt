@@ -2,7 +2,7 @@
 
 ghost use Rattle.std.specs.Prelude.{◌≡◌, ◌≤◌, length};
 ghost use Rattle.nq_base.specs.declared.Event.{Event};
-ghost use Rattle.nq_model.specs.World.{Head};
+ghost use Rattle.nq_model.specs.protocol.World.{Head};
 ghost use Rattle.nq_replay.specs.AsidesGoing.{Goes};
 ghost use Rattle.nq_replay.specs.AsidesPlaying.{repeated};
 ghost use Rattle.nq_replay.specs.Delivering.{Marks};

@@ -1,7 +1,7 @@
 //! Lines, one after another.
 
 ghost use Rattle.std.specs.Prelude.{◌≡◌, ◌≤◌, ◌+◌, ◌^◌, ◌<◌, List, [], length, slice_get, Some};
-ghost use Rattle.nq_model.specs.World.{Head};
+ghost use Rattle.nq_model.specs.protocol.World.{Head};
 ghost use Rattle.nq_replay.specs.AsidesGoing.{Comes, Goes};
 ghost use Rattle.nq_replay.specs.AsidesPlaying.{repeated};
 ghost use Rattle.nq_replay.specs.Going.{AreForWorld, IsForWorld, said};

@@ -2,8 +2,8 @@
 
 ghost use Rattle.std.specs.Prelude.{◌≡◌, ◌<◌, ℕ, Option, Some, IfOk};
 ghost use Rattle.nq_base.specs.declared.Event.{Event};
-ghost use Rattle.nq_model.specs.Stepped.{done};
-ghost use Rattle.nq_model.specs.World.{Head};
+ghost use Rattle.nq_model.specs.protocol.Stepped.{done};
+ghost use Rattle.nq_model.specs.protocol.World.{Head};
 ghost use Rattle.nq_replay.specs.AsidesGoing.{Goes};
 ghost use Rattle.nq_replay.specs.AsidesPlaying.{took};
 ghost use Rattle.nq_replay.specs.Rules.{Rules, packet_of, with_event};

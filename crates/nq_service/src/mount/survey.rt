@@ -2,7 +2,7 @@
 
 ghost use Rattle.std.specs.Option.{ForSome};
 ghost use Rattle.std.specs.Prelude.{◌≡◌, false, IfOk, IsOk};
-ghost use Rattle.nq_model.specs.Change.{heads_of, space_of};
+ghost use Rattle.nq_model.specs.protocol.Change.{heads_of, space_of};
 ghost use Rattle.nq_store.specs.Storing.{content_of};
 
 use nq_base::{Heads, Space};

@@ -1,7 +1,7 @@
 //! Blocks that were read.
 
 ghost use Rattle.std.specs.Prelude.{◌≡◌, ◌<◌, ◌≤◌, Option, IfSome, length};
-ghost use Rattle.nq_model.specs.Kept.{Kept};
+ghost use Rattle.nq_model.specs.protocol.Kept.{Kept};
 ghost use Rattle.nq_service.specs.Recent.{AreBodies, AreRecent, IsBody, most_pieces};
 
 use nq_base::{Block, BlockNo, FileId};

@@ -4,7 +4,7 @@ ghost use Rattle.std.specs.Prelude.{◌≡◌, ◌<◌, ◌≤◌, ◌+◌, [], 
 ghost use Rattle.nq_base.specs.declared.Event.{Event};
 ghost use Rattle.nq_base.specs.declared.Party.{Party};
 ghost use Rattle.nq_staged.specs.Around.{counted, datagram_of, due_as, flushed, new_around, passed, passed_at, prepared, prepared_from, shown, travelling};
-ghost use Rattle.nq_model.specs.World.{World};
+ghost use Rattle.nq_model.specs.protocol.World.{World};
 ghost use Rattle.nq_link.specs.Packets.{Datagram};
 ghost use Rattle.nq_world.specs.Shown.{datagram};
 

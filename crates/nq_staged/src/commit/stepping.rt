@@ -4,10 +4,10 @@ ghost use Rattle.std.specs.Prelude.{◌≡◌, ◌<◌, ◌≤◌, List, Option,
 ghost use Rattle.nq_base.specs.declared.Event.{Event};
 ghost use Rattle.nq_staged.specs.Around.{renewed_around};
 ghost use Rattle.nq_staged.specs.Worlds.{CanComeOutside, IsLeft, IsOfOffers, IsReady, IsTested, Leads, PlaysOutside, Reaches, RunsInner, StepsOutside, stepped_outside, tested_outside};
-ghost use Rattle.nq_model.specs.Kept.{Kept};
-ghost use Rattle.nq_model.specs.SkewBroken.{skew_broken};
-ghost use Rattle.nq_model.specs.Stepped.{most_events, no_packet, tested_room, tested_skew};
-ghost use Rattle.nq_model.specs.World.{Head, World as Model};
+ghost use Rattle.nq_model.specs.protocol.Kept.{Kept};
+ghost use Rattle.nq_model.specs.protocol.SkewBroken.{skew_broken};
+ghost use Rattle.nq_model.specs.protocol.Stepped.{most_events, no_packet, tested_room, tested_skew};
+ghost use Rattle.nq_model.specs.protocol.World.{Head, World as Model};
 ghost use Rattle.nq_stage.specs.declared.run.event.StagedEvent.{StagedEvent};
 ghost use Rattle.nq_stage.specs.Outside.{outside_run};
 ghost use Rattle.nq_stage.specs.Theorem.{EventBrings};

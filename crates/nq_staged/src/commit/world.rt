@@ -4,8 +4,8 @@ ghost use Rattle.std.specs.Prelude.{◌≡◌, ◌<◌, [], List, Option, None, 
 ghost use Rattle.nq_base.specs.Plain.{plain};
 ghost use Rattle.nq_staged.specs.Around.{counts_of, datagram_of, new_around};
 ghost use Rattle.nq_staged.specs.Worlds.{CanComeOutside, IsReady, PlaysOutside, StepsOutside};
-ghost use Rattle.nq_model.specs.Kept.{Kept};
-ghost use Rattle.nq_model.specs.World.{Head};
+ghost use Rattle.nq_model.specs.protocol.Kept.{Kept};
+ghost use Rattle.nq_model.specs.protocol.World.{Head};
 ghost use Rattle.nq_stage.specs.declared.run.event.StagedEvent.{StagedEvent};
 ghost use Rattle.nq_stage.specs.Outside.{outside_run};
 ghost use Rattle.nq_stage.specs.Staged.{new_stager};

@@ -4,7 +4,7 @@ ghost use Rattle.std.specs.Prelude.{◌≡◌, ◌≤◌, ℕ, List, Option, Som
 ghost use Rattle.nq_base.specs.declared.Change.{Change};
 ghost use Rattle.nq_plan.specs.Standing.{image_area, stands_as};
 ghost use Rattle.nq_image.specs.Standing.{Standing, Stands, kept_at};
-ghost use Rattle.nq_model.specs.Change.{applied};
+ghost use Rattle.nq_model.specs.protocol.Change.{applied};
 ghost use Rattle.nq_plan.specs.Held.{HeldTables};
 ghost use Rattle.nq_plan.specs.Ranges.{ranges_of};
 ghost use Rattle.nq_plan.specs.declared.placing.Placed.{Placed};

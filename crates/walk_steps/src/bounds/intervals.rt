@@ -1,7 +1,7 @@
 //! The lease interval.
 
 ghost use Rattle.walk_steps.specs.IntervalsMet.{IsMet, IsMetInRecovery};
-ghost use Rattle.nq_model.specs.LeaseIntervals.{LeaseIntervalInEveryRun};
+ghost use Rattle.nq_model.specs.laws.LeaseIntervals.{LeaseIntervalInEveryRun};
 
 /// The lease interval is kept after every schedule that is within skew over the longest term of all boots: while a caching
 /// lease runs by the clock of its holder, the server has a row that fits it and that ends later by the server's clock, in

@@ -1,7 +1,7 @@
 //! One request for each sequence.
 
 ghost use Rattle.walk_steps.specs.RequestsMet.{IsAskedTwice};
-ghost use Rattle.nq_model.specs.OneRequestPerSequence.{OneOpenInEveryRun, OneRequestPerSequence, RepliesComeAfter};
+ghost use Rattle.nq_model.specs.laws.OneRequestPerSequence.{OneOpenInEveryRun, OneRequestPerSequence, RepliesComeAfter};
 
 /// After every schedule, of each incarnation of a host that ever ran, two packets with requests of one sequence are copies
 /// of one packet: the same request under the same number (RFC 1057 section 8; Macklem 1994).

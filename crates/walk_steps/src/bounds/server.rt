@@ -1,8 +1,8 @@
 //! A server alone.
 
 ghost use Rattle.walk_steps.specs.RecoveriesAreMet.{RecoveriesAreMet};
-ghost use Rattle.nq_model.specs.RecoveriesWait.{RecoveryWaits};
-ghost use Rattle.nq_model.specs.RowsStandApart.{RowsStandApart};
+ghost use Rattle.nq_model.specs.laws.RecoveriesWait.{RecoveryWaits};
+ghost use Rattle.nq_model.specs.laws.RowsStandApart.{RowsStandApart};
 
 /// Whatever comes to a server, its leases never conflict: a file and a host have one row at most, each row is of the
 /// incarnation that is kept, and beside a row that lets its holder write stands no other row of the file that lets its holder

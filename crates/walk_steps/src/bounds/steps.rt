@@ -1,7 +1,7 @@
 //! A step is its own host's. Each law stands on a function with an empty body, whose clause is the law and whose proof stands in
 //! `proofs/`.
 
-ghost use Rattle.nq_model.specs.StepsAreOfOneHost.{StepsAreOfOneHost, StepsRestOnTheirHost};
+ghost use Rattle.nq_model.specs.laws.StepsAreOfOneHost.{StepsAreOfOneHost, StepsRestOnTheirHost};
 
 /// Each event changes one party alone, in every world: the client whose host it is of, or the server. Packets and entries are only
 /// added.

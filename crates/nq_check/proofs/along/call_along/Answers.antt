@@ -1,6 +1,6 @@
 use Rattle.std.proofs.Common.{reverse, ◌∙◌, ap}
 use Rattle.std.proofs.Math.Seq.{take-length}
-use Rattle.nq_model.specs.Journal.{call_of}
+use Rattle.nq_model.specs.laws.Journal.{call_of}
 use Rattle.nq_check.proofs.along.call_along.Goals as goal
 
 pub returns : goal.returns

@@ -1,7 +1,7 @@
 use Rattle.std.proofs.Common.{length, refl, reverse, take, sym, ◌∙◌, ap, arith, ◌≤◌, ◌<◌, ◌-◌}
 use Rattle.std.proofs.lemmas.Option.{slice_get_read}
 use Rattle.std.specs.Option.{option_or}
-use Rattle.nq_model.specs.Journal.{call_of, told_by}
+use Rattle.nq_model.specs.laws.Journal.{call_of, told_by}
 use Rattle.nq_check.proofs.Climbs.{or_none, skip_told, told_more}
 use Rattle.nq_check.proofs.Followed.{told_last}
 use Rattle.nq_check.proofs.along.call_before.Goals as goal

@@ -1,6 +1,6 @@
 use Rattle.std.proofs.Common.{◌≡◌, ◌≤◌, reverse, take}
 use Rattle.std.specs.Option.{option_or}
-use Rattle.nq_model.specs.Journal.{call_of}
+use Rattle.nq_model.specs.laws.Journal.{call_of}
 use Rattle.nq_check.proofs.along.call_before.Given as goal
 
 abbrev pub invariant-loop-at : goal.invariant-loop-at

@@ -1,5 +1,5 @@
 use Rattle.std.proofs.Common.{◌+◌, ◌<◌, length, arith}
-use Rattle.nq_model.specs.JournalTest.{loss_covers}
+use Rattle.nq_model.specs.laws.JournalTest.{loss_covers}
 use Rattle.nq_check.proofs.Standing.{behind_is}
 use Rattle.nq_check.proofs.along.covers_behind.Goals as goal
 

@@ -1,6 +1,6 @@
 use Rattle.std.proofs.Common.{◌≡◌, true, reverse, subst, sym}
 use Rattle.nq_base.specs.declared.Entry.{Entry}
-use Rattle.nq_model.specs.JournalTest.{covers, exists}
+use Rattle.nq_model.specs.laws.JournalTest.{covers, exists}
 use Rattle.nq_check.specs.Covered.{covers_some}
 use Rattle.nq_check.proofs.apart.covers_some.Goals as goal
 

@@ -1,6 +1,6 @@
 use Rattle.std.proofs.Common.{rules, ◌≡◌, ◌+◌, true, length, reverse, refl, sym, subst, take}
 use Rattle.std.proofs.lemmas.Option.{slice_get_read}
-use Rattle.nq_model.specs.Journal.{Each}
+use Rattle.nq_model.specs.laws.Journal.{Each}
 use Rattle.nq_check.specs.Apart.{IsRankedBelow}
 use Rattle.nq_check.specs.declared.rules.Rule.TheVariants.{Accounted}
 use Rattle.nq_check.proofs.MovesOn.{one_more}

@@ -2,7 +2,7 @@ use Rattle.std.proofs.Common.{reverse, take}
 use Rattle.nq_check.specs.Covered.{IsCoveredTo}
 use Rattle.nq_check.specs.Fronts.{KeepsBelow}
 use Rattle.nq_check.specs.declared.rules.Rule.TheVariants.{Accounted}
-use Rattle.nq_model.specs.Journal.{Each}
+use Rattle.nq_model.specs.laws.Journal.{Each}
 use Rattle.nq_check.proofs.covering.account_all.Given as goal
 
 abbrev pub invariant-loop-place : goal.invariant-loop-place

@@ -3,8 +3,8 @@ use Rattle.std.proofs.lemmas.Bool.{and_from}
 use Rattle.nq_base.specs.declared.Entry.TheVariants.{L}
 use Rattle.nq_check.specs.Losses.{is_ended}
 use Rattle.nq_check.proofs.Cutoffs.{ended_first}
-use Rattle.nq_model.specs.CutOffTest.{ends_first}
-use Rattle.nq_model.specs.JournalTest.{exists, loss_covers}
+use Rattle.nq_model.specs.laws.CutOffTest.{ends_first}
+use Rattle.nq_model.specs.laws.JournalTest.{exists, loss_covers}
 use Rattle.nq_check.proofs.endings.is_ended_at.Goals as goal
 
 pub returns-else-covers_behind : goal.returns-else-covers_behind

@@ -1,6 +1,6 @@
 use Rattle.std.proofs.Common.{◌+◌, ap, reverse, sym, take, ◌∙◌}
 use Rattle.std.proofs.lemmas.List.{take_rest}
-use Rattle.nq_model.specs.OrderedTest.{is_in_order}
+use Rattle.nq_model.specs.laws.OrderedTest.{is_in_order}
 use Rattle.nq_check.proofs.judge.keeps.Goals as goal
 
 pub returns-then-place-front_of : goal.returns-then-place-front_of

@@ -2,8 +2,8 @@ use Rattle.std.proofs.Common.{length, refl, reverse, sym, ◌∙◌, ◌<◌, �
 use Rattle.std.proofs.lemmas.Option.{slice_get_read}
 use Rattle.nq_rules.specs.declared.keys.Kind.TheVariants.{Reads}
 use Rattle.nq_check.proofs.Counts.{valued_linked, counts_within, number_first, number_last}
-use Rattle.nq_model.specs.JournalTest.{number_of}
-use Rattle.nq_model.specs.LegalTest.{is_counted_with}
+use Rattle.nq_model.specs.laws.JournalTest.{number_of}
+use Rattle.nq_model.specs.laws.LegalTest.{is_counted_with}
 use Rattle.nq_check.proofs.legal.is_legal_answer.Goals as goal
 
 pub loop-at-init : goal.loop-at-init

@@ -1,6 +1,6 @@
 use Rattle.std.proofs.Common.{◌≡◌, ◌≤◌, ◌+◌, length, reverse, take}
-use Rattle.nq_model.specs.JournalTest.{number_of}
-use Rattle.nq_model.specs.LegalTest.{is_counted_with}
+use Rattle.nq_model.specs.laws.JournalTest.{number_of}
+use Rattle.nq_model.specs.laws.LegalTest.{is_counted_with}
 use Rattle.nq_check.proofs.legal.is_legal_answer.Given as goal
 
 abbrev pub invariant-loop-at : goal.invariant-loop-at

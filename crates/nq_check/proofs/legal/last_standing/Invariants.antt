@@ -1,5 +1,5 @@
 use Rattle.std.proofs.Common.{◌≤◌, reverse, take}
-use Rattle.nq_model.specs.StandsTest.{stands}
+use Rattle.nq_model.specs.laws.StandsTest.{stands}
 use Rattle.nq_check.specs.Tables.{NoneBetween}
 use Rattle.nq_check.proofs.legal.last_standing.Given as goal
 

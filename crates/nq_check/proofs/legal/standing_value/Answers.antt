@@ -1,7 +1,7 @@
 use Rattle.std.proofs.Common.{rules, ◌≡◌, length, refl, reverse, take, sym, ◌∙◌, ◌<◌, ◌≤◌, ◌-◌, arith}
 use Rattle.std.proofs.lemmas.Option.{slice_get_read}
 use Rattle.nq_check.proofs.Standing.{cut_value, hit_value, zero_value}
-use Rattle.nq_model.specs.StandsTest.{stands}
+use Rattle.nq_model.specs.laws.StandsTest.{stands}
 use Rattle.nq_check.proofs.legal.standing_value.Goals as goal
 
 pub returns-then-is_between : goal.returns-then-is_between

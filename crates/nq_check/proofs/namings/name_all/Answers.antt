@@ -4,7 +4,7 @@ use Rattle.nq_check.specs.Losses.{is_naming}
 use Rattle.nq_check.specs.Namings.{IsNamed}
 use Rattle.nq_check.proofs.Passing.{pass_up}
 use Rattle.nq_rules.proofs.Places.{taken_here}
-use Rattle.nq_model.specs.Journal.{Each}
+use Rattle.nq_model.specs.laws.Journal.{Each}
 use Rattle.nq_check.proofs.namings.name_all.Goals as goal
 
 pub loop-place-preserved : goal.loop-place-preserved

@@ -1,7 +1,7 @@
 use Rattle.std.proofs.Common.{reverse, take}
 use Rattle.nq_check.specs.Losses.{PassBetween, is_naming}
 use Rattle.nq_check.specs.Namings.{IsNamed}
-use Rattle.nq_model.specs.Journal.{Each}
+use Rattle.nq_model.specs.laws.Journal.{Each}
 use Rattle.nq_check.proofs.namings.name_all.Given as goal
 
 abbrev pub invariant-loop-place : goal.invariant-loop-place

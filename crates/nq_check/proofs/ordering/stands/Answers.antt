@@ -2,7 +2,7 @@ use Rattle.std.proofs.Common.{rules, ◌≡◌, ◌+◌, true, false, drop, reve
 use Rattle.std.specs.Prelude.{IsTrue}
 use Rattle.nq_base.specs.declared.Entry.{Entry}
 use Rattle.nq_base.specs.declared.Entry.TheVariants.{R}
-use Rattle.nq_model.specs.JournalTest.{is_counted}
+use Rattle.nq_model.specs.laws.JournalTest.{is_counted}
 use Rattle.nq_rules.specs.InOrder.{StandsInOrder}
 use Rattle.nq_rules.proofs.Lining.{else_stands, uncounted_stands}
 use Rattle.nq_rules.proofs.NextLines.{answer_next, call_next, read_next, resize_next, write_next}

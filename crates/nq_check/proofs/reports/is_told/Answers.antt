@@ -2,7 +2,7 @@ use Rattle.std.proofs.Common.{◌≡◌, true, ◌+◌, ◌∷◌, take, drop, r
 use Rattle.nq_check.specs.Losses.{is_told}
 use Rattle.nq_rules.specs.Named.{is_reported}
 use Rattle.nq_rules.proofs.Places.{taken_here}
-use Rattle.nq_model.specs.Reported.{loss_told}
+use Rattle.nq_model.specs.laws.Reported.{loss_told}
 use Rattle.nq_check.proofs.reports.is_told.Goals as goal
 
 pub returns-in-L : goal.returns-in-L

@@ -1,5 +1,5 @@
 use Rattle.std.proofs.Common.{◌≡◌, true, reverse, subst}
-use Rattle.nq_model.specs.ReportedTest.{must_report}
+use Rattle.nq_model.specs.laws.ReportedTest.{must_report}
 use Rattle.nq_check.proofs.Reporting.{busy_key}
 use Rattle.nq_check.proofs.reports.may_report.Goals as goal
 

@@ -1,5 +1,5 @@
 use Rattle.std.proofs.Common.{◌≡◌, ◌≤◌, reverse, take, true}
-use Rattle.nq_model.specs.JournalTest.{each}
+use Rattle.nq_model.specs.laws.JournalTest.{each}
 use Rattle.nq_check.proofs.Delayed.{settles}
 use Rattle.nq_check.proofs.settled.are_settled.Given as goal
 

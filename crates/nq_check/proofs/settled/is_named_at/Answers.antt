@@ -1,5 +1,5 @@
 use Rattle.std.proofs.Common.{◌-◌, reverse, sym, ◌∙◌}
-use Rattle.nq_model.specs.ReportedTest.{names}
+use Rattle.nq_model.specs.laws.ReportedTest.{names}
 use Rattle.nq_rules.proofs.Places.{exists_there}
 use Rattle.nq_check.proofs.settled.is_named_at.Goals as goal
 

@@ -2,10 +2,10 @@ use Rattle.std.proofs.Common.{rules, ◌≡◌, true, reverse, sym, ◌∙◌, s
 use Rattle.std.proofs.lemmas.Bool.{and_from}
 use Rattle.nq_base.specs.declared.Entry.{Entry}
 use Rattle.nq_base.specs.declared.Entry.TheVariants.{L}
-use Rattle.nq_model.specs.JournalTest.{exists, loss_covers}
-use Rattle.nq_model.specs.Reported.{loss_told}
-use Rattle.nq_model.specs.ReportedTest.{names}
-use Rattle.nq_model.specs.SynchronizedTest.{is_named_loss}
+use Rattle.nq_model.specs.laws.JournalTest.{exists, loss_covers}
+use Rattle.nq_model.specs.laws.Reported.{loss_told}
+use Rattle.nq_model.specs.laws.ReportedTest.{names}
+use Rattle.nq_model.specs.laws.SynchronizedTest.{is_named_loss}
 use Rattle.nq_check.proofs.settled.is_named_loss.Goals as goal
 
 pub returns-else-not-loss_covers : goal.returns-else-not-loss_covers

@@ -1,7 +1,7 @@
 use Rattle.std.proofs.Common.{rules, reverse}
 use Rattle.std.specs.Prelude.{IsTrue}
-use Rattle.nq_model.specs.JournalTest.{exists, is_stored}
-use Rattle.nq_model.specs.SynchronizedTest.{is_named_loss}
+use Rattle.nq_model.specs.laws.JournalTest.{exists, is_stored}
+use Rattle.nq_model.specs.laws.SynchronizedTest.{is_named_loss}
 use Rattle.nq_rules.proofs.Places.{exists_there}
 use Rattle.nq_check.proofs.OwnWrite.{or_here, or_there}
 use Rattle.nq_check.proofs.settled.is_settled.Goals as goal

@@ -1,7 +1,7 @@
 use Rattle.std.proofs.Common.{◌≡◌, ◌≤◌, List, [], length, sym, ap, subst, arith}
 use Rattle.nq_base.specs.declared.Entry.{Entry}
-use Rattle.nq_model.specs.Client.{ClientStep}
-use Rattle.nq_model.specs.ClientStep.{starts}
+use Rattle.nq_model.specs.protocol.Client.{ClientStep}
+use Rattle.nq_model.specs.protocol.ClientStep.{starts}
 use Rattle.nq_client.proofs.starting.begin.Goals as goal
 
 pub finish-requires-clause-room : goal.finish-requires-clause-room

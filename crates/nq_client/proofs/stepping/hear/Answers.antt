@@ -7,7 +7,7 @@ use Rattle.nq_client.specs.Receiving.{IsHeeded, most_entries, on_heard}
 use Rattle.nq_client.specs.State.{client_of}
 use Rattle.nq_client.specs.Step.{step_of}
 use Rattle.nq_client.specs.Tied.{Tied}
-use Rattle.nq_model.specs.Client.{Client, ClientStep}
+use Rattle.nq_model.specs.protocol.Client.{Client, ClientStep}
 use Rattle.nq_client.proofs.stepping.hear.Goals as goal
 
 pub hears-requires-clause-prepared : goal.hears-requires-clause-prepared

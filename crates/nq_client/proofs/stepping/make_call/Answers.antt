@@ -2,8 +2,8 @@ use Rattle.std.proofs.Common.{◌≡◌, ◌≤◌, length, sym, ap, subst, arit
 use Rattle.nq_client.proofs.Calls.{called}
 use Rattle.nq_client.proofs.Outcomes.{begins}
 use Rattle.nq_client.specs.State.{client_of}
-use Rattle.nq_model.specs.Client.{ClientStep}
-use Rattle.nq_model.specs.ClientStep.{client_call}
+use Rattle.nq_model.specs.protocol.Client.{ClientStep}
+use Rattle.nq_model.specs.protocol.ClientStep.{client_call}
 use Rattle.nq_client.proofs.stepping.make_call.Goals as goal
 
 pub call-requires-clause-begun : goal.call-requires-clause-begun

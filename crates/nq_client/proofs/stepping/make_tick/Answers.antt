@@ -2,8 +2,8 @@ use Rattle.std.proofs.Common.{◌≡◌, ◌≤◌, length, sym, ap, subst, arit
 use Rattle.nq_client.proofs.Calls.{ticked}
 use Rattle.nq_client.proofs.Outcomes.{begins}
 use Rattle.nq_client.specs.State.{client_of}
-use Rattle.nq_model.specs.Client.{ClientStep}
-use Rattle.nq_model.specs.ClientStep.{client_tick}
+use Rattle.nq_model.specs.protocol.Client.{ClientStep}
+use Rattle.nq_model.specs.protocol.ClientStep.{client_tick}
 use Rattle.nq_client.proofs.stepping.make_tick.Goals as goal
 
 pub tick-requires-clause-begun : goal.tick-requires-clause-begun

@@ -2,7 +2,7 @@ use Rattle.std.proofs.Common.{sym, ◌∙◌, ap}
 use Rattle.std.specs.Option.{option_map}
 use Rattle.nq_client_parts.proofs.Places.{found-place}
 use Rattle.nq_client_parts.specs.Leases.{lease_in}
-use Rattle.nq_model.specs.Client.{file_of_lease}
+use Rattle.nq_model.specs.protocol.Client.{file_of_lease}
 use Rattle.nq_client_parts.proofs.leases.find.Goals as goal
 
 pub returns : goal.returns

@@ -4,7 +4,7 @@ use Rattle.nq_client_parts.specs.ByFile.{Ascends, IsPlace, of_file}
 use Rattle.nq_client_parts.specs.Leases.{lease_in, file_of_row}
 use Rattle.nq_client_parts.proofs.Marks.{marks_own, marked}
 use Rattle.nq_client_parts.proofs.Places.{changed, none_changed, of_file-some, of_file-none}
-use Rattle.nq_model.specs.Client.{file_of_lease, marked_used}
+use Rattle.nq_model.specs.protocol.Client.{file_of_lease, marked_used}
 use Rattle.nq_client_parts.proofs.leases.mark.Goals as goal
 
 pub returns-in-Some-clause-marked : goal.returns-in-Some-clause-marked

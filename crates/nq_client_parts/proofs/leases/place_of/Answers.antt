@@ -2,7 +2,7 @@ use Rattle.std.proofs.Common.{rules, nat_lt}
 use Rattle.std.proofs.lemmas.List.Sorted.{IsPartitionPoint-from_clause}
 use Rattle.nq_client_parts.proofs.Places.{is_place, parted}
 use Rattle.nq_client_parts.specs.Leases.{lease_in, file_of_row}
-use Rattle.nq_model.specs.Client.{file_of_lease}
+use Rattle.nq_model.specs.protocol.Client.{file_of_lease}
 use Rattle.nq_client_parts.proofs.leases.place_of.Goals as goal
 
 pub returns : goal.returns

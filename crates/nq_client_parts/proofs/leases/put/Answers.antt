@@ -4,7 +4,7 @@ use Rattle.std.proofs.lemmas.Bool.{false≢true}
 use Rattle.nq_client_parts.specs.ByFile.{Ascends, IsPlace, of_file}
 use Rattle.nq_client_parts.specs.Leases.{lease_in, file_of_row}
 use Rattle.nq_client_parts.proofs.Places.{replaced, inserted, none_found, there_at, absent_at}
-use Rattle.nq_model.specs.Client.{file_of_lease}
+use Rattle.nq_model.specs.protocol.Client.{file_of_lease}
 use Rattle.nq_client_parts.proofs.leases.put.Goals as goal
 
 pub replace-requires : goal.replace-requires

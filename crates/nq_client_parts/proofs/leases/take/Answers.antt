@@ -3,7 +3,7 @@ use Rattle.std.specs.List.{slice_get}
 use Rattle.nq_client_parts.specs.ByFile.{Ascends, IsPlace, of_file}
 use Rattle.nq_client_parts.specs.Leases.{lease_in, file_of_row}
 use Rattle.nq_client_parts.proofs.Places.{taken, none_taken, there_at, absent_at}
-use Rattle.nq_model.specs.Client.{file_of_lease}
+use Rattle.nq_model.specs.protocol.Client.{file_of_lease}
 use Rattle.nq_client_parts.proofs.leases.take.Goals as goal
 
 pub take_at-requires : goal.take_at-requires

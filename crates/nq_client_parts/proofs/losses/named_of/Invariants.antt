@@ -1,5 +1,5 @@
 use Rattle.std.proofs.Common.{◌≡◌, map, take}
-use Rattle.nq_model.specs.Client.{losses_of, span_of}
+use Rattle.nq_model.specs.protocol.Client.{losses_of, span_of}
 use Rattle.nq_client_parts.proofs.losses.named_of.Given as goal
 
 abbrev pub invariant-loop-loss : goal.invariant-loop-loss

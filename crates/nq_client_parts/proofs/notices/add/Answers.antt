@@ -1,7 +1,7 @@
 use Rattle.std.proofs.Common.{sym, subst, ◌∙◌}
 use Rattle.nq_client_parts.specs.ByFile.{Ascends, IsPlace}
 use Rattle.nq_client_parts.proofs.NoticeList.{added}
-use Rattle.nq_model.specs.Client.{file_of_notice}
+use Rattle.nq_model.specs.protocol.Client.{file_of_notice}
 use Rattle.nq_client_parts.proofs.notices.add.Goals as goal
 
 pub returns-clause-items : goal.returns-clause-items

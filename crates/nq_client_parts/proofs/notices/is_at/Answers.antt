@@ -5,7 +5,7 @@ use Rattle.std.specs.Option.{option_map}
 use Rattle.nq_client_parts.specs.ByFile.{of_file}
 use Rattle.nq_client_parts.proofs.NoticeList.{same_list}
 use Rattle.nq_client_parts.proofs.Places.{found-place}
-use Rattle.nq_model.specs.Client.{Notice, file_of_notice, notice_on}
+use Rattle.nq_model.specs.protocol.Client.{Notice, file_of_notice, notice_on}
 use Rattle.nq_client_parts.proofs.notices.is_at.Goals as goal
 
 tested : (file : ℕ) (o : Option Notice) → Bool

@@ -1,6 +1,6 @@
 use Rattle.std.proofs.Common.{◌≡◌, sym, ap, ◌∙◌}
 use Rattle.nq_client_parts.proofs.NoticeList.{of-file, absent, kept}
-use Rattle.nq_model.specs.Client.{Notice, notice_on, drop_notice}
+use Rattle.nq_model.specs.protocol.Client.{Notice, notice_on, drop_notice}
 use Rattle.nq_client_parts.proofs.notices.put.Goals as goal
 
 pub joined-requires : goal.joined-requires

@@ -1,7 +1,7 @@
 use Rattle.std.proofs.Common.{◌≡◌, is_some, true, false, sym, subst, ◌∙◌, ap, arith}
 use Rattle.nq_client_parts.specs.ByFile.{Ascends, IsPlace}
 use Rattle.nq_client_parts.proofs.NoticeList.{there, none-there, found-there, gone, none_gone}
-use Rattle.nq_model.specs.Client.{file_of_notice, notice_on}
+use Rattle.nq_model.specs.protocol.Client.{file_of_notice, notice_on}
 use Rattle.nq_client_parts.proofs.notices.take.Goals as goal
 
 pub take_at-requires : goal.take_at-requires

@@ -1,6 +1,6 @@
 use Rattle.std.proofs.Common.{set, ap, ◌∙◌}
 use Rattle.nq_keeper.proofs.Edits.{on-ok, get-index}
-use Rattle.nq_model.specs.Change.{file_of}
+use Rattle.nq_model.specs.protocol.Change.{file_of}
 use Rattle.nq_keeper.proofs.files.follow_at.Goals as goal
 
 pub returns-clause-ok : goal.returns-clause-ok

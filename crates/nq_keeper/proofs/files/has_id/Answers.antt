@@ -2,7 +2,7 @@ use Rattle.std.proofs.Common.{◌≡◌, ◌==◌, Bool, true, false, Some, None
 use Rattle.std.specs.Prelude.{is_some}
 use Rattle.nq_keeper.proofs.Edits.{got-at}
 use Rattle.nq_keeper.specs.InOrder.{of_id}
-use Rattle.nq_model.specs.Kept.{File}
+use Rattle.nq_model.specs.protocol.Kept.{File}
 use Rattle.nq_keeper.proofs.files.has_id.Goals as goal
 
 tested : (f : File) (b : Bool) → b ≡ is_some (if b then Some f else None)

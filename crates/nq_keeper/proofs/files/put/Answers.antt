@@ -2,8 +2,8 @@ use Rattle.std.proofs.Common.{◌≡◌, ◌<◌, length, subst, ap, ◌∙◌, 
 use Rattle.std.specs.Prelude.{None, slice_get}
 use Rattle.nq_keeper.proofs.Edits.{blocks-added, counts-row, follows-row, get-index, id-at}
 use Rattle.nq_keeper.proofs.Naming.{named-at-end, named-in-place}
-use Rattle.nq_model.specs.Change.{row_of, with_file}
-use Rattle.nq_model.specs.Kept.{blocks_in_all, find_file}
+use Rattle.nq_model.specs.protocol.Change.{row_of, with_file}
+use Rattle.nq_model.specs.protocol.Kept.{blocks_in_all, find_file}
 use Rattle.nq_keeper.proofs.files.put.Goals as goal
 
 pub returns-in_default-clause-count : goal.returns-in_default-clause-count

@@ -1,6 +1,6 @@
 use Rattle.std.proofs.Common.{Some, sym, ap, ◌∙◌}
 use Rattle.nq_keeper.proofs.Edits.{got-at}
-use Rattle.nq_model.specs.Change.{row_of_found}
+use Rattle.nq_model.specs.protocol.Change.{row_of_found}
 use Rattle.nq_keeper.proofs.files.row_at.Goals as goal
 
 pub returns-in-Some : goal.returns-in-Some

@@ -2,7 +2,7 @@ use Rattle.std.proofs.Common.{◌≡◌, ◌<◌, length, sym, subst, ap, ◌∙
 use Rattle.std.specs.Prelude.{None, slice_get}
 use Rattle.nq_keeper.proofs.Edits.{drops-file, drops-none, get-index}
 use Rattle.nq_keeper.proofs.Naming.{named-without}
-use Rattle.nq_model.specs.Kept.{find_file}
+use Rattle.nq_model.specs.protocol.Kept.{find_file}
 use Rattle.nq_keeper.proofs.files.take.Goals as goal
 
 pub returns-in-Some-clause-files : goal.returns-in-Some-clause-files

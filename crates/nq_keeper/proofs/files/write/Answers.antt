@@ -1,7 +1,7 @@
 use Rattle.std.proofs.Common.{◌≡◌, ◌<◌, length, subst}
 use Rattle.std.specs.Prelude.{slice_get}
 use Rattle.nq_keeper.proofs.Edits.{writes-block}
-use Rattle.nq_model.specs.Kept.{find_file}
+use Rattle.nq_model.specs.protocol.Kept.{find_file}
 use Rattle.nq_keeper.proofs.files.write.Goals as goal
 
 pub returns : goal.returns

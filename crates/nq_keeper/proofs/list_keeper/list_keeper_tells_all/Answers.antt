@@ -1,7 +1,7 @@
 use Rattle.std.proofs.Common.{◌≡◌, subst}
 use Rattle.nq_keeper.specs.Bounds.{told-kept}
 use Rattle.nq_keeper.specs.StoredKeeper.{told_of}
-use Rattle.nq_model.specs.Change.{kept_as}
+use Rattle.nq_model.specs.protocol.Change.{kept_as}
 use Rattle.nq_keeper.proofs.list_keeper.list_keeper_tells_all.Goals as goal
 
 pub returns : goal.returns

@@ -5,9 +5,9 @@ ghost use Rattle.std.specs.Option.{ForSome};
 ghost use Rattle.nq_keeper.specs.Booting.{Opens, Starts, Finishes, LeavesThen, IsOfTerm, ended_at, heads_after_boot, last_boot, started_of, opened_by, start_fault};
 ghost use Rattle.nq_keeper.specs.Recovery.{IsTerm};
 ghost use Rattle.nq_keeper.specs.Keeping.{Commits, LeavesTwo};
-ghost use Rattle.nq_model.specs.Change.{AreHeadsWithin, Fits, IsChangeWithin, change_of_heads, heads_of};
-ghost use Rattle.nq_model.specs.Kept.{Kept};
-ghost use Rattle.nq_model.specs.ServerStep.{booted};
+ghost use Rattle.nq_model.specs.protocol.Change.{AreHeadsWithin, Fits, IsChangeWithin, change_of_heads, heads_of};
+ghost use Rattle.nq_model.specs.protocol.Kept.{Kept};
+ghost use Rattle.nq_model.specs.protocol.ServerStep.{booted};
 
 use crate::requests::boot::recovering::{Finish, Recovering, Serving};
 use crate::{KeepFault, Keeper};
@@ -41,7 +41,7 @@ pub enum StartFault {
 }
 
 /// The change of the server's numbers alone.
-#[tactic(auto, unfolding(nq_model::specs::Change::change_of_heads))]
+#[tactic(auto, unfolding(nq_model::specs::protocol::Change::change_of_heads))]
 fn change_to(heads: Heads) -> Change
     ensures { result ≡ change_of_heads heads }
 {

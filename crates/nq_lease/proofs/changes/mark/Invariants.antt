@@ -1,5 +1,5 @@
 use Rattle.std.proofs.Common.{◌≡◌, ◌≤◌, ◌++◌, take, drop, length, vec_capacity}
-use Rattle.nq_model.specs.Ask.{marked}
+use Rattle.nq_model.specs.protocol.Ask.{marked}
 use Rattle.nq_lease.proofs.changes.mark.Given as goal
 
 abbrev pub invariant-loop-place : goal.invariant-loop-place

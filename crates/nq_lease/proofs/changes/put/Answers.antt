@@ -1,7 +1,7 @@
 use Rattle.std.proofs.Common.{◌≡◌, ◌<◌, Some, None, length, arith, sym, ◌∙◌, vec_capacity}
 use Rattle.std.proofs.lemmas.List.Sums.{prefix_len-le-length}
 use Rattle.std.specs.List.{prefix_len}
-use Rattle.nq_model.specs.Table.{find_row}
+use Rattle.nq_model.specs.protocol.Table.{find_row}
 use Rattle.nq_lease.specs.Rows.{is_before}
 use Rattle.nq_lease.proofs.Keeping.{stands, end-there, kept-added, kept-replaced}
 use Rattle.nq_lease.proofs.Order.{put-new, put-old}

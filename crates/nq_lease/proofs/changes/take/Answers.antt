@@ -1,6 +1,6 @@
 use Rattle.std.proofs.Common.{◌≡◌, Some, None, arith, sym, ◌∙◌, vec_capacity}
 use Rattle.std.specs.List.{prefix_len}
-use Rattle.nq_model.specs.Table.{is_row_of, find_row}
+use Rattle.nq_model.specs.protocol.Table.{is_row_of, find_row}
 use Rattle.nq_lease.specs.Rows.{is_before}
 use Rattle.nq_lease.proofs.Keeping.{stands, end-there, drop-is-remove, kept-taken}
 use Rattle.nq_lease.proofs.Splits.{filter-none}

@@ -1,6 +1,6 @@
 use Rattle.std.proofs.Common.{length, ap, ◌∙◌, rules, arith}
 use Rattle.std.specs.Prelude.{not}
-use Rattle.nq_model.specs.ServerStep.{is_over}
+use Rattle.nq_model.specs.protocol.ServerStep.{is_over}
 use Rattle.std.proofs.lemmas.Fn.{filter_same}
 use Rattle.nq_lease.proofs.Keeping.{kept-filtered}
 use Rattle.nq_lease.proofs.changes.take_over.Goals as goal

@@ -2,7 +2,7 @@ use Rattle.std.proofs.Common.{◌≡◌, Bool, true, false, Some, None, refl, sy
 use Rattle.std.specs.Bool.{then_some}
 use Rattle.std.specs.List.{slice_get, prefix_len}
 use Rattle.nq_base.specs.declared.Row.{Row}
-use Rattle.nq_model.specs.Table.{is_row_of}
+use Rattle.nq_model.specs.protocol.Table.{is_row_of}
 use Rattle.nq_lease.specs.Rows.{is_before}
 use Rattle.nq_lease.proofs.Splits.{find-split, taken}
 use Rattle.nq_lease.proofs.Order.{split-at}

@@ -2,7 +2,7 @@ use Rattle.std.proofs.Common.{◌≡◌, rules, subst, sym}
 use Rattle.std.specs.Prelude.{IfOk}
 use Rattle.nq_directory.specs.Messages.{answer_bytes}
 use Rattle.nq_lister.proofs.Telling.{tells_page}
-use Rattle.nq_model.specs.Server.{serving}
+use Rattle.nq_model.specs.protocol.Server.{serving}
 use Rattle.nq_lister.proofs.answering.reply.Goals as goal
 
 pub returns-then-is_serving-clause-told : goal.returns-then-is_serving-clause-told

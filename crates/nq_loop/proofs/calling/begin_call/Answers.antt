@@ -4,7 +4,7 @@ use Rattle.nq_base.specs.declared.Event.{Event}
 use Rattle.nq_loop.proofs.Calls.{begins-none, begins-one, due-is, none-due}
 use Rattle.nq_loop.specs.Holding.{loop_of}
 use Rattle.nq_loop.specs.Looping.{is_busy}
-use Rattle.nq_model.specs.World.{run}
+use Rattle.nq_model.specs.protocol.World.{run}
 use Rattle.nq_loop.proofs.calling.begin_call.Goals as goal
 
 pub returns-then-is_busy : goal.returns-then-is_busy

@@ -2,7 +2,7 @@ use Rattle.std.proofs.Common.{◌∙◌, ap, sym}
 use Rattle.std.specs.Option.{option_copied}
 use Rattle.std.specs.Prelude.{is_some}
 use Rattle.nq_loop.proofs.Calls.{busy-at}
-use Rattle.nq_model.specs.World.{run}
+use Rattle.nq_model.specs.protocol.World.{run}
 use Rattle.nq_loop.proofs.calling.is_busy.Goals as goal
 
 pub returns-in-Some : goal.returns-in-Some

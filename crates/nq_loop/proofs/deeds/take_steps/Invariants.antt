@@ -1,7 +1,7 @@
 use Rattle.std.proofs.Common.{◌≡◌, length, take, Ok}
 use Rattle.nq_loop.specs.Holding.{IsLooping, Keeps, Loops, loop_of}
 use Rattle.nq_loop.specs.Looping.{turn_steps}
-use Rattle.nq_model.specs.World.{Head}
+use Rattle.nq_model.specs.protocol.World.{Head}
 use Rattle.nq_loop.proofs.deeds.take_steps.Given as goal
 
 abbrev pub invariant-loop-place : goal.invariant-loop-place

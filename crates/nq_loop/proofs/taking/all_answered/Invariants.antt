@@ -2,7 +2,7 @@ use Rattle.std.proofs.Common.{◌≡◌, List}
 use Rattle.nq_base.specs.declared.Event.{Event}
 use Rattle.nq_loop.specs.Counting.{Counts}
 use Rattle.nq_loop.specs.Turning.{all_below, is_through}
-use Rattle.nq_model.specs.World.{Head}
+use Rattle.nq_model.specs.protocol.World.{Head}
 use Rattle.nq_world.specs.Playing.{Plays}
 use Rattle.nq_loop.proofs.taking.all_answered.Given as goal
 

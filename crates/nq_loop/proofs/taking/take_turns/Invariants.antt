@@ -3,7 +3,7 @@ use Rattle.nq_clock.specs.Clocks.{clock_told}
 use Rattle.nq_loop.proofs.Takings.{now_at}
 use Rattle.nq_loop.specs.Holding.{IsLooping, loop_of}
 use Rattle.nq_loop.specs.Turning.{Goes}
-use Rattle.nq_model.specs.World.{Head}
+use Rattle.nq_model.specs.protocol.World.{Head}
 use Rattle.nq_loop.proofs.taking.take_turns.Given as goal
 
 abbrev pub invariant-loop-turn : goal.invariant-loop-turn

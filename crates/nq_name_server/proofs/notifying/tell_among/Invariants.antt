@@ -1,6 +1,6 @@
 use Rattle.std.proofs.Common.{◌≡◌, ◌<◌, ◌++◌, drop, length}
 use Rattle.nq_lease.specs.Telling.{Grows}
-use Rattle.nq_model.specs.Profile.{xid_end}
+use Rattle.nq_model.specs.protocol.Profile.{xid_end}
 use Rattle.nq_name_server.specs.Sending.{all_sent}
 use Rattle.nq_name_server.specs.Serving.{notice_after, notices, readers}
 use Rattle.nq_name_server.proofs.notifying.tell_among.Given as goal

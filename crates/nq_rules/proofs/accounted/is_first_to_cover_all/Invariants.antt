@@ -1,6 +1,6 @@
 use Rattle.std.proofs.Common.{◌≡◌, reverse, take}
-use Rattle.nq_model.specs.JournalTest.{each}
-use Rattle.nq_model.specs.FateTest.{is_first_to_cover}
+use Rattle.nq_model.specs.laws.JournalTest.{each}
+use Rattle.nq_model.specs.laws.FateTest.{is_first_to_cover}
 use Rattle.nq_rules.proofs.accounted.is_first_to_cover_all.Given as goal
 
 abbrev pub invariant-loop-write : goal.invariant-loop-write

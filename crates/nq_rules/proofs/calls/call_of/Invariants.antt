@@ -1,5 +1,5 @@
 use Rattle.std.proofs.Common.{◌≡◌, reverse, take}
-use Rattle.nq_model.specs.Journal.{call_of}
+use Rattle.nq_model.specs.laws.Journal.{call_of}
 use Rattle.nq_rules.proofs.calls.call_of.Given as goal
 
 abbrev pub invariant-loop-entry : goal.invariant-loop-entry

@@ -1,5 +1,5 @@
 use Rattle.std.proofs.Common.{◌≡◌, ◌≤◌, length, reverse, take}
-use Rattle.nq_model.specs.CutOffTest.{ends_first}
+use Rattle.nq_model.specs.laws.CutOffTest.{ends_first}
 use Rattle.nq_rules.proofs.excused.ends_first.Given as goal
 
 abbrev pub invariant-loop-left : goal.invariant-loop-left

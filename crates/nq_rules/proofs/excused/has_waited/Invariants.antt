@@ -1,6 +1,6 @@
 use Rattle.std.proofs.Common.{◌≡◌, reverse, take}
-use Rattle.nq_model.specs.JournalTest.{exists}
-use Rattle.nq_model.specs.CutOffTest.{is_long_wait}
+use Rattle.nq_model.specs.laws.JournalTest.{exists}
+use Rattle.nq_model.specs.laws.CutOffTest.{is_long_wait}
 use Rattle.nq_rules.specs.Grants.{given}
 use Rattle.nq_rules.proofs.excused.has_waited.Given as goal
 

@@ -1,6 +1,6 @@
 use Rattle.std.proofs.Common.{◌≡◌, reverse, take}
 use Rattle.nq_rules.specs.Grants.{given}
-use Rattle.nq_model.specs.CutOff.{last_grant}
+use Rattle.nq_model.specs.laws.CutOff.{last_grant}
 use Rattle.nq_rules.proofs.excused.last_grant.Given as goal
 
 abbrev pub invariant-loop-entry : goal.invariant-loop-entry

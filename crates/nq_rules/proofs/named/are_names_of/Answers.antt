@@ -1,5 +1,5 @@
 use Rattle.std.proofs.Common.{sym, ◌∙◌}
-use Rattle.nq_model.specs.ReportedTest.{is_name_of}
+use Rattle.nq_model.specs.laws.ReportedTest.{is_name_of}
 use Rattle.nq_rules.proofs.Places.{any_past}
 use Rattle.nq_rules.proofs.named.are_names_of.Goals as goal
 

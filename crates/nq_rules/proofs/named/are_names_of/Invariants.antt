@@ -1,6 +1,6 @@
 use Rattle.std.proofs.Common.{◌≡◌, drop}
-use Rattle.nq_model.specs.JournalTest.{exists}
-use Rattle.nq_model.specs.ReportedTest.{is_name_of}
+use Rattle.nq_model.specs.laws.JournalTest.{exists}
+use Rattle.nq_model.specs.laws.ReportedTest.{is_name_of}
 use Rattle.nq_rules.proofs.named.are_names_of.Given as goal
 
 abbrev pub invariant-loop-place : goal.invariant-loop-place

@@ -1,5 +1,5 @@
 use Rattle.std.proofs.Common.{sym, ◌∙◌}
-use Rattle.nq_model.specs.ReportedTest.{is_same_span}
+use Rattle.nq_model.specs.laws.ReportedTest.{is_same_span}
 use Rattle.nq_rules.proofs.Places.{any_past}
 use Rattle.nq_rules.proofs.named.comes_again.Goals as goal
 

@@ -1,6 +1,6 @@
 use Rattle.std.proofs.Common.{◌≡◌, reverse, take}
-use Rattle.nq_model.specs.JournalTest.{exists}
-use Rattle.nq_model.specs.ReportedTest.{is_unnamed}
+use Rattle.nq_model.specs.laws.JournalTest.{exists}
+use Rattle.nq_model.specs.laws.ReportedTest.{is_unnamed}
 use Rattle.nq_rules.proofs.named.has_unnamed.Given as goal
 
 abbrev pub invariant-loop-entry : goal.invariant-loop-entry

@@ -1,5 +1,5 @@
 use Rattle.std.proofs.Common.{◌≡◌, reverse, drop}
-use Rattle.nq_model.specs.ReportedTest.{name_losses}
+use Rattle.nq_model.specs.laws.ReportedTest.{name_losses}
 use Rattle.nq_rules.proofs.named.name_losses.Given as goal
 
 abbrev pub invariant-loop-place : goal.invariant-loop-place

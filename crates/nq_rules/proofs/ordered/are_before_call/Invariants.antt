@@ -1,6 +1,6 @@
 use Rattle.std.proofs.Common.{◌≡◌, reverse, take}
-use Rattle.nq_model.specs.JournalTest.{exists, is_call, throughout}
-use Rattle.nq_model.specs.OrderedTest.{is_before_call}
+use Rattle.nq_model.specs.laws.JournalTest.{exists, is_call, throughout}
+use Rattle.nq_model.specs.laws.OrderedTest.{is_before_call}
 use Rattle.nq_rules.proofs.ordered.are_before_call.Given as goal
 
 abbrev pub invariant-loop-place : goal.invariant-loop-place

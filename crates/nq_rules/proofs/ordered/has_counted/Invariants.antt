@@ -1,6 +1,6 @@
 use Rattle.std.proofs.Common.{◌≡◌, reverse, take}
-use Rattle.nq_model.specs.JournalTest.{exists}
-use Rattle.nq_model.specs.LegalTest.{is_counted_by}
+use Rattle.nq_model.specs.laws.JournalTest.{exists}
+use Rattle.nq_model.specs.laws.LegalTest.{is_counted_by}
 use Rattle.nq_rules.proofs.ordered.has_counted.Given as goal
 
 abbrev pub invariant-loop-entry : goal.invariant-loop-entry

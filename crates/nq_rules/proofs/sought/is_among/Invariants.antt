@@ -1,5 +1,5 @@
 use Rattle.std.proofs.Common.{◌≡◌, false, reverse, take}
-use Rattle.nq_model.specs.JournalTest.{exists}
+use Rattle.nq_model.specs.laws.JournalTest.{exists}
 use Rattle.nq_rules.specs.Sought.{passes}
 use Rattle.nq_rules.proofs.sought.is_among.Given as goal
 

@@ -1,6 +1,6 @@
 use Rattle.std.proofs.Common.{◌≡◌, reverse, take, not, ◌||◌}
-use Rattle.nq_model.specs.JournalTest.{each}
-use Rattle.nq_model.specs.SynchronizedTest.{is_delayed_on, is_stored_or_told}
+use Rattle.nq_model.specs.laws.JournalTest.{each}
+use Rattle.nq_model.specs.laws.SynchronizedTest.{is_delayed_on, is_stored_or_told}
 use Rattle.nq_rules.proofs.synchronized.are_stored_or_told.Given as goal
 
 abbrev pub invariant-loop-place : goal.invariant-loop-place

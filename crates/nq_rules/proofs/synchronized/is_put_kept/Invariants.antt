@@ -1,5 +1,5 @@
 use Rattle.std.proofs.Common.{◌≡◌, reverse, take}
-use Rattle.nq_model.specs.JournalTest.{exists, is_answer, is_call, somewhere}
+use Rattle.nq_model.specs.laws.JournalTest.{exists, is_answer, is_call, somewhere}
 use Rattle.nq_rules.specs.Kept.{is_put_kept}
 use Rattle.nq_rules.proofs.synchronized.is_put_kept.Given as goal
 

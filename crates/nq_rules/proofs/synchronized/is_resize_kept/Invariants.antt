@@ -1,6 +1,6 @@
 use Rattle.std.proofs.Common.{◌≡◌, reverse, take}
-use Rattle.nq_model.specs.JournalTest.{somewhere}
-use Rattle.nq_model.specs.SynchronizedTest.{is_settled_resize}
+use Rattle.nq_model.specs.laws.JournalTest.{somewhere}
+use Rattle.nq_model.specs.laws.SynchronizedTest.{is_settled_resize}
 use Rattle.nq_rules.proofs.synchronized.is_resize_kept.Given as goal
 
 abbrev pub invariant-loop-place : goal.invariant-loop-place

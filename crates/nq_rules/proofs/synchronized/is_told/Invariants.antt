@@ -1,6 +1,6 @@
 use Rattle.std.proofs.Common.{◌≡◌, reverse, take}
-use Rattle.nq_model.specs.JournalTest.{exists}
-use Rattle.nq_model.specs.SynchronizedTest.{is_named_loss}
+use Rattle.nq_model.specs.laws.JournalTest.{exists}
+use Rattle.nq_model.specs.laws.SynchronizedTest.{is_named_loss}
 use Rattle.nq_rules.proofs.synchronized.is_told.Given as goal
 
 abbrev pub invariant-loop-entry : goal.invariant-loop-entry

@@ -1,5 +1,5 @@
 use Rattle.std.proofs.Common.{◌≡◌, sym, subst}
-use Rattle.nq_model.specs.Decided.{aside, later_aside}
+use Rattle.nq_model.specs.protocol.Decided.{aside, later_aside}
 use Rattle.nq_server.proofs.DecidedSteps.{does-nothing}
 use Rattle.nq_server.specs.Deciding.{DoesAside, DoesIfFresh}
 use Rattle.nq_server.specs.State.{beside_of, phase_of, server_of}

@@ -1,6 +1,6 @@
 use Rattle.std.proofs.Common.{◌≡◌, Option, refl, sym, ap, subst, ◌∙◌, arith}
 use Rattle.nq_keeper.specs.Recovery.{Recovery}
-use Rattle.nq_model.specs.Table.{with_rows}
+use Rattle.nq_model.specs.protocol.Table.{with_rows}
 use Rattle.nq_server.proofs.DecidedSteps.{serving-runs, does-serving, does-recovering, recovery-keeps, of-recovering}
 use Rattle.nq_server.proofs.LeasedSteps.{of-serving}
 use Rattle.nq_server.specs.Sound.{RowsRun}

@@ -1,6 +1,6 @@
 use Rattle.std.proofs.Common.{◌≡◌, sym, ap, subst, arith}
 use Rattle.nq_base.specs.declared.Access.{Access}
-use Rattle.nq_model.specs.Table.{with_rows}
+use Rattle.nq_model.specs.protocol.Table.{with_rows}
 use Rattle.nq_server.proofs.AskedRows.{marked-run}
 use Rattle.nq_server.proofs.LeasedSteps.{of-serving}
 use Rattle.nq_server.specs.Sound.{RowsRun}

@@ -1,7 +1,7 @@
 use Rattle.std.proofs.Common.{◌+◌, ◌∙◌, arith}
 use Rattle.nq_keeper.proofs.HeadsChange.{is-last}
 use Rattle.nq_keeper.proofs.Leaving.{two-of}
-use Rattle.nq_model.specs.ServerStep.{booted}
+use Rattle.nq_model.specs.protocol.ServerStep.{booted}
 use Rattle.nq_server.proofs.Booted.{own-boot}
 use Rattle.nq_server.proofs.booting.begin.Goals as goal
 

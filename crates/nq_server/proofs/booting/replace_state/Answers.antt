@@ -1,6 +1,6 @@
 use Rattle.std.proofs.Common.{◌≡◌, None, ap, ◌∙◌}
-use Rattle.nq_model.specs.Server.{last_in}
-use Rattle.nq_model.specs.ServerStep.{boot}
+use Rattle.nq_model.specs.protocol.Server.{last_in}
+use Rattle.nq_model.specs.protocol.ServerStep.{boot}
 use Rattle.nq_server.specs.Booting.{with_last}
 use Rattle.nq_server.specs.State.{beside, beside_of, phase_of}
 use Rattle.nq_server.specs.declared.state.State.{State}

@@ -2,9 +2,9 @@ use Rattle.std.proofs.Common.{◌≡◌, [], ◌∷◌, ◌++◌, sym, subst, �
 use Rattle.std.proofs.lemmas.List.Elements.{All-head}
 use Rattle.nq_datagrams.specs.Messages.{FitsMessage}
 use Rattle.nq_datagrams.specs.Sent.{FitsPacket, sent}
-use Rattle.nq_model.specs.Decided.{decided_step}
-use Rattle.nq_model.specs.Message.{reply}
-use Rattle.nq_model.specs.Server.{to_host}
+use Rattle.nq_model.specs.protocol.Decided.{decided_step}
+use Rattle.nq_model.specs.protocol.Message.{reply}
+use Rattle.nq_model.specs.protocol.Server.{to_host}
 use Rattle.nq_server.proofs.ConcludedSteps.{concluded, concluded-drop}
 use Rattle.nq_server.specs.Deciding.{Concludes, warnings}
 use Rattle.nq_server.specs.declared.received.Taken.TheVariants as took

@@ -1,9 +1,9 @@
 use Rattle.std.proofs.Common.{◌≡◌, refl, ap, ◌∙◌, inl}
 use Rattle.nq_keeper.proofs.Leaving.{two-of}
-use Rattle.nq_model.specs.Change.{applied_if}
-use Rattle.nq_model.specs.Decided.{change_of, decided, decided_step, gate_in, gate_of}
-use Rattle.nq_model.specs.Kept.{Kept}
-use Rattle.nq_model.specs.Server.{ServerStep}
+use Rattle.nq_model.specs.protocol.Change.{applied_if}
+use Rattle.nq_model.specs.protocol.Decided.{change_of, decided, decided_step, gate_in, gate_of}
+use Rattle.nq_model.specs.protocol.Kept.{Kept}
+use Rattle.nq_model.specs.protocol.Server.{ServerStep}
 use Rattle.nq_server.proofs.DecidedOnce.{leaves-decided, takes-decided, takes-given-up}
 use Rattle.nq_server.proofs.DecidedSteps.{taken-back}
 use Rattle.nq_server.proofs.ToldRequests.{concludes-told}

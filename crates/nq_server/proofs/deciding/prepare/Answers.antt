@@ -1,5 +1,5 @@
 use Rattle.std.proofs.Common.{◌≡◌, length, ap, subst, ◌∙◌, arith}
-use Rattle.nq_model.specs.Decided.{later_aside}
+use Rattle.nq_model.specs.protocol.Decided.{later_aside}
 use Rattle.nq_server.proofs.DecidedSteps.{sends-grow, sends-through, taken-back}
 use Rattle.nq_server.proofs.LeasedSteps.{some-kept}
 use Rattle.nq_server.specs.State.{beside_of, phase_of, server_of}

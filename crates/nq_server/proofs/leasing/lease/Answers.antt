@@ -1,6 +1,6 @@
 use Rattle.std.proofs.Common.{Ok, refl, sym, subst}
-use Rattle.nq_model.specs.Ask.{ask}
-use Rattle.nq_model.specs.ServerStep.{leases}
+use Rattle.nq_model.specs.protocol.Ask.{ask}
+use Rattle.nq_model.specs.protocol.ServerStep.{leases}
 use Rattle.nq_server.proofs.LeasedSteps.{after-room, lease-later, lease-given}
 use Rattle.nq_server.specs.declared.received.Taken.TheVariants.{Done}
 use Rattle.nq_server.specs.Leasing.{Does, MakesBeside, granted_in}

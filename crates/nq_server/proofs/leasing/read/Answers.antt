@@ -1,10 +1,10 @@
 use Rattle.std.proofs.Common.{sym, ap, ◌∙◌}
 use Rattle.nq_base.specs.declared.Refusal.{Refusal}
 use Rattle.nq_base.specs.declared.Reply.{Reply as Answer}
-use Rattle.nq_model.specs.Ask.{ask}
-use Rattle.nq_model.specs.Kept.{find_file}
-use Rattle.nq_model.specs.Message.{reply}
-use Rattle.nq_model.specs.ServerStep.{read, read_asked}
+use Rattle.nq_model.specs.protocol.Ask.{ask}
+use Rattle.nq_model.specs.protocol.Kept.{find_file}
+use Rattle.nq_model.specs.protocol.Message.{reply}
+use Rattle.nq_model.specs.protocol.ServerStep.{read, read_asked}
 use Rattle.nq_server.proofs.AnsweredSteps.{takes-answered}
 use Rattle.nq_server.proofs.AskedStates.{may-ask, stays-sound}
 use Rattle.nq_server.proofs.LeasedFinds.{read-leaves, read-stale, read-invalid, read-found}

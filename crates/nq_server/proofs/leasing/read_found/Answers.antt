@@ -1,6 +1,6 @@
 use Rattle.std.proofs.Common.{Ok, refl, sym, subst}
-use Rattle.nq_model.specs.Ask.{ask}
-use Rattle.nq_model.specs.ServerStep.{serves}
+use Rattle.nq_model.specs.protocol.Ask.{ask}
+use Rattle.nq_model.specs.protocol.ServerStep.{serves}
 use Rattle.nq_server.proofs.LeasedSteps.{after-room, next-same, read-later, read-given}
 use Rattle.nq_server.specs.declared.received.Taken.TheVariants.{Done}
 use Rattle.nq_server.specs.Leasing.{Does, MakesBeside, file_asked, granted_in}

@@ -1,8 +1,8 @@
 use Rattle.std.proofs.Common.{sym, ap, ◌∙◌}
-use Rattle.nq_model.specs.Kept.{find_name}
-use Rattle.nq_model.specs.Message.{reply}
-use Rattle.nq_model.specs.Server.{says}
-use Rattle.nq_model.specs.ServerStep.{look_up}
+use Rattle.nq_model.specs.protocol.Kept.{find_name}
+use Rattle.nq_model.specs.protocol.Message.{reply}
+use Rattle.nq_model.specs.protocol.Server.{says}
+use Rattle.nq_model.specs.protocol.ServerStep.{look_up}
 use Rattle.nq_server.proofs.AnsweredSteps.{takes-answered, look-up-says}
 use Rattle.nq_server.specs.Answering.{looked_up}
 use Rattle.nq_server.specs.State.{server_of}

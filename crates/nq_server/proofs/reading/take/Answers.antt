@@ -1,8 +1,8 @@
 use Rattle.std.proofs.Common.{refl, subst, sym}
 use Rattle.nq_datagrams.specs.Told.{told}
-use Rattle.nq_model.specs.Kept.{Kept}
-use Rattle.nq_model.specs.Server.{ServerStep}
-use Rattle.nq_model.specs.ServerStep.{receive}
+use Rattle.nq_model.specs.protocol.Kept.{Kept}
+use Rattle.nq_model.specs.protocol.Server.{ServerStep}
+use Rattle.nq_model.specs.protocol.ServerStep.{receive}
 use Rattle.nq_server.proofs.AnsweredSteps.{is-no-request, other-keeps}
 use Rattle.nq_server.proofs.LeasedSteps.{takes-does}
 use Rattle.nq_server.specs.State.{beside_of, server_of}

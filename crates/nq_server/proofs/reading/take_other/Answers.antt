@@ -1,7 +1,7 @@
 use Rattle.std.proofs.Common.{ap, subst}
 use Rattle.nq_datagrams.specs.Told.{told}
-use Rattle.nq_model.specs.Message.{error, rpc_mismatch, program_unavailable, program_mismatch, procedure_unavailable, garbage_arguments}
-use Rattle.nq_model.specs.ServerStep.{receive}
+use Rattle.nq_model.specs.protocol.Message.{error, rpc_mismatch, program_unavailable, program_mismatch, procedure_unavailable, garbage_arguments}
+use Rattle.nq_model.specs.protocol.ServerStep.{receive}
 use Rattle.nq_server.proofs.AnsweredSteps.{does-answered, does-dropped}
 use Rattle.nq_server.specs.Answering.{IsNoRequest}
 use Rattle.nq_server.specs.declared.received.Reason.TheVariants as reason

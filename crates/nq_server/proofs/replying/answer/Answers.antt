@@ -1,4 +1,4 @@
-use Rattle.nq_model.specs.Message.{reply}
+use Rattle.nq_model.specs.protocol.Message.{reply}
 use Rattle.nq_server.proofs.replying.answer.Goals as goal
 
 pub returns-in-Ok : goal.returns-in-Ok

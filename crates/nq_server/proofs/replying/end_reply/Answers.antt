@@ -1,5 +1,5 @@
-use Rattle.nq_model.specs.Message.{reply}
-use Rattle.nq_model.specs.Server.{to_host}
+use Rattle.nq_model.specs.protocol.Message.{reply}
+use Rattle.nq_model.specs.protocol.Server.{to_host}
 use Rattle.nq_server.proofs.PushedPackets.{one-sent}
 use Rattle.nq_server.proofs.replying.end_reply.Goals as goal
 

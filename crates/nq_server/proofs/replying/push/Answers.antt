@@ -2,7 +2,7 @@ use Rattle.std.proofs.Common.{◌≡◌, subst}
 use Rattle.std.specs.Prelude.{IfOk, OnOk}
 use Rattle.std.proofs.lemmas.Result.{on_ok_weaker}
 use Rattle.nq_datagrams.specs.Messages.{FitsMessage, bytes_of}
-use Rattle.nq_model.specs.Server.{to_host}
+use Rattle.nq_model.specs.protocol.Server.{to_host}
 use Rattle.nq_server.proofs.PushedPackets.{one-sent}
 use Rattle.nq_server.proofs.replying.push.Goals as goal
 

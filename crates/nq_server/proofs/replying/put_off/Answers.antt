@@ -1,8 +1,8 @@
 use Rattle.nq_base.specs.declared.Refusal.{Refusal}
 use Rattle.nq_base.specs.declared.Reply.{Reply}
 use Rattle.nq_lease.specs.Telling.{told_rows}
-use Rattle.nq_model.specs.Message.{reply}
-use Rattle.nq_model.specs.Server.{notices, to_host}
+use Rattle.nq_model.specs.protocol.Message.{reply}
+use Rattle.nq_model.specs.protocol.Server.{notices, to_host}
 use Rattle.nq_server.proofs.PushedPackets.{sent-behind}
 use Rattle.nq_server.proofs.replying.put_off.Goals as goal
 

@@ -1,6 +1,6 @@
 use Rattle.nq_base.specs.declared.Refusal.{Refusal}
 use Rattle.nq_base.specs.declared.Reply.{Reply}
-use Rattle.nq_model.specs.Message.{reply}
+use Rattle.nq_model.specs.protocol.Message.{reply}
 use Rattle.nq_server.proofs.replying.reply_later.Goals as goal
 
 pub returns-clause-sends : goal.returns-clause-sends

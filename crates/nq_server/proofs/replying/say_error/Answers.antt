@@ -1,5 +1,5 @@
 use Rattle.nq_datagrams.specs.Told.{told_error}
-use Rattle.nq_model.specs.Message.{error}
+use Rattle.nq_model.specs.protocol.Message.{error}
 use Rattle.nq_server.proofs.replying.say_error.Goals as goal
 
 pub returns-in-Ok : goal.returns-in-Ok

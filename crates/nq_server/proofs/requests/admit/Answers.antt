@@ -1,7 +1,7 @@
 use Rattle.std.proofs.Common.{sym, ap, ◌∙◌}
 use Rattle.nq_keeper.proofs.Leaving.{one-of}
-use Rattle.nq_model.specs.Kept.{host_row}
-use Rattle.nq_model.specs.ServerStep.{admit, not_attached, perform}
+use Rattle.nq_model.specs.protocol.Kept.{host_row}
+use Rattle.nq_model.specs.protocol.ServerStep.{admit, not_attached, perform}
 use Rattle.nq_server.proofs.AdmittedSteps.{admits-old, admits-new, admits-same, stranger-keeps}
 use Rattle.nq_server.proofs.LeasedSteps.{takes-does}
 use Rattle.nq_server.proofs.TakenSteps.{takes-after, takes-dropped}

@@ -1,11 +1,11 @@
 use Rattle.std.proofs.Common.{refl, sym, ap, ◌∙◌}
 use Rattle.nq_base.specs.declared.Reply.{Reply as Answer}
 use Rattle.nq_model.proofs.EachChange.{requests-are-decided}
-use Rattle.nq_model.specs.Decided.{decided, decided_step, gate_of}
-use Rattle.nq_model.specs.Kept.{Kept}
-use Rattle.nq_model.specs.Message.{asker, reply}
-use Rattle.nq_model.specs.Server.{ServerStep}
-use Rattle.nq_model.specs.ServerStep.{answer_request}
+use Rattle.nq_model.specs.protocol.Decided.{decided, decided_step, gate_of}
+use Rattle.nq_model.specs.protocol.Kept.{Kept}
+use Rattle.nq_model.specs.protocol.Message.{asker, reply}
+use Rattle.nq_model.specs.protocol.Server.{ServerStep}
+use Rattle.nq_model.specs.protocol.ServerStep.{answer_request}
 use Rattle.nq_server.proofs.AnsweredSteps.{takes-answered}
 use Rattle.nq_server.proofs.SentRequests.{same-host, known-host, answers-nobody}
 use Rattle.nq_server.proofs.TakenSteps.{leaves-as, takes-after, takes-dropped}

@@ -1,6 +1,6 @@
 use Rattle.std.proofs.Common.{sym, subst}
-use Rattle.nq_model.specs.Server.{serving}
-use Rattle.nq_model.specs.ServerStep.{look}
+use Rattle.nq_model.specs.protocol.Server.{serving}
+use Rattle.nq_model.specs.protocol.ServerStep.{look}
 use Rattle.nq_server.specs.State.{beside_of, server_of}
 use Rattle.nq_server.specs.Stepping.{Takes, next_of}
 use Rattle.nq_server.proofs.requests.look.Goals as goal

@@ -1,7 +1,7 @@
 use Rattle.std.proofs.Common.{◌≡◌, refl, sym, ap, subst, arith}
-use Rattle.nq_model.specs.Table.{find_row, with_rows}
-use Rattle.nq_model.specs.Server.{serving}
-use Rattle.nq_model.specs.ServerStep.{look, perform}
+use Rattle.nq_model.specs.protocol.Table.{find_row, with_rows}
+use Rattle.nq_model.specs.protocol.Server.{serving}
+use Rattle.nq_model.specs.protocol.ServerStep.{look, perform}
 use Rattle.nq_server.proofs.AdmittedSteps.{looks-served}
 use Rattle.nq_server.proofs.TakenSteps.{takes-after}
 use Rattle.nq_server.specs.State.{beside_of, phase_of, server_of}

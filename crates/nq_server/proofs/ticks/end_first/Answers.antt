@@ -1,5 +1,5 @@
 use Rattle.std.specs.List.{find}
-use Rattle.nq_model.specs.ServerStep.{is_due}
+use Rattle.nq_model.specs.protocol.ServerStep.{is_due}
 use Rattle.nq_server.proofs.Ticked.{ended-by, ends-first, or-as}
 use Rattle.nq_server.proofs.ticks.end_first.Goals as goal
 

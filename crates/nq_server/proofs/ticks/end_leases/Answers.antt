@@ -1,6 +1,6 @@
 use Rattle.std.proofs.Common.{◌≡◌, sym, ap, arith}
 use Rattle.std.specs.List.{find}
-use Rattle.nq_model.specs.ServerStep.{is_due}
+use Rattle.nq_model.specs.protocol.ServerStep.{is_due}
 use Rattle.nq_server.specs.State.{beside_of}
 use Rattle.nq_server.specs.Ticking.{at_tick}
 use Rattle.nq_server.proofs.Ticked.{draws-none, kept-ended, or-as, runs-on, serves-of-boot, takes-ends}

@@ -1,7 +1,7 @@
 use Rattle.std.proofs.Common.{refl, arith}
 use Rattle.nq_serving.proofs.TurnCauses.{halts_by}
 use Rattle.nq_serving.specs.declared.turning.LinkPolicy.{LinkPolicy}
-use Rattle.nq_model.specs.Profile.{most_taken_by_server}
+use Rattle.nq_model.specs.protocol.Profile.{most_taken_by_server}
 use Rattle.nq_clock.specs.Clocks.{clock_told}
 use Rattle.nq_link.specs.Links.{link_told}
 use Rattle.nq_serving.specs.Extending.{extension_told}

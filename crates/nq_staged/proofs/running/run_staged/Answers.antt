@@ -1,6 +1,6 @@
 use Rattle.std.proofs.Common.{◌∙◌, sym, subst}
 use Rattle.nq_replay.specs.Ending.{TellsOver}
-use Rattle.nq_model.specs.Stepped.{out_of_skew}
+use Rattle.nq_model.specs.protocol.Stepped.{out_of_skew}
 use Rattle.nq_staged.specs.Running.{FaultyStaged, IsPrinted, PassesStaged, RunsStaged, StopsStaged}
 use Rattle.nq_io.specs.Whole.{IsAll}
 use Rattle.nq_played.proofs.Outcomes.{ends_over, ends_text, still_counts, still_unless}

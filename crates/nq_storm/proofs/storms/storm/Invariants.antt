@@ -1,7 +1,7 @@
 use Rattle.std.proofs.Common.{◌≡◌, [], length}
 use Rattle.std.specs.List.{AllByRecursion}
 use Rattle.std.specs.Prelude.{reverse}
-use Rattle.nq_model.specs.World.{Head}
+use Rattle.nq_model.specs.protocol.World.{Head}
 use Rattle.nq_storm.specs.Ending.{IsInStorm}
 use Rattle.nq_storm.specs.Storming.{generator}
 use Rattle.nq_storm.specs.Rules.{asked_for}

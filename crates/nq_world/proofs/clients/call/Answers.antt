@@ -1,6 +1,6 @@
 use Rattle.std.proofs.Common.{Some, refl, sym, subst}
 use Rattle.std.specs.Prelude.{slice_set}
-use Rattle.nq_model.specs.ClientStep.{client_call}
+use Rattle.nq_model.specs.protocol.ClientStep.{client_call}
 use Rattle.nq_world.proofs.Acted.{called-acts, client-at}
 use Rattle.nq_world.specs.Moving.{ActsAt, called}
 use Rattle.nq_world.proofs.clients.call.Goals as goal

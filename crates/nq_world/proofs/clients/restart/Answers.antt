@@ -1,7 +1,7 @@
 use Rattle.std.proofs.Common.{◌≡◌, ◌≤◌, ◌+◌, ◌^◌, [], ◌∷◌, ◌++◌, Some, refl, sym, subst, ap, ◌∙◌, inl, inr, arith}
 use Rattle.std.specs.Prelude.{slice_get, slice_set}
 use Rattle.nq_base.specs.declared.Entry.{Entry}
-use Rattle.nq_model.specs.ClientStep.{next_incarnation, restart}
+use Rattle.nq_model.specs.protocol.ClientStep.{next_incarnation, restart}
 use Rattle.nq_world.proofs.Acted.{restart-acts, client-at, put-same, spent-at}
 use Rattle.nq_world.specs.Counting.{IsLastTime}
 use Rattle.nq_world.specs.Moving.{Moves, step_at}

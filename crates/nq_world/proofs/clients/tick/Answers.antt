@@ -1,6 +1,6 @@
 use Rattle.std.proofs.Common.{◌≡◌, ◌+◌, Some, refl, sym, subst, ap, ◌∙◌, inl, inr}
 use Rattle.std.specs.Prelude.{slice_set}
-use Rattle.nq_model.specs.ClientStep.{client_tick}
+use Rattle.nq_model.specs.protocol.ClientStep.{client_tick}
 use Rattle.nq_world.proofs.Acted.{heeded-acts, client-at, put-same, spent-at}
 use Rattle.nq_world.specs.Counting.{IsLastTime}
 use Rattle.nq_world.specs.Moving.{ActsAt, heeded}

@@ -1,7 +1,7 @@
 use Rattle.std.proofs.Common.{◌≡◌, ◌+◌, [], ◌∷◌, ◌++◌, suc, length, take, sym, subst, ap, ◌∙◌, arith}
 use Rattle.std.proofs.lemmas.List.{length-take}
 use Rattle.nq_keeper.specs.Keeping.{told_after}
-use Rattle.nq_model.specs.Change.{Fits, IsChangeWithin}
+use Rattle.nq_model.specs.protocol.Change.{Fits, IsChangeWithin}
 use Rattle.nq_world.proofs.Firsts.{file-applied, file-fits, file-within, take-more, taken-fine, told-next, commit-told}
 use Rattle.nq_world.specs.First.{AreFirstFiles, file_change, kept_first, told_as}
 use Rattle.nq_world.proofs.first.keep_file.Goals as goal

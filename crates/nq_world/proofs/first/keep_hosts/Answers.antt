@@ -1,6 +1,6 @@
 use Rattle.std.proofs.Common.{◌≡◌, ◌<◌, ◌+◌, suc, sym, subst, ap, ◌∙◌, arith}
 use Rattle.nq_keeper.specs.Keeping.{told_after}
-use Rattle.nq_model.specs.Change.{IsChangeWithin}
+use Rattle.nq_model.specs.protocol.Change.{IsChangeWithin}
 use Rattle.nq_world.proofs.Firsts.{host-applied, host-within, told-next, told-told, told-on}
 use Rattle.nq_world.specs.First.{host_change, kept_first, told_as}
 use Rattle.nq_world.proofs.first.keep_hosts.Goals as goal

@@ -1,6 +1,6 @@
 use Rattle.std.proofs.Common.{◌≡◌, [], sym, subst}
 use Rattle.nq_keeper.specs.Keeping.{told_after}
-use Rattle.nq_model.specs.Change.{Fits, IsChangeWithin}
+use Rattle.nq_model.specs.protocol.Change.{Fits, IsChangeWithin}
 use Rattle.nq_world.proofs.Firsts.{heads-applied, heads-fit-first, heads-within-first, told-next, commit-told}
 use Rattle.nq_world.specs.First.{heads_change, kept_first, told_as}
 use Rattle.nq_world.proofs.first.keep_longest.Goals as goal

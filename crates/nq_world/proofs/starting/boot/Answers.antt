@@ -1,4 +1,4 @@
-use Rattle.nq_model.specs.World.{Head}
+use Rattle.nq_model.specs.protocol.World.{Head}
 use Rattle.nq_world.proofs.Begun.{head-within, over-begins}
 use Rattle.nq_world.proofs.starting.boot.Goals as goal
 

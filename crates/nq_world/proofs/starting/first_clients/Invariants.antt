@@ -1,6 +1,6 @@
 use Rattle.std.proofs.Common.{◌≡◌, ◌≤◌, length}
 use Rattle.std.specs.Prelude.{vec_capacity}
-use Rattle.nq_model.specs.World.{first_clients}
+use Rattle.nq_model.specs.protocol.World.{first_clients}
 use Rattle.nq_world.specs.Counting.{TookIn}
 use Rattle.nq_world.specs.Moving.{clients_in}
 use Rattle.nq_world.proofs.starting.first_clients.Given as goal

@@ -1,8 +1,8 @@
 use Rattle.std.proofs.Common.{true, refl, ap, ◌∙◌, arith}
 use Rattle.nq_client.proofs.Counts.{within}
 use Rattle.nq_client.specs.State.{client_of}
-use Rattle.nq_model.specs.Client.{Client}
-use Rattle.nq_model.specs.ClientStep.{attached_client, fresh_client}
+use Rattle.nq_model.specs.protocol.Client.{Client}
+use Rattle.nq_model.specs.protocol.ClientStep.{attached_client, fresh_client}
 use Rattle.nq_client.proofs.client.Client.attached.Goals as goal
 
 pub invariant_of-result : goal.invariant_of-result

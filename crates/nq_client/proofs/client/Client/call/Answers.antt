@@ -6,8 +6,8 @@ use Rattle.nq_client.specs.Counted.{Counted, counted}
 use Rattle.nq_base.specs.declared.Call.{Call}
 use Rattle.nq_client.specs.Outcome.{Called, or_pending}
 use Rattle.nq_client.specs.State.{client_of}
-use Rattle.nq_model.specs.Client.{Client}
-use Rattle.nq_model.specs.ClientStep.{client_call}
+use Rattle.nq_model.specs.protocol.Client.{Client}
+use Rattle.nq_model.specs.protocol.ClientStep.{client_call}
 use Rattle.nq_client.proofs.client.Client.call.Goals as goal
 
 pub invariant_of-self-2 : goal.invariant_of-self-2

@@ -1,6 +1,6 @@
 use Rattle.std.proofs.Common.{refl, arith}
 use Rattle.nq_client.proofs.Counts.{within}
-use Rattle.nq_model.specs.ClientStep.{fresh_client, starts}
+use Rattle.nq_model.specs.protocol.ClientStep.{fresh_client, starts}
 use Rattle.nq_client.proofs.client.Client.start.Goals as goal
 
 pub invariant_of-result : goal.invariant_of-result

@@ -3,7 +3,7 @@ use Rattle.nq_client_parts.specs.Jobs.{job_of}
 use Rattle.nq_client.proofs.Unlike.{no_refusal}
 use Rattle.nq_client.specs.Prepared.{Comes}
 use Rattle.nq_client.specs.Step.{step_of}
-use Rattle.nq_model.specs.Client.{ClientStep}
+use Rattle.nq_model.specs.protocol.Client.{ClientStep}
 use Rattle.nq_client.proofs.step.Step.answered.Goals as goal
 
 pub returns-in_default : goal.returns-in_default

@@ -3,8 +3,8 @@ use Rattle.std.specs.Option.{option_map}
 use Rattle.nq_client.proofs.Reported.{told, untold}
 use Rattle.nq_client.specs.State.{under_way}
 use Rattle.nq_client.specs.Step.{step_of}
-use Rattle.nq_model.specs.Client.{ClientStep}
-use Rattle.nq_model.specs.Hear.{reports}
+use Rattle.nq_model.specs.protocol.Client.{ClientStep}
+use Rattle.nq_model.specs.protocol.Hear.{reports}
 use Rattle.nq_client.proofs.step.Step.follows_loss.Goals as goal
 
 pub returns-in-Some-clause-step : goal.returns-in-Some-clause-step

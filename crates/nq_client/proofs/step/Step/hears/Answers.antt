@@ -5,8 +5,8 @@ use Rattle.nq_client.specs.Receiving.{Counts, IsHeeded, after_reply, on_heard}
 use Rattle.nq_client.specs.State.{client_of}
 use Rattle.nq_client.specs.Step.{step_of}
 use Rattle.nq_datagrams.specs.declared.Heard.{Heard}
-use Rattle.nq_model.specs.Client.{begun}
-use Rattle.nq_model.specs.Hear.{goes_on}
+use Rattle.nq_model.specs.protocol.Client.{begun}
+use Rattle.nq_model.specs.protocol.Hear.{goes_on}
 use Rattle.nq_client.proofs.step.Step.hears.Goals as goal
 
 pub goes_on-requires-clause-tied : goal.goes_on-requires-clause-tied

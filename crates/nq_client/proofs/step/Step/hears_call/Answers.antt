@@ -7,8 +7,8 @@ use Rattle.nq_client.proofs.Ties.{tied-cancelled}
 use Rattle.nq_client.specs.Receiving.{on_call}
 use Rattle.nq_client.specs.State.{client_of}
 use Rattle.nq_client.specs.Tied.{Tied}
-use Rattle.nq_model.specs.Client.{ClientStep}
-use Rattle.nq_model.specs.Hear.{cancels, evicted, goes_on}
+use Rattle.nq_model.specs.protocol.Client.{ClientStep}
+use Rattle.nq_model.specs.protocol.Hear.{cancels, evicted, goes_on}
 use Rattle.nq_client.proofs.step.Step.hears_call.Goals as goal
 
 pub evicted-requires-clause-silent : goal.evicted-requires-clause-silent

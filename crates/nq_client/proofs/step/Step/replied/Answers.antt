@@ -3,8 +3,8 @@ use Rattle.nq_client.proofs.Received.{replied-answered}
 use Rattle.nq_client.proofs.Spent.{taken_out}
 use Rattle.nq_client.specs.Receiving.{answered}
 use Rattle.nq_client.specs.Step.{step_of}
-use Rattle.nq_model.specs.Client.{ClientStep, Ticket}
-use Rattle.nq_model.specs.Hear.{replied}
+use Rattle.nq_model.specs.protocol.Client.{ClientStep, Ticket}
+use Rattle.nq_model.specs.protocol.Hear.{replied}
 use Rattle.nq_client.proofs.step.Step.replied.Goals as goal
 
 pub returns-in-Ok-clause-done : goal.returns-in-Ok-clause-done

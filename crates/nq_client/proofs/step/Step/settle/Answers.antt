@@ -5,7 +5,7 @@ use Rattle.nq_client.proofs.InPlace.{called-body, put-in-place, settled-as, sett
 use Rattle.nq_client.specs.Settling.{settles_put, settles_write}
 use Rattle.nq_client.specs.State.{under_way}
 use Rattle.nq_client.specs.Step.{step_of}
-use Rattle.nq_model.specs.Client.{lease_on}
+use Rattle.nq_model.specs.protocol.Client.{lease_on}
 use Rattle.nq_client.proofs.step.Step.settle.Goals as goal
 
 pub returns-then-is_for_call : goal.returns-then-is_for_call

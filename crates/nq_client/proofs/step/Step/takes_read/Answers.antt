@@ -4,8 +4,8 @@ use Rattle.nq_client.proofs.Grants.{read_taken}
 use Rattle.nq_cache.specs.Granting.{clean_after_reply}
 use Rattle.nq_client.specs.Granting.{with_clean}
 use Rattle.nq_client.specs.Step.{step_of}
-use Rattle.nq_model.specs.Client.{is_clean, lease_on}
-use Rattle.nq_model.specs.Hear.{breaks}
+use Rattle.nq_model.specs.protocol.Client.{is_clean, lease_on}
+use Rattle.nq_model.specs.protocol.Hear.{breaks}
 use Rattle.nq_client.proofs.step.Step.takes_read.Goals as goal
 
 pub returns-in_ok-caches_read-in-Some : goal.returns-in_ok-caches_read-in-Some

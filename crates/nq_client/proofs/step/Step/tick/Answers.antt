@@ -1,9 +1,9 @@
 use Rattle.std.proofs.Common.{true, sym, ap, ◌∙◌}
 use Rattle.nq_client.specs.State.{client_of}
-use Rattle.nq_model.specs.Client.{ClientStep, begun}
-use Rattle.nq_model.specs.ClientStep.{at_time, tick_asking}
-use Rattle.nq_model.specs.Send.{send_next}
-use Rattle.nq_model.specs.Settle.{settle}
+use Rattle.nq_model.specs.protocol.Client.{ClientStep, begun}
+use Rattle.nq_model.specs.protocol.ClientStep.{at_time, tick_asking}
+use Rattle.nq_model.specs.protocol.Send.{send_next}
+use Rattle.nq_model.specs.protocol.Settle.{settle}
 use Rattle.nq_client.proofs.step.Step.tick.Goals as goal
 
 pub returns-in-None : goal.returns-in-None

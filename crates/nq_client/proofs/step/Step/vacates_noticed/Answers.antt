@@ -2,7 +2,7 @@ use Rattle.std.proofs.Common.{IsTrue, sym, subst, ◌∙◌}
 use Rattle.nq_client.specs.Step.{step_of}
 use Rattle.nq_client_parts.proofs.NoticeList.{of-file}
 use Rattle.nq_client.proofs.Vacated.{vacated-taken}
-use Rattle.nq_model.specs.Client.{is_clean_in}
+use Rattle.nq_model.specs.protocol.Client.{is_clean_in}
 use Rattle.nq_client.proofs.step.Step.vacates_noticed.Goals as goal
 
 pub vacates_lease-requires-clause-silent : goal.vacates_lease-requires-clause-silent

@@ -4,8 +4,8 @@ use Rattle.nq_client_parts.specs.ByFile.{Ascends}
 use Rattle.nq_client_parts.specs.Leases.{lease_in, file_of_row}
 use Rattle.nq_client_parts.specs.declared.leases.Row.{Row}
 use Rattle.nq_client_parts.proofs.Least.{least-first}
-use Rattle.nq_model.specs.Client.{file_of_lease}
-use Rattle.nq_model.specs.Send.{renewed_in, is_to_renew_in}
+use Rattle.nq_model.specs.protocol.Client.{file_of_lease}
+use Rattle.nq_model.specs.protocol.Send.{renewed_in, is_to_renew_in}
 use Rattle.nq_client_parts.proofs.dirty.due.renewed.Goals as goal
 
 pub returns-then-is_to_renew : goal.returns-then-is_to_renew

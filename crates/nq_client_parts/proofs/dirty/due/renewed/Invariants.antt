@@ -1,7 +1,7 @@
 use Rattle.std.proofs.Common.{◌≡◌, drop, map}
 use Rattle.nq_client_parts.specs.ByFile.{Ascends}
 use Rattle.nq_client_parts.specs.Leases.{lease_in, file_of_row}
-use Rattle.nq_model.specs.Send.{renewed_in}
+use Rattle.nq_model.specs.protocol.Send.{renewed_in}
 use Rattle.nq_client_parts.proofs.dirty.due.renewed.Given as goal
 
 abbrev pub invariant-loop-row : goal.invariant-loop-row

@@ -2,7 +2,7 @@ use Rattle.std.proofs.Common.{◌≡◌, ◌≤◌, ◌++◌, refl, sym, ◌∙�
 use Rattle.std.proofs.lemmas.Map.Iter.{rest_more, rest_all}
 use Rattle.std.specs.Map.Iter.{deref_pair}
 use Rattle.nq_client_parts.proofs.OfEntries.{lost, lost-more, lost_count-more, lost-less}
-use Rattle.nq_model.specs.Hear.{loss_of}
+use Rattle.nq_model.specs.protocol.Hear.{loss_of}
 use Rattle.nq_client_parts.proofs.dirty.entries.add_losses.Goals as goal
 
 pub loop-key-init : goal.loop-key-init

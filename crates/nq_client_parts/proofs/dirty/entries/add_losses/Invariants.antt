@@ -1,6 +1,6 @@
 use Rattle.std.proofs.Common.{◌≡◌, ◌≤◌, ◌++◌, length, filter, map}
-use Rattle.nq_model.specs.Client.{is_push_of}
-use Rattle.nq_model.specs.Hear.{loss_of}
+use Rattle.nq_model.specs.protocol.Client.{is_push_of}
+use Rattle.nq_model.specs.protocol.Hear.{loss_of}
 use Rattle.nq_client_parts.specs.DirtyEntries.{delayed}
 use Rattle.nq_client_parts.proofs.dirty.entries.add_losses.Given as goal
 

@@ -1,6 +1,6 @@
 use Rattle.std.proofs.Common.{not, rules}
 use Rattle.std.proofs.lemmas.Fn.{filter_same}
-use Rattle.nq_model.specs.Profile.{same_bytes}
+use Rattle.nq_model.specs.protocol.Profile.{same_bytes}
 use Rattle.nq_directory.proofs.name_cache.listed.forget.Goals as goal
 
 pub returns : goal.returns

@@ -1,5 +1,5 @@
 use Rattle.std.proofs.Common.{◌∙◌, ap}
-use Rattle.nq_model.specs.Profile.{same_bytes}
+use Rattle.nq_model.specs.protocol.Profile.{same_bytes}
 use Rattle.nq_directory.proofs.Called.{tested}
 use Rattle.nq_directory.proofs.prefix.Prefix.is.Goals as goal
 

@@ -1,8 +1,8 @@
 use Rattle.std.proofs.Common.{sym, subst, ap, ◌∙◌}
 use Rattle.nq_keeper.proofs.Edits.{found-there, if-ok}
 use Rattle.nq_keeper.specs.Keeping.{body_at}
-use Rattle.nq_model.specs.Change.{HasBlock}
-use Rattle.nq_model.specs.Kept.{find_file}
+use Rattle.nq_model.specs.protocol.Change.{HasBlock}
+use Rattle.nq_model.specs.protocol.Kept.{find_file}
 use Rattle.nq_keeper.proofs.files.Files.read.Goals as goal
 
 pub unreachable-unreachable : goal.unreachable-unreachable

@@ -2,7 +2,7 @@ use Rattle.std.proofs.Common.{sym, ap, ◌∙◌}
 use Rattle.std.specs.List.{prefix_len, slice_get}
 use Rattle.nq_keeper.specs.InOrder.{is_upto}
 use Rattle.nq_keeper.proofs.Places.{after-at}
-use Rattle.nq_model.specs.Change.{file_after, row_of_found}
+use Rattle.nq_model.specs.protocol.Change.{file_after, row_of_found}
 use Rattle.nq_keeper.proofs.files.Files.row_after.Goals as goal
 
 pub returns : goal.returns

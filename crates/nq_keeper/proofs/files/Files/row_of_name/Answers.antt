@@ -1,7 +1,7 @@
 use Rattle.std.proofs.Common.{sym, ap, ◌∙◌}
 use Rattle.nq_keeper.proofs.Naming.{of-named}
-use Rattle.nq_model.specs.Change.{row_of_found}
-use Rattle.nq_model.specs.Kept.{find_file, find_name}
+use Rattle.nq_model.specs.protocol.Change.{row_of_found}
+use Rattle.nq_model.specs.protocol.Kept.{find_file, find_name}
 use Rattle.nq_keeper.proofs.files.Files.row_of_name.Goals as goal
 
 pub returns : goal.returns

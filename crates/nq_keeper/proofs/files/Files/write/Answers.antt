@@ -1,8 +1,8 @@
 use Rattle.std.proofs.Common.{subst, sym}
 use Rattle.nq_keeper.proofs.Naming.{named-written}
 use Rattle.nq_keeper.proofs.Stored.{stored-written}
-use Rattle.nq_model.specs.Change.{HasBlock}
-use Rattle.nq_model.specs.Kept.{find_file}
+use Rattle.nq_model.specs.protocol.Change.{HasBlock}
+use Rattle.nq_model.specs.protocol.Kept.{find_file}
 use Rattle.nq_keeper.proofs.files.Files.write.Goals as goal
 
 pub invariant_of-self : goal.invariant_of-self

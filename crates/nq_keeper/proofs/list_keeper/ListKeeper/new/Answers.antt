@@ -2,7 +2,7 @@ use Rattle.std.proofs.Common.{◌≡◌, subst, sym, ap, ◌∙◌, rules}
 use Rattle.nq_keeper.proofs.Calling.{as-empty}
 use Rattle.nq_keeper.specs.Bounds.{empty-within, told-kept}
 use Rattle.nq_keeper.specs.StoredKeeper.{StoredKeeper, empty_kept, told_of}
-use Rattle.nq_model.specs.Change.{IsWithinBounds, kept_as}
+use Rattle.nq_model.specs.protocol.Change.{IsWithinBounds, kept_as}
 use Rattle.nq_keeper.proofs.list_keeper.ListKeeper.new.Goals as goal
 
 empty : (c : goal.After-new-2) → kept_as c.new.result c.in_ok-hosts.hosts.items (record { boot = 0; opened = 0; longest = 60; next = 1 }) ≡ empty_kept

@@ -1,8 +1,8 @@
 use Rattle.std.proofs.Common.{◌≡◌, Some}
 use Rattle.nq_keeper.proofs.Calling.{asked-as, told-as}
 use Rattle.nq_keeper.specs.Keeping.{body_at}
-use Rattle.nq_model.specs.Change.{HasBlock, kept_as}
-use Rattle.nq_model.specs.Kept.{find_file}
+use Rattle.nq_model.specs.protocol.Change.{HasBlock, kept_as}
+use Rattle.nq_model.specs.protocol.Kept.{find_file}
 use Rattle.nq_keeper.proofs.list_keeper.ListKeeperKeeper.block.Goals as goal
 
 pub returns-clause-told : goal.returns-clause-told

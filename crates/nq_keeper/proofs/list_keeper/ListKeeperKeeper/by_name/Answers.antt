@@ -1,6 +1,6 @@
 use Rattle.nq_keeper.proofs.Calling.{tells}
-use Rattle.nq_model.specs.Change.{kept_as, row_of_found}
-use Rattle.nq_model.specs.Kept.{find_name}
+use Rattle.nq_model.specs.protocol.Change.{kept_as, row_of_found}
+use Rattle.nq_model.specs.protocol.Kept.{find_name}
 use Rattle.nq_keeper.proofs.list_keeper.ListKeeperKeeper.by_name.Goals as goal
 
 pub returns-clause-told : goal.returns-clause-told

@@ -3,8 +3,8 @@ use Rattle.nq_keeper.specs.Keeping.{LeavesTwo}
 use Rattle.nq_keeper.specs.StoredKeeper.{StoredKeeper, LeavesEither, told_of}
 use Rattle.nq_keeper.proofs.Calling.{asked-as, leaves-two, told-applied}
 use Rattle.nq_keeper.proofs.Fitting.{alone, as-applied, calm, fits-among, if-some}
-use Rattle.nq_model.specs.Change.{Fits, FitsFile, FitsRemoval, HasBlock, IsChangeWithin, IsWithinBounds, applied, files_with, kept_as}
-use Rattle.nq_model.specs.Kept.{Kept, find_file}
+use Rattle.nq_model.specs.protocol.Change.{Fits, FitsFile, FitsRemoval, HasBlock, IsChangeWithin, IsWithinBounds, applied, files_with, kept_as}
+use Rattle.nq_model.specs.protocol.Kept.{Kept, find_file}
 use Rattle.nq_model.proofs.FreshFits.{orderly-within}
 use Rattle.nq_model.proofs.WithinBounds.{within-applied}
 use Rattle.nq_keeper.proofs.list_keeper.ListKeeperKeeper.commit.Goals as goal

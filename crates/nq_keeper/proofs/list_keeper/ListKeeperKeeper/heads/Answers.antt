@@ -1,6 +1,6 @@
 use Rattle.std.proofs.Common.{refl}
 use Rattle.nq_keeper.proofs.Calling.{tells}
-use Rattle.nq_model.specs.Change.{heads_of, kept_as}
+use Rattle.nq_model.specs.protocol.Change.{heads_of, kept_as}
 use Rattle.nq_keeper.proofs.list_keeper.ListKeeperKeeper.heads.Goals as goal
 
 pub returns-clause-told : goal.returns-clause-told

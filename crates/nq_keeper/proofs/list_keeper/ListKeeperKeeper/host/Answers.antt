@@ -1,8 +1,8 @@
 use Rattle.std.proofs.Common.{ap, ◌∙◌}
 use Rattle.std.specs.Prelude.{slice_get, unwrap_or}
 use Rattle.nq_keeper.proofs.Calling.{tells}
-use Rattle.nq_model.specs.Change.{kept_as}
-use Rattle.nq_model.specs.Kept.{fresh_row, host_row}
+use Rattle.nq_model.specs.protocol.Change.{kept_as}
+use Rattle.nq_model.specs.protocol.Kept.{fresh_row, host_row}
 use Rattle.nq_keeper.proofs.list_keeper.ListKeeperKeeper.host.Goals as goal
 
 pub returns-clause-told : goal.returns-clause-told

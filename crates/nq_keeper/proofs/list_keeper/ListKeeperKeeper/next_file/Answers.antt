@@ -1,5 +1,5 @@
 use Rattle.nq_keeper.proofs.Calling.{tells}
-use Rattle.nq_model.specs.Change.{file_after, kept_as, row_of_found}
+use Rattle.nq_model.specs.protocol.Change.{file_after, kept_as, row_of_found}
 use Rattle.nq_keeper.proofs.list_keeper.ListKeeperKeeper.next_file.Goals as goal
 
 pub returns-clause-told : goal.returns-clause-told

@@ -1,5 +1,5 @@
 use Rattle.nq_keeper.proofs.Calling.{tells}
-use Rattle.nq_model.specs.Change.{kept_as, space_of}
+use Rattle.nq_model.specs.protocol.Change.{kept_as, space_of}
 use Rattle.nq_keeper.proofs.list_keeper.ListKeeperKeeper.space.Goals as goal
 
 pub returns-clause-told : goal.returns-clause-told

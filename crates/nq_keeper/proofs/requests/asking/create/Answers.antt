@@ -1,9 +1,9 @@
 use Rattle.std.proofs.Common.{rules, arith, ap, ◌∙◌}
 use Rattle.std.proofs.lemmas.Grind.{common_steps}
 use Rattle.nq_keeper.specs.RequestsCapped.{capped}
-use Rattle.nq_model.specs.Change.{heads_of, space_of}
-use Rattle.nq_model.specs.Decided.{effect_of_create}
-use Rattle.nq_model.specs.Kept.{find_name}
+use Rattle.nq_model.specs.protocol.Change.{heads_of, space_of}
+use Rattle.nq_model.specs.protocol.Decided.{effect_of_create}
+use Rattle.nq_model.specs.protocol.Kept.{find_name}
 use Rattle.nq_keeper.proofs.Asking.{row-there}
 use Rattle.nq_keeper.proofs.Leaving.{one-of}
 use Rattle.nq_keeper.proofs.requests.asking.create.Goals as goal

@@ -1,7 +1,7 @@
 use Rattle.std.proofs.Common.{sym, subst}
 use Rattle.nq_keeper.specs.Asking.{Asks}
 use Rattle.nq_keeper.specs.RequestsCapped.{capped}
-use Rattle.nq_model.specs.Decided.{effect_of}
+use Rattle.nq_model.specs.protocol.Decided.{effect_of}
 use Rattle.nq_keeper.proofs.requests.asking.effect.Goals as goal
 
 pub returns-in-Recovering : goal.returns-in-Recovering

@@ -3,7 +3,7 @@ use Rattle.nq_base.specs.declared.Gate.{Gate}
 use Rattle.nq_base.specs.declared.Verdict.{Verdict}
 use Rattle.nq_keeper.specs.Asking.{Asks}
 use Rattle.nq_keeper.specs.RequestsCapped.{capped}
-use Rattle.nq_model.specs.Decided.{effect_of, no_effect}
+use Rattle.nq_model.specs.protocol.Decided.{effect_of, no_effect}
 use Rattle.nq_keeper.proofs.Asking.{asks-as, later-recovering}
 use Rattle.nq_keeper.proofs.requests.asking.while_recovering.Goals as goal
 

@@ -1,9 +1,9 @@
 use Rattle.std.proofs.Common.{sym, subst}
 use Rattle.nq_keeper.specs.Asking.{Asks}
 use Rattle.nq_keeper.specs.RequestsCapped.{capped}
-use Rattle.nq_model.specs.Change.{row_of_found}
-use Rattle.nq_model.specs.Decided.{effect_of_write_recovering}
-use Rattle.nq_model.specs.Kept.{find_file}
+use Rattle.nq_model.specs.protocol.Change.{row_of_found}
+use Rattle.nq_model.specs.protocol.Decided.{effect_of_write_recovering}
+use Rattle.nq_model.specs.protocol.Kept.{find_file}
 use Rattle.nq_keeper.proofs.requests.asking.write_recovering.Goals as goal
 
 pub returns-in-None : goal.returns-in-None

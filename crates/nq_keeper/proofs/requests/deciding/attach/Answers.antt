@@ -3,8 +3,8 @@ use Rattle.std.specs.Prelude.{nat_lt}
 use Rattle.nq_base.specs.declared.Gate.{Gate}
 use Rattle.nq_base.specs.declared.Request.{Request}
 use Rattle.nq_base.specs.declared.Verdict.{Verdict}
-use Rattle.nq_model.specs.Decided.{attach_decided, change_with, fresh_decided, if_fresh, no_effect}
-use Rattle.nq_model.specs.Kept.{Kept, host_row}
+use Rattle.nq_model.specs.protocol.Decided.{attach_decided, change_with, fresh_decided, if_fresh, no_effect}
+use Rattle.nq_model.specs.protocol.Kept.{Kept, host_row}
 use Rattle.nq_keeper.proofs.Concluding.{attaches-fresh, decided-as, fits-kept, given-as, given_of, gives-as, leaves-as, leaves-then, within-kept}
 use Rattle.nq_keeper.proofs.requests.deciding.attach.Goals as goal
 

@@ -1,8 +1,8 @@
 use Rattle.std.proofs.Common.{rules, arith, sym, subst, ap, ◌∙◌}
 use Rattle.std.proofs.lemmas.Grind.{common_steps}
 use Rattle.std.specs.Option.{ForSome}
-use Rattle.nq_model.specs.Change.{Fits, IsChangeWithin}
-use Rattle.nq_model.specs.Kept.{can_be_kept}
+use Rattle.nq_model.specs.protocol.Change.{Fits, IsChangeWithin}
+use Rattle.nq_model.specs.protocol.Kept.{can_be_kept}
 use Rattle.nq_keeper.proofs.Concluding.{leaves-kept, names-host}
 use Rattle.nq_keeper.proofs.requests.deciding.conclude.Goals as goal
 

@@ -1,8 +1,8 @@
 use Rattle.std.proofs.Common.{◌≡◌, refl, sym, subst}
 use Rattle.std.specs.Prelude.{IfNone, IfSome}
 use Rattle.nq_base.specs.declared.Request.{Request}
-use Rattle.nq_model.specs.Decided.{change_of, change_with, decided, effect_of, if_fresh, sequence_decided}
-use Rattle.nq_model.specs.Kept.{host_row}
+use Rattle.nq_model.specs.protocol.Decided.{change_of, change_with, decided, effect_of, if_fresh, sequence_decided}
+use Rattle.nq_model.specs.protocol.Kept.{host_row}
 use Rattle.nq_keeper.specs.Deciding.{Gives, IsOfSequence, LeavesGiven}
 use Rattle.nq_keeper.proofs.Concluding.{gives-as, leaves-as}
 use Rattle.nq_keeper.proofs.Sequences.{changes-of}

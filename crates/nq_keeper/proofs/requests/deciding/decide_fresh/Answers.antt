@@ -1,5 +1,5 @@
 use Rattle.std.proofs.Common.{sym, ◌∙◌}
-use Rattle.nq_model.specs.Decided.{effect_of, fresh_decided}
+use Rattle.nq_model.specs.protocol.Decided.{effect_of, fresh_decided}
 use Rattle.nq_keeper.proofs.Concluding.{decided-as, fits-kept, given-as, given_of, gives-as, leaves-as, leaves-then, of-sequence, within-kept}
 use Rattle.nq_keeper.proofs.requests.deciding.decide_fresh.Goals as goal
 

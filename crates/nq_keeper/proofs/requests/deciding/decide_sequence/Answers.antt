@@ -1,7 +1,7 @@
 use Rattle.std.proofs.Common.{Some, rules, arith, sym, ap, ◌∙◌, inl}
 use Rattle.std.proofs.lemmas.Grind.{common_steps}
-use Rattle.nq_model.specs.Decided.{change_with, decided_before, effect_of, if_fresh, sequence_decided}
-use Rattle.nq_model.specs.Change.{applied_if}
+use Rattle.nq_model.specs.protocol.Decided.{change_with, decided_before, effect_of, if_fresh, sequence_decided}
+use Rattle.nq_model.specs.protocol.Change.{applied_if}
 use Rattle.nq_keeper.proofs.Sequences.{leaves-later, nothing-of, said-of}
 use Rattle.nq_keeper.proofs.requests.deciding.decide_sequence.Goals as goal
 

@@ -1,8 +1,8 @@
 use Rattle.std.proofs.Common.{◌≤◌, ◌+◌, List, [], ◌∷◌, refl, arith}
 use Rattle.nq_base.specs.declared.Event.{Event}
 use Rattle.nq_model.proofs.SkewTest.{skew-test-is-sound}
-use Rattle.nq_model.specs.Profile.{skew}
-use Rattle.nq_model.specs.Skew.{server_ticks, ticks_of}
+use Rattle.nq_model.specs.protocol.Profile.{skew}
+use Rattle.nq_model.specs.protocol.Skew.{server_ticks, ticks_of}
 use Rattle.nq_laws.specs.Skews.{some_ticks}
 use Rattle.nq_laws.proofs.examples.skews.one_tick_more_is_not_within_skew.Goals as goal
 

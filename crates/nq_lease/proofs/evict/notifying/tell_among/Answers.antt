@@ -2,8 +2,8 @@ use Rattle.std.proofs.Common.{◌++◌, [], ◌∷◌, rules, sym, ap, ◌∙◌
 use Rattle.nq_base.specs.declared.Request.{Request}
 use Rattle.nq_datagrams.specs.Sent.{sent}
 use Rattle.nq_lease.proofs.Telling.{told-more, fit-more, counted-more, told-passed, fit-passed, counted-passed}
-use Rattle.nq_model.specs.Message.{call}
-use Rattle.nq_model.specs.Server.{to_host}
+use Rattle.nq_model.specs.protocol.Message.{call}
+use Rattle.nq_model.specs.protocol.Server.{to_host}
 use Rattle.nq_lease.proofs.evict.notifying.tell_among.Goals.{then-is_in_the_way+in_ok-tell, else-is_in_the_way}
 use Rattle.nq_lease.proofs.evict.notifying.tell_among.Goals as goal
 

@@ -1,8 +1,8 @@
 use Rattle.std.proofs.Common.{◌≡◌, ◌<◌, ◌+◌, ◌%◌, ◌++◌, All, drop, length, map}
 use Rattle.nq_datagrams.specs.Sent.{FitsPacket, sent}
 use Rattle.nq_lease.specs.Telling.{Grows, told_among}
-use Rattle.nq_model.specs.Profile.{xid_end}
-use Rattle.nq_model.specs.Server.{notices}
+use Rattle.nq_model.specs.protocol.Profile.{xid_end}
+use Rattle.nq_model.specs.protocol.Server.{notices}
 use Rattle.nq_lease.proofs.evict.notifying.tell_among.Given as goal
 
 abbrev pub invariant-loop-row : goal.invariant-loop-row

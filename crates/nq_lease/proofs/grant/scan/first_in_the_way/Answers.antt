@@ -1,7 +1,7 @@
 use Rattle.std.proofs.Common.{refl, ap, ◌∙◌}
 use Rattle.std.specs.List.{find}
 use Rattle.nq_lease.specs.Rows.{is_of}
-use Rattle.nq_model.specs.Ask.{conflicts}
+use Rattle.nq_model.specs.protocol.Ask.{conflicts}
 use Rattle.nq_lease.proofs.Within.{find-within}
 use Rattle.nq_lease.proofs.grant.scan.first_in_the_way.Goals as goal
 

@@ -1,7 +1,7 @@
 use Rattle.std.proofs.Common.{refl, ap, ◌∙◌}
 use Rattle.std.specs.List.{list_any}
 use Rattle.nq_lease.specs.Rows.{is_of}
-use Rattle.nq_model.specs.Ask.{shares}
+use Rattle.nq_model.specs.protocol.Ask.{shares}
 use Rattle.nq_lease.proofs.Within.{any-within}
 use Rattle.nq_lease.proofs.grant.scan.is_file_shared.Goals as goal
 

@@ -1,7 +1,7 @@
 use Rattle.std.proofs.Common.{◌≡◌, ◌∙◌, ◌≤◌, ◌++◌, ◌∷◌, [], None, Some, true, false, length, ap, subst, sym, arith}
 use Rattle.nq_directory.specs.Prefix.{directory}
 use Rattle.nq_directory.specs.Messages.{most_names}
-use Rattle.nq_model.specs.Profile.{same_bytes}
+use Rattle.nq_model.specs.protocol.Profile.{same_bytes}
 use Rattle.nq_name_server.proofs.Files.{ends, full, one-more, passed-by}
 use Rattle.nq_name_server.specs.Pages.{IsNext}
 use Rattle.nq_name_server.specs.Served.{names_behind}

@@ -1,5 +1,5 @@
 use Rattle.std.proofs.Common.{◌≡◌, ◌<◌, ◌≤◌, ◌+◌, ◌^◌, sym, ap, subst, ◌∙◌}
-use Rattle.nq_model.specs.Profile.{longest_term}
+use Rattle.nq_model.specs.protocol.Profile.{longest_term}
 use Rattle.nq_server.proofs.AskedRows.{asked-draws, asked-run, own-runs}
 use Rattle.nq_name_server.proofs.Running.{unwanted_draws}
 use Rattle.nq_name_server.specs.Served.{Served}

@@ -1,5 +1,5 @@
 use Rattle.std.proofs.Common.{true, false, sym, ap, subst, refl, ◌∙◌}
-use Rattle.nq_model.specs.Ask.{ask}
+use Rattle.nq_model.specs.protocol.Ask.{ask}
 use Rattle.nq_name_server.proofs.Holding.{read_held, unread_free}
 use Rattle.nq_name_server.specs.Sending.{IsHeld}
 use Rattle.nq_name_server.specs.Serving.{changes_for}

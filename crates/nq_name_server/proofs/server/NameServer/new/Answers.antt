@@ -1,5 +1,5 @@
 use Rattle.std.proofs.Common.{◌≤◌, length, sym, subst, arith}
-use Rattle.nq_model.specs.Table.{empty_table}
+use Rattle.nq_model.specs.protocol.Table.{empty_table}
 use Rattle.nq_name_server.specs.Served.{most_directories}
 use Rattle.nq_server.specs.Sound.{RowsRun}
 use Rattle.nq_name_server.proofs.server.NameServer.new.Goals as goal

@@ -1,5 +1,5 @@
 use Rattle.std.proofs.Common.{sym, ap, ◌∙◌}
-use Rattle.nq_model.specs.Table.{find_row}
+use Rattle.nq_model.specs.protocol.Table.{find_row}
 use Rattle.nq_name_server.proofs.Replying.{found_host}
 use Rattle.nq_name_server.proofs.server.NameServer.own_row.Goals as goal
 

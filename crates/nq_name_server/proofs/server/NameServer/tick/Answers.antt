@@ -1,5 +1,5 @@
 use Rattle.std.proofs.Common.{◌≤◌, sym, ap, subst}
-use Rattle.nq_model.specs.Table.{with_rows}
+use Rattle.nq_model.specs.protocol.Table.{with_rows}
 use Rattle.nq_name_server.specs.Served.{Served}
 use Rattle.nq_server.proofs.TickedRows.{run-later}
 use Rattle.nq_server.specs.Sound.{RowsRun}

@@ -1,5 +1,5 @@
 use Rattle.std.proofs.Common.{sym, subst}
-use Rattle.nq_model.specs.Table.{find_row, with_rows}
+use Rattle.nq_model.specs.protocol.Table.{find_row, with_rows}
 use Rattle.nq_server.proofs.VacatedRows.{vacated-run}
 use Rattle.nq_server.specs.Sound.{RowsRun}
 use Rattle.nq_name_server.proofs.server.NameServer.vacated.Goals as goal

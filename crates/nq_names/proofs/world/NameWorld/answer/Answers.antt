@@ -1,6 +1,6 @@
 use Rattle.std.proofs.Common.{◌≡◌, ◌∙◌, ap, refl, sym}
 use Rattle.std.proofs.lemmas.Bool.{iff_false}
-use Rattle.nq_model.specs.Server.{serving}
+use Rattle.nq_model.specs.protocol.Server.{serving}
 use Rattle.nq_names.proofs.Taking.{answered-page, put-off}
 use Rattle.nq_names.specs.Playing.{NamesOver}
 use Rattle.nq_names.proofs.world.NameWorld.answer.Goals as goal

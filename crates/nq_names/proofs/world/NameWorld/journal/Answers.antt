@@ -2,7 +2,7 @@ use Rattle.std.proofs.Common.{◌∙◌, ap, map, reverse, sym}
 use Rattle.nq_base.specs.Plain.{plain}
 use Rattle.nq_names.proofs.Reaching.{reached-core}
 use Rattle.nq_names.specs.Playing.{NamesOver}
-use Rattle.nq_model.specs.World.{World}
+use Rattle.nq_model.specs.protocol.World.{World}
 use Rattle.nq_names.proofs.world.NameWorld.journal.Goals as goal
 
 pub returns : goal.returns

@@ -1,5 +1,5 @@
 use Rattle.std.proofs.Common.{◌-◌}
-use Rattle.nq_model.specs.World.{Head}
+use Rattle.nq_model.specs.protocol.World.{Head}
 use Rattle.nq_replay.proofs.AsidesOnward.{IsOn}
 use Rattle.nq_replay.specs.RulesGoing.{IsAt}
 use Rattle.nq_replay.specs.AsidesPlaying.{repeated}

@@ -1,8 +1,8 @@
 use Rattle.std.proofs.Common.{◌+◌, refl}
 use Rattle.nq_datagrams.specs.Told.{told}
-use Rattle.nq_model.specs.Kept.{Kept}
-use Rattle.nq_model.specs.Server.{ServerStep}
-use Rattle.nq_model.specs.ServerStep.{receive as received}
+use Rattle.nq_model.specs.protocol.Kept.{Kept}
+use Rattle.nq_model.specs.protocol.Server.{ServerStep}
+use Rattle.nq_model.specs.protocol.ServerStep.{receive as received}
 use Rattle.nq_server.specs.State.{beside_of, server_of}
 use Rattle.nq_server.specs.Stepping.{next_of}
 use Rattle.nq_server.proofs.Served.{is-said-taken, is-said-not-taken}

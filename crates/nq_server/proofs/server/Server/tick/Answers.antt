@@ -1,7 +1,7 @@
 use Rattle.std.proofs.Common.{◌+◌, Ok, Err, refl}
-use Rattle.nq_model.specs.Kept.{Kept}
-use Rattle.nq_model.specs.Server.{ServerStep}
-use Rattle.nq_model.specs.ServerStep.{tick as ticked}
+use Rattle.nq_model.specs.protocol.Kept.{Kept}
+use Rattle.nq_model.specs.protocol.Server.{ServerStep}
+use Rattle.nq_model.specs.protocol.ServerStep.{tick as ticked}
 use Rattle.nq_server.specs.State.{beside_of, server_of}
 use Rattle.nq_server.proofs.Served.{is-said-taken, is-said-not-taken, relog, still-sound}
 use Rattle.nq_server.proofs.server.Server.tick.Goals as goal

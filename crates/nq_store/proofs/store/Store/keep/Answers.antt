@@ -1,6 +1,6 @@
 use Rattle.std.proofs.Common.{true, refl, sym, ap, subst, ◌∙◌, inl, inr}
 use Rattle.std.specs.Option.{ForSome}
-use Rattle.nq_model.specs.Change.{Fits, IsChangeWithin}
+use Rattle.nq_model.specs.protocol.Change.{Fits, IsChangeWithin}
 use Rattle.nq_plan.specs.Held.{HeldTables}
 use Rattle.nq_plan.specs.Placing.{IsPlacedFor}
 use Rattle.nq_plan.specs.Ranges.{ranges_of}

@@ -1,6 +1,6 @@
 use Rattle.std.proofs.Common.{ap, ◌∙◌}
-use Rattle.nq_model.specs.Change.{row_of_found}
-use Rattle.nq_model.specs.Kept.{find_name}
+use Rattle.nq_model.specs.protocol.Change.{row_of_found}
+use Rattle.nq_model.specs.protocol.Kept.{find_name}
 use Rattle.nq_plan.specs.Finding.{row_named}
 use Rattle.nq_store.proofs.Rows.{named-is}
 use Rattle.nq_plan.specs.Held.{HeldTables}

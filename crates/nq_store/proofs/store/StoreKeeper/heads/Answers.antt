@@ -1,5 +1,5 @@
 use Rattle.std.proofs.Common.{ap, ◌∙◌}
-use Rattle.nq_model.specs.Change.{heads_of}
+use Rattle.nq_model.specs.protocol.Change.{heads_of}
 use Rattle.nq_store.proofs.Rows.{heads-are}
 use Rattle.nq_plan.specs.Held.{HeldTables}
 use Rattle.nq_store.proofs.Keeping.{told-answer}

@@ -1,6 +1,6 @@
 use Rattle.std.proofs.Common.{ap, ◌∙◌}
 use Rattle.std.specs.Prelude.{slice_index_or}
-use Rattle.nq_model.specs.Kept.{fresh_row, host_row}
+use Rattle.nq_model.specs.protocol.Kept.{fresh_row, host_row}
 use Rattle.nq_store.proofs.Rows.{host-is}
 use Rattle.nq_plan.specs.Held.{HeldTables}
 use Rattle.nq_store.proofs.Keeping.{told-answer}

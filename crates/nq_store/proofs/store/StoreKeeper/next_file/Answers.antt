@@ -1,5 +1,5 @@
 use Rattle.std.proofs.Common.{ap, ◌∙◌}
-use Rattle.nq_model.specs.Change.{file_after, row_of_found}
+use Rattle.nq_model.specs.protocol.Change.{file_after, row_of_found}
 use Rattle.nq_plan.specs.Finding.{row_behind}
 use Rattle.nq_store.proofs.Rows.{behind-is}
 use Rattle.nq_plan.specs.Held.{HeldTables}

@@ -1,5 +1,5 @@
 use Rattle.std.proofs.Common.{ap, ◌∙◌}
-use Rattle.nq_model.specs.Change.{space_of}
+use Rattle.nq_model.specs.protocol.Change.{space_of}
 use Rattle.nq_image.specs.Standing.{row_blocks}
 use Rattle.std.specs.Prelude.{count_by, is_some, length, sum_by}
 use Rattle.nq_store.specs.Storing.{answered}

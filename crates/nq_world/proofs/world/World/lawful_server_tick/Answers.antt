@@ -2,7 +2,7 @@ use Rattle.std.proofs.Common.{◌≡◌, ◌↔◌, ◌∷◌, length, subst}
 use Rattle.std.specs.Prelude.{IsTrue}
 use Rattle.nq_base.specs.declared.Event.{Event}
 use Rattle.nq_clock.specs.Tracks.{Follows}
-use Rattle.nq_model.specs.Skew.{IsWithinSkew}
+use Rattle.nq_model.specs.protocol.Skew.{IsWithinSkew}
 use Rattle.nq_world.specs.Playing.{WorldOver}
 use Rattle.nq_world.proofs.world.World.lawful_server_tick.Goals as goal
 

@@ -1,4 +1,4 @@
-use Rattle.nq_model.specs.World.{Head}
+use Rattle.nq_model.specs.protocol.World.{Head}
 use Rattle.nq_world.specs.Playing.{keeper_in}
 use Rattle.nq_world.proofs.Begun.{kept-begins}
 use Rattle.nq_world.proofs.world.World.new.Goals as goal

@@ -1,7 +1,7 @@
 use Rattle.std.proofs.Common.{◌≡◌, true, List, IfSome, subst}
 use Rattle.nq_client_parts.proofs.Renewals.{renewed-caches}
-use Rattle.nq_model.specs.Client.{Lease, lease_on}
-use Rattle.nq_model.specs.Hear.{holds_caching}
+use Rattle.nq_model.specs.protocol.Client.{Lease, lease_on}
+use Rattle.nq_model.specs.protocol.Hear.{holds_caching}
 use Rattle.nq_client_parts.proofs.dirty.dirty.Dirty.renewed.Goals as goal
 
 pub returns-clause-caches : goal.returns-clause-caches

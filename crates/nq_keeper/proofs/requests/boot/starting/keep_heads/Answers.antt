@@ -1,6 +1,6 @@
 use Rattle.std.proofs.Common.{sym, subst}
 use Rattle.nq_keeper.specs.Keeping.{LeavesTwo}
-use Rattle.nq_model.specs.Change.{Fits}
+use Rattle.nq_model.specs.protocol.Change.{Fits}
 use Rattle.nq_model.proofs.FreshFits.{heads-fit}
 use Rattle.nq_keeper.proofs.HeadsChange.{heads-within, names-none}
 use Rattle.nq_keeper.proofs.requests.boot.starting.keep_heads.Goals as goal

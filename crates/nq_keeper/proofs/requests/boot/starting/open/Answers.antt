@@ -1,6 +1,6 @@
 use Rattle.std.proofs.Common.{sym, ◌∙◌, inl}
 use Rattle.nq_keeper.proofs.Leaving.{two-of}
-use Rattle.nq_model.specs.Change.{applied, change_of_heads}
+use Rattle.nq_model.specs.protocol.Change.{applied, change_of_heads}
 use Rattle.nq_keeper.specs.Booting.{opened_by}
 use Rattle.nq_keeper.proofs.HeadsChange.{heads_opened, opened-heads-within, kept-opened, opens-heads, leaves-booted}
 use Rattle.nq_keeper.proofs.requests.boot.starting.open.Goals as goal

@@ -1,8 +1,8 @@
 use Rattle.std.proofs.Common.{◌≡◌, ◌<◌, Some, sym, ap, ◌∙◌, subst, arith, inl}
 use Rattle.nq_keeper.specs.Keeping.{told_after}
 use Rattle.nq_keeper.proofs.Leaving.{two-of}
-use Rattle.nq_model.specs.Change.{applied, change_of_heads, heads_of}
-use Rattle.nq_model.specs.ServerStep.{booted}
+use Rattle.nq_model.specs.protocol.Change.{applied, change_of_heads, heads_of}
+use Rattle.nq_model.specs.protocol.ServerStep.{booted}
 use Rattle.nq_keeper.specs.Booting.{last_boot}
 use Rattle.nq_keeper.proofs.HeadsChange.{after-boot-within, is-last, kept-booted, leaves-booted}
 use Rattle.nq_keeper.proofs.requests.boot.starting.start.Goals as goal

@@ -1,7 +1,7 @@
 use Rattle.std.proofs.Common.{◌≡◌, List, length}
 use Rattle.nq_base.specs.declared.Event.{Event}
 use Rattle.nq_name_server.specs.Around.{shown}
-use Rattle.nq_model.specs.World.{World}
+use Rattle.nq_model.specs.protocol.World.{World}
 use Rattle.nq_name_server.proofs.around.around.Around.flush.Given as goal
 
 -- what has gone out shows as before

@@ -1,7 +1,7 @@
 use Rattle.std.proofs.Common.{◌≡◌, ◌≤◌, ◌-◌, List, [], length, map}
 use Rattle.nq_base.specs.declared.Event.{Event}
 use Rattle.nq_name_server.specs.Around.{datagram, shown}
-use Rattle.nq_model.specs.World.{World}
+use Rattle.nq_model.specs.protocol.World.{World}
 use Rattle.nq_name_server.proofs.around.around.Around.settle.Given as goal
 
 -- what has gone out shows as before, nothing is due, and no more packets have gone out than there are

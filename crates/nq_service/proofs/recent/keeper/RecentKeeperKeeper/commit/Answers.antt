@@ -1,7 +1,7 @@
 use Rattle.std.proofs.Common.{sym, subst}
 use Rattle.std.specs.Option.{ForSome}
 use Rattle.nq_keeper.specs.Keeping.{LeavesTwo}
-use Rattle.nq_model.specs.Change.{IsChangeWithin}
+use Rattle.nq_model.specs.protocol.Change.{IsChangeWithin}
 use Rattle.nq_service.proofs.recent.keeper.RecentKeeperKeeper.commit.Goals as goal
 
 pub commit-requires-clause-within : goal.commit-requires-clause-within

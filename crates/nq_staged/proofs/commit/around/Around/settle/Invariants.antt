@@ -1,7 +1,7 @@
 use Rattle.std.proofs.Common.{◌≡◌, ◌≤◌, ◌-◌, List, None, length, map}
 use Rattle.nq_base.specs.declared.Event.{Event}
 use Rattle.nq_staged.specs.Around.{shown}
-use Rattle.nq_model.specs.World.{World}
+use Rattle.nq_model.specs.protocol.World.{World}
 use Rattle.nq_world.specs.Shown.{datagram}
 use Rattle.nq_staged.proofs.commit.around.Around.settle.Given as goal
 

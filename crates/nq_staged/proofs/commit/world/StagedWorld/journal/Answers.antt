@@ -2,7 +2,7 @@ use Rattle.std.proofs.Common.{◌∙◌, ap, map, reverse, sym}
 use Rattle.nq_base.specs.Plain.{plain}
 use Rattle.nq_staged.proofs.Reaching.{reached-inner}
 use Rattle.nq_staged.specs.Worlds.{StagedOver}
-use Rattle.nq_model.specs.World.{World}
+use Rattle.nq_model.specs.protocol.World.{World}
 use Rattle.nq_staged.proofs.commit.world.StagedWorld.journal.Goals as goal
 
 pub returns : goal.returns

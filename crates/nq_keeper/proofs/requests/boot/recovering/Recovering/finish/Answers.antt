@@ -4,7 +4,7 @@ use Rattle.std.proofs.lemmas.Bool.Decides.{nat_tests}
 use Rattle.std.proofs.lemmas.Grind.{common_steps}
 use Rattle.nq_keeper.specs.Booting.{ended_at, opened_by}
 use Rattle.nq_keeper.specs.Recovery.{Recovery}
-use Rattle.nq_model.specs.Kept.{Kept}
+use Rattle.nq_model.specs.protocol.Kept.{Kept}
 use Rattle.nq_keeper.proofs.requests.boot.recovering.Recovering.finish.Goals as goal
 
 reached : (until time : ℕ) → until ≤ time → nat_le until time ≡ true

@@ -1,8 +1,0 @@
--- Each counted read gives the latest write that stands for it, in every run.
-use Rattle.nq_model.specs.Bounds.{InEveryRun}
-use Rattle.nq_model.specs.Legal.{IsLegal}
-use Rattle.nq_model.specs.World.{run}
-
--- after every schedule within skew the journal is legal
-abbrev pub ReadsAreLegalInEveryRun : Type 0
-ReadsAreLegalInEveryRun = InEveryRun (λ head events. IsLegal (run head events).journal)

@@ -1,0 +1,23 @@
+-- What the protocol does: numbers, kept state, leases, messages, the steps of a server and a client, runs, clocks, and lines.
+pub mod Ask
+pub mod ByFile
+pub mod Change
+pub mod Client
+pub mod ClientStep
+pub mod Decide
+pub mod Decided
+pub mod Hear
+pub mod Kept
+pub mod Lines
+pub mod Message
+pub mod Profile
+pub mod Send
+pub mod Server
+pub mod ServerAlone
+pub mod ServerStep
+pub mod Settle
+pub mod Skew
+pub mod SkewBroken
+pub mod Stepped
+pub mod Table
+pub mod World
