@@ -7,7 +7,8 @@ use Rattle.nq_base.specs.declared.Event.{Event}
 use Rattle.nq_base.specs.declared.SkewBroken.{SkewBroken}
 use Rattle.nq_model.specs.protocol.Profile.{skew}
 use Rattle.nq_model.specs.protocol.Skew.{IsWithinSkew, is_server_tick, is_tick_of, ticks_of}
-use Rattle.nq_model.specs.protocol.SkewBroken.{skew_broken, EndsNow, Breaks, IsLowest, IsJudged}
+use Rattle.nq_model.specs.laws.EachTickIsJudged.{EndsNow, Breaks, IsLowest, IsJudged}
+use Rattle.nq_model.specs.protocol.SkewBroken.{skew_broken}
 use Rattle.nq_model.proofs.SkewNames.{each-tick-is-judged}
 use Rattle.nq_clock.specs.Counts.{Counts, SkewCounts, first_broken}
 use Rattle.nq_clock.specs.Tracks.{Leads, IsSomeUpTo, Follows}

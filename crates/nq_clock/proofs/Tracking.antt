@@ -6,7 +6,7 @@ use Rattle.std.proofs.lemmas.Bool.{cases_eq, eq-eqb, ne_eqb, ltb-true, lt-ltb}
 use Rattle.nq_base.specs.declared.Event.{Event}
 use Rattle.nq_model.specs.protocol.Profile.{skew}
 use Rattle.nq_model.specs.protocol.Skew.{IsWithinSkew, is_server_tick, is_tick_of, server_ticks, ticks_of}
-use Rattle.nq_model.specs.protocol.SkewBroken.{EndsNow}
+use Rattle.nq_model.specs.laws.EachTickIsJudged.{EndsNow}
 use Rattle.nq_clock.specs.Counts.{Counts, SkewCounts, no_counts, after_server_tick, after_host_tick, one_on, host_ticked}
 use Rattle.nq_clock.specs.Tracks.{Leads, HasLead, IsSomeUpTo, IsFewestOf, Tracks, Follows, OtherEventsPass}
 use Rattle.nq_clock.proofs.CountLists.{IsTicked, of-map, of-replicate, of-ticked, length-map, length-ticked, within-some}

@@ -2,7 +2,7 @@
 use Rattle.std.specs.Prelude.{◌≡◌, ℕ, ◌+◌, ◌<◌, ◌≤◌, List, ◌∷◌, Option, Some, length, slice_get}
 use Rattle.nq_base.specs.declared.Event.{Event}
 use Rattle.nq_model.specs.protocol.Skew.{IsWithinSkew, is_server_tick, is_tick_of, server_ticks, ticks_of}
-use Rattle.nq_model.specs.protocol.SkewBroken.{EndsNow}
+use Rattle.nq_model.specs.laws.EachTickIsJudged.{EndsNow}
 use Rattle.nq_clock.specs.Counts.{Counts, SkewCounts}
 
 -- a part ends now, has at most the window's number of the host's ticks, and in it the server's clock ticks at least so

@@ -11,7 +11,8 @@ use Rattle.nq_base.specs.declared.SkewBroken.{SkewBroken}
 use Rattle.nq_model.specs.protocol.Profile.{skew}
 use Rattle.nq_model.specs.protocol.Skew.{is_server_tick, is_tick_of, server_ticks, ticks_of, part_within, parts_within, host_within, is_within_skew}
 use Rattle.nq_model.specs.protocol.Skew.{IsWithinSkew}
-use Rattle.nq_model.specs.protocol.SkewBroken.{broken_from, found_first, lowest_broken, EndsNow, Breaks, IsFewest, IsLowest, EachTickIsJudged, TellsSkew}
+use Rattle.nq_model.specs.laws.EachTickIsJudged.{EndsNow, Breaks, IsFewest, IsLowest, EachTickIsJudged, TellsSkew}
+use Rattle.nq_model.specs.protocol.SkewBroken.{broken_from, found_first, lowest_broken}
 use Rattle.nq_model.specs.laws.Tests.{Tells}
 use Rattle.nq_model.proofs.SkewTest.{skew-test-is-sound, begins-here, part-says}
 use Rattle.nq_model.proofs.Telling.{tells_implies, tells_le}

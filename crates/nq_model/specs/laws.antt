@@ -16,6 +16,7 @@ pub mod ChangesOnce
 pub mod Contents
 pub mod CutOff
 pub mod CutOffTest
+pub mod EachTickIsJudged
 pub mod EndingsComeLate
 pub mod EventsSendFew
 pub mod Fate

@@ -1,7 +1,7 @@
 //! Clocks.
 
 ghost use Rattle.nq_model.specs.protocol.Skew.{SkewTestIsSound};
-ghost use Rattle.nq_model.specs.protocol.SkewBroken.{EachTickIsJudged, TellsSkew};
+ghost use Rattle.nq_model.specs.laws.EachTickIsJudged.{EachTickIsJudged, TellsSkew};
 
 /// A schedule that passes the test of skew is within skew.
 pub fn skew_test_is_sound()
