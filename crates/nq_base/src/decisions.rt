@@ -1,8 +1,7 @@
 //! How requests are decided that are decided once: ATTACH, CREATE, WRITE, RESIZE and REMOVE.
 
-use crate::changes::{BlockChange, Heads};
-use crate::kept::{FileRow, Verdict};
-use crate::numbers::FileId;
+use crate::changes::Change;
+use crate::kept::Verdict;
 
 /// What a server knows beside its kept state when it decides a request.
 #[derive(Clone, Copy)]
@@ -46,12 +45,6 @@ pub struct Effect {
     pub verdict: Verdict,
     /// The value that is kept with the verdict: a file id or a revision where it was done, else 0.
     pub value: u64,
-    /// The file as it becomes.
-    pub file: Option<FileRow>,
-    /// The block as it becomes.
-    pub block: Option<BlockChange>,
-    /// The numbers of the server as they become.
-    pub heads: Option<Heads>,
-    /// The file that is taken away.
-    pub removed: Option<FileId>,
+    /// What is changed beside the row of the host, which it does not name.
+    pub change: Change,
 }

@@ -36,24 +36,30 @@ creation-stays heads name blocks below =
     ap (λ value. record {
       verdict = Verdict.Done;
       value = value;
-      file = capped_file (Some (record {
-        id = heads.next;
-        name = name;
-        blocks = blocks;
-        rev = 0;
-      }));
-      block = None;
-      heads = Some (record heads { next = heads.next + 1 });
-      removed = None;
+      change = record {
+        file = capped_file (Some (record {
+          id = heads.next;
+          name = name;
+          blocks = blocks;
+          rev = 0;
+        }));
+        block = None;
+        host = None;
+        heads = Some (record heads { next = heads.next + 1 });
+        removed = None;
+      };
     }) (stays heads.next below)
     ∙ ap (λ row. record {
       verdict = Verdict.Done;
       value = heads.next;
-      file = Some row;
-      block = None;
-      heads =
-          Some (record heads { next = heads.next + 1 });
-      removed = None;
+      change = record {
+        file = Some row;
+        block = None;
+        host = None;
+        heads =
+            Some (record heads { next = heads.next + 1 });
+        removed = None;
+      };
     }) (row-stays (record {
       id = heads.next;
       name = name;
@@ -71,20 +77,26 @@ write-stays row block body below =
     ap (λ value. record {
       verdict = Verdict.Done;
       value = value;
-      file = Some (capped_row (raised_row row row.blocks));
-      block =
-          Some (record { file = row.id; block = block; body = body });
-      heads = None;
-      removed = None;
+      change = record {
+        file = Some (capped_row (raised_row row row.blocks));
+        block =
+            Some (record { file = row.id; block = block; body = body });
+        host = None;
+        heads = None;
+        removed = None;
+      };
     }) (stays (row.rev + 1) below)
     ∙ ap (λ raised. record {
       verdict = Verdict.Done;
       value = row.rev + 1;
-      file = Some raised;
-      block =
-          Some (record { file = row.id; block = block; body = body });
-      heads = None;
-      removed = None;
+      change = record {
+        file = Some raised;
+        block =
+            Some (record { file = row.id; block = block; body = body });
+        host = None;
+        heads = None;
+        removed = None;
+      };
     }) (raised-stays row row.blocks below)
 
 length-stays : (row : FileRow) (blocks : ℕ) → row.rev + 1 ≤ last_number → capped (length_change row blocks) ≡ length_change row blocks
@@ -93,12 +105,15 @@ length-stays row blocks below =
     ap (λ value. record {
       verdict = Verdict.Done;
       value = value;
-      file = Some (capped_row (raised_row row blocks));
-      block = None;
-      heads = None;
-      removed = None;
+      change = record {
+        file = Some (capped_row (raised_row row blocks));
+        block = None;
+        host = None;
+        heads = None;
+        removed = None;
+      };
     }) (stays (row.rev + 1) below)
-    ∙ ap (λ raised. record { verdict = Verdict.Done; value = row.rev + 1; file = Some raised; block = None; heads = None; removed = None })
+    ∙ ap (λ raised. record { verdict = Verdict.Done; value = row.rev + 1; change = record { file = Some raised; block = None; host = None; heads = None; removed = None } })
     (raised-stays row blocks below)
 
 removal-stays : (row : FileRow) → capped (removal row) ≡ removal row
@@ -180,9 +195,9 @@ pub capped-fits : (kept : Kept) (who : Who) (seq : ℕ) (effect : Effect) → Fi
     → Fits kept (change_with who seq (capped effect))
 unfolding change_with capped
 capped-fits kept who seq effect fits = record {
-  file = files-capped kept effect.heads effect.file fits.file;
-  block = blocks-capped kept effect.file effect.block fits.block;
+  file = files-capped kept effect.change.heads effect.change.file fits.file;
+  block = blocks-capped kept effect.change.file effect.change.block fits.block;
   host = fits.host;
   heads = fits.heads;
-  removed = removed-capped kept (change_with who seq effect) (change_with who seq (capped effect)) effect.removed (none-capped effect.file) refl fits.removed;
+  removed = removed-capped kept (change_with who seq effect) (change_with who seq (capped effect)) effect.change.removed (none-capped effect.change.file) refl fits.removed;
 }

@@ -5,4 +5,7 @@ use Rattle.nq_keeper.specs.Capped.{last_number, capped_file}
 
 -- what a request comes to, with such numbers
 unfoldable pub capped : Effect → Effect
-capped effect = record effect { value = min effect.value last_number; file = capped_file effect.file }
+capped effect = record effect {
+  value = min effect.value last_number;
+  change = record effect.change { file = capped_file effect.change.file };
+}

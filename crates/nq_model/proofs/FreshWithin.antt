@@ -72,9 +72,9 @@ attach-can who line verdict value is =
 
 -- the numbers of an effect are within their bounds
 record IsEffectWithin (kept : Kept) (effect : Effect) : Type 0 where
-  file : IfSome effect.file (λ row. IsName row.name × (row.rev < rev_end))
-  block : IfSome effect.block (λ b. IsBody b.body)
-  heads : IfSome effect.heads (AreHeadsWithin kept.next)
+  file : IfSome effect.change.file (λ row. IsName row.name × (row.rev < rev_end))
+  block : IfSome effect.change.block (λ b. IsBody b.body)
+  heads : IfSome effect.change.heads (AreHeadsWithin kept.next)
 
 module _ (kept : Kept) (within : IsWithinBounds kept) where
   -- so are they where the value, which is the revision that a file gets, is below the end of the revisions

@@ -31,10 +31,13 @@ pub(crate) fn none(verdict: Verdict) -> Effect
     Effect {
         verdict,
         value: 0,
-        file: None,
-        block: None,
-        heads: None,
-        removed: None,
+        change: Change {
+            file: None,
+            block: None,
+            host: None,
+            heads: None,
+            removed: None,
+        },
     }
 }
 
@@ -48,20 +51,23 @@ fn made(heads: &Heads, name: &Name, blocks: u32) -> Effect
     Effect {
         verdict: Verdict::Done,
         value: u64::from(id),
-        file: Some(FileRow {
-            id: FileId(id),
-            name: *name,
-            blocks,
-            rev: Rev(0),
-        }),
-        block: None,
-        heads: Some(Heads {
-            boot: heads.boot,
-            opened: heads.opened,
-            longest: heads.longest,
-            next: id + 1,
-        }),
-        removed: None,
+        change: Change {
+            file: Some(FileRow {
+                id: FileId(id),
+                name: *name,
+                blocks,
+                rev: Rev(0),
+            }),
+            block: None,
+            host: None,
+            heads: Some(Heads {
+                boot: heads.boot,
+                opened: heads.opened,
+                longest: heads.longest,
+                next: id + 1,
+            }),
+            removed: None,
+        },
     }
 }
 
@@ -79,10 +85,13 @@ fn written(row: &FileRow, block: BlockNo, body: Block) -> Effect
     Effect {
         verdict: Verdict::Done,
         value,
-        file: Some(raised(row, row.blocks)),
-        block: Some(change),
-        heads: None,
-        removed: None,
+        change: Change {
+            file: Some(raised(row, row.blocks)),
+            block: Some(change),
+            host: None,
+            heads: None,
+            removed: None,
+        },
     }
 }
 
@@ -95,10 +104,13 @@ fn resized(row: &FileRow, blocks: u32) -> Effect
     Effect {
         verdict: Verdict::Done,
         value,
-        file: Some(raised(row, blocks)),
-        block: None,
-        heads: None,
-        removed: None,
+        change: Change {
+            file: Some(raised(row, blocks)),
+            block: None,
+            host: None,
+            heads: None,
+            removed: None,
+        },
     }
 }
 
@@ -110,10 +122,13 @@ fn removed(row: &FileRow) -> Effect
     Effect {
         verdict: Verdict::Done,
         value: 0,
-        file: None,
-        block: None,
-        heads: None,
-        removed: Some(row.id),
+        change: Change {
+            file: None,
+            block: None,
+            host: None,
+            heads: None,
+            removed: Some(row.id),
+        },
     }
 }
 
@@ -273,14 +288,10 @@ pub(crate) fn change_of(who: Who, seq: Seq, effect: Effect) -> Change
     ensures { result ≡ change_with who seq effect }
 {
     let row = row_after(&who, seq, &effect);
-    Change {
-        file: effect.file,
-        block: effect.block,
-        host: Some(HostChange {
-            host: who.host,
-            row,
-        }),
-        heads: effect.heads,
-        removed: effect.removed,
-    }
+    let mut change = effect.change;
+    change.host = Some(HostChange {
+        host: who.host,
+        row,
+    });
+    change
 }

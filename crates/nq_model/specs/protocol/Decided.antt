@@ -36,17 +36,20 @@ use Rattle.nq_model.specs.protocol.Table.{Table, is_writing, find_row, put_row, 
 
 -- a decision that changes nothing
 unfoldable pub no_effect : Verdict → Effect
-no_effect verdict = record { verdict = verdict; value = 0; file = None; block = None; heads = None; removed = None }
+no_effect verdict = record { verdict = verdict; value = 0; change = record { file = None; block = None; host = None; heads = None; removed = None } }
 
 -- a file is made: it takes the next id, which then rises
 unfoldable pub creation : Heads → (name : List ℕ) (blocks : ℕ) → Effect
 creation heads name blocks = record {
   verdict = Done;
   value = heads.next;
-  file = Some (record { id = heads.next; name = name; blocks = blocks; rev = 0 });
-  block = None;
-  heads = Some (record heads { next = heads.next + 1 });
-  removed = None;
+  change = record {
+    file = Some (record { id = heads.next; name = name; blocks = blocks; rev = 0 });
+    block = None;
+    host = None;
+    heads = Some (record heads { next = heads.next + 1 });
+    removed = None;
+  };
 }
 
 -- a block is written: the file's revision rises, and is kept as the value
@@ -54,10 +57,13 @@ unfoldable pub block_write : FileRow → (block : ℕ) (body : List ℕ) → Eff
 block_write row block body = record {
   verdict = Done;
   value = row.rev + 1;
-  file = Some (raised_row row row.blocks);
-  block = Some (record { file = row.id; block = block; body = body });
-  heads = None;
-  removed = None;
+  change = record {
+    file = Some (raised_row row row.blocks);
+    block = Some (record { file = row.id; block = block; body = body });
+    host = None;
+    heads = None;
+    removed = None;
+  };
 }
 
 -- a file gets another length: its revision rises, and is kept as the value
@@ -65,15 +71,16 @@ unfoldable pub length_change : FileRow → (blocks : ℕ) → Effect
 length_change row blocks = record {
   verdict = Done;
   value = row.rev + 1;
-  file = Some (raised_row row blocks);
-  block = None;
-  heads = None;
-  removed = None;
+  change = record { file = Some (raised_row row blocks); block = None; host = None; heads = None; removed = None };
 }
 
 -- a file is taken away
 unfoldable pub removal : FileRow → Effect
-removal row = record { verdict = Done; value = 0; file = None; block = None; heads = None; removed = Some row.id }
+removal row = record {
+  verdict = Done;
+  value = 0;
+  change = record { file = None; block = None; host = None; heads = None; removed = Some row.id };
+}
 
 -- CREATE, by how much is kept, the server's numbers, and whether a kept file has the name
 abbrev pub effect_of_create : Space → Heads → (is_there : Bool) (name : List ℕ) (blocks : ℕ) → Effect
@@ -204,16 +211,7 @@ decided kept gate other = NotAttached
 
 -- the change in which an effect is kept, together with the row of the host that asked
 unfoldable pub change_with : Who → (seq : ℕ) → Effect → Change
-change_with who seq effect = record {
-  file = effect.file;
-  block = effect.block;
-  host = Some (record {
-    host = who.host;
-    row = row_with who seq effect;
-  });
-  heads = effect.heads;
-  removed = effect.removed;
-}
+change_with who seq effect = record effect.change { host = Some (record { host = who.host; row = row_with who seq effect }) }
 
 -- the change that a fresh request commits; an ATTACH begins the host's row anew, with sequence 0
 abbrev pub fresh_change : Kept → Gate → Request → Change
