@@ -6,7 +6,7 @@ use Rattle.nq_base.specs.Plain.{plain_answer}
 use Rattle.nq_base.specs.declared.Answer.{Answer}
 use Rattle.nq_base.specs.declared.Call.{Call}
 use Rattle.nq_base.specs.declared.Value.{Value}
-use Rattle.nq_base.specs.declared.ending.halt.Halt.{Halt}
+use Rattle.nq_base.specs.declared.ending.fault.Fault.{Fault}
 use Rattle.nq_calling.specs.Calling.{CallsNow, Makes, MakesUnless, refusal_of}
 use Rattle.nq_client.specs.Counted.{Counted}
 use Rattle.nq_client.specs.Outcome.{or_pending}
@@ -91,15 +91,16 @@ at-once None body e = absurd (cc)
 at-once (Some a) body e = ap Some (sym e)
 
 -- a turn that stopped refuses with no block
-no-refusal : (turn : Result (Option Answer) Halt) (refusal : Answer) (body : List ℕ) → Some refusal ≡ refusal_of turn → Answer.Ok (Value.Body body) ≡ refusal → ⊥
+no-refusal : (turn : Result (Option Answer) Fault) (refusal : Answer) (body : List ℕ) → Some refusal ≡ refusal_of turn
+    → Answer.Ok (Value.Body body) ≡ refusal → ⊥
 no-refusal (Ok none) refusal body is e = cc
-no-refusal (Err Halt.Link) refusal body is e = cc
-no-refusal (Err Halt.Keep) refusal body is e = cc
-no-refusal (Err Halt.Memory) refusal body is e = cc
-no-refusal (Err Halt.Spent) refusal body is e = cc
-no-refusal (Err Halt.NoAnswer) refusal body is e = cc
+no-refusal (Err Fault.Link) refusal body is e = cc
+no-refusal (Err Fault.Keep) refusal body is e = cc
+no-refusal (Err Fault.Memory) refusal body is e = cc
+no-refusal (Err Fault.Spent) refusal body is e = cc
+no-refusal (Err Fault.NoAnswer) refusal body is e = cc
 
-made : (call : Call) (file : ℕ) (body : List ℕ) (turn : Result (Option Answer) Halt) (refusal : Option Answer) (client client' : Counted)
+made : (call : Call) (file : ℕ) (body : List ℕ) (turn : Result (Option Answer) Fault) (refusal : Option Answer) (client client' : Counted)
     (log log' : EntryList) (link link' : LinkTold) → file_read call ≡ Some file → refusal ≡ refusal_of turn
     → MakesUnless refusal call (Answer.Ok (Value.Body body)) client client' log log' link link' → HoldsLease client.client file
 made call file body turn (Some refusal) client client' log log' link link' reads is makes = absurd (no-refusal turn refusal body is makes.0)

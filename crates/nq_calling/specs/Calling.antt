@@ -7,7 +7,7 @@ use Rattle.nq_client.specs.Counted.{Counted}
 use Rattle.nq_client.specs.Outcome.{Called}
 use Rattle.nq_clock.specs.Clocks.{ClockTold}
 use Rattle.nq_hosts.specs.ClientTurn.{AttendsTurn}
-use Rattle.nq_base.specs.declared.ending.halt.Halt.{Halt}
+use Rattle.nq_base.specs.declared.ending.fault.Fault.{Fault}
 use Rattle.nq_link.specs.Links.{LinkTold, Posts}
 use Rattle.nq_link.specs.declared.Sent.{Sent}
 use Rattle.nq_model.specs.protocol.ClientStep.{client_call}
@@ -29,9 +29,9 @@ pub record Stands (client client' : Counted) (log log' : EntryList) (link link' 
   pub same_link : link' ≡ link
 
 -- the answer of a call behind a turn that could not take in what it read or heard
-abbrev pub refusal_of : Result (Option Answer) Halt → Option Answer
-refusal_of (Err Halt.Memory) = Some Answer.Memory
-refusal_of (Err Halt.Spent) = Some Answer.Spent
+abbrev pub refusal_of : Result (Option Answer) Fault → Option Answer
+refusal_of (Err Fault.Memory) = Some Answer.Memory
+refusal_of (Err Fault.Spent) = Some Answer.Spent
 refusal_of other = None
 
 -- a call that has its answer already is not made
@@ -42,7 +42,7 @@ MakesUnless None call answer client client' log log' link link' = Makes call ans
 -- a turn was taken, which read the clock exactly once, and then a call was made, unless the turn could not take in what it read or heard
 pub record CallsNow (call : Call) (answer : Answer) (next next' : ℕ) (clock clock' : ClockTold) (link link' : LinkTold)
     (client client' : Counted) (log log' : EntryList) : Type 0 where
-  pub turn : Result (Option Answer) Halt
+  pub turn : Result (Option Answer) Fault
   pub between : Counted
   pub noted : EntryList
   pub heard : LinkTold

@@ -5,7 +5,7 @@ ghost use Rattle.nq_calling.specs.Calling.{CallsNow, Makes, MakesUnless, refusal
 ghost use Rattle.nq_clock.specs.Clocks.{clock_told};
 ghost use Rattle.nq_link.specs.Links.{link_told};
 
-use nq_base::ending::Halt;
+use nq_base::ending::Fault;
 use nq_base::{Answer, Call, Journal};
 use nq_client::Client;
 use nq_clock::Clock;
@@ -42,12 +42,12 @@ pub fn call_now<L: Link, C: Clock>(
 }
 
 /// The answer behind a turn that could not take in what it read or heard.
-fn refusal_of(turn: &Result<Option<Answer>, Halt>) -> Option<Answer>
+fn refusal_of(turn: &Result<Option<Answer>, Fault>) -> Option<Answer>
     ensures { result ≡ refusal_of turn.now }
 {
     match turn {
-        Err(Halt::Memory) => Some(Answer::Memory),
-        Err(Halt::Spent) => Some(Answer::Spent),
+        Err(Fault::Memory) => Some(Answer::Memory),
+        Err(Fault::Spent) => Some(Answer::Spent),
         _ => None,
     }
 }

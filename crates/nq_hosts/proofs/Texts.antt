@@ -4,7 +4,7 @@ use Rattle.std.proofs.Common.{append-nil, length-append}
 use Rattle.std.proofs.lemmas.Option.{none-some}
 use Rattle.std.specs.List.{AllByRecursion}
 use Rattle.nq_hosts.specs.Lines.{AreCalls, IsCall}
-use Rattle.nq_base.specs.declared.ending.halt.Halt.{Halt}
+use Rattle.nq_base.specs.declared.ending.fault.Fault.{Fault}
 use Rattle.nq_script.specs.WordsReading.{cut}
 use Rattle.nq_script.specs.Text.{text_of}
 use Rattle.nq_script.proofs.Cuts.{cut-again, cut-found}
@@ -77,7 +77,7 @@ stepped turns text rest line after number at now new p cut runs =
     }
 
 -- the next call stopped
-pub stops : (turns : ℕ) (text rest line after : List ℕ) (number : ℕ) (why : Halt) (at now new : Between) → (p : Progress turns text rest number at now)
+pub stops : (turns : ℕ) (text rest line after : List ℕ) (number : ℕ) (why : Fault) (at now new : Between) → (p : Progress turns text rest number at now)
     → cut 10 rest ≡ Some (line, after) → RunsLine turns line (Err why) now new
     → RunsText turns text (Err (record { why = why; line = number })) at new
 stops turns text rest line after number why at now new p cut runs =

@@ -14,7 +14,7 @@ use Rattle.nq_base.specs.Entries.{EntryList}
 use Rattle.nq_hosts.specs.Lines.{AreCalls, IsCall, Tells}
 use Rattle.nq_client.specs.Counted.{Counted}
 use Rattle.nq_base.specs.declared.ending.ending.Ending.{Ending}
-use Rattle.nq_base.specs.declared.ending.halt.Halt.{Halt}
+use Rattle.nq_base.specs.declared.ending.fault.Fault.{Fault}
 use Rattle.nq_io.specs.Faults.{Rose}
 use Rattle.nq_link.specs.Link.{Letters}
 use Rattle.nq_hosts.specs.ClientTurn.{CountsLink}
@@ -34,10 +34,10 @@ use Rattle.nq_hosts.specs.Using.{EndsBy, UsesText}
 use Rattle.nq_hosts.specs.declared.user.aims.Aim.{Aim}
 
 -- the count of the link's faults rises where it stopped for the link, and stays otherwise; no keeper ever stops it
-abbrev Counts : {X : Type 0} → Result X Halt → (before now : ℕ) → Type 0
+abbrev Counts : {X : Type 0} → Result X Fault → (before now : ℕ) → Type 0
 Counts (Ok done) before now = now ≡ before
-Counts (Err Halt.Link) before now = Rose before now
-Counts (Err Halt.Keep) before now = ⊥
+Counts (Err Fault.Link) before now = Rose before now
+Counts (Err Fault.Keep) before now = ⊥
 Counts (Err other) before now = now ≡ before
 
 -- the same of calls
@@ -46,28 +46,28 @@ CallCounts (Ok done) before now = now ≡ before
 CallCounts (Err stop) before now = Counts {X = Unit} (Err stop.why) before now
 
 -- why one stopped is why the other does
-same-why : (X Y : Type 0) (why : Halt) (before now : ℕ) → Counts {X = X} (Err why) before now → Counts {X = Y} (Err why) before now
-same-why X Y Halt.Link before now c = c
-same-why X Y Halt.Keep before now c = absurd c
-same-why X Y Halt.Memory before now c = c
-same-why X Y Halt.Spent before now c = c
-same-why X Y Halt.NoAnswer before now c = c
+same-why : (X Y : Type 0) (why : Fault) (before now : ℕ) → Counts {X = X} (Err why) before now → Counts {X = Y} (Err why) before now
+same-why X Y Fault.Link before now c = c
+same-why X Y Fault.Keep before now c = absurd c
+same-why X Y Fault.Memory before now c = c
+same-why X Y Fault.Spent before now c = c
+same-why X Y Fault.NoAnswer before now c = c
 
 -- ---- one turn
 
-turn-counts : (ended : Result (Option Answer) Halt) (at after : Between) → turning.Attends ended at after → CountsLink ended at.link.faults after.link.faults
+turn-counts : (ended : Result (Option Answer) Fault) (at after : Between) → turning.Attends ended at after → CountsLink ended at.link.faults after.link.faults
 turn-counts ended at after t = turn_link ended at.next after.next at.clock after.clock at.link after.link at.client after.client at.log after.log t
 
 turns-same : (aim : Aim) (done : Bool) (at after : Between) → Turns aim done at after → after.link.faults ≡ at.link.faults
 turns-same aim done at after t = turn-counts (Ok t.answer) at after t.took
 
 -- a turn that stopped did so for the link, or for what the client itself stops for
-pub stops : (why : Halt) (at after : Between) → turning.Attends (Err why) at after → turning.Stops why at after
-stops Halt.Link at after t = t
-stops Halt.Keep at after t = turn-counts (Err Halt.Keep) at after t
-stops Halt.Memory at after t = t
-stops Halt.Spent at after t = t
-stops Halt.NoAnswer at after t = turn-counts (Err Halt.NoAnswer) at after t
+pub stops : (why : Fault) (at after : Between) → turning.Attends (Err why) at after → turning.Stops why at after
+stops Fault.Link at after t = t
+stops Fault.Keep at after t = turn-counts (Err Fault.Keep) at after t
+stops Fault.Memory at after t = t
+stops Fault.Spent at after t = t
+stops Fault.NoAnswer at after t = turn-counts (Err Fault.NoAnswer) at after t
 
 goes-same : (aim : Aim) (count : ℕ) (at after : Between) → Goes aim count at after → after.link.faults ≡ at.link.faults
 goes-same aim zero at after g = ap (λ (b : Between). b.link.faults) g
@@ -75,66 +75,66 @@ goes-same aim (suc count) at after g = turns-same aim false g.0 after g.2 ∙ go
 
 -- ---- turns
 
-turn-outcome : (aim : Aim) (outcome : Result Bool Halt) (at after : Between) → TakesTurn aim outcome at after
+turn-outcome : (aim : Aim) (outcome : Result Bool Fault) (at after : Between) → TakesTurn aim outcome at after
     → Counts outcome at.link.faults after.link.faults
 turn-outcome aim (Ok done) at after t = turns-same aim done at after t
-turn-outcome aim (Err Halt.Link) at after t = turn-counts (Err Halt.Link) at after t
-turn-outcome aim (Err Halt.Memory) at after t = turn-counts (Err Halt.Memory) at after t
-turn-outcome aim (Err Halt.Spent) at after t = turn-counts (Err Halt.Spent) at after t
-turn-outcome aim (Err Halt.Keep) at after t = absurd t
-turn-outcome aim (Err Halt.NoAnswer) at after t = absurd t
+turn-outcome aim (Err Fault.Link) at after t = turn-counts (Err Fault.Link) at after t
+turn-outcome aim (Err Fault.Memory) at after t = turn-counts (Err Fault.Memory) at after t
+turn-outcome aim (Err Fault.Spent) at after t = turn-counts (Err Fault.Spent) at after t
+turn-outcome aim (Err Fault.Keep) at after t = absurd t
+turn-outcome aim (Err Fault.NoAnswer) at after t = absurd t
 
-ends-within : (aim : Aim) (turns : ℕ) (outcome : Result Bool Halt) (at after : Between) → EndsWithin aim turns outcome at after
+ends-within : (aim : Aim) (turns : ℕ) (outcome : Result Bool Fault) (at after : Between) → EndsWithin aim turns outcome at after
     → Counts outcome at.link.faults after.link.faults
 ends-within aim turns outcome at after e =
     subst (λ n. Counts outcome n after.link.faults) (goes-same aim e.count at e.between e.before) (turn-outcome aim outcome e.between after e.last)
 
-turns-counts : (aim : Aim) (turns : ℕ) (result : Result Unit Halt) (at after : Between) → TakesTurns aim turns result at after
+turns-counts : (aim : Aim) (turns : ℕ) (result : Result Unit Fault) (at after : Between) → TakesTurns aim turns result at after
     → Counts result at.link.faults after.link.faults
 turns-counts aim turns (Ok done) at after t = ends-within aim turns (Ok true) at after t
-turns-counts aim turns (Err Halt.NoAnswer) at after t = goes-same aim turns at after t
-turns-counts aim turns (Err Halt.Link) at after t = ends-within aim turns (Err Halt.Link) at after t
-turns-counts aim turns (Err Halt.Memory) at after t = ends-within aim turns (Err Halt.Memory) at after t
-turns-counts aim turns (Err Halt.Spent) at after t = ends-within aim turns (Err Halt.Spent) at after t
-turns-counts aim turns (Err Halt.Keep) at after t = absurd t.last
+turns-counts aim turns (Err Fault.NoAnswer) at after t = goes-same aim turns at after t
+turns-counts aim turns (Err Fault.Link) at after t = ends-within aim turns (Err Fault.Link) at after t
+turns-counts aim turns (Err Fault.Memory) at after t = ends-within aim turns (Err Fault.Memory) at after t
+turns-counts aim turns (Err Fault.Spent) at after t = ends-within aim turns (Err Fault.Spent) at after t
+turns-counts aim turns (Err Fault.Keep) at after t = absurd t.last
 
 -- ---- calls
 
-sent-counts : (letters : Letters) (result : Result Unit Halt) (link link' : LinkTold) → SendsOut letters result link link'
+sent-counts : (letters : Letters) (result : Result Unit Fault) (link link' : LinkTold) → SendsOut letters result link link'
     → Counts result link.faults link'.faults
 sent-counts letters (Ok done) link link' s = s.2.1
-sent-counts letters (Err Halt.Link) link link' s = s.2.1
-sent-counts letters (Err Halt.Keep) link link' s = absurd s
-sent-counts letters (Err Halt.Memory) link link' s = absurd s
-sent-counts letters (Err Halt.Spent) link link' s = absurd s
-sent-counts letters (Err Halt.NoAnswer) link link' s = absurd s
+sent-counts letters (Err Fault.Link) link link' s = s.2.1
+sent-counts letters (Err Fault.Keep) link link' s = absurd s
+sent-counts letters (Err Fault.Memory) link link' s = absurd s
+sent-counts letters (Err Fault.Spent) link link' s = absurd s
+sent-counts letters (Err Fault.NoAnswer) link link' s = absurd s
 
-follow-counts : (answer : Answer) (letters : Letters) (result : Result Unit Halt) (link link' : LinkTold) → FollowsUp (refusal_of answer) letters
+follow-counts : (answer : Answer) (letters : Letters) (result : Result Unit Fault) (link link' : LinkTold) → FollowsUp (refusal_of answer) letters
     result link link'
     → Counts result link.faults link'.faults
 follow-counts Answer.Memory letters result link link' f = rw (f.0, f.1) refl
 follow-counts Answer.Spent letters result link link' f = rw (f.0, f.1) refl
 follow-counts other letters result link link' f = sent-counts letters result link link' f
 
-waits-counts : (turns : ℕ) (answered : Bool) (result : Result Unit Halt) (at after : Between) → Waits turns answered result at after
+waits-counts : (turns : ℕ) (answered : Bool) (result : Result Unit Fault) (at after : Between) → Waits turns answered result at after
     → Counts result at.link.faults after.link.faults
 waits-counts turns true result at after w = rw (w.0, w.1) refl
 waits-counts turns false result at after w = turns-counts Aim.Answered turns result at after w
 
-rest-counts : (turns : ℕ) (made result : Result Unit Halt) (at after : Between) (before : ℕ) → calling.GoesOn turns made result at after
+rest-counts : (turns : ℕ) (made result : Result Unit Fault) (at after : Between) (before : ℕ) → calling.GoesOn turns made result at after
     → Counts made before at.link.faults → Counts result before after.link.faults
 rest-counts turns (Err why) result at after before g counts = rw (g.0, g.1) counts
 rest-counts turns (Ok done) result at after before g counts =
     subst (λ n. Counts result n after.link.faults) counts
     (waits-counts turns (turning.reached Aim.Answered at.client.client) result at after g)
 
-call-counts : (turns : ℕ) (call : Call) (result : Result Unit Halt) (at after : Between) → RunsCall turns call result at after
+call-counts : (turns : ℕ) (call : Call) (result : Result Unit Fault) (at after : Between) → RunsCall turns call result at after
     → Counts result at.link.faults after.link.faults
 call-counts turns call result at after r =
     rest-counts turns r.made result (record { client = r.client; log = r.log; next = at.next; clock = at.clock; link = r.link }) after at.link.faults r.rest
     (follow-counts r.makes.answer r.makes.out'.datagrams r.made at.link r.link r.makes.sends)
 
-line-counts : (turns : ℕ) (line : List ℕ) (result : Result Unit Halt) (at after : Between) → RunsLine turns line result at after
+line-counts : (turns : ℕ) (line : List ℕ) (result : Result Unit Fault) (at after : Between) → RunsLine turns line result at after
     → Counts result at.link.faults after.link.faults
 line-counts turns line result at after r = call-counts turns r.0 result at after r.2
 
@@ -154,7 +154,7 @@ text-counts turns text (Err stop) at after r =
 
 -- ---- attaching
 
-from-counts : (turns : ℕ) (text : List ℕ) (attached : Result Unit Halt) (result : Result Unit Stop) (at after : Between) (before : ℕ)
+from-counts : (turns : ℕ) (text : List ℕ) (attached : Result Unit Fault) (result : Result Unit Stop) (at after : Between) (before : ℕ)
     → AttendsFrom turns text attached result at after → Counts attached before at.link.faults → CallCounts result before after.link.faults
 from-counts turns text (Err why) result at after before f counts = rw (f.0, f.1) counts
 from-counts turns text (Ok done) result at after before f counts =
@@ -165,16 +165,16 @@ attend-counts : (turns : ℕ) (text : List ℕ) (result : Result Unit Stop) (at 
 attend-counts turns text result at after a =
     from-counts turns text a.0 result a.1 after at.link.faults a.3 (turns-counts Aim.Attached turns a.0 at a.1 a.2)
 
-begun-counts : (who : Who) (time : ℕ) (begun : Result Counted Halt) (link link' : LinkTold) → Begins who time begun link link'
+begun-counts : (who : Who) (time : ℕ) (begun : Result Counted Fault) (link link' : LinkTold) → Begins who time begun link link'
     → Counts begun link.faults link'.faults
 begun-counts who time (Ok client) link link' b = b.2.2.1
-begun-counts who time (Err Halt.Memory) link link' b = ap (λ (l : LinkTold). l.faults) b
-begun-counts who time (Err Halt.Link) link link' b = b.2.1
-begun-counts who time (Err Halt.Keep) link link' b = absurd b
-begun-counts who time (Err Halt.Spent) link link' b = absurd b
-begun-counts who time (Err Halt.NoAnswer) link link' b = absurd b
+begun-counts who time (Err Fault.Memory) link link' b = ap (λ (l : LinkTold). l.faults) b
+begun-counts who time (Err Fault.Link) link link' b = b.2.1
+begun-counts who time (Err Fault.Keep) link link' b = absurd b
+begun-counts who time (Err Fault.Spent) link link' b = absurd b
+begun-counts who time (Err Fault.NoAnswer) link link' b = absurd b
 
-behind-counts : (turns : ℕ) (begun : Result Counted Halt) (text : List ℕ) (result : Result Unit Stop) (log log' : EntryList) (clock clock' : ClockTold)
+behind-counts : (turns : ℕ) (begun : Result Counted Fault) (text : List ℕ) (result : Result Unit Stop) (log log' : EntryList) (clock clock' : ClockTold)
     (link link' : LinkTold) (before : ℕ) → running.GoesOn turns begun text result log log' clock clock' link link' → Counts begun before link.faults
     → CallCounts result before link'.faults
 behind-counts turns (Err why) text result log log' clock clock' link link' before g counts = rw (g.0, g.3) (same-why Counted Unit why before
@@ -196,14 +196,14 @@ so-by : (due : Ending) (text : List ℕ) (result : Ending) (held now : Option (L
 so-by due text result held now s s' w w' link link' (inl t) by = rw t.0 by
 so-by due text result held now s s' w w' link link' (inr t) by = rw t.0 tt
 
-stop-by : (why : Halt) (line : ℕ) (entries : List Entry) (result : Ending) (held now : Option (List ℕ)) (s s' w w' link link' : ℕ)
+stop-by : (why : Fault) (line : ℕ) (entries : List Entry) (result : Ending) (held now : Option (List ℕ)) (s s' w w' link link' : ℕ)
     → TellsStop why line entries result held now w w' → Counts {X = Unit} (Err why) link link' → EndsBy result s s' w w' link link'
-stop-by Halt.Link line entries result held now s s' w w' link link' t counts = rw t.0 counts
-stop-by Halt.Keep line entries result held now s s' w w' link link' t counts = absurd counts
-stop-by Halt.Memory line entries result held now s s' w w' link link' t counts = rw t.0 tt
-stop-by Halt.Spent line entries result held now s s' w w' link link' t counts = so-by Ending.Limit (answers_text entries ++ events_line line) result
+stop-by Fault.Link line entries result held now s s' w w' link link' t counts = rw t.0 counts
+stop-by Fault.Keep line entries result held now s s' w w' link link' t counts = absurd counts
+stop-by Fault.Memory line entries result held now s s' w w' link link' t counts = rw t.0 tt
+stop-by Fault.Spent line entries result held now s s' w w' link link' t counts = so-by Ending.Limit (answers_text entries ++ events_line line) result
     held now s s' w w' link link' t tt
-stop-by Halt.NoAnswer line entries result held now s s' w w' link link' t counts = so-by Ending.NoAnswer (answers_text entries ++ noanswer_line line)
+stop-by Fault.NoAnswer line entries result held now s s' w w' link link' t counts = so-by Ending.NoAnswer (answers_text entries ++ noanswer_line line)
     result held now s s' w w' link link' t tt
 
 end-by : (ended : Result Unit Stop) (entries : List Entry) (result : Ending) (held now : Option (List ℕ)) (s s' w w' link link' : ℕ)
@@ -256,14 +256,14 @@ so-not-script : (due : Ending) (text : List ℕ) (result : Ending) (held now : O
 so-not-script due text result held now w w' (inl t) not is = not (sym t.0 ∙ is)
 so-not-script due text result held now w w' (inr t) not is = let memory = sym t.0 ∙ is in absurd (cc)
 
-stop-not-script : (why : Halt) (line : ℕ) (entries : List Entry) (result : Ending) (held now : Option (List ℕ)) (w w' : ℕ)
+stop-not-script : (why : Fault) (line : ℕ) (entries : List Entry) (result : Ending) (held now : Option (List ℕ)) (w w' : ℕ)
     → TellsStop why line entries result held now w w' → result ≡ Ending.Script → ⊥
-stop-not-script Halt.Link line entries result held now w w' t is = let other = sym t.0 ∙ is in absurd (cc)
-stop-not-script Halt.Keep line entries result held now w w' t is = let other = sym t.0 ∙ is in absurd (cc)
-stop-not-script Halt.Memory line entries result held now w w' t is = let other = sym t.0 ∙ is in absurd (cc)
-stop-not-script Halt.Spent line entries result held now w w' t is = so-not-script Ending.Limit (answers_text entries ++ events_line line) result held
+stop-not-script Fault.Link line entries result held now w w' t is = let other = sym t.0 ∙ is in absurd (cc)
+stop-not-script Fault.Keep line entries result held now w w' t is = let other = sym t.0 ∙ is in absurd (cc)
+stop-not-script Fault.Memory line entries result held now w w' t is = let other = sym t.0 ∙ is in absurd (cc)
+stop-not-script Fault.Spent line entries result held now w w' t is = so-not-script Ending.Limit (answers_text entries ++ events_line line) result held
     now w w' t (λ same. absurd (cc)) is
-stop-not-script Halt.NoAnswer line entries result held now w w' t is = so-not-script Ending.NoAnswer (answers_text entries ++ noanswer_line line)
+stop-not-script Fault.NoAnswer line entries result held now w w' t is = so-not-script Ending.NoAnswer (answers_text entries ++ noanswer_line line)
     result held now w w' t (λ same. absurd (cc)) is
 
 end-not-script : (ended : Result Unit Stop) (entries : List Entry) (result : Ending) (held now : Option (List ℕ)) (w w' : ℕ)

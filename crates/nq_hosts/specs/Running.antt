@@ -6,7 +6,7 @@ use Rattle.nq_base.specs.declared.Who.{Who}
 use Rattle.nq_hosts.specs.Lines.{AreCalls}
 use Rattle.nq_client.specs.Counted.{Counted}
 use Rattle.nq_client.specs.Finishing.{to_server}
-use Rattle.nq_base.specs.declared.ending.halt.Halt.{Halt}
+use Rattle.nq_base.specs.declared.ending.fault.Fault.{Fault}
 use Rattle.nq_base.specs.Entries.{EntryList}
 use Rattle.nq_model.specs.protocol.ClientStep.{starts}
 use Rattle.nq_clock.specs.Clocks.{ClockTold, ReadsOnce}
@@ -23,7 +23,7 @@ term_wanted = 30
 -- ---- lines
 
 -- the call that a line spells was run, and ended so
-abbrev pub RunsLine : (turns : ℕ) → (line : List ℕ) → Result Unit Halt → (at after : Between) → Type 0
+abbrev pub RunsLine : (turns : ℕ) → (line : List ℕ) → Result Unit Fault → (at after : Between) → Type 0
 RunsLine turns line result at after = (call : Call) × SpellsCall 1 call line × RunsCall turns call result at after
 
 -- the calls of these lines were run one after another, each to its answer
@@ -55,23 +55,23 @@ RunsText turns text result at after = (lines : List (List ℕ)) × AreCalls line
 -- ---- attaching
 
 -- after turns for attaching: they stopped, or the calls of the text were run
-abbrev pub AttendsFrom : (turns : ℕ) → (text : List ℕ) → (attached : Result Unit Halt) → Result Unit Stop → (at after : Between) → Type 0
+abbrev pub AttendsFrom : (turns : ℕ) → (text : List ℕ) → (attached : Result Unit Fault) → Result Unit Stop → (at after : Between) → Type 0
 AttendsFrom turns text (Err why) result at after = (result ≡ Err (record { why = why; line = 0 })) × (after ≡ at)
 AttendsFrom turns text (Ok done) result at after = RunsText turns text result at after
 
 -- a client that asked for it was attached, and the calls of the text were run
 abbrev pub Attends : (turns : ℕ) → (text : List ℕ) → Result Unit Stop → (at after : Between) → Type 0
 Attends turns text result at after =
-    (attached : Result Unit Halt) × (between : Between)
+    (attached : Result Unit Fault) × (between : Between)
     × TakesTurns Aim.Attached turns attached at between
     × AttendsFrom turns text attached result between after
 
 -- a client that starts at this time, and what its start pushes is sent; or there is no memory, or the link failed
-abbrev pub Begins : Who → (time : ℕ) → Result Counted Halt → (link link' : LinkTold) → Type 0
+abbrev pub Begins : Who → (time : ℕ) → Result Counted Fault → (link link' : LinkTold) → Type 0
 Begins who time (Ok client) link link' =
     (client.client ≡ (starts who term_wanted time).client) × (client.taken ≡ 0)
     × SendsOut (map to_server (starts who term_wanted time).sends) (Ok tt) link link'
-Begins who time (Err Halt.Memory) link link' = link' ≡ link
+Begins who time (Err Fault.Memory) link link' = link' ≡ link
 Begins who time (Err why) link link' = SendsOut (map to_server (starts who term_wanted time).sends) (Err why) link link'
 
 -- what comes after the start: nothing, or the client is attached and the calls of the text are run
@@ -84,7 +84,7 @@ pub record RunsFrom (turns : ℕ) (client : Counted) (text : List ℕ) (result :
   pub links : link' ≡ last.link
 
 -- likewise, by what the start gave
-abbrev pub GoesOn : (turns : ℕ) → (begun : Result Counted Halt) → (text : List ℕ) → Result Unit Stop → (log log' : EntryList)
+abbrev pub GoesOn : (turns : ℕ) → (begun : Result Counted Fault) → (text : List ℕ) → Result Unit Stop → (log log' : EntryList)
     → (clock clock' : ClockTold) → (link link' : LinkTold) → Type 0
 GoesOn turns (Err why) text result log log' clock clock' link link' =
     (result ≡ Err (record { why = why; line = 0 })) × (log' ≡ log) × (clock' ≡ clock) × (link' ≡ link)
@@ -97,7 +97,7 @@ pub record Runs (turns : ℕ) (who : Who) (text : List ℕ) (result : Result Uni
   pub time : ℕ
   pub clock_read : ClockTold
   pub read : ReadsOnce time clock clock_read
-  pub begun : Result Counted Halt
+  pub begun : Result Counted Fault
   pub link_begun : LinkTold
   pub begins : Begins who time begun link link_begun
   pub rest : GoesOn turns begun text result log log' clock_read clock' link_begun link'

@@ -7,7 +7,7 @@ use Rattle.nq_hosts.specs.Answers.{answers_text}
 use Rattle.nq_hosts.specs.declared.answers.ending.Stop.{Stop}
 use Rattle.nq_base.specs.declared.Entry.{Entry}
 use Rattle.nq_base.specs.declared.ending.ending.Ending.{Ending}
-use Rattle.nq_base.specs.declared.ending.halt.Halt.{Halt}
+use Rattle.nq_base.specs.declared.ending.fault.Fault.{Fault}
 use Rattle.nq_io.specs.Faults.{Rose}
 use Rattle.nq_io.specs.Sink.{AppendsFront}
 use Rattle.nq_io.specs.Told.{with_end}
@@ -57,13 +57,13 @@ PrintsAll Ending.Memory text held now w w' = IsSilent held now w w'
 PrintsAll other text held now w w' = ⊥
 
 -- what is told where calls stopped: the answers so far, and behind them the line of the call where it has no answer
-abbrev pub TellsStop : (why : Halt) → (line : ℕ) → List Entry → Ending → (held now : Option (List ℕ)) → (w w' : ℕ) → Type 0
-TellsStop Halt.Link line entries result held now w w' = (result ≡ Ending.LinkFault) × IsSilent held now w w'
-TellsStop Halt.Keep line entries result held now w w' = (result ≡ Ending.KeepFault) × IsSilent held now w w'
-TellsStop Halt.Memory line entries result held now w w' = (result ≡ Ending.Memory) × IsSilent held now w w'
-TellsStop Halt.Spent line entries result held now w w' =
+abbrev pub TellsStop : (why : Fault) → (line : ℕ) → List Entry → Ending → (held now : Option (List ℕ)) → (w w' : ℕ) → Type 0
+TellsStop Fault.Link line entries result held now w w' = (result ≡ Ending.LinkFault) × IsSilent held now w w'
+TellsStop Fault.Keep line entries result held now w w' = (result ≡ Ending.KeepFault) × IsSilent held now w w'
+TellsStop Fault.Memory line entries result held now w w' = (result ≡ Ending.Memory) × IsSilent held now w w'
+TellsStop Fault.Spent line entries result held now w w' =
     TellsSo Ending.Limit (answers_text entries ++ events_line line) result held now w w'
-TellsStop Halt.NoAnswer line entries result held now w w' =
+TellsStop Fault.NoAnswer line entries result held now w w' =
     TellsSo Ending.NoAnswer (answers_text entries ++ noanswer_line line) result held now w w'
 
 -- what is told of calls that ended so, with this journal

@@ -2,7 +2,7 @@
 use Rattle.std.specs.Prelude.{◌≡◌, ◌<◌, ℕ, zero, suc, Bool, true, false, is_none, Option, Some, None, Result, Ok, Err}
 use Rattle.nq_base.specs.declared.Answer.{Answer}
 use Rattle.nq_client.specs.Counted.{Counted}
-use Rattle.nq_base.specs.declared.ending.halt.Halt.{Halt}
+use Rattle.nq_base.specs.declared.ending.fault.Fault.{Fault}
 use Rattle.nq_base.specs.Entries.{EntryList}
 use Rattle.nq_model.specs.protocol.Client.{Client}
 use Rattle.nq_hosts.specs.ClientTurn.{AttendsTurn}
@@ -24,7 +24,7 @@ abbrev pub between : Session → ClockTold → LinkTold → Between
 between session clock link = record { client = session.client; log = session.log; next = session.next; clock = clock; link = link }
 
 -- one turn, which ended so
-abbrev pub Attends : Result (Option Answer) Halt → (at after : Between) → Type 0
+abbrev pub Attends : Result (Option Answer) Fault → (at after : Between) → Type 0
 Attends ended at after =
     AttendsTurn ended at.next after.next at.clock after.clock at.link after.link at.client after.client at.log after.log
 
@@ -40,15 +40,15 @@ pub record Turns (aim : Aim) (done : Bool) (at after : Between) : Type 0 where
   pub so : done ≡ reached aim after.client.client
 
 -- one turn that stopped so; none stops for a keeper, or for want of an answer
-abbrev pub Stops : Halt → (at after : Between) → Type 0
-Stops Halt.Link at after = Attends (Err Halt.Link) at after
-Stops Halt.Memory at after = Attends (Err Halt.Memory) at after
-Stops Halt.Spent at after = Attends (Err Halt.Spent) at after
-Stops Halt.Keep at after = ⊥
-Stops Halt.NoAnswer at after = ⊥
+abbrev pub Stops : Fault → (at after : Between) → Type 0
+Stops Fault.Link at after = Attends (Err Fault.Link) at after
+Stops Fault.Memory at after = Attends (Err Fault.Memory) at after
+Stops Fault.Spent at after = Attends (Err Fault.Spent) at after
+Stops Fault.Keep at after = ⊥
+Stops Fault.NoAnswer at after = ⊥
 
 -- one turn: it went on, or it stopped so
-abbrev pub TakesTurn : Aim → Result Bool Halt → (at after : Between) → Type 0
+abbrev pub TakesTurn : Aim → Result Bool Fault → (at after : Between) → Type 0
 TakesTurn aim (Ok done) at after = Turns aim done at after
 TakesTurn aim (Err why) at after = Stops why at after
 
@@ -58,7 +58,7 @@ Goes aim zero at after = after ≡ at
 Goes aim (suc count) at after = (between : Between) × Goes aim count at between × Turns aim false between after
 
 -- fewer such turns than so many, and a last one with this outcome
-pub record EndsWithin (aim : Aim) (turns : ℕ) (outcome : Result Bool Halt) (at after : Between) : Type 0 where
+pub record EndsWithin (aim : Aim) (turns : ℕ) (outcome : Result Bool Fault) (at after : Between) : Type 0 where
   pub count : ℕ
   pub fewer : count < turns
   pub between : Between
@@ -67,7 +67,7 @@ pub record EndsWithin (aim : Aim) (turns : ℕ) (outcome : Result Bool Halt) (at
 
 -- At most so many turns one after another: up to the first that brought the client where they were to bring it, or that stopped.
 -- `NoAnswer` says that all of them were taken and none did either.
-abbrev pub TakesTurns : Aim → (turns : ℕ) → Result Unit Halt → (at after : Between) → Type 0
+abbrev pub TakesTurns : Aim → (turns : ℕ) → Result Unit Fault → (at after : Between) → Type 0
 TakesTurns aim turns (Ok done) at after = EndsWithin aim turns (Ok true) at after
-TakesTurns aim turns (Err Halt.NoAnswer) at after = Goes aim turns at after
+TakesTurns aim turns (Err Fault.NoAnswer) at after = Goes aim turns at after
 TakesTurns aim turns (Err why) at after = EndsWithin aim turns (Err why) at after

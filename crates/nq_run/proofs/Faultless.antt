@@ -5,7 +5,7 @@ use Rattle.nq_base.specs.Status.{status_of}
 use Rattle.nq_base.specs.declared.Entry.{Entry}
 use Rattle.nq_base.specs.declared.Who.{Who}
 use Rattle.nq_base.specs.declared.ending.ending.Ending.{Ending}
-use Rattle.nq_base.specs.declared.ending.halt.Halt.{Halt}
+use Rattle.nq_base.specs.declared.ending.fault.Fault.{Fault}
 use Rattle.nq_clock.specs.Clocks.{ClockTold}
 use Rattle.nq_hosts.specs.Telling.{TellsEnd, TellsSo, TellsStop}
 use Rattle.nq_hosts.specs.Using.{UsesInput, UsesText}
@@ -80,7 +80,7 @@ not-done told faults code disk left held now w w' (inl refuses) done =
 not-done told faults code disk left held now w w' (inr (inl fails)) done = let no = sym fails.status ∙ done in absurd (omega arith)
 not-done told faults code disk left held now w w' (inr (inr lacks)) done = let no = sym lacks.status ∙ done in absurd (omega arith)
 
-behind-turns : (end : Ending) (code turns : ℕ) (P : Result Unit Halt → Type 0) (held between now : Option (List ℕ)) (w count w' : ℕ)
+behind-turns : (end : Ending) (code turns : ℕ) (P : Result Unit Fault → Type 0) (held between now : Option (List ℕ)) (w count w' : ℕ)
     → Tells end turns P held between w count → PrintsBehind end code between now count w' → code ≡ status_of Ending.Done → w' ≡ w
 behind-turns Ending.Done code turns P held between now w count w' tells prints done = prints.2 ∙ tells.2
 behind-turns Ending.WriteFault code turns P held between now w count w' tells prints done = let no = sym prints.0 ∙ done in absurd (omega arith)
@@ -109,13 +109,13 @@ not-told : (due : Ending) (text : List ℕ) (held now : Option (List ℕ)) (w w'
 not-told due text held now w w' other (inl so) = other so.0
 not-told due text held now w w' other (inr lacks) = let is = lacks.0 in absurd (cc)
 
-not-stopped : (why : Halt) (line : ℕ) (entries : List Entry) (held now : Option (List ℕ)) (w w' : ℕ)
+not-stopped : (why : Fault) (line : ℕ) (entries : List Entry) (held now : Option (List ℕ)) (w w' : ℕ)
     → TellsStop why line entries Ending.Done held now w w' → ⊥
-not-stopped Halt.Link line entries held now w w' tells = let is = tells.0 in absurd (cc)
-not-stopped Halt.Keep line entries held now w w' tells = let is = tells.0 in absurd (cc)
-not-stopped Halt.Memory line entries held now w w' tells = let is = tells.0 in absurd (cc)
-not-stopped Halt.Spent line entries held now w w' tells = not-told Ending.Limit _ held now w w' (λ is. absurd (cc)) tells
-not-stopped Halt.NoAnswer line entries held now w w' tells = not-told Ending.NoAnswer _ held now w w' (λ is. absurd (cc)) tells
+not-stopped Fault.Link line entries held now w w' tells = let is = tells.0 in absurd (cc)
+not-stopped Fault.Keep line entries held now w w' tells = let is = tells.0 in absurd (cc)
+not-stopped Fault.Memory line entries held now w w' tells = let is = tells.0 in absurd (cc)
+not-stopped Fault.Spent line entries held now w w' tells = not-told Ending.Limit _ held now w w' (λ is. absurd (cc)) tells
+not-stopped Fault.NoAnswer line entries held now w w' tells = not-told Ending.NoAnswer _ held now w w' (λ is. absurd (cc)) tells
 
 all-told : (ended : Result Unit Stop) (entries : List Entry) (held now : Option (List ℕ)) (w w' : ℕ)
     → TellsEnd ended entries Ending.Done held now w w' → w' ≡ w

@@ -4,7 +4,7 @@ use Rattle.nq_serving.specs.LeavingTurns.{IsLeftInRuns}
 use Rattle.nq_serving.specs.Running.{Runs}
 use Rattle.nq_serving.specs.Extending.{Extension}
 use Rattle.nq_serving.specs.declared.turning.LinkPolicy.{LinkPolicy}
-use Rattle.nq_base.specs.declared.ending.halt.Halt.{Halt}
+use Rattle.nq_base.specs.declared.ending.fault.Fault.{Fault}
 use Rattle.nq_model.specs.protocol.Kept.{Kept}
 use Rattle.nq_clock.specs.Clocks.{ClockTold}
 use Rattle.nq_link.specs.Links.{LinkTold}
@@ -17,7 +17,7 @@ left_same kept bytes image before stays same (inr e) = e ∙ same bytes stays
 
 -- what is kept at first is left by the boot
 pub left_first : {K : Type 0} (content : K → Option Kept) (faults : K → ℕ) (policy : LinkPolicy) (extension : Extension) (follows : K → K → Type 0) (longest turns time : ℕ) (keeper : K)
-    (ended : Result Unit Halt) (left : K) (clock clock' : ClockTold) (link link' : LinkTold)
+    (ended : Result Unit Fault) (left : K) (clock clock' : ClockTold) (link link' : LinkTold)
     (runs : Runs content faults policy extension follows longest turns time keeper ended left clock clock' link link') (kept : Kept) (found : Option Kept)
     → found ≡ Some kept → IsLeftInRuns content faults policy extension follows longest turns time keeper ended left clock clock' link link' runs kept found
 left_first content faults policy extension follows longest turns time keeper (Ok done) left clock clock' link link' runs kept found e = inl (inl e)

@@ -3,7 +3,7 @@ use Rattle.std.proofs.Common.{◌≡◌, ◌⊎◌, ◌<◌, ◌≤◌, ℕ, Lis
 use Rattle.std.specs.Option.{ForSome}
 use Rattle.nq_serving.specs.Extending.{Extension}
 use Rattle.nq_serving.specs.Leaving.{IsSettled}
-use Rattle.nq_base.specs.declared.ending.halt.Halt.{Halt}
+use Rattle.nq_base.specs.declared.ending.fault.Fault.{Fault}
 use Rattle.nq_plan.specs.Formatted.{StandsForNothing, TellsNothing}
 use Rattle.nq_plan.specs.Standing.{stands_as}
 use Rattle.nq_image.specs.Nothing.{nothing_kept}
@@ -34,7 +34,7 @@ all_settled {D = D} told leaves store left is settled =
 module _ {D : Type 0} (told : D → Option (List ℕ)) (faults : D → ℕ) (may_leave : D → List ℕ → Type 0) (follows : D → D → Type 0)
     (leaves : D → D → List ℕ → Type 0) (extension : Extension) (longest turns : ℕ) where
   -- a disk that was ready, from then on
-  found-ready : (ready : D) (store : StoredStore D) (ended : Result Unit Halt) (left : D) (clock clock' : ClockTold) (link link' : LinkTold)
+  found-ready : (ready : D) (store : StoredStore D) (ended : Result Unit Fault) (left : D) (clock clock' : ClockTold) (link link' : LinkTold)
       (ends : EndsServing told faults follows leaves extension longest turns store ended left clock clock' link link')
       → ((bytes : List ℕ) → told ready ≡ Some bytes → may_leave ready bytes)
       → ((last : D) (image : List ℕ) → follows store.disk last → leaves ready last image → leaves ready store.disk image ⊎ leaves store.disk last image)
@@ -52,7 +52,7 @@ module _ {D : Type 0} (told : D → Option (List ℕ)) (faults : D → ℕ) (may
       (parts ends.served.disk image ends.same.disk (subst (λ (d : D). leaves ready d image) ends.handed l))
 
   -- a disk with a byte, from the moment on that it is handed in
-  found-first : (disk ready : D) (store : StoredStore D) (ended : Result Unit Halt) (left : D) (clock clock' : ClockTold) (link link' : LinkTold)
+  found-first : (disk ready : D) (store : StoredStore D) (ended : Result Unit Fault) (left : D) (clock clock' : ClockTold) (link link' : LinkTold)
       (ends : EndsServing told faults follows leaves extension longest turns store ended left clock clock' link link')
       → ((d : D) (bytes : List ℕ) → told d ≡ Some bytes → may_leave d bytes)
       → ((first last : D) (bytes : List ℕ) → follows first last → may_leave first bytes ⊎ may_leave last bytes → leaves first last bytes)
@@ -74,7 +74,7 @@ module _ {D : Type 0} (told : D → Option (List ℕ)) (faults : D → ℕ) (may
       (parts disk ready left image goes on l)
 
   -- the same of a disk that became an empty image, from the moment on that it is one
-  found-made : (ready : D) (store : StoredStore D) (ended : Result Unit Halt) (left : D) (clock clock' : ClockTold) (link link' : LinkTold)
+  found-made : (ready : D) (store : StoredStore D) (ended : Result Unit Fault) (left : D) (clock clock' : ClockTold) (link link' : LinkTold)
       (ends : EndsServing told faults follows leaves extension longest turns store ended left clock clock' link link')
       → ((bytes : List ℕ) → told ready ≡ Some bytes → may_leave ready bytes)
       → ((last : D) (image : List ℕ) → follows store.disk last → leaves ready last image → leaves ready store.disk image ⊎ leaves store.disk last image)
@@ -87,7 +87,7 @@ module _ {D : Type 0} (told : D → Option (List ℕ)) (faults : D → ℕ) (may
       (λ image may. nothing_on image (each image may))
 
   -- what serving over a disk did that was opened as a store
-  pub serves_opened : (disk : D) (store : StoredStore D) (ended : Result Unit Halt) (left : D) (clock clock' : ClockTold) (link link' : LinkTold)
+  pub serves_opened : (disk : D) (store : StoredStore D) (ended : Result Unit Fault) (left : D) (clock clock' : ClockTold) (link link' : LinkTold)
       (opens : OpensReady told faults may_leave follows leaves disk (Ok store))
       → ((d : D) (bytes : List ℕ) → told d ≡ Some bytes → may_leave d bytes)
       → ((first last : D) (bytes : List ℕ) → follows first last → may_leave first bytes ⊎ may_leave last bytes → leaves first last bytes)

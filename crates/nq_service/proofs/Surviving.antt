@@ -2,7 +2,7 @@
 use Rattle.std.proofs.Common.{◌≡◌, ◌⊎◌, ◌≤◌, ℕ, List, Option, Some, Result, Ok, Err, IfOk, OnOk, inl, inr, refl, sym, ap, subst, ◌∙◌}
 use Rattle.std.specs.Option.{ForSome}
 use Rattle.nq_base.specs.declared.ending.ending.Ending.{Ending}
-use Rattle.nq_base.specs.declared.ending.halt.Halt.{Halt}
+use Rattle.nq_base.specs.declared.ending.fault.Fault.{Fault}
 use Rattle.nq_serving.specs.Extending.{no_extension}
 use Rattle.nq_serving.specs.LeavingTurns.{IsLeftInRuns, LeavesServing}
 use Rattle.nq_serving.specs.Serving.{Tells}
@@ -25,7 +25,7 @@ stays_same told before leaves stays like = λ bytes is kept same image left. lef
 
 module _ {D : Type 0} (told : D → Option (List ℕ)) (faults : D → ℕ) (may_leave : D → List ℕ → Type 0) (follows : D → D → Type 0)
     (leaves : D → D → List ℕ → Type 0) where
-  survives : (longest turns : ℕ) (disk : D) (store : StoredStore D) (ended : Result Unit Halt) (left : StoredStore D)
+  survives : (longest turns : ℕ) (disk : D) (store : StoredStore D) (ended : Result Unit Fault) (left : StoredStore D)
       (clock clock' : ClockTold) (link link' : LinkTold)
       → ((bytes : List ℕ) → told disk ≡ Some bytes → may_leave disk bytes)
       → ((image : List ℕ) → leaves disk left.disk image → leaves disk store.disk image ⊎ leaves store.disk left.disk image)
@@ -47,15 +47,15 @@ module _ {D : Type 0} (told : D → Option (List ℕ)) (faults : D → ℕ) (may
     settled = λ kept is image l. s.settled kept is (kept_on image) (image, l, refl);
   }
 
-  tells-on : (end : Ending) (turns : ℕ) (P Q : Result Unit Halt → Type 0) (held now : Option (List ℕ)) (w w' : ℕ)
-      → ((ended : Result Unit Halt) → P ended → Q ended) → Tells end turns P held now w w' → Tells end turns Q held now w w'
+  tells-on : (end : Ending) (turns : ℕ) (P Q : Result Unit Fault → Type 0) (held now : Option (List ℕ)) (w w' : ℕ)
+      → ((ended : Result Unit Fault) → P ended → Q ended) → Tells end turns P held now w w' → Tells end turns Q held now w w'
   tells-on Ending.Done turns P Q held now w w' on t = (on (Ok tt) t.0, t.1, t.2)
   tells-on Ending.WriteFault turns P Q held now w w' on t = (on (Ok tt) t.0, t.1, t.2)
-  tells-on Ending.KeepFault turns P Q held now w w' on t = (on (Err Halt.Keep) t.0, t.1, t.2)
-  tells-on Ending.Memory turns P Q held now w w' on t = (on (Err Halt.Memory) t.0, t.1, t.2)
-  tells-on Ending.LinkFault turns P Q held now w w' on t = (on (Err Halt.Link) t.0, t.1, t.2)
-  tells-on Ending.Spent turns P Q held now w w' on t = (on (Err Halt.Spent) t.0, t.1, t.2)
-  tells-on Ending.NoAnswer turns P Q held now w w' on t = (on (Err Halt.NoAnswer) t.0, t.1, t.2)
+  tells-on Ending.KeepFault turns P Q held now w w' on t = (on (Err Fault.Keep) t.0, t.1, t.2)
+  tells-on Ending.Memory turns P Q held now w w' on t = (on (Err Fault.Memory) t.0, t.1, t.2)
+  tells-on Ending.LinkFault turns P Q held now w w' on t = (on (Err Fault.Link) t.0, t.1, t.2)
+  tells-on Ending.Spent turns P Q held now w w' on t = (on (Err Fault.Spent) t.0, t.1, t.2)
+  tells-on Ending.NoAnswer turns P Q held now w w' on t = (on (Err Fault.NoAnswer) t.0, t.1, t.2)
   tells-on Ending.Usage turns P Q held now w w' on t = t
   tells-on Ending.Script turns P Q held now w w' on t = t
   tells-on Ending.Skew turns P Q held now w w' on t = t

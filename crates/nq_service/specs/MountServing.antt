@@ -7,7 +7,7 @@ use Rattle.nq_serving.specs.LeavingTurns.{IsLeftInRuns, LeavesServing}
 use Rattle.nq_serving.specs.Running.{HaltsBy}
 use Rattle.nq_serving.specs.declared.turning.LinkPolicy.{LinkPolicy}
 use Rattle.nq_serving.specs.Extending.{Extension}
-use Rattle.nq_base.specs.declared.ending.halt.Halt.{Halt}
+use Rattle.nq_base.specs.declared.ending.fault.Fault.{Fault}
 use Rattle.nq_plan.specs.Standing.{stands_as}
 use Rattle.nq_image.specs.Nothing.{nothing_kept}
 use Rattle.nq_io.specs.Faults.{Rose}
@@ -49,7 +49,7 @@ pub record ServesNot {D : Type 0} (told : D → Option (List ℕ)) (faults : D �
 -- a stop leaves stands for exactly what the server keeps then. This refuses a server that answers `ok` once the gate byte is written and before it
 -- is synced
 pub record EndsServing {D : Type 0} (told : D → Option (List ℕ)) (faults : D → ℕ) (follows : D → D → Type 0) (leaves : D → D → List ℕ → Type 0)
-    (extension : Extension) (longest turns : ℕ) (store : StoredStore D) (ended : Result Unit Halt) (left : D) (clock clock' : ClockTold)
+    (extension : Extension) (longest turns : ℕ) (store : StoredStore D) (ended : Result Unit Fault) (left : D) (clock clock' : ClockTold)
     (link link' : LinkTold) : Type 0 where
   pub served : StoredStore D
   pub handed : left ≡ served.disk
@@ -63,7 +63,7 @@ pub record EndsServing {D : Type 0} (told : D → Option (List ℕ)) (faults : D
 -- this image, which a stop left, opens, and stands for what was kept at first, or after some of the steps: the boot, and the ticks and datagrams of
 -- the turns
 abbrev pub IsFoundAmong : {D : Type 0} → (told : D → Option (List ℕ)) → (faults : D → ℕ) → (follows : D → D → Type 0) → (leaves : D → D → List ℕ
-    → Type 0) → (extension : Extension) → (longest turns : ℕ) → (store : StoredStore D) → (ended : Result Unit Halt) → (left : D) → (clock clock' : ClockTold)
+    → Type 0) → (extension : Extension) → (longest turns : ℕ) → (store : StoredStore D) → (ended : Result Unit Fault) → (left : D) → (clock clock' : ClockTold)
     → (link link' : LinkTold) → EndsServing told faults follows leaves extension longest turns store ended left clock clock' link link' → (kept : Kept)
     → (image : List ℕ) → Type 0
 IsFoundAmong told faults follows leaves extension longest turns store ended left clock clock' link link' ends kept image =
@@ -80,7 +80,7 @@ StoodStill before now = (now ≡ before) ⊎ (2 ^ 64 - 1 ≤ before)
 -- steps. Where it had none, the same is so of a stop at any moment from then on that the image was made, for the state in which nothing is kept. Where
 -- all turns were taken, no call of the disk failed
 pub record ServesImage {D : Type 0} (told : D → Option (List ℕ)) (faults : D → ℕ) (may_leave : D → List ℕ → Type 0) (follows : D → D → Type 0)
-    (leaves : D → D → List ℕ → Type 0) (extension : Extension) (longest turns : ℕ) (disk : D) (ended : Result Unit Halt) (left : D) (clock clock' : ClockTold)
+    (leaves : D → D → List ℕ → Type 0) (extension : Extension) (longest turns : ℕ) (disk : D) (ended : Result Unit Fault) (left : D) (clock clock' : ClockTold)
     (link link' : LinkTold) : Type 0 where
   pub ready : D
   pub is_ready : IsReady told faults may_leave follows leaves disk ready
@@ -89,7 +89,7 @@ pub record ServesImage {D : Type 0} (told : D → Option (List ℕ)) (faults : D
   pub keeps : content_of told store ≡ kept_told (told ready)
   pub fresh : IsFresh store
   pub ends : EndsServing told faults follows leaves extension longest turns store ended left clock clock' link link'
-  pub failed : ended ≡ Err Halt.Keep → HasRisen (faults disk) (faults left)
+  pub failed : ended ≡ Err Fault.Keep → HasRisen (faults disk) (faults left)
   pub done : ended ≡ Ok tt → StoodStill (faults disk) (faults left)
   pub survives : ForSome (told disk) (λ bytes. 0 < length bytes → (kept : Kept) → AllStandFor (may_leave disk) kept
       → Each (leaves disk left) (IsFoundAmong told faults follows leaves extension longest turns store ended left clock clock' link link' ends kept))

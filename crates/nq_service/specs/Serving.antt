@@ -6,7 +6,7 @@ use Rattle.std.specs.Option.{ForSome}
 use Rattle.std.specs.Prelude.{◌≡◌, ◌⊎◌, ◌++◌, ℕ, List, Option, Some, None, Result, Ok, Err, codes}
 use Rattle.nq_base.specs.Status.{status_of}
 use Rattle.nq_base.specs.declared.ending.ending.Ending.{Ending}
-use Rattle.nq_base.specs.declared.ending.halt.Halt.{Halt}
+use Rattle.nq_base.specs.declared.ending.fault.Fault.{Fault}
 use Rattle.nq_plan.specs.Standing.{stands_as}
 use Rattle.nq_serving.specs.Extending.{no_extension}
 use Rattle.nq_serving.specs.LeavingTurns.{IsLeftInRuns, LeavesServing}
@@ -52,7 +52,7 @@ StaysSame before leaves = (kept : Kept) → AllStandFor before kept → AllStand
 -- and datagrams of the turns. Between two turns, which `serving` tells, and at the end it stands for exactly what the server keeps then. This
 -- refuses a server that answers `ok` once the gate byte is written and before it is synced
 pub record Survives {D : Type 0} (told : D → Option (List ℕ)) (faults : D → ℕ) (may_leave : D → List ℕ → Type 0) (follows : D → D → Type 0)
-    (leaves : D → D → List ℕ → Type 0) (longest turns : ℕ) (disk : D) (store : StoredStore D) (ended : Result Unit Halt) (left : StoredStore D)
+    (leaves : D → D → List ℕ → Type 0) (longest turns : ℕ) (disk : D) (store : StoredStore D) (ended : Result Unit Fault) (left : StoredStore D)
     (clock clock' : ClockTold) (link link' : LinkTold) : Type 0 where
   pub serving : LeavesServing (content_of told) (faults_of faults) LinkPolicy.Stop no_extension (GoesOn faults follows)
       (λ first last. LeavesKept (leaves first.disk last.disk)) longest turns store ended left clock clock' link link'
@@ -114,7 +114,7 @@ PrintsBehind other code held now w w' = (code ≡ status_of other) × (now ≡ h
 
 -- Serving over this store ended, and this disk is handed back, which is the store's. `P` says what was done when turns ended so. Where no
 -- number is left for a boot the line is printed that tells where the image says so; all else is printed as serving does
-pub record EndsServing {D : Type 0} (told : D → Option (List ℕ)) (faults : D → ℕ) (follows : D → D → Type 0) (P : Result Unit Halt → StoredStore D
+pub record EndsServing {D : Type 0} (told : D → Option (List ℕ)) (faults : D → ℕ) (follows : D → D → Type 0) (P : Result Unit Fault → StoredStore D
     → Type 0) (code turns : ℕ) (store : StoredStore D) (left : D) (link link' : LinkTold) (held now : Option (List ℕ)) (w w' : ℕ) : Type 0 where
   pub end : Ending
   pub served : StoredStore D

@@ -13,7 +13,7 @@ use Rattle.nq_base.specs.declared.Party.{Party}
 use Rattle.nq_keeper.specs.Keeping.{LeavesOne, Reads}
 use Rattle.nq_keeper.specs.declared.KeepFault.{KeepFault}
 use Rattle.nq_keeper.specs.declared.KeepFault.TheVariants as keep
-use Rattle.nq_base.specs.declared.ending.halt.Halt.{Halt}
+use Rattle.nq_base.specs.declared.ending.fault.Fault.{Fault}
 use Rattle.nq_serving.proofs.ServerTurns.{letter_not_link}
 use Rattle.nq_server.specs.Holding.{IsTaken}
 use Rattle.nq_server.specs.Stepping.{LeavesStep}
@@ -109,24 +109,24 @@ module _ {K : Type 0} (content : K → Option Kept) (faults : K → ℕ) (extens
     (parts : (first middle last : K)
     (found : Option Kept) → follows first middle → follows middle last → leaves first last found → leaves first middle found ⊎ leaves middle last found) where
   -- where nothing was taken in, nothing else is left
-  pub still_leaves : (received : Result Bool Halt) (link link' : LinkTold) (at : Moment K) → Receives content faults extension received link link' at at
+  pub still_leaves : (received : Result Bool Fault) (link link' : LinkTold) (at : Moment K) → Receives content faults extension received link link' at at
       → LeavesReceiving content faults extension follows leaves received link link' at at
   still_leaves received link link' at r = record { receives = r; left = λ kept told first found before left. inl left }
 
   -- a datagram came, and was taken in or refused
-  pub came_leaves : (made : Result Unit Halt) (letter : Letter) (link link' : LinkTold) (at after : Moment K)
+  pub came_leaves : (made : Result Unit Fault) (letter : Letter) (link link' : LinkTold) (at after : Moment K)
       → TakesFrom content faults extension (Some letter) made link link' at after
       → LeavesOnly content follows leaves at.server.keeper after.server.keeper (IsLeftAt content (given_by extension letter) at)
       → LeavesReceiving content faults extension follows leaves (taken made) link link' at after
   came_leaves (Ok tt) letter link link' at after from left = record { receives = (Some letter, refl, from); left = left }
-  came_leaves (Err Halt.Link) letter link link' at after from left = absurd (letter_not_link content faults extension letter at after from.takes)
-  came_leaves (Err Halt.Keep) letter link link' at after from left = record { receives = (Some letter, from); left = left }
-  came_leaves (Err Halt.Memory) letter link link' at after from left = record { receives = (Some letter, from); left = left }
-  came_leaves (Err Halt.Spent) letter link link' at after from left = record { receives = (Some letter, from); left = left }
-  came_leaves (Err Halt.NoAnswer) letter link link' at after from left = record { receives = (Some letter, from); left = left }
+  came_leaves (Err Fault.Link) letter link link' at after from left = absurd (letter_not_link content faults extension letter at after from.takes)
+  came_leaves (Err Fault.Keep) letter link link' at after from left = record { receives = (Some letter, from); left = left }
+  came_leaves (Err Fault.Memory) letter link link' at after from left = record { receives = (Some letter, from); left = left }
+  came_leaves (Err Fault.Spent) letter link link' at after from left = record { receives = (Some letter, from); left = left }
+  came_leaves (Err Fault.NoAnswer) letter link link' at after from left = record { receives = (Some letter, from); left = left }
 
   -- the turn stopped at its tick
-  pub stopped_leaves : (why : Halt) (reading : ℕ) (clock clock' : ClockTold) (link : LinkTold) (at after : Moment K)
+  pub stopped_leaves : (why : Fault) (reading : ℕ) (clock clock' : ClockTold) (link : LinkTold) (at after : Moment K)
       → ReadsOnce reading clock clock' → Takes content faults (tick_due at.server.beside.time reading) (Err why) at after
       → LeavesOnly content follows leaves at.server.keeper after.server.keeper (IsLeftAt content (tick_due at.server.beside.time reading) at)
       → LeavesStages content faults extension follows leaves (Err why) clock clock' link link at after
@@ -141,7 +141,7 @@ module _ {K : Type 0} (content : K → Option Kept) (faults : K → ℕ) (extens
       only L I (inr here) = inr (inl here)
 
   -- the turn went on after its tick
-  pub went_on_leaves : (ended : Result Bool Halt) (ticked : Bool) (reading : ℕ) (clock clock' : ClockTold) (link link' : LinkTold)
+  pub went_on_leaves : (ended : Result Bool Fault) (ticked : Bool) (reading : ℕ) (clock clock' : ClockTold) (link link' : LinkTold)
       (at between after : Moment K)
       → ReadsOnce reading clock clock' → Takes content faults (tick_due at.server.beside.time reading) (Ok tt) at between
       → ticked ≡ nat_lt at.server.beside.time reading

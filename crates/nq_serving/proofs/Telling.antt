@@ -8,34 +8,34 @@ use Rattle.nq_serving.proofs.Leaves.{Tells, came_tells, taken_tells}
 use Rattle.nq_serving.proofs.ServerTurns.{not_link}
 use Rattle.nq_link.specs.Links.{LinkTold}
 use Rattle.nq_serving.specs.ServerTurn.{Given, GoesOn, Moment, Receives, Sends, Takes, tick_due}
-use Rattle.nq_base.specs.declared.ending.halt.Halt.{Halt}
+use Rattle.nq_base.specs.declared.ending.fault.Fault.{Fault}
 
 -- what stopped a turn behind which others go on is the link
-by-link : (policy : LinkPolicy) (why : Halt) (ended : Result Bool Halt) → Ok tt ≡ behind_turn policy ended → ended ≡ Err why → why ≡ Halt.Link
-by-link policy Halt.Link ended so is = refl
-by-link policy Halt.Keep ended so is = let no = so ∙ ap (behind_turn policy) is in absurd (cc)
-by-link policy Halt.Memory ended so is = let no = so ∙ ap (behind_turn policy) is in absurd (cc)
-by-link policy Halt.Spent ended so is = let no = so ∙ ap (behind_turn policy) is in absurd (cc)
-by-link policy Halt.NoAnswer ended so is = let no = so ∙ ap (behind_turn policy) is in absurd (cc)
+by-link : (policy : LinkPolicy) (why : Fault) (ended : Result Bool Fault) → Ok tt ≡ behind_turn policy ended → ended ≡ Err why → why ≡ Fault.Link
+by-link policy Fault.Link ended so is = refl
+by-link policy Fault.Keep ended so is = let no = so ∙ ap (behind_turn policy) is in absurd (cc)
+by-link policy Fault.Memory ended so is = let no = so ∙ ap (behind_turn policy) is in absurd (cc)
+by-link policy Fault.Spent ended so is = let no = so ∙ ap (behind_turn policy) is in absurd (cc)
+by-link policy Fault.NoAnswer ended so is = let no = so ∙ ap (behind_turn policy) is in absurd (cc)
 
 module _ {K : Type 0} (content : K → Option Kept) (faults : K → ℕ) (policy : LinkPolicy) (extension : Extension) where
   -- nothing was taken in where the link failed
-  missed : (why : Halt) (link link' : LinkTold) (at after : Moment K) → why ≡ Halt.Link → Receives content faults extension (Err why) link link' at after
+  missed : (why : Fault) (link link' : LinkTold) (at after : Moment K) → why ≡ Fault.Link → Receives content faults extension (Err why) link link' at after
       → after ≡ at
-  missed Halt.Link link link' at after is r = r.same
-  missed Halt.Keep link link' at after is r = absurd (cc)
-  missed Halt.Memory link link' at after is r = absurd (cc)
-  missed Halt.Spent link link' at after is r = absurd (cc)
-  missed Halt.NoAnswer link link' at after is r = absurd (cc)
+  missed Fault.Link link link' at after is r = r.same
+  missed Fault.Keep link link' at after is r = absurd (cc)
+  missed Fault.Memory link link' at after is r = absurd (cc)
+  missed Fault.Spent link link' at after is r = absurd (cc)
+  missed Fault.NoAnswer link link' at after is r = absurd (cc)
 
-  received-tells : (received ended : Result Bool Halt) (ticked : Bool) (link link' last : LinkTold) (at after : Moment K) → Ok tt ≡ behind_turn policy ended
+  received-tells : (received ended : Result Bool Fault) (ticked : Bool) (link link' last : LinkTold) (at after : Moment K) → Ok tt ≡ behind_turn policy ended
       → Receives content faults extension received link link' at after → Sends received ended ticked link' last after
       → (kept : Kept) → content at.server.keeper ≡ Some kept → Tells (content after.server.keeper)
   received-tells (Ok some) ended ticked link link' last at after so r s kept told = came_tells content faults extension r.0 at after r.2.takes kept told
   received-tells (Err why) ended ticked link link' last at after so r s kept told =
       subst (λ m. Tells (content m.server.keeper)) (sym (missed why link link' at after (by-link policy why ended so s.0) r)) (kept, told)
 
-  behind-tells : (goes : Result Unit Halt) (ended : Result Bool Halt) (ticked : Bool) (link link' : LinkTold) (first at after : Moment K)
+  behind-tells : (goes : Result Unit Fault) (ended : Result Bool Fault) (ticked : Bool) (link link' : LinkTold) (first at after : Moment K)
       (given : Option Given)
       → Ok tt ≡ behind_turn policy ended
       → GoesOn content faults extension goes ended ticked link link' at after → Takes content faults given goes first at

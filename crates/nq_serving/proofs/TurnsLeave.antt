@@ -7,7 +7,7 @@ use Rattle.nq_serving.specs.LeavingTurns.{AreInOrder, IsLeftInGoes, IsLeftInTurn
 use Rattle.nq_serving.specs.Turning.{Goes, Standing, behind_turn, standing}
 use Rattle.nq_serving.specs.declared.turning.LinkPolicy.{LinkPolicy}
 use Rattle.nq_serving.proofs.Telling.{goes_tells}
-use Rattle.nq_base.specs.declared.ending.halt.Halt.{Halt}
+use Rattle.nq_base.specs.declared.ending.fault.Fault.{Fault}
 use Rattle.nq_serving.specs.Extending.{Extension}
 use Rattle.nq_serving.specs.Running.{Booted, NoBoot, halt_of}
 use Rattle.nq_serving.proofs.Joining.{besides, by_boot, further, gone, join}
@@ -35,7 +35,7 @@ pub record GoneOn {K : Type 0} (content : K → Option Kept) (faults : K → ℕ
 module _ {K : Type 0} (content : K → Option Kept) (faults : K → ℕ) (policy : LinkPolicy) (extension : Extension) (follows : K → K → Type 0) (leaves : K → K
     → Option Kept → Type 0) where
   -- one turn
-  pub taking : (turn : Result Bool Halt) (ended : Result Unit Halt) (log entered : EntryList) (at after : Standing K) → ended ≡ behind_turn policy turn
+  pub taking : (turn : Result Bool Fault) (ended : Result Unit Fault) (log entered : EntryList) (at after : Standing K) → ended ≡ behind_turn policy turn
       → log.entries ≡ []
       → LeavesTurn content faults extension follows leaves turn at.next after.next at.clock after.clock at.link after.link at.server after.server log entered
       → IsSettled content leaves after.server.keeper → LeavesTaking content faults policy extension follows leaves ended at after
@@ -64,7 +64,7 @@ module _ {K : Type 0} (content : K → Option Kept) (faults : K → ℕ) (policy
   -- ---- the boot
 
   -- where a server booted
-  pub leaves_booted : (longest turns time : ℕ) (keeper : K) (ended : Result Unit Halt) (left : K) (clock clock' : ClockTold) (link link' : LinkTold)
+  pub leaves_booted : (longest turns time : ℕ) (keeper : K) (ended : Result Unit Fault) (left : K) (clock clock' : ClockTold) (link link' : LinkTold)
       (server : Holding K)
       → Booted content faults follows longest time keeper server
       → LeavesThen (λ kept. booted kept longest) (content keeper) (leaves keeper server.keeper)
@@ -91,7 +91,7 @@ module _ {K : Type 0} (content : K → Option Kept) (faults : K → ℕ) (policy
     settled = r.settled;
   }
 
-  pub ran_booted : (longest turns time : ℕ) (keeper : K) (ended : Result Unit Halt) (left : K) (clock clock' : ClockTold) (link link' : LinkTold)
+  pub ran_booted : (longest turns time : ℕ) (keeper : K) (ended : Result Unit Fault) (left : K) (clock clock' : ClockTold) (link link' : LinkTold)
       (server : Holding K)
       (result : Result (Holding K) (BootFault K)) → result ≡ Ok server
       → Boots longest time result (content keeper) (content (keeper_in result)) (faults keeper) (faults (keeper_in result)) → follows keeper (keeper_in result)
@@ -104,7 +104,7 @@ module _ {K : Type 0} (content : K → Option Kept) (faults : K → ℕ) (policy
       (subst (λ r. LeavesThen (λ kept. booted kept longest) (content keeper) (leaves keeper (keeper_in r))) is stops) took
 
   -- where none booted, the keeper is left, and no turn was taken
-  not-booted : (longest turns time : ℕ) (keeper : K) (why : Halt) (left : K) (clock : ClockTold) (link : LinkTold)
+  not-booted : (longest turns time : ℕ) (keeper : K) (why : Fault) (left : K) (clock : ClockTold) (link : LinkTold)
       → NoBoot content faults keeper left why → follows keeper left
       → LeavesThen (λ kept. booted kept longest) (content keeper) (leaves keeper left) → IsSettled content leaves left
       → LeavesRuns content faults policy extension follows leaves longest turns time keeper (Err why) left clock clock link link
@@ -115,7 +115,7 @@ module _ {K : Type 0} (content : K → Option Kept) (faults : K → ℕ) (policy
     settled = settled;
   }
 
-  pub ran_none : (longest turns time : ℕ) (keeper : K) (ended : Result Unit Halt) (left : K) (clock : ClockTold) (link : LinkTold) (why : BootFault K)
+  pub ran_none : (longest turns time : ℕ) (keeper : K) (ended : Result Unit Fault) (left : K) (clock : ClockTold) (link : LinkTold) (why : BootFault K)
       (result : Result (Holding K) (BootFault K)) → result ≡ Err why
       → Boots longest time result (content keeper) (content (keeper_in result)) (faults keeper) (faults (keeper_in result)) → follows keeper (keeper_in result)
       → LeavesThen (λ kept. booted kept longest) (content keeper) (leaves keeper (keeper_in result))
@@ -175,7 +175,7 @@ module _ {K : Type 0} (content : K → Option Kept) (faults : K → ℕ) (policy
     settled = t.settled;
   }
 
-  pub gone_stopped : (count turns : ℕ) (why : Halt) (at middle after : Standing K) → count < turns → follows at.server.keeper middle.server.keeper
+  pub gone_stopped : (count turns : ℕ) (why : Fault) (at middle after : Standing K) → count < turns → follows at.server.keeper middle.server.keeper
       → follows middle.server.keeper after.server.keeper
       → GoneOn content faults policy extension follows leaves count at middle → LeavesTaking content faults policy extension follows leaves
       (Err why) middle after

@@ -3,7 +3,7 @@
 use Rattle.std.specs.Option.{ForSome}
 use Rattle.std.specs.Prelude.{◌≡◌, ◌⊎◌, ℕ, Bool, Option, Some, None, Result, Ok, Err, nat_lt}
 use Rattle.nq_base.specs.Entries.{EntryList}
-use Rattle.nq_base.specs.declared.ending.halt.Halt.{Halt}
+use Rattle.nq_base.specs.declared.ending.fault.Fault.{Fault}
 use Rattle.nq_keeper.specs.Keeping.{LeavesOne}
 use Rattle.nq_model.specs.protocol.Kept.{Kept}
 use Rattle.nq_clock.specs.Clocks.{ClockTold}
@@ -23,26 +23,26 @@ IsLeftAt content (Some given) at found =
     (found ≡ content at.server.keeper) ⊎ ((kept : Kept) × (content at.server.keeper ≡ Some kept) × IsMade given at kept found)
 
 -- the datagram that the stage that receives took in, if one came
-abbrev pub came_in : {K : Type 0} → (content : K → Option Kept) → (faults : K → ℕ) → (extension : Extension) → (received : Result Bool Halt) →
+abbrev pub came_in : {K : Type 0} → (content : K → Option Kept) → (faults : K → ℕ) → (extension : Extension) → (received : Result Bool Fault) →
     (link link' : LinkTold)
     → (at after : Moment K) → Receives content faults extension received link link' at after → Option Letter
 came_in content faults extension (Ok some) link link' at after receives = receives.0
-came_in content faults extension (Err Halt.Link) link link' at after receives = None
-came_in content faults extension (Err Halt.Keep) link link' at after receives = receives.0
-came_in content faults extension (Err Halt.Memory) link link' at after receives = receives.0
-came_in content faults extension (Err Halt.Spent) link link' at after receives = receives.0
-came_in content faults extension (Err Halt.NoAnswer) link link' at after receives = receives.0
+came_in content faults extension (Err Fault.Link) link link' at after receives = None
+came_in content faults extension (Err Fault.Keep) link link' at after receives = receives.0
+came_in content faults extension (Err Fault.Memory) link link' at after receives = receives.0
+came_in content faults extension (Err Fault.Spent) link link' at after receives = receives.0
+came_in content faults extension (Err Fault.NoAnswer) link link' at after receives = receives.0
 
 -- this is found as before the datagram that came, or as after it
-abbrev pub IsLeftReceiving : {K : Type 0} → (content : K → Option Kept) → (faults : K → ℕ) → (extension : Extension) → (received : Result Bool Halt) →
+abbrev pub IsLeftReceiving : {K : Type 0} → (content : K → Option Kept) → (faults : K → ℕ) → (extension : Extension) → (received : Result Bool Fault) →
     (link link' : LinkTold)
     → (at after : Moment K) → Receives content faults extension received link link' at after → (found : Option Kept) → Type 0
 IsLeftReceiving content faults extension received link link' at after receives found =
     IsLeftAt content (given_of extension (came_in content faults extension received link link' at after receives)) at found
 
 -- the same behind the tick; nothing is taken in where the tick stopped the turn
-abbrev pub IsLeftBehind : {K : Type 0} → (content : K → Option Kept) → (faults : K → ℕ) → (extension : Extension) → (goes : Result Unit Halt) →
-    (ended : Result Bool Halt)
+abbrev pub IsLeftBehind : {K : Type 0} → (content : K → Option Kept) → (faults : K → ℕ) → (extension : Extension) → (goes : Result Unit Fault) →
+    (ended : Result Bool Fault)
     → (ticked : Bool) → (link link' : LinkTold) → (at after : Moment K) → GoesOn content faults extension goes ended ticked link link' at after
     → (found : Option Kept) → Type 0
 IsLeftBehind content faults extension (Err why) ended ticked link link' at after rest found = ⊥
@@ -50,7 +50,7 @@ IsLeftBehind content faults extension (Ok done) ended ticked link link' at after
     IsLeftReceiving content faults extension rest.0 link rest.1 at after rest.2 found
 
 -- this is found as at a moment of these stages: before or after the tick, if one was due, or before or after the datagram, if one came
-abbrev pub IsLeftInStages : {K : Type 0} → (content : K → Option Kept) → (faults : K → ℕ) → (extension : Extension) → (ended : Result Bool Halt) →
+abbrev pub IsLeftInStages : {K : Type 0} → (content : K → Option Kept) → (faults : K → ℕ) → (extension : Extension) → (ended : Result Bool Fault) →
     (clock clock' : ClockTold)
     → (link link' : LinkTold) → (at after : Moment K) → Stages content faults extension ended clock clock' link link' at after → (found : Option Kept) → Type 0
 IsLeftInStages content faults extension ended clock clock' link link' at after stages found =
@@ -58,7 +58,7 @@ IsLeftInStages content faults extension ended clock clock' link link' at after s
     ⊎ IsLeftBehind content faults extension stages.goes ended (nat_lt at.server.beside.time stages.reading) link link' stages.between after stages.rest found
 
 -- the same of a turn
-abbrev pub IsLeftInTurn : {K : Type 0} → (content : K → Option Kept) → (faults : K → ℕ) → (extension : Extension) → (ended : Result Bool Halt) →
+abbrev pub IsLeftInTurn : {K : Type 0} → (content : K → Option Kept) → (faults : K → ℕ) → (extension : Extension) → (ended : Result Bool Fault) →
     (next next' : ℕ)
     → (clock clock' : ClockTold) → (link link' : LinkTold) → (server server' : Holding K) → (log log' : EntryList) → ServesTurn content faults extension ended
     next next' clock clock' link link' server server' log log' → (found : Option Kept) → Type 0
@@ -81,7 +81,7 @@ IsSettled content leaves at = LeavesOne (content at) (leaves at at)
 -- the stage that receives, and what a stop within it leaves
 pub record LeavesReceiving {K : Type 0} (content : K → Option Kept) (faults : K → ℕ) (extension : Extension) (follows : K → K → Type 0) (leaves : K → K
     → Option Kept
-    → Type 0) (received : Result Bool Halt) (link link' : LinkTold) (at after : Moment K) : Type 0 where
+    → Type 0) (received : Result Bool Fault) (link link' : LinkTold) (at after : Moment K) : Type 0 where
   pub receives : Receives content faults extension received link link' at after
   pub left : LeavesOnly content follows leaves at.server.keeper after.server.keeper (IsLeftReceiving content faults extension received link link' at after
       receives)
@@ -89,7 +89,7 @@ pub record LeavesReceiving {K : Type 0} (content : K → Option Kept) (faults : 
 -- what comes after the tick, and what a stop within it leaves
 pub record LeavesBehind {K : Type 0} (content : K → Option Kept) (faults : K → ℕ) (extension : Extension) (follows : K → K → Type 0) (leaves : K → K
     → Option Kept → Type 0)
-    (goes : Result Unit Halt) (ended : Result Bool Halt) (ticked : Bool) (link link' : LinkTold) (at after : Moment K) : Type 0 where
+    (goes : Result Unit Fault) (ended : Result Bool Fault) (ticked : Bool) (link link' : LinkTold) (at after : Moment K) : Type 0 where
   pub rest : GoesOn content faults extension goes ended ticked link link' at after
   pub left : LeavesOnly content follows leaves at.server.keeper after.server.keeper (IsLeftBehind content faults extension goes ended ticked link link' at
       after rest)
@@ -97,7 +97,7 @@ pub record LeavesBehind {K : Type 0} (content : K → Option Kept) (faults : K �
 -- the stages of a turn, and what a stop within them leaves
 pub record LeavesStages {K : Type 0} (content : K → Option Kept) (faults : K → ℕ) (extension : Extension) (follows : K → K → Type 0) (leaves : K → K
     → Option Kept → Type 0)
-    (ended : Result Bool Halt) (clock clock' : ClockTold) (link link' : LinkTold) (at after : Moment K) : Type 0 where
+    (ended : Result Bool Fault) (clock clock' : ClockTold) (link link' : LinkTold) (at after : Moment K) : Type 0 where
   pub stages : Stages content faults extension ended clock clock' link link' at after
   pub left : LeavesOnly content follows leaves at.server.keeper after.server.keeper (IsLeftInStages content faults extension ended clock clock' link link' at
       after stages)
@@ -106,7 +106,7 @@ pub record LeavesStages {K : Type 0} (content : K → Option Kept) (faults : K �
 -- failed may have been kept
 pub record LeavesTurn {K : Type 0} (content : K → Option Kept) (faults : K → ℕ) (extension : Extension) (follows : K → K → Type 0) (leaves : K → K
     → Option Kept → Type 0)
-    (ended : Result Bool Halt) (next next' : ℕ) (clock clock' : ClockTold) (link link' : LinkTold) (server server' : Holding K)
+    (ended : Result Bool Fault) (next next' : ℕ) (clock clock' : ClockTold) (link link' : LinkTold) (server server' : Holding K)
     (log log' : EntryList) : Type 0 where
   pub taken : ServesTurn content faults extension ended next next' clock clock' link link' server server' log log'
   pub left : LeavesOnly content follows leaves server.keeper server'.keeper (IsLeftInTurn content faults extension ended next next' clock clock' link link'

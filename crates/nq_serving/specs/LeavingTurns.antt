@@ -7,7 +7,7 @@ use Rattle.nq_serving.specs.Running.{Ran, Runs, Serves}
 use Rattle.nq_serving.specs.Extending.{Extension}
 use Rattle.nq_serving.specs.Turning.{Goes, Standing, TakesTurn, TakesTurns, standing}
 use Rattle.nq_serving.specs.declared.turning.LinkPolicy.{LinkPolicy}
-use Rattle.nq_base.specs.declared.ending.halt.Halt.{Halt}
+use Rattle.nq_base.specs.declared.ending.fault.Fault.{Fault}
 use Rattle.nq_model.specs.protocol.Kept.{Kept}
 use Rattle.nq_model.specs.protocol.ServerStep.{booted}
 use Rattle.nq_clock.specs.Clocks.{ClockTold}
@@ -19,7 +19,7 @@ use Rattle.nq_server.specs.Holding.{Holding}
 
 -- this is found as at a moment of a turn: before it, after its tick or after its datagram; a step that failed in it may have been kept
 abbrev pub IsLeftTaking : {K : Type 0} → (content : K → Option Kept) → (faults : K → ℕ) → (policy : LinkPolicy) → (extension : Extension) →
-    (ended : Result Unit Halt) →
+    (ended : Result Unit Fault) →
     (at after : Standing K)
     → TakesTurn content faults policy extension ended at after → (found : Option Kept) → Type 0
 IsLeftTaking content faults policy extension ended at after taken found =
@@ -36,7 +36,7 @@ IsLeftInGoes content faults policy extension (suc count) at after goes found =
 
 -- the same of turns up to the first that ended them
 abbrev pub IsLeftInTurns : {K : Type 0} → (content : K → Option Kept) → (faults : K → ℕ) → (policy : LinkPolicy) → (extension : Extension) → (turns : ℕ) →
-    (ended : Result Unit Halt)
+    (ended : Result Unit Fault)
     → (at after : Standing K) → TakesTurns content faults policy extension turns ended at after → (found : Option Kept) → Type 0
 IsLeftInTurns content faults policy extension turns (Ok done) at after taken found = IsLeftInGoes content faults policy extension turns at after taken found
 IsLeftInTurns content faults policy extension turns (Err why) at after taken found =
@@ -52,7 +52,7 @@ IsLeftByBoot longest kept found = (found ≡ Some kept) ⊎ (found ≡ Some (boo
 abbrev pub IsLeftInRuns : {K : Type 0} → (content : K → Option Kept) → (faults : K → ℕ) → (policy : LinkPolicy) → (extension : Extension) → (follows : K
     → K → Type 0) →
     (longest turns time : ℕ)
-    → (keeper : K) → (ended : Result Unit Halt) → (left : K) → (clock clock' : ClockTold) → (link link' : LinkTold)
+    → (keeper : K) → (ended : Result Unit Fault) → (left : K) → (clock clock' : ClockTold) → (link link' : LinkTold)
     → Runs content faults policy extension follows
     longest turns time keeper ended left clock clock' link link' → (kept : Kept) → (found : Option Kept) → Type 0
 IsLeftInRuns content faults policy extension follows longest turns time keeper (Ok done) left clock clock' link link' runs kept found =
@@ -91,7 +91,7 @@ AreInOrder content faults policy extension follows leaves last Later (suc count)
 -- the same of turns up to the first that ended them
 abbrev pub TurnsAreInOrder : {K : Type 0} → (content : K → Option Kept) → (faults : K → ℕ) → (policy : LinkPolicy) → (extension : Extension) → (follows : K
     → K → Type 0)
-    → (leaves : K → K → Option Kept → Type 0) → (turns : ℕ) → (ended : Result Unit Halt) → (at after : Standing K)
+    → (leaves : K → K → Option Kept → Type 0) → (turns : ℕ) → (ended : Result Unit Fault) → (at after : Standing K)
     → TakesTurns content faults policy extension turns
     ended at after → Type 0
 TurnsAreInOrder content faults policy extension follows leaves turns (Ok done) at after taken =
@@ -105,7 +105,7 @@ TurnsAreInOrder content faults policy extension follows leaves turns (Err why) a
 abbrev pub RunsAreInOrder : {K : Type 0} → (content : K → Option Kept) → (faults : K → ℕ) → (policy : LinkPolicy) → (extension : Extension) → (follows : K
     → K → Type 0) →
     (leaves : K → K → Option Kept
-    → Type 0) → (longest turns time : ℕ) → (keeper : K) → (ended : Result Unit Halt) → (left : K) → (clock clock' : ClockTold)
+    → Type 0) → (longest turns time : ℕ) → (keeper : K) → (ended : Result Unit Fault) → (left : K) → (clock clock' : ClockTold)
     → (link link' : LinkTold) → Runs content faults policy extension follows longest turns time keeper ended left clock clock' link link' → Type 0
 RunsAreInOrder content faults policy extension follows leaves longest turns time keeper (Ok done) left clock clock' link link' runs =
     TurnsAreInOrder content faults policy extension follows leaves turns (Ok done) (standing runs.server 0 clock link) runs.ran.last runs.ran.taken
@@ -118,7 +118,7 @@ RunsAreInOrder content faults policy extension follows leaves longest turns time
 -- one turn, and what a stop within it leaves
 pub record LeavesTaking {K : Type 0} (content : K → Option Kept) (faults : K → ℕ) (policy : LinkPolicy) (extension : Extension) (follows : K → K → Type 0)
     (leaves : K → K → Option Kept → Type 0)
-    (ended : Result Unit Halt) (at after : Standing K) : Type 0 where
+    (ended : Result Unit Fault) (at after : Standing K) : Type 0 where
   pub taken : TakesTurn content faults policy extension ended at after
   pub only : LeavesOnly content follows leaves at.server.keeper after.server.keeper (IsLeftTaking content faults policy extension ended at after taken)
   pub settled : IsSettled content leaves after.server.keeper
@@ -126,7 +126,7 @@ pub record LeavesTaking {K : Type 0} (content : K → Option Kept) (faults : K �
 -- turns up to the first that ended them, and what a stop within them leaves
 pub record LeavesTurns {K : Type 0} (content : K → Option Kept) (faults : K → ℕ) (policy : LinkPolicy) (extension : Extension) (follows : K → K → Type 0)
     (leaves : K → K → Option Kept → Type 0)
-    (turns : ℕ) (ended : Result Unit Halt) (at after : Standing K) : Type 0 where
+    (turns : ℕ) (ended : Result Unit Fault) (at after : Standing K) : Type 0 where
   pub taken : TakesTurns content faults policy extension turns ended at after
   pub only : LeavesOnly content follows leaves at.server.keeper after.server.keeper (IsLeftInTurns content faults policy extension turns ended at after taken)
   pub order : ForSome (content at.server.keeper) (λ kept. TurnsAreInOrder content faults policy extension follows leaves turns ended at after taken)
@@ -135,7 +135,7 @@ pub record LeavesTurns {K : Type 0} (content : K → Option Kept) (faults : K �
 -- the turns of a server that has booted, and what a stop within them leaves
 pub record LeavesRunning {K : Type 0} (content : K → Option Kept) (faults : K → ℕ) (policy : LinkPolicy) (extension : Extension) (follows : K → K → Type 0)
     (leaves : K → K → Option Kept → Type 0)
-    (turns : ℕ) (server : Holding K) (ended : Result Unit Halt) (left : K) (clock clock' : ClockTold) (link link' : LinkTold) : Type 0 where
+    (turns : ℕ) (server : Holding K) (ended : Result Unit Fault) (left : K) (clock clock' : ClockTold) (link link' : LinkTold) : Type 0 where
   pub ran : Ran content faults policy extension follows turns server ended left clock clock' link link'
   pub only : LeavesOnly content follows leaves server.keeper left (IsLeftInTurns content faults policy extension turns ended
       (standing server 0 clock link) ran.last ran.taken)
@@ -146,7 +146,7 @@ pub record LeavesRunning {K : Type 0} (content : K → Option Kept) (faults : K 
 -- the boot and the turns, and what a stop within them leaves
 pub record LeavesRuns {K : Type 0} (content : K → Option Kept) (faults : K → ℕ) (policy : LinkPolicy) (extension : Extension) (follows : K → K → Type 0)
     (leaves : K → K → Option Kept → Type 0)
-    (longest turns time : ℕ) (keeper : K) (ended : Result Unit Halt) (left : K) (clock clock' : ClockTold) (link link' : LinkTold) : Type 0 where
+    (longest turns time : ℕ) (keeper : K) (ended : Result Unit Fault) (left : K) (clock clock' : ClockTold) (link link' : LinkTold) : Type 0 where
   pub runs : Runs content faults policy extension follows longest turns time keeper ended left clock clock' link link'
   pub only : ForSome (content keeper) (λ kept. (found : Option Kept) → leaves keeper left found → IsLeftInRuns content faults policy extension follows
       longest turns
@@ -159,7 +159,7 @@ pub record LeavesRuns {K : Type 0} (content : K → Option Kept) (faults : K →
 -- leaves that, or what was kept at a moment of the boot and the turns. Between two turns, and at the end, a stop leaves exactly what is kept
 pub record LeavesServing {K : Type 0} (content : K → Option Kept) (faults : K → ℕ) (policy : LinkPolicy) (extension : Extension) (follows : K → K → Type 0)
     (leaves : K → K → Option Kept → Type 0)
-    (longest turns : ℕ) (keeper : K) (ended : Result Unit Halt) (left : K) (clock clock' : ClockTold) (link link' : LinkTold) : Type 0 where
+    (longest turns : ℕ) (keeper : K) (ended : Result Unit Fault) (left : K) (clock clock' : ClockTold) (link link' : LinkTold) : Type 0 where
   pub serves : Serves content faults policy extension follows longest turns keeper ended left clock clock' link link'
   pub only : ForSome (content keeper) (λ kept. (found : Option Kept) → leaves keeper left found → IsLeftInRuns content faults policy extension follows
       longest turns

@@ -8,7 +8,7 @@ use Rattle.nq_keeper.specs.Keeping.{StaysOrEnds}
 use Rattle.nq_serving.specs.Extending.{Extension}
 use Rattle.nq_serving.specs.Turning.{Standing, TakesTurns, standing}
 use Rattle.nq_serving.specs.declared.turning.LinkPolicy.{LinkPolicy}
-use Rattle.nq_base.specs.declared.ending.halt.Halt.{Halt}
+use Rattle.nq_base.specs.declared.ending.fault.Fault.{Fault}
 use Rattle.nq_io.specs.Faults.{Rose}
 use Rattle.nq_model.specs.protocol.Kept.{Kept}
 use Rattle.nq_model.specs.protocol.ServerStep.{boot}
@@ -33,22 +33,22 @@ LeavesAlone content faults keeper left = (content left ≡ content keeper) × (f
 
 -- Why no server booted over this keeper, which is left so: it failed, and counted that; memory was wanting; or no number is left for a
 -- boot. In the last two cases it keeps what it kept.
-abbrev pub NoBoot : {K : Type 0} → (content : K → Option Kept) → (faults : K → ℕ) → (keeper left : K) → Halt → Type 0
-NoBoot content faults keeper left Halt.Link = ⊥
-NoBoot content faults keeper left Halt.NoAnswer = ⊥
-NoBoot content faults keeper left Halt.Keep = StaysOrEnds (content keeper) (content left) × Rose (faults keeper) (faults left)
-NoBoot content faults keeper left Halt.Memory = LeavesAlone content faults keeper left
-NoBoot content faults keeper left Halt.Spent =
+abbrev pub NoBoot : {K : Type 0} → (content : K → Option Kept) → (faults : K → ℕ) → (keeper left : K) → Fault → Type 0
+NoBoot content faults keeper left Fault.Link = ⊥
+NoBoot content faults keeper left Fault.NoAnswer = ⊥
+NoBoot content faults keeper left Fault.Keep = StaysOrEnds (content keeper) (content left) × Rose (faults keeper) (faults left)
+NoBoot content faults keeper left Fault.Memory = LeavesAlone content faults keeper left
+NoBoot content faults keeper left Fault.Spent =
     ForSome (content keeper) (λ kept. kept.boot ≡ last_boot) × LeavesAlone content faults keeper left
 
 -- why nothing is served where no server booted
-abbrev pub halt_of : {K : Type 0} → BootFault K → Halt
-halt_of (fault.Failed keeper) = Halt.Keep
-halt_of (fault.Memory keeper) = Halt.Memory
-halt_of (fault.Spent keeper) = Halt.Spent
+abbrev pub halt_of : {K : Type 0} → BootFault K → Fault
+halt_of (fault.Failed keeper) = Fault.Keep
+halt_of (fault.Memory keeper) = Fault.Memory
+halt_of (fault.Spent keeper) = Fault.Spent
 
 -- no server booted over this keeper, which is left so, and no turn was taken
-pub record RanNone {K : Type 0} (content : K → Option Kept) (faults : K → ℕ) (follows : K → K → Type 0) (keeper left : K) (why : Halt)
+pub record RanNone {K : Type 0} (content : K → Option Kept) (faults : K → ℕ) (follows : K → K → Type 0) (keeper left : K) (why : Fault)
     (clock clock' : ClockTold) (link link' : LinkTold) : Type 0 where
   pub none : NoBoot content faults keeper left why
   pub same : follows keeper left
@@ -61,7 +61,7 @@ pub record RanNone {K : Type 0} (content : K → Option Kept) (faults : K → �
 -- that the turns made of it, and this is the keeper that is left.
 pub record Ran {K : Type 0} (content : K → Option Kept) (faults : K → ℕ) (policy : LinkPolicy) (extension : Extension) (follows : K → K → Type 0)
     (turns : ℕ) (server : Holding K)
-    (ended : Result Unit Halt) (left : K) (clock clock' : ClockTold) (link link' : LinkTold) : Type 0 where
+    (ended : Result Unit Fault) (left : K) (clock clock' : ClockTold) (link link' : LinkTold) : Type 0 where
   pub last : Standing K
   pub taken : TakesTurns content faults policy extension turns ended (standing server 0 clock link) last
   pub same : follows server.keeper last.server.keeper
@@ -72,7 +72,7 @@ pub record Ran {K : Type 0} (content : K → Option Kept) (faults : K → ℕ) (
 -- a server booted over this keeper at this time, and turns of it ended so
 pub record RanBooted {K : Type 0} (content : K → Option Kept) (faults : K → ℕ) (policy : LinkPolicy) (extension : Extension) (follows : K → K → Type 0)
     (longest turns time : ℕ) (keeper : K)
-    (ended : Result Unit Halt) (left : K) (clock clock' : ClockTold) (link link' : LinkTold) : Type 0 where
+    (ended : Result Unit Fault) (left : K) (clock clock' : ClockTold) (link link' : LinkTold) : Type 0 where
   pub server : Holding K
   pub booted : Booted content faults follows longest time keeper server
   pub ran : Ran content faults policy extension follows turns server ended left clock clock' link link'
@@ -80,7 +80,7 @@ pub record RanBooted {K : Type 0} (content : K → Option Kept) (faults : K → 
 -- a server booted and took turns; or none booted, and no turn was taken
 abbrev pub Runs : {K : Type 0} → (content : K → Option Kept) → (faults : K → ℕ) → LinkPolicy → Extension → (follows : K → K → Type 0) →
     (longest turns time : ℕ) → (keeper : K)
-    → Result Unit Halt → (left : K) → (clock clock' : ClockTold) → (link link' : LinkTold) → Type 0
+    → Result Unit Fault → (left : K) → (clock clock' : ClockTold) → (link link' : LinkTold) → Type 0
 Runs content faults policy extension follows longest turns time keeper (Ok done) left clock clock' link link' =
     RanBooted content faults policy extension follows longest turns time keeper (Ok done) left clock clock' link link'
 Runs content faults policy extension follows longest turns time keeper (Err why) left clock clock' link link' =
@@ -91,7 +91,7 @@ Runs content faults policy extension follows longest turns time keeper (Err why)
 -- keeps what the boot and the steps of the turns made of what it kept.
 pub record Serves {K : Type 0} (content : K → Option Kept) (faults : K → ℕ) (policy : LinkPolicy) (extension : Extension) (follows : K → K → Type 0)
     (longest turns : ℕ) (keeper : K)
-    (ended : Result Unit Halt) (left : K) (clock clock' : ClockTold) (link link' : LinkTold) : Type 0 where
+    (ended : Result Unit Fault) (left : K) (clock clock' : ClockTold) (link link' : LinkTold) : Type 0 where
   pub time : ℕ
   pub between : ClockTold
   pub read : ReadsOnce time clock between
@@ -108,10 +108,10 @@ EndsByLink LinkPolicy.Stop before now = Rose before now
 EndsByLink LinkPolicy.GoOn before now = ⊥
 
 -- Why serving ended so: all turns were taken; the link or the keeper failed, which it has counted; memory was wanting; or no number is left for a boot
-abbrev pub HaltsBy : LinkPolicy → Result Unit Halt → (told : Option Kept) → (keep keep' link link' : ℕ) → Type 0
+abbrev pub HaltsBy : LinkPolicy → Result Unit Fault → (told : Option Kept) → (keep keep' link link' : ℕ) → Type 0
 HaltsBy policy (Ok done) told keep keep' link link' = ForSome told (λ kept. kept.boot < last_boot) × (keep' ≡ keep) × StaysBy policy link link'
-HaltsBy policy (Err Halt.Link) told keep keep' link link' = EndsByLink policy link link'
-HaltsBy policy (Err Halt.Keep) told keep keep' link link' = Rose keep keep'
-HaltsBy policy (Err Halt.Memory) told keep keep' link link' = ⊤
-HaltsBy policy (Err Halt.Spent) told keep keep' link link' = ForSome told (λ kept. kept.boot ≡ last_boot)
-HaltsBy policy (Err Halt.NoAnswer) told keep keep' link link' = ⊥
+HaltsBy policy (Err Fault.Link) told keep keep' link link' = EndsByLink policy link link'
+HaltsBy policy (Err Fault.Keep) told keep keep' link link' = Rose keep keep'
+HaltsBy policy (Err Fault.Memory) told keep keep' link link' = ⊤
+HaltsBy policy (Err Fault.Spent) told keep keep' link link' = ForSome told (λ kept. kept.boot ≡ last_boot)
+HaltsBy policy (Err Fault.NoAnswer) told keep keep' link link' = ⊥

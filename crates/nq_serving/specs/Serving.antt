@@ -4,7 +4,7 @@ use Rattle.std.specs.Option.{ForSome}
 use Rattle.std.specs.Prelude.{◌≡◌, ⊤, ◌<◌, ℕ, List, ◌++◌, Option, Result, Ok, Err, codes}
 use Rattle.nq_keeper.specs.Booting.{last_boot}
 use Rattle.nq_base.specs.declared.ending.ending.Ending.{Ending}
-use Rattle.nq_base.specs.declared.ending.halt.Halt.{Halt}
+use Rattle.nq_base.specs.declared.ending.fault.Fault.{Fault}
 use Rattle.nq_io.specs.Faults.{Rose}
 use Rattle.nq_io.specs.Sink.{AppendsFront}
 use Rattle.nq_io.specs.Told.{with_end}
@@ -27,14 +27,14 @@ EndsBy Ending.WriteFault told keep keep' link link' w w' = Rose w w'
 EndsBy other told keep keep' link link' w w' = ⊥
 
 -- what was printed, by the end of serving: the line only behind all turns. `P` says what was done when turns ended so
-abbrev pub Tells : Ending → (turns : ℕ) → (P : Result Unit Halt → Type 0) → (held now : Option (List ℕ)) → (w w' : ℕ) → Type 0
+abbrev pub Tells : Ending → (turns : ℕ) → (P : Result Unit Fault → Type 0) → (held now : Option (List ℕ)) → (w w' : ℕ) → Type 0
 Tells Ending.Done turns P held now w w' = P (Ok tt) × (now ≡ with_end held (turns_line turns)) × (w' ≡ w)
 Tells Ending.WriteFault turns P held now w w' = P (Ok tt) × AppendsFront (turns_line turns) held now × Rose w w'
-Tells Ending.KeepFault turns P held now w w' = P (Err Halt.Keep) × (now ≡ held) × (w' ≡ w)
-Tells Ending.Memory turns P held now w w' = P (Err Halt.Memory) × (now ≡ held) × (w' ≡ w)
-Tells Ending.LinkFault turns P held now w w' = P (Err Halt.Link) × (now ≡ held) × (w' ≡ w)
-Tells Ending.Spent turns P held now w w' = P (Err Halt.Spent) × (now ≡ held) × (w' ≡ w)
-Tells Ending.NoAnswer turns P held now w w' = P (Err Halt.NoAnswer) × (now ≡ held) × (w' ≡ w)
+Tells Ending.KeepFault turns P held now w w' = P (Err Fault.Keep) × (now ≡ held) × (w' ≡ w)
+Tells Ending.Memory turns P held now w w' = P (Err Fault.Memory) × (now ≡ held) × (w' ≡ w)
+Tells Ending.LinkFault turns P held now w w' = P (Err Fault.Link) × (now ≡ held) × (w' ≡ w)
+Tells Ending.Spent turns P held now w w' = P (Err Fault.Spent) × (now ≡ held) × (w' ≡ w)
+Tells Ending.NoAnswer turns P held now w w' = P (Err Fault.NoAnswer) × (now ≡ held) × (w' ≡ w)
 Tells other turns P held now w w' = ⊥
 
 -- what printing a line behind all turns did, by the end
@@ -44,14 +44,14 @@ PrintsTurns Ending.WriteFault line held now w w' = AppendsFront line held now ×
 PrintsTurns other line held now w w' = ⊥
 
 -- the end where turns stopped so
-abbrev pub end_of : Halt → Ending
-end_of Halt.Link = Ending.LinkFault
-end_of Halt.Keep = Ending.KeepFault
-end_of Halt.Memory = Ending.Memory
-end_of Halt.Spent = Ending.Spent
-end_of Halt.NoAnswer = Ending.NoAnswer
+abbrev pub end_of : Fault → Ending
+end_of Fault.Link = Ending.LinkFault
+end_of Fault.Keep = Ending.KeepFault
+end_of Fault.Memory = Ending.Memory
+end_of Fault.Spent = Ending.Spent
+end_of Fault.NoAnswer = Ending.NoAnswer
 
 -- what telling how turns ended did, by the end: the line was printed, or nothing where they stopped
-abbrev pub TellsTurns : Result Unit Halt → (line : List ℕ) → Ending → (held now : Option (List ℕ)) → (w w' : ℕ) → Type 0
+abbrev pub TellsTurns : Result Unit Fault → (line : List ℕ) → Ending → (held now : Option (List ℕ)) → (w w' : ℕ) → Type 0
 TellsTurns (Ok done) line result held now w w' = PrintsTurns result line held now w w'
 TellsTurns (Err why) line result held now w w' = (result ≡ end_of why) × (now ≡ held) × (w' ≡ w)

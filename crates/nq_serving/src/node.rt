@@ -11,7 +11,7 @@ ghost use Rattle.nq_serving.specs.ServerTurn.{SendsOut, Takes, TakesLetter, Take
 
 use crate::extending::Extension;
 use crate::watching::Watcher;
-use nq_base::ending::Halt;
+use nq_base::ending::Fault;
 use nq_base::{Host, Journal, Party, Ticks};
 use nq_clock::Clock;
 use nq_keeper::{KeepFault, Keeper};
@@ -40,7 +40,7 @@ pub(crate) fn serve_turn<K: Keeper, L: Link, C: Clock, W: Watcher<L> + Extension
     clock: &mut C,
     next: &mut u64,
     log: &mut Journal,
-) -> Result<bool, Halt>
+) -> Result<bool, Fault>
     ensures turn { LeavesTurn K.content K.faults (extension_told W.owns W.replies) K.follows K.leaves result next.old next.new
         (clock_told C.floor C.readings C.reads clock.old) (clock_told C.floor C.readings C.reads clock.new)
         (link_told L.sent L.waiting L.faults L.receives link.old)
@@ -63,7 +63,7 @@ fn serve<K: Keeper, L: Link, C: Clock, W: Watcher<L> + Extension>(
     clock: &mut C,
     out: &mut Outbox,
     log: &mut Journal,
-) -> Result<bool, Halt>
+) -> Result<bool, Fault>
     ensures stages { LeavesStages K.content K.faults (extension_told W.owns W.replies) K.follows K.leaves result
         (clock_told C.floor C.readings C.reads clock.old) (clock_told C.floor C.readings C.reads clock.new)
         (link_told L.sent L.waiting L.faults L.receives link.old)
@@ -96,7 +96,7 @@ fn go_on<K: Keeper, L: Link, W: Watcher<L> + Extension>(
     ticked: bool,
     out: &mut Outbox,
     log: &mut Journal,
-) -> Result<bool, Halt>
+) -> Result<bool, Fault>
     ensures goes { LeavesBehind K.content K.faults (extension_told W.owns W.replies) K.follows K.leaves (Ok tt) result ticked
         (link_told L.sent L.waiting L.faults L.receives link.old)
         (link_told L.sent L.waiting L.faults L.receives link.new)
@@ -120,14 +120,14 @@ fn either(one: bool, other: bool) -> bool
 }
 
 /// Sends all that came out, and ends the turn with what moved it.
-fn send_out<L: Link>(link: &mut L, out: &Outbox, moved: bool) -> Result<bool, Halt>
+fn send_out<L: Link>(link: &mut L, out: &Outbox, moved: bool) -> Result<bool, Fault>
     ensures { SendsOut out.now.datagrams moved result
         (link_told L.sent L.waiting L.faults L.receives link.old)
         (link_told L.sent L.waiting L.faults L.receives link.new) }
 {
     match send_all(link, out) {
         Sent::All => Ok(moved),
-        Sent::Failed => Err(Halt::Link),
+        Sent::Failed => Err(Fault::Link),
     }
 }
 
@@ -137,7 +137,7 @@ fn tick_to<K: Keeper>(
     reading: Ticks,
     out: &mut Outbox,
     log: &mut Journal,
-) -> Result<(), Halt>
+) -> Result<(), Fault>
     requires { reading < 2 ^ 62 }
     ensures ticked { Takes K.content K.faults (tick_due server.old.beside.time reading) result
         (record { server = server.old; out = out.old; log = log.old })
@@ -163,7 +163,7 @@ fn take_from<K: Keeper, E: Extension, L: Link>(
     link: &mut L,
     out: &mut Outbox,
     log: &mut Journal,
-) -> Result<bool, Halt>
+) -> Result<bool, Fault>
     ensures receives { LeavesReceiving K.content K.faults (extension_told E.owns E.replies) K.follows K.leaves result
         (link_told L.sent L.waiting L.faults L.receives link.old)
         (link_told L.sent L.waiting L.faults L.receives link.new)
@@ -184,7 +184,7 @@ fn take_through<K: Keeper, E: Extension, L: Link>(
     buffer: &mut [u8],
     out: &mut Outbox,
     log: &mut Journal,
-) -> Result<bool, Halt>
+) -> Result<bool, Fault>
     requires { length buffer.old ≡ most_bytes }
     ensures receives { LeavesReceiving K.content K.faults (extension_told E.owns E.replies) K.follows K.leaves result
         (link_told L.sent L.waiting L.faults L.receives link.old)
@@ -195,7 +195,7 @@ fn take_through<K: Keeper, E: Extension, L: Link>(
 {
     match link.receive(buffer) {
         Came::Nothing => Ok(false),
-        Came::Failed => Err(Halt::Link),
+        Came::Failed => Err(Fault::Link),
         Came::Datagram { length, sender } => taken(take_in(
             alloc,
             server,
@@ -209,7 +209,7 @@ fn take_through<K: Keeper, E: Extension, L: Link>(
 }
 
 /// What the stage that receives answers where a datagram came and was taken so.
-fn taken(made: Result<(), Halt>) -> Result<bool, Halt>
+fn taken(made: Result<(), Fault>) -> Result<bool, Fault>
     ensures { result ≡ taken made }
 {
     match made {
@@ -227,7 +227,7 @@ fn take_in<K: Keeper, E: Extension>(
     datagram: &[u8],
     out: &mut Outbox,
     log: &mut Journal,
-) -> Result<(), Halt>
+) -> Result<(), Fault>
     ensures takes { TakesLetter K.content K.faults (extension_told E.owns E.replies) (sender, datagram.now) result
         (record { server = server.old; out = out.old; log = log.old })
         (record { server = server.new; out = out.new; log = log.new }) }
@@ -251,7 +251,7 @@ fn take_from_host<K: Keeper, E: Extension>(
     datagram: &[u8],
     out: &mut Outbox,
     log: &mut Journal,
-) -> Result<(), Halt>
+) -> Result<(), Fault>
     ensures takes { TakesOf K.content K.faults (extension_told E.owns E.replies) (E.owns datagram.now) host datagram.now result
         (record { server = server.old; out = out.old; log = log.old })
         (record { server = server.new; out = out.new; log = log.new }) }
@@ -268,24 +268,24 @@ fn take_from_host<K: Keeper, E: Extension>(
 }
 
 /// Whether a turn goes on after an extension has answered so.
-fn answered(how: Result<(), KeepFault>) -> Result<(), Halt>
+fn answered(how: Result<(), KeepFault>) -> Result<(), Fault>
     ensures { result ≡ answered how }
 {
     match how {
         Ok(()) => Ok(()),
-        Err(KeepFault::Failed) => Err(Halt::Keep),
-        Err(KeepFault::Memory) => Err(Halt::Memory),
+        Err(KeepFault::Failed) => Err(Fault::Keep),
+        Err(KeepFault::Memory) => Err(Fault::Memory),
     }
 }
 
 /// Whether a turn goes on after a server has taken something so.
-fn made(how: Received) -> Result<(), Halt>
+fn made(how: Received) -> Result<(), Fault>
     ensures { result ≡ goes_on how }
 {
     match how {
         Received::Done | Received::Dropped(_) => Ok(()),
-        Received::Fault => Err(Halt::Keep),
-        Received::Memory => Err(Halt::Memory),
-        Received::Spent => Err(Halt::Spent),
+        Received::Fault => Err(Fault::Keep),
+        Received::Memory => Err(Fault::Memory),
+        Received::Spent => Err(Fault::Spent),
     }
 }

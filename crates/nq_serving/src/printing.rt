@@ -13,7 +13,7 @@ use crate::serving::boot_and_run;
 use crate::turning::LinkPolicy;
 use crate::watching::Nobody;
 use nq_base::NoMemory;
-use nq_base::ending::{Ending, Halt};
+use nq_base::ending::{Ending, Fault};
 use nq_clock::Clock;
 use nq_io::{Put, Sink};
 use nq_keeper::Keeper;
@@ -84,7 +84,7 @@ fn turns_text(alloc: Global, turns: u32) -> Result<String, NoMemory>
 }
 
 /// Tells how turns ended, with this line where all were taken.
-fn tell<S: Sink>(out: &mut S, ended: Result<(), Halt>, line: &[u8]) -> Ending
+fn tell<S: Sink>(out: &mut S, ended: Result<(), Fault>, line: &[u8]) -> Ending
     ensures { TellsTurns ended line.now result (S.held out.old) (S.held out.new) (S.faults out.old) (S.faults out.new) }
 {
     match ended {
@@ -97,14 +97,14 @@ fn tell<S: Sink>(out: &mut S, ended: Result<(), Halt>, line: &[u8]) -> Ending
 }
 
 /// The end where turns stopped so.
-fn end_of(why: Halt) -> Ending
+fn end_of(why: Fault) -> Ending
     ensures { result ≡ end_of why }
 {
     match why {
-        Halt::Link => Ending::LinkFault,
-        Halt::Keep => Ending::KeepFault,
-        Halt::Memory => Ending::Memory,
-        Halt::Spent => Ending::Spent,
-        Halt::NoAnswer => Ending::NoAnswer,
+        Fault::Link => Ending::LinkFault,
+        Fault::Keep => Ending::KeepFault,
+        Fault::Memory => Ending::Memory,
+        Fault::Spent => Ending::Spent,
+        Fault::NoAnswer => Ending::NoAnswer,
     }
 }

@@ -15,7 +15,7 @@ use crate::extending::Extension;
 use crate::turning::{LinkPolicy, take_turns};
 use crate::watching::Watcher;
 use nq_base::Ticks;
-use nq_base::ending::Halt;
+use nq_base::ending::Fault;
 use nq_clock::Clock;
 use nq_keeper::Keeper;
 use nq_link::Link;
@@ -44,7 +44,7 @@ pub fn keep_serving<K: Keeper, L: Link, C: Clock, W: Watcher<L> + Extension>(
     link: &mut L,
     clock: &mut C,
     watcher: &mut W,
-) -> Ended<Result<(), Halt>, K>
+) -> Ended<Result<(), Fault>, K>
     requires few { turns < 2 ^ 60 }
     requires long { 5 ≤ longest }
     requires short { longest ≤ 600 }
@@ -81,7 +81,7 @@ pub(crate) fn boot_and_run<K: Keeper, L: Link, C: Clock, W: Watcher<L> + Extensi
     link: &mut L,
     clock: &mut C,
     watcher: &mut W,
-) -> Ended<Result<(), Halt>, K>
+) -> Ended<Result<(), Fault>, K>
     requires long { 5 ≤ longest }
     requires short { longest ≤ 600 }
     requires early { now < 2 ^ 62 }
@@ -115,20 +115,20 @@ pub(crate) fn boot_and_run<K: Keeper, L: Link, C: Clock, W: Watcher<L> + Extensi
 }
 
 /// What serving comes to where no server booted: the keeper is left.
-fn not_booted<K: Keeper>(fault: BootFault<K>) -> Ended<Result<(), Halt>, K>
+fn not_booted<K: Keeper>(fault: BootFault<K>) -> Ended<Result<(), Fault>, K>
     ensures why { result.end ≡ Err (halt_of fault) }
     ensures keeper { result.left ≡ keeper_in (Err fault) }
     ensures settled { IsSettled K.content K.leaves result.left }
 {
     match fault {
-        BootFault::Failed(keeper) => unserved(Halt::Keep, keeper),
-        BootFault::Memory(keeper) => unserved(Halt::Memory, keeper),
-        BootFault::Spent(keeper) => unserved(Halt::Spent, keeper),
+        BootFault::Failed(keeper) => unserved(Fault::Keep, keeper),
+        BootFault::Memory(keeper) => unserved(Fault::Memory, keeper),
+        BootFault::Spent(keeper) => unserved(Fault::Spent, keeper),
     }
 }
 
 /// What serving comes to that ended before it began.
-fn unserved<K: Keeper>(why: Halt, keeper: K) -> Ended<Result<(), Halt>, K>
+fn unserved<K: Keeper>(why: Fault, keeper: K) -> Ended<Result<(), Fault>, K>
     ensures why { result.end ≡ Err why }
     ensures keeper { result.left ≡ keeper }
     ensures settled { IsSettled K.content K.leaves result.left }

@@ -11,7 +11,7 @@ use crate::extending::Extension;
 use crate::node::serve_turn;
 use crate::watching::Watcher;
 use nq_base::Journal;
-use nq_base::ending::Halt;
+use nq_base::ending::Fault;
 use nq_clock::Clock;
 use nq_keeper::Keeper;
 use nq_link::Link;
@@ -37,7 +37,7 @@ pub(crate) fn take_turns<K: Keeper, L: Link, C: Clock, W: Watcher<L> + Extension
     watcher: &mut W,
     policy: LinkPolicy,
     turns: u64,
-) -> Result<(), Halt>
+) -> Result<(), Fault>
     ensures turns { LeavesTurns K.content K.faults policy (extension_told W.owns W.replies) K.follows K.leaves turns result
         (standing server.old next.old (clock_told C.floor C.readings C.reads clock.old)
         (link_told L.sent L.waiting L.faults L.receives link.old))
@@ -64,7 +64,7 @@ fn take_turn<K: Keeper, L: Link, C: Clock, W: Watcher<L> + Extension>(
     next: &mut u64,
     watcher: &mut W,
     policy: LinkPolicy,
-) -> Result<(), Halt>
+) -> Result<(), Fault>
     ensures turn { LeavesTaking K.content K.faults policy (extension_told W.owns W.replies) K.follows K.leaves result
         (standing server.old next.old (clock_told C.floor C.readings C.reads clock.old)
         (link_told L.sent L.waiting L.faults L.receives link.old))
@@ -80,25 +80,25 @@ fn take_turn<K: Keeper, L: Link, C: Clock, W: Watcher<L> + Extension>(
 }
 
 /// Whether turns go on behind one that ended so, or why not.
-fn behind_turn(policy: LinkPolicy, turn: Result<bool, Halt>) -> Result<(), Halt>
+fn behind_turn(policy: LinkPolicy, turn: Result<bool, Fault>) -> Result<(), Fault>
     ensures { result ≡ behind_turn policy turn }
 {
     match turn {
         Ok(_moved) => Ok(()),
-        Err(Halt::Link) => behind_link(policy),
-        Err(Halt::Keep) => Err(Halt::Keep),
-        Err(Halt::Memory) => Err(Halt::Memory),
-        Err(Halt::Spent) => Err(Halt::Spent),
-        Err(Halt::NoAnswer) => Err(Halt::NoAnswer),
+        Err(Fault::Link) => behind_link(policy),
+        Err(Fault::Keep) => Err(Fault::Keep),
+        Err(Fault::Memory) => Err(Fault::Memory),
+        Err(Fault::Spent) => Err(Fault::Spent),
+        Err(Fault::NoAnswer) => Err(Fault::NoAnswer),
     }
 }
 
 /// Whether turns go on behind one that the link stopped.
-fn behind_link(policy: LinkPolicy) -> Result<(), Halt>
+fn behind_link(policy: LinkPolicy) -> Result<(), Fault>
     ensures { result ≡ behind_link policy }
 {
     match policy {
-        LinkPolicy::Stop => Err(Halt::Link),
+        LinkPolicy::Stop => Err(Fault::Link),
         LinkPolicy::GoOn => Ok(()),
     }
 }

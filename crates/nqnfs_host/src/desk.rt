@@ -1,7 +1,7 @@
 //! The client of a host, turn by turn.
 
 use crate::link::HostLink;
-use nq_base::ending::Halt;
+use nq_base::ending::Fault;
 use nq_base::{Answer, Call, Entry, FileId, Journal, Party, Who};
 use nq_calling::{call_now, lost_text};
 use nq_client::Client;
@@ -54,7 +54,7 @@ pub(crate) struct HostDesk {
     clock: StdClock<HostRuntime>,
     diary: Diary,
     /// Why no more can be asked, if that is so.
-    pub(crate) halt: Option<Halt>,
+    pub(crate) halt: Option<Fault>,
     answer: Option<Answer>,
     lost: Vec<u8>,
 }
@@ -118,7 +118,7 @@ impl HostDesk {
         );
         self.keep(&log);
         match turn {
-            Ok(None) | Err(Halt::Link) => {}
+            Ok(None) | Err(Fault::Link) => {}
             Ok(Some(answer)) => self.answer = Some(answer),
             Err(why) => self.halt = Some(why),
         }
@@ -142,7 +142,7 @@ impl HostDesk {
             Err(_) => false,
         };
         if !noted {
-            self.halt = Some(Halt::Memory);
+            self.halt = Some(Fault::Memory);
         }
     }
 
@@ -174,11 +174,11 @@ impl HostDesk {
         match answer {
             Answer::Pending | Answer::Busy => None,
             Answer::Memory => {
-                self.halt = Some(Halt::Memory);
+                self.halt = Some(Fault::Memory);
                 Some(Answer::Memory)
             }
             Answer::Spent => {
-                self.halt = Some(Halt::Spent);
+                self.halt = Some(Fault::Spent);
                 Some(Answer::Spent)
             }
             answer => Some(answer),

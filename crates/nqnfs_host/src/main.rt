@@ -16,7 +16,7 @@ use crate::link::HostLink;
 use crate::starts::{NoStart, let_second_pass, next_inc, pause};
 use crate::words::{Files, Order, order_of};
 use mio::net::UnixListener;
-use nq_base::ending::{Ending, Halt};
+use nq_base::ending::{Ending, Fault};
 use nq_base::{Host, Party, Who};
 use nq_book::book_in;
 use nq_clock::StdClock;
@@ -255,7 +255,7 @@ fn attend(rt: &HostRuntime, folder: &str, number: u32, inc: u32, hosting: Hostin
     let ran = hosting.run(rt);
     let mut desk = hosting.close();
     let ending = match desk.halt {
-        Some(Halt::Memory) => told_memory(rt),
+        Some(Fault::Memory) => told_memory(rt),
         Some(_) => told(
             rt,
             Ending::Limit,

@@ -3,7 +3,7 @@
 -- `extension` stands beside the server.
 use Rattle.std.specs.Prelude.{◌≡◌, ◌≢◌, ◌⊎◌, ◌≤◌, ◌^◌, ◌-◌, ℕ, List, None, Option, Result, Ok, Err, false}
 use Rattle.nq_base.specs.declared.ending.ending.Ending.{Ending}
-use Rattle.nq_base.specs.declared.ending.halt.Halt.{Halt}
+use Rattle.nq_base.specs.declared.ending.fault.Fault.{Fault}
 use Rattle.nq_clock.specs.Clocks.{ClockTold}
 use Rattle.nq_disk.specs.FileDisk.{Anything, SeenFile, StaysFile, unasked, untold}
 use Rattle.nq_link.specs.Links.{LinkTold}
@@ -24,7 +24,7 @@ abbrev pub most_turns : ℕ
 most_turns = 2 ^ 60 - 1
 
 -- how the program ends where its turns ended so
-abbrev pub end_of_turns : Result Unit Halt → Ending
+abbrev pub end_of_turns : Result Unit Fault → Ending
 end_of_turns (Ok done) = Ending.Done
 end_of_turns (Err why) = end_of why
 
@@ -38,7 +38,7 @@ end_unopened (opening.Memory back) = Ending.Memory
 -- the image on this disk was served from, and the program ends as its turns did
 pub record EndsServed {D : Type 0} (told : D → Option (List ℕ)) (faults : D → ℕ) (may_leave : D → List ℕ → Type 0) (follows : D → D → Type 0)
     (leaves : D → D → List ℕ → Type 0) (extension : Extension) (longest : ℕ) (end : Ending) (disk left : D) (clock clock' : ClockTold) (link link' : LinkTold) : Type 0 where
-  pub ended : Result Unit Halt
+  pub ended : Result Unit Fault
   pub serves : ServesImage told faults may_leave follows leaves extension longest most_turns disk ended left clock clock' link link'
   pub so : end ≡ end_of_turns ended
 

@@ -8,7 +8,7 @@ ghost use Rattle.nq_store.specs.Opening.{back_of};
 ghost use Rattle.nqnfsd.specs.Statuses.{EndsSo, IsWithoutParts, end_of_turns, end_unopened, file_at};
 ghost use Rattle.std.specs.Prelude.{◌≡◌, ◌≤◌, IfErr, IfOk};
 
-use nq_base::ending::{Ending, Halt};
+use nq_base::ending::{Ending, Fault};
 use nq_base::{Entry, Host, Journal, Party, Ticks};
 use nq_clock::{Clock, StdClock};
 use nq_diary::Diary;
@@ -244,22 +244,22 @@ fn tell_start(rt: &HostRuntime, image: &str, address: SocketAddr, found: &Survey
 }
 
 /// Says why serving ended.
-fn tell_end(rt: &HostRuntime, image: &str, ended: Result<(), Halt>) -> Ending
+fn tell_end(rt: &HostRuntime, image: &str, ended: Result<(), Fault>) -> Ending
     ensures { result ≡ end_of_turns ended }
 {
     match ended {
         Ok(()) => Ending::Done,
-        Err(Halt::Keep) => {
+        Err(Fault::Keep) => {
             complain(rt, image, "the file cannot be read or written");
             Ending::KeepFault
         }
-        Err(Halt::Spent) => {
+        Err(Fault::Spent) => {
             complain(rt, image, "no number is left for a boot, at byte 8");
             Ending::Spent
         }
-        Err(Halt::Link) => Ending::LinkFault,
-        Err(Halt::NoAnswer) => Ending::NoAnswer,
-        Err(Halt::Memory) => {
+        Err(Fault::Link) => Ending::LinkFault,
+        Err(Fault::NoAnswer) => Ending::NoAnswer,
+        Err(Fault::Memory) => {
             let _told = eprintln!(rt; "nqnfsd: memory was wanting");
             Ending::Memory
         }

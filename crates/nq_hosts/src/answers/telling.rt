@@ -8,7 +8,7 @@ ghost use Rattle.nq_base.specs.declared.ending.ending.Ending.{Ending};
 
 use crate::answers::ending::Stop;
 use crate::answers::lines::answers_text;
-use nq_base::ending::{Ending, Halt};
+use nq_base::ending::{Ending, Fault};
 use nq_base::{Journal, NoMemory};
 use nq_io::{Put, Sink};
 use std::alloc::Global;
@@ -26,10 +26,10 @@ pub fn tell_end<K: Sink>(
     match ended {
         Ok(()) => tell_answers(alloc, log, out),
         Err(stop) => match stop.why {
-            Halt::Link => Ending::LinkFault,
-            Halt::Keep => Ending::KeepFault,
-            Halt::Memory => Ending::Memory,
-            Halt::Spent => {
+            Fault::Link => Ending::LinkFault,
+            Fault::Keep => Ending::KeepFault,
+            Fault::Memory => Ending::Memory,
+            Fault::Spent => {
                 tell_stop(
                     alloc,
                     log,
@@ -40,7 +40,7 @@ pub fn tell_end<K: Sink>(
                     out,
                 )
             }
-            Halt::NoAnswer => {
+            Fault::NoAnswer => {
                 tell_stop(
                     alloc,
                     log,

@@ -7,7 +7,7 @@ ghost use Rattle.nq_hosts.specs.ClientTurn.{AttendsTurn, GoesOn, Receives, Sends
 ghost use Rattle.nq_clock.specs.Clocks.{clock_told};
 ghost use Rattle.nq_link.specs.Links.{link_told, most_bytes};
 
-use nq_base::ending::Halt;
+use nq_base::ending::Fault;
 use nq_base::{Answer, Journal, Party, Ticks};
 use nq_client::{Client, Heard};
 use nq_clock::Clock;
@@ -33,7 +33,7 @@ pub fn client_turn<L: Link, C: Clock>(
     clock: &mut C,
     next: &mut u64,
     log: &mut Journal,
-) -> Result<Option<Answer>, Halt>
+) -> Result<Option<Answer>, Fault>
     ensures turn { AttendsTurn result next.old next.new
         (clock_told C.floor C.readings C.reads clock.old) (clock_told C.floor C.readings C.reads clock.new)
         (link_told L.sent L.waiting L.faults L.receives link.old)
@@ -52,7 +52,7 @@ fn attend<L: Link, C: Clock>(
     next: &mut u64,
     out: &mut Outbox,
     log: &mut Journal,
-) -> Result<Option<Answer>, Halt>
+) -> Result<Option<Answer>, Fault>
     ensures { Stages result (clock_told C.floor C.readings C.reads clock.old) (clock_told C.floor C.readings C.reads clock.new)
         (link_told L.sent L.waiting L.faults L.receives link.old)
         (link_told L.sent L.waiting L.faults L.receives link.new)
@@ -74,7 +74,7 @@ fn go_on<L: Link>(
     next: &mut u64,
     out: &mut Outbox,
     log: &mut Journal,
-) -> Result<Option<Answer>, Halt>
+) -> Result<Option<Answer>, Fault>
     ensures { GoesOn (Ok ticked) result
         (link_told L.sent L.waiting L.faults L.receives link.old)
         (link_told L.sent L.waiting L.faults L.receives link.new)
@@ -92,14 +92,14 @@ fn send_out<L: Link>(
     link: &mut L,
     out: &Outbox,
     answer: Option<Answer>,
-) -> Result<Option<Answer>, Halt>
+) -> Result<Option<Answer>, Fault>
     ensures { SendsOut out.now.datagrams answer result
         (link_told L.sent L.waiting L.faults L.receives link.old)
         (link_told L.sent L.waiting L.faults L.receives link.new) }
 {
     match send_all(link, out) {
         Sent::All => Ok(answer),
-        Sent::Failed => Err(Halt::Link),
+        Sent::Failed => Err(Fault::Link),
     }
 }
 
@@ -120,7 +120,7 @@ fn tick_to(
     next: &u64,
     out: &mut Outbox,
     log: &mut Journal,
-) -> Result<Option<Answer>, Halt>
+) -> Result<Option<Answer>, Fault>
     requires { reading < 2 ^ 62 }
     ensures { Takes (tick_due client.old.client.now reading) result
         (record { client = client.old; out = out.old; log = log.old; next = next.now })
@@ -140,7 +140,7 @@ fn take_from<L: Link>(
     next: &mut u64,
     out: &mut Outbox,
     log: &mut Journal,
-) -> Result<Option<Answer>, Halt>
+) -> Result<Option<Answer>, Fault>
     ensures { Receives result
         (link_told L.sent L.waiting L.faults L.receives link.old)
         (link_told L.sent L.waiting L.faults L.receives link.new)
@@ -159,7 +159,7 @@ fn take_through<L: Link>(
     next: &mut u64,
     out: &mut Outbox,
     log: &mut Journal,
-) -> Result<Option<Answer>, Halt>
+) -> Result<Option<Answer>, Fault>
     requires { length buffer.old ≡ most_bytes }
     ensures { Receives result
         (link_told L.sent L.waiting L.faults L.receives link.old)
@@ -169,7 +169,7 @@ fn take_through<L: Link>(
 {
     match link.receive(buffer) {
         Came::Nothing => Ok(None),
-        Came::Failed => Err(Halt::Link),
+        Came::Failed => Err(Fault::Link),
         Came::Datagram { length, sender } => {
             take_in(client, sender, &buffer[..length], next, out, log)
         }
@@ -184,7 +184,7 @@ fn take_in(
     next: &mut u64,
     out: &mut Outbox,
     log: &mut Journal,
-) -> Result<Option<Answer>, Halt>
+) -> Result<Option<Answer>, Fault>
     ensures { Takes (given_by (sender, datagram.now)) result
         (record { client = client.old; out = out.old; log = log.old; next = next.old })
         (record { client = client.new; out = out.new; log = log.new; next = next.new }) }
@@ -202,13 +202,13 @@ fn take_in(
 }
 
 /// The answer that a turn brings where a client has taken something so.
-fn made(how: Heard) -> Result<Option<Answer>, Halt>
+fn made(how: Heard) -> Result<Option<Answer>, Fault>
     ensures { result ≡ goes_on how }
 {
     match how {
         Heard::Nothing | Heard::Ignored => Ok(None),
         Heard::Answered(answer) => Ok(Some(answer)),
-        Heard::Memory => Err(Halt::Memory),
-        Heard::Spent => Err(Halt::Spent),
+        Heard::Memory => Err(Fault::Memory),
+        Heard::Spent => Err(Fault::Spent),
     }
 }

@@ -9,7 +9,7 @@ ghost use Rattle.nq_hosts.specs.UserTurning.{between};
 use crate::user::aims::Aim;
 use crate::user::session::Session;
 use crate::user::turning::{is_reached, take_turns};
-use nq_base::ending::Halt;
+use nq_base::ending::Fault;
 use nq_base::{Answer, Call, Journal};
 use nq_client::Client;
 use nq_clock::Clock;
@@ -25,7 +25,7 @@ pub(crate) fn run_call<L: Link, C: Clock>(
     clock: &mut C,
     call: &Call,
     turns: u32,
-) -> Result<(), Halt>
+) -> Result<(), Fault>
     ensures { RunsCall turns call.now result
         (between session.old (clock_told C.floor C.readings C.reads clock.old) (link_told L.sent L.waiting L.faults L.receives link.old))
         (between session.new (clock_told C.floor C.readings C.reads clock.new) (link_told L.sent L.waiting L.faults L.receives link.new)) }
@@ -49,7 +49,7 @@ fn make_call<L: Link>(
     link: &mut L,
     log: &mut Journal,
     call: &Call,
-) -> Result<(), Halt>
+) -> Result<(), Fault>
     ensures { Makes call.now result client.old client.new log.old log.new
         (link_told L.sent L.waiting L.faults L.receives link.old)
         (link_told L.sent L.waiting L.faults L.receives link.new) }
@@ -63,24 +63,24 @@ fn make_call<L: Link>(
 }
 
 /// Why a call was refused that has this answer, if it was.
-fn refusal(answer: &Answer) -> Option<Halt>
+fn refusal(answer: &Answer) -> Option<Fault>
     ensures { result ≡ refusal_of answer.now }
 {
     match answer {
-        Answer::Memory => Some(Halt::Memory),
-        Answer::Spent => Some(Halt::Spent),
+        Answer::Memory => Some(Fault::Memory),
+        Answer::Spent => Some(Fault::Spent),
         _ => None,
     }
 }
 
 /// Sends all that came out.
-pub(crate) fn send_out<L: Link>(link: &mut L, out: &Outbox) -> Result<(), Halt>
+pub(crate) fn send_out<L: Link>(link: &mut L, out: &Outbox) -> Result<(), Fault>
     ensures { SendsOut out.now.datagrams result
         (link_told L.sent L.waiting L.faults L.receives link.old)
         (link_told L.sent L.waiting L.faults L.receives link.new) }
 {
     match send_all(link, out) {
         Sent::All => Ok(()),
-        Sent::Failed => Err(Halt::Link),
+        Sent::Failed => Err(Fault::Link),
     }
 }

@@ -15,7 +15,7 @@ use crate::user::calling::{run_call, send_out};
 use crate::user::plan::Plan;
 use crate::user::session::Session;
 use crate::user::turning::take_turns;
-use nq_base::ending::Halt;
+use nq_base::ending::Fault;
 use nq_base::{Journal, Ticks, Who};
 use nq_client::Client;
 use nq_clock::Clock;
@@ -78,7 +78,7 @@ pub(crate) fn run<L: Link, C: Clock>(
 }
 
 /// A client that begins an incarnation. It asks the server to attach it.
-fn begin<L: Link>(alloc: Global, who: Who, now: Ticks, link: &mut L) -> Result<Client, Halt>
+fn begin<L: Link>(alloc: Global, who: Who, now: Ticks, link: &mut L) -> Result<Client, Fault>
     requires { now < 2 ^ 62 }
     ensures { Begins who now result
         (link_told L.sent L.waiting L.faults L.receives link.old)
@@ -86,7 +86,7 @@ fn begin<L: Link>(alloc: Global, who: Who, now: Ticks, link: &mut L) -> Result<C
 {
     let mut out = Outbox::new(alloc, 0).unwrap();
     match Client::start(alloc, who.host, who.inc, TERM, now, &mut out) {
-        Err(_) => Err(Halt::Memory),
+        Err(_) => Err(Fault::Memory),
         Ok(client) => match send_out(link, &out) {
             Ok(()) => Ok(client),
             Err(why) => {
@@ -154,7 +154,7 @@ fn run_line<L: Link, C: Clock>(
     clock: &mut C,
     line: &[u8],
     turns: u32,
-) -> Result<(), Halt>
+) -> Result<(), Fault>
     requires { IsCall line.now }
     ensures { RunsLine turns line.now result
         (between session.old (clock_told C.floor C.readings C.reads clock.old) (link_told L.sent L.waiting L.faults L.receives link.old))

@@ -8,7 +8,7 @@ ghost use Rattle.nq_hosts.specs.UserTurning.{TakesTurn, TakesTurns, between, rea
 use crate::node::client_turn;
 use crate::user::aims::Aim;
 use crate::user::session::Session;
-use nq_base::ending::Halt;
+use nq_base::ending::Fault;
 use nq_client::Client;
 use nq_clock::Clock;
 use nq_link::Link;
@@ -22,7 +22,7 @@ pub(crate) fn take_turns<L: Link, C: Clock>(
     clock: &mut C,
     aim: Aim,
     turns: u32,
-) -> Result<(), Halt>
+) -> Result<(), Fault>
     ensures { TakesTurns aim turns result
         (between session.old (clock_told C.floor C.readings C.reads clock.old) (link_told L.sent L.waiting L.faults L.receives link.old))
         (between session.new (clock_told C.floor C.readings C.reads clock.new) (link_told L.sent L.waiting L.faults L.receives link.new)) }
@@ -37,7 +37,7 @@ pub(crate) fn take_turns<L: Link, C: Clock>(
             Err(why) => return Err(why),
         }
     }
-    Err(Halt::NoAnswer)
+    Err(Fault::NoAnswer)
 }
 
 /// Takes one turn of a client, and tells whether the aim is reached.
@@ -47,7 +47,7 @@ fn take_turn<L: Link, C: Clock>(
     link: &mut L,
     clock: &mut C,
     aim: Aim,
-) -> Result<bool, Halt>
+) -> Result<bool, Fault>
     ensures { TakesTurn aim result
         (between session.old (clock_told C.floor C.readings C.reads clock.old) (link_told L.sent L.waiting L.faults L.receives link.old))
         (between session.new (clock_told C.floor C.readings C.reads clock.new) (link_told L.sent L.waiting L.faults L.receives link.new)) }

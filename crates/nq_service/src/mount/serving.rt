@@ -10,7 +10,7 @@ ghost use Rattle.nq_store.specs.Storing.{IsFresh};
 use crate::mount::opening::open_or_make;
 use crate::mount::survey::{Survey, surveyed};
 use crate::recent::RecentKeeper;
-use nq_base::ending::Halt;
+use nq_base::ending::Fault;
 use nq_clock::Clock;
 use nq_disk::Disk;
 use nq_link::Link;
@@ -41,7 +41,7 @@ pub fn serve_image<D: Disk + Drop, L: Link, C: Clock, W: Watcher<L> + Greeter + 
     link: &mut L,
     clock: &mut C,
     watcher: &mut W,
-) -> Result<Ended<Result<(), Halt>, D>, OpenFault<D>>
+) -> Result<Ended<Result<(), Fault>, D>, OpenFault<D>>
     requires few { turns < 2 ^ 60 }
     requires long { 5 ≤ longest }
     requires short { longest ≤ 600 }
@@ -69,7 +69,7 @@ fn serve_store<D: Disk + Drop, L: Link, C: Clock, W: Watcher<L> + Greeter + Exte
     link: &mut L,
     clock: &mut C,
     watcher: &mut W,
-) -> Ended<Result<(), Halt>, D>
+) -> Ended<Result<(), Fault>, D>
     requires few { turns < 2 ^ 60 }
     requires long { 5 ≤ longest }
     requires short { longest ≤ 600 }

@@ -2,7 +2,7 @@ use Rattle.std.proofs.Common.{rules, Ok, Err, false, sym, subst, take}
 use Rattle.nq_serving.specs.Leaving.{LeavesReceiving}
 use Rattle.nq_link.specs.Links.{LinkTold, link_told, most_bytes}
 use Rattle.nq_serving.specs.ServerTurn.{Moment}
-use Rattle.nq_base.specs.declared.ending.halt.Halt.{Halt}
+use Rattle.nq_base.specs.declared.ending.fault.Fault.{Fault}
 use Rattle.nq_serving.proofs.Leaves.{came_leaves, still_leaves}
 use Rattle.nq_link.proofs.Letters.{heard}
 use Rattle.nq_serving.specs.Extending.{extension_told}
@@ -22,7 +22,7 @@ returns-in-Failed-clause-receives g c =
     let at : Moment g.row.K.Denot = record { server = c.args.server.now; out = c.args.out.now; log = c.args.log.now } in
     still_leaves g.K.Keeper.content g.K.Keeper.faults (extension_told g.E.Extension.owns g.E.Extension.replies) g.K.Keeper.follows g.K.Keeper.leaves
     g.met.K.Keeper.follows_on g.met.K.Keeper.parts
-    (Err Halt.Link) (link_of c.args.link.now) (link_of c.receive.new.self) at (search rules)
+    (Err Fault.Link) (link_of c.args.link.now) (link_of c.receive.new.self) at (search rules)
 
 pub returns-in-Datagram-clause-receives : goal.returns-in-Datagram-clause-receives
 returns-in-Datagram-clause-receives g c =

@@ -2,7 +2,7 @@
 
 /// Why the turns of a server, or those of a client for one of its calls, stop before they bring what they were taken for.
 #[derive(Clone, Copy)]
-pub enum Halt {
+pub enum Fault {
     /// The link failed.
     Link,
     /// The keeper of a server failed.
