@@ -21,8 +21,8 @@ use Rattle.nq_world.specs.Moving.{ActsAt, Clocks, Ends, HasRoom, Moves, clients_
 use Rattle.nq_world.specs.Playing.{WorldOver, IsAsBefore, Plays, Steps, seen_of}
 use Rattle.nq_world.specs.Rooms.{IsSmall}
 use Rattle.nq_world.specs.Shown.{Seen, Shows, sent_from}
-use Rattle.nq_world.specs.declared.ending.Halt.{Halt}
-use Rattle.nq_world.specs.declared.ending.Halt.TheVariants as halt
+use Rattle.nq_base.specs.declared.ending.fault.Fault.{Fault}
+use Rattle.nq_base.specs.declared.ending.fault.Fault.TheVariants as fault
 use Rattle.nq_world.specs.declared.stepped.Stepped.{Stepped}
 
 -- ---- which step an event at a client is
@@ -115,7 +115,7 @@ same-server w host (Some t) = refl
 
 -- what an event at the client of a host did to a world
 pub record ActsIn {K : Type 0} (head : Head) (events : List Event) (event : Event) (host : ℕ) (step_of : Client → Option ClientStep)
-    (made : Result Unit Halt) (answer : Stepped) (old new : WorldOver K) (sent : List (Party × List ℕ)) (packets packets' : PacketList) : Type 0 where
+    (made : Result Unit Fault) (answer : Stepped) (old new : WorldOver K) (sent : List (Party × List ℕ)) (packets packets' : PacketList) : Type 0 where
   pub fit : IsFit head events event
   pub is : step (run head events) event ≡ after_hearing (run head events) host (step_at step_of (slice_get old.clients host))
   pub acts : ActsAt host step_of made old.clients new.clients sent old.entries new.entries
@@ -181,7 +181,7 @@ unmoved old new server clients datagrams entries skew events term = record {
 }
 
 pub acts-steps : {K : Type 0} (head : Head) (events : List Event) (event : Event) (host : ℕ) (step_of : Client → Option ClientStep)
-    (made : Result Unit Halt) (answer : Stepped) (old new : WorldOver K) (told : Option Kept) (sent : List (Party × List ℕ)) (packets packets' : PacketList)
+    (made : Result Unit Fault) (answer : Stepped) (old new : WorldOver K) (told : Option Kept) (sent : List (Party × List ℕ)) (packets packets' : PacketList)
     → Plays head events old told → ActsIn head events event host step_of made answer old new sent packets packets' → Steps head events event answer
     old new told told
 acts-steps head events event host step_of (Ok made) Stepped.Done old new told sent packets packets' plays x =
@@ -193,9 +193,11 @@ acts-steps head events event host step_of (Ok made) Stepped.NoPacket old new tol
 acts-steps head events event host step_of (Ok made) (Stepped.SkewBroken b) old new told sent packets packets' plays x = absurd x.ends
 acts-steps head events event host step_of (Ok made) (Stepped.Limit l) old new told sent packets packets' plays x = absurd x.ends
 acts-steps head events event host step_of (Ok made) Stepped.Fault old new told sent packets packets' plays x = absurd x.ends
-acts-steps head events event host step_of (Err halt.Spent) answer old new told sent packets packets' plays x =
+acts-steps head events event host step_of (Err fault.Spent) answer old new told sent packets packets' plays x =
     absurd (client-unspent head events old told plays host x.acts.2)
-acts-steps head events event host step_of (Err halt.Fault) answer old new told sent packets packets' plays x = absurd x.acts
-acts-steps head events event host step_of (Err halt.Memory) answer old new told sent packets packets' plays x =
+acts-steps head events event host step_of (Err fault.Keep) answer old new told sent packets packets' plays x = absurd x.acts
+acts-steps head events event host step_of (Err fault.Link) answer old new told sent packets packets' plays x = absurd x.acts
+acts-steps head events event host step_of (Err fault.NoAnswer) answer old new told sent packets packets' plays x = absurd x.acts
+acts-steps head events event host step_of (Err fault.Memory) answer old new told sent packets packets' plays x =
     subst (λ a. Steps head events event a old new told told) (sym x.ends.0)
     (x.fit.passes, unmoved old new x.server x.acts.0 (x.after ∙ x.ends.1 ∙ x.before) x.acts.1 x.clocks x.ends.2 x.term, refl)

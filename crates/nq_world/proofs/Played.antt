@@ -17,7 +17,7 @@ use Rattle.nq_world.specs.Counting.{TookIn}
 use Rattle.nq_world.specs.Moving.{Clocks, FollowsOn}
 use Rattle.nq_world.specs.Playing.{WorldOver, Plays, seen_of}
 use Rattle.nq_world.specs.Shown.{Shows}
-use Rattle.nq_world.specs.declared.ending.Halt.{Halt}
+use Rattle.nq_base.specs.declared.ending.fault.Fault.{Fault}
 
 -- an event can be taken in at this moment of a run
 pub record IsFit (head : Head) (events : List Event) (event : Event) : Type 0 where
@@ -53,6 +53,6 @@ plays-on head events event old new told tells plays fit shows keeps kept holds c
     }
 
 -- the test of skew stays at an event that is no tick
-pub clocks-stay : (made : Result Unit Halt) (event : Event) (skew : SkewCounts) → IsNoTick (length skew.hosts) event → Clocks made event skew skew
+pub clocks-stay : (made : Result Unit Fault) (event : Event) (skew : SkewCounts) → IsNoTick (length skew.hosts) event → Clocks made event skew skew
 clocks-stay (Ok made) event skew no_tick = record { hosts = refl; window = refl; clocks = λ events. other-events-pass skew events event no_tick }
 clocks-stay (Err why) event skew no_tick = refl

@@ -36,8 +36,8 @@ use Rattle.nq_world.specs.Counting.{TookIn}
 use Rattle.nq_world.specs.Moving.{Clocks, Ends, HasRoom, MovesServer, Serves, clients_in, received}
 use Rattle.nq_world.specs.Playing.{WorldOver, Plays, Steps, seen_of}
 use Rattle.nq_world.specs.Shown.{FitsPacket, Seen, Shows, sent_from}
-use Rattle.nq_world.specs.declared.ending.Halt.{Halt}
-use Rattle.nq_world.specs.declared.ending.Halt.TheVariants as halt
+use Rattle.nq_base.specs.declared.ending.fault.Fault.{Fault}
+use Rattle.nq_base.specs.declared.ending.fault.Fault.TheVariants as fault
 use Rattle.nq_world.specs.declared.stepped.Stepped.{Stepped}
 
 -- ---- what the calls of a server do
@@ -106,7 +106,7 @@ given-delivery w seen k d shows e below = λ p there.
 -- ---- the whole event
 
 -- what an event at the server did to a world
-pub record ServesIn {K : Type 0} (head : Head) (events : List Event) (event : Event) (t : ServerStep) (made : Result Unit Halt) (answer : Stepped)
+pub record ServesIn {K : Type 0} (head : Head) (events : List Event) (event : Event) (t : ServerStep) (made : Result Unit Fault) (answer : Stepped)
     (old new : WorldOver K) (told tells : Option Kept) (sent : List (Party × List ℕ)) (packets packets' : PacketList) : Type 0 where
   pub fit : IsFit head events event
   pub is : step (run head events) event ≡ after_server (run head events) t
@@ -150,7 +150,7 @@ serves-played head events event t made old new told tells sent packets packets' 
     (let one = x.serves.counts in let few = plays.served in omega arith)
     (subst (TookIn (length events + 1)) (sym x.clients) (took-more (length events) (length events + 1) old.clients (omega arith) plays.heard))
 
-pub serves-steps : {K : Type 0} (head : Head) (events : List Event) (event : Event) (t : ServerStep) (made : Result Unit Halt) (answer : Stepped)
+pub serves-steps : {K : Type 0} (head : Head) (events : List Event) (event : Event) (t : ServerStep) (made : Result Unit Fault) (answer : Stepped)
     (old new : WorldOver K) (told tells : Option Kept) (sent : List (Party × List ℕ)) (packets packets' : PacketList)
     → Plays head events old told → ServesIn head events event t made answer old new told tells sent packets packets' → Steps head events event answer
     old new told tells
@@ -162,9 +162,9 @@ serves-steps head events event t (Ok made) Stepped.NoPacket old new told tells s
 serves-steps head events event t (Ok made) (Stepped.SkewBroken b) old new told tells sent packets packets' plays x = absurd x.ends
 serves-steps head events event t (Ok made) (Stepped.Limit l) old new told tells sent packets packets' plays x = absurd x.ends
 serves-steps head events event t (Ok made) Stepped.Fault old new told tells sent packets packets' plays x = absurd x.ends
-serves-steps head events event t (Err halt.Spent) answer old new told tells sent packets packets' plays x =
+serves-steps head events event t (Err fault.Spent) answer old new told tells sent packets packets' plays x =
     absurd (server-unspent head events old told plays x.serves.3)
-serves-steps head events event t (Err halt.Fault) answer old new told tells sent packets packets' plays x =
+serves-steps head events event t (Err fault.Keep) answer old new told tells sent packets packets' plays x =
     subst (λ a. Steps head events event a old new told tells) (sym x.ends.0) (
       x.fit.passes,
       record {
@@ -178,7 +178,9 @@ serves-steps head events event t (Err halt.Fault) answer old new told tells sent
       },
       x.serves.1,
     )
-serves-steps head events event t (Err halt.Memory) answer old new told tells sent packets packets' plays x =
+serves-steps head events event t (Err fault.Link) answer old new told tells sent packets packets' plays x = absurd x.serves
+serves-steps head events event t (Err fault.NoAnswer) answer old new told tells sent packets packets' plays x = absurd x.serves
+serves-steps head events event t (Err fault.Memory) answer old new told tells sent packets packets' plays x =
     subst (λ a. Steps head events event a old new told tells) (sym x.ends.0) (
       x.fit.passes,
       record {

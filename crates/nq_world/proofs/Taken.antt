@@ -33,7 +33,7 @@ use Rattle.nq_world.proofs.Unspent.{server-in-time}
 use Rattle.nq_world.specs.Counting.{IsLastTime}
 use Rattle.nq_world.specs.Moving.{ActsAt, Clocks, Ends, HasRoom, received}
 use Rattle.nq_world.specs.Playing.{WorldOver, TakesIn, seen_of}
-use Rattle.nq_world.specs.declared.ending.Halt.{Halt}
+use Rattle.nq_base.specs.declared.ending.fault.Fault.{Fault}
 use Rattle.nq_world.specs.declared.stepped.Stepped.{Stepped}
 
 -- a world by its parts
@@ -49,14 +49,14 @@ world server clients packets journal skew events term = record {
 }
 
 -- room was made, an event at a client was made or not, and it ended
-pub record IsAtClient (host : ℕ) (step_of : Client → Option ClientStep) (made : Result Unit Halt) (answer : Stepped) (clients clients' : List Counted)
+pub record IsAtClient (host : ℕ) (step_of : Client → Option ClientStep) (made : Result Unit Fault) (answer : Stepped) (clients clients' : List Counted)
     (packets room packets' : PacketList) (journal journal' : EntryList) (sent : List (Party × List ℕ)) (events events' : ℕ) : Type 0 where
   pub acts : ActsAt host step_of made clients clients' sent journal.entries journal'.entries
   pub has_room : HasRoom room
   pub same : room.datagrams ≡ packets.datagrams
   pub ends : Ends made answer (Party.Client host) sent room packets' events events'
 
-pub call-takes : {K : Type 0} (content : K → Option Kept) (host : ℕ) (op : Call) (made : Result Unit Halt) (answer : Stepped) (server : Holding K)
+pub call-takes : {K : Type 0} (content : K → Option Kept) (host : ℕ) (op : Call) (made : Result Unit Fault) (answer : Stepped) (server : Holding K)
     (clients clients' : List Counted) (packets room packets' : PacketList) (journal journal' : EntryList) (skew : SkewCounts)
     (sent : List (Party × List ℕ)) (events events' term : ℕ)
     → IsAtClient host (λ c. Some (client_call c op)) made answer clients clients' packets room packets' journal journal' sent events events'
@@ -78,7 +78,7 @@ call-takes content host op made answer server clients clients' packets room pack
       term = refl;
     })
 
-pub restart-takes : {K : Type 0} (content : K → Option Kept) (host : ℕ) (made : Result Unit Halt) (answer : Stepped) (server : Holding K)
+pub restart-takes : {K : Type 0} (content : K → Option Kept) (host : ℕ) (made : Result Unit Fault) (answer : Stepped) (server : Holding K)
     (clients clients' : List Counted) (packets room packets' : PacketList) (journal journal' : EntryList) (skew : SkewCounts)
     (sent : List (Party × List ℕ)) (events events' term : ℕ)
     → IsAtClient host (λ c. Some (restart c)) made answer clients clients' packets room packets' journal journal' sent events events'
@@ -100,7 +100,7 @@ restart-takes content host made answer server clients clients' packets room pack
       term = refl;
     })
 
-pub tick-takes : {K : Type 0} (content : K → Option Kept) (host : ℕ) (made : Result Unit Halt) (answer : Stepped) (server : Holding K)
+pub tick-takes : {K : Type 0} (content : K → Option Kept) (host : ℕ) (made : Result Unit Fault) (answer : Stepped) (server : Holding K)
     (clients clients' : List Counted) (packets room packets' : PacketList) (journal journal' : EntryList) (skew skew' : SkewCounts)
     (sent : List (Party × List ℕ)) (events events' term : ℕ)
     → IsAtClient host (λ c. Some (client_tick c (c.now + 1))) made answer clients clients' packets room packets' journal journal' sent events events'
@@ -123,7 +123,7 @@ tick-takes content host made answer server clients clients' packets room packets
       term = refl;
     })
 
-pub hear-takes : {K : Type 0} (content : K → Option Kept) (number host : ℕ) (d : Datagram) (made : Result Unit Halt) (answer : Stepped)
+pub hear-takes : {K : Type 0} (content : K → Option Kept) (number host : ℕ) (d : Datagram) (made : Result Unit Fault) (answer : Stepped)
     (server : Holding K) (clients clients' : List Counted) (packets room packets' : PacketList) (journal journal' : EntryList) (skew : SkewCounts)
     (sent : List (Party × List ℕ)) (events events' term : ℕ)
     → slice_get packets.datagrams number ≡ Some d
@@ -150,7 +150,7 @@ hear-takes content number host d made answer server clients clients' packets roo
     })
 
 -- room was made, an event at the server was made or not, and it ended
-pub record IsAtServer (made : Result Unit Halt) (answer : Stepped) (packets room packets' : PacketList) (sent : List (Party × List ℕ))
+pub record IsAtServer (made : Result Unit Fault) (answer : Stepped) (packets room packets' : PacketList) (sent : List (Party × List ℕ))
     (events events' : ℕ) : Type 0 where
   pub has_room : HasRoom room
   pub same : room.datagrams ≡ packets.datagrams

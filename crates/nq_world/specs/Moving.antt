@@ -24,28 +24,28 @@ use Rattle.nq_server.specs.declared.received.Received.{Received}
 use Rattle.nq_world.specs.Counting.{ClientIsSpent, ServerIsSpent, TookIn}
 use Rattle.nq_world.specs.Rooms.{IsSmall, longest_sent}
 use Rattle.nq_world.specs.Shown.{FitsPacket, sent_from, to_server}
-use Rattle.nq_world.specs.declared.ending.Halt.{Halt}
-use Rattle.nq_world.specs.declared.ending.Halt.TheVariants as halt
+use Rattle.nq_base.specs.declared.ending.fault.Fault.{Fault}
+use Rattle.nq_base.specs.declared.ending.fault.Fault.TheVariants as fault
 use Rattle.nq_world.specs.declared.stepped.Limit.{Limit}
 use Rattle.nq_world.specs.declared.stepped.Stepped.{Stepped}
 
 -- what an answer to a call means for the event
-abbrev pub called : Answer → Result Unit Halt
-called Answer.Memory = Err halt.Memory
-called Answer.Spent = Err halt.Spent
+abbrev pub called : Answer → Result Unit Fault
+called Answer.Memory = Err fault.Memory
+called Answer.Spent = Err fault.Spent
 called other = Ok tt
 
 -- what is heard of a tick or a datagram means for the event
-abbrev pub heeded : Heard → Result Unit Halt
-heeded Heard.Memory = Err halt.Memory
-heeded Heard.Spent = Err halt.Spent
+abbrev pub heeded : Heard → Result Unit Fault
+heeded Heard.Memory = Err fault.Memory
+heeded Heard.Spent = Err fault.Spent
 heeded other = Ok tt
 
 -- how the server took an event in, for the event
-abbrev pub received : Received → Result Unit Halt
-received Received.Fault = Err halt.Fault
-received Received.Memory = Err halt.Memory
-received Received.Spent = Err halt.Spent
+abbrev pub received : Received → Result Unit Fault
+received Received.Fault = Err fault.Keep
+received Received.Memory = Err fault.Memory
+received Received.Spent = Err fault.Spent
 received other = Ok tt
 
 -- the clients of the protocol
@@ -79,12 +79,12 @@ step_at step (Some c) = step c.client
 
 -- what an event at the client of a host does: the client makes its step, or all clients and the journal are as before. A client that
 -- is spent makes none
-abbrev pub ActsAt : (host : ℕ) → (step : Client → Option ClientStep) → Result Unit Halt → (old new : List Counted) (sent : List (Party × List ℕ))
+abbrev pub ActsAt : (host : ℕ) → (step : Client → Option ClientStep) → Result Unit Fault → (old new : List Counted) (sent : List (Party × List ℕ))
     (entries entries' : List Entry) → Type 0
 ActsAt host step (Ok made) old new sent entries entries' = Moves host (step_at step (slice_get old host)) old new sent entries entries'
-ActsAt host step (Err halt.Memory) old new sent entries entries' = (new ≡ old) × (entries' ≡ entries)
-ActsAt host step (Err halt.Spent) old new sent entries entries' = (new ≡ old) × (entries' ≡ entries) × ClientIsSpent host old
-ActsAt host step (Err halt.Fault) old new sent entries entries' = ⊥
+ActsAt host step (Err fault.Memory) old new sent entries entries' = (new ≡ old) × (entries' ≡ entries)
+ActsAt host step (Err fault.Spent) old new sent entries entries' = (new ≡ old) × (entries' ≡ entries) × ClientIsSpent host old
+ActsAt host step (Err other) old new sent entries entries' = ⊥
 
 -- the server made this step
 pub record MovesServer {K : Type 0} (t : ServerStep) (old new : Holding K) (tells : Option Kept) (sent : List (Party × List ℕ))
@@ -98,13 +98,14 @@ pub record MovesServer {K : Type 0} (t : ServerStep) (old new : Holding K) (tell
 
 -- what an event at the server does: the server makes its step, or it and the journal are as before, but for the keeper. A server
 -- that is spent makes none
-abbrev pub Serves : {K : Type 0} → (t : ServerStep) → Result Unit Halt → (old new : Holding K) (told tells : Option Kept)
+abbrev pub Serves : {K : Type 0} → (t : ServerStep) → Result Unit Fault → (old new : Holding K) (told tells : Option Kept)
     (sent : List (Party × List ℕ)) (entries entries' : List Entry) → Type 0
 Serves t (Ok made) old new told tells sent entries entries' = MovesServer t old new tells sent entries entries'
-Serves t (Err halt.Memory) old new told tells sent entries entries' = IsUntouched old new × (tells ≡ told) × (entries' ≡ entries)
-Serves t (Err halt.Spent) old new told tells sent entries entries' =
+Serves t (Err fault.Memory) old new told tells sent entries entries' = IsUntouched old new × (tells ≡ told) × (entries' ≡ entries)
+Serves t (Err fault.Spent) old new told tells sent entries entries' =
     IsUntouched old new × (tells ≡ told) × (entries' ≡ entries) × ServerIsSpent old told
-Serves t (Err halt.Fault) old new told tells sent entries entries' = IsUntouched old new × StaysOrEnds told tells × (entries' ≡ entries)
+Serves t (Err fault.Keep) old new told tells sent entries entries' = IsUntouched old new × StaysOrEnds told tells × (entries' ≡ entries)
+Serves t (Err other) old new told tells sent entries entries' = ⊥
 
 -- the test of skew follows an event
 pub record FollowsOn (event : Event) (old new : SkewCounts) : Type 0 where
@@ -113,7 +114,7 @@ pub record FollowsOn (event : Event) (old new : SkewCounts) : Type 0 where
   pub clocks : (events : List Event) → Follows old events → Follows new (event ∷ events)
 
 -- it follows an event that was made, and no other
-abbrev pub Clocks : Result Unit Halt → Event → (old new : SkewCounts) → Type 0
+abbrev pub Clocks : Result Unit Fault → Event → (old new : SkewCounts) → Type 0
 Clocks (Ok made) event old new = FollowsOn event old new
 Clocks (Err why) event old new = new ≡ old
 
@@ -123,16 +124,16 @@ pub record HasRoom (packets : PacketList) : Type 0 where
   pub bytes : most_sends * longest_sent ≤ packets.spare_bytes
 
 -- an event that was made ends: what it sent is added to the packets, and it is counted. Memory is not wanting for what is small
-abbrev pub Ends : Result Unit Halt → (answer : Stepped) → (party : Party) (sent : List (Party × List ℕ)) (packets packets' : PacketList)
+abbrev pub Ends : Result Unit Fault → (answer : Stepped) → (party : Party) (sent : List (Party × List ℕ)) (packets packets' : PacketList)
     (events events' : ℕ) → Type 0
 Ends (Ok made) Stepped.Done party sent packets packets' events events' =
     (packets'.datagrams ≡ packets.datagrams ++ map (sent_from party) sent) × (events' ≡ events + 1)
 Ends (Ok made) Stepped.Memory party sent packets packets' events events' =
     (HasRoom packets → IsSmall sent → ⊥) × (events' ≡ events + 1)
 Ends (Ok made) other party sent packets packets' events events' = ⊥
-Ends (Err halt.Memory) answer party sent packets packets' events events' =
+Ends (Err fault.Memory) answer party sent packets packets' events events' =
     (answer ≡ Stepped.Memory) × (packets'.datagrams ≡ packets.datagrams) × (events' ≡ events)
-Ends (Err halt.Spent) answer party sent packets packets' events events' =
+Ends (Err fault.Spent) answer party sent packets packets' events events' =
     (answer ≡ Stepped.Limit Limit.Events) × (packets'.datagrams ≡ packets.datagrams) × (events' ≡ events)
-Ends (Err halt.Fault) answer party sent packets packets' events events' =
+Ends (Err other) answer party sent packets packets' events events' =
     (answer ≡ Stepped.Fault) × (packets'.datagrams ≡ packets.datagrams) × (events' ≡ events)

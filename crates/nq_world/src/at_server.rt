@@ -13,9 +13,10 @@ ghost use Rattle.nq_world.specs.Playing.{GoesOn, TakesIn};
 
 use crate::arriving::{Arrival, Missing, read_packet};
 use crate::clocks::{shown, time_after};
-use crate::ending::{Halt, finish, outbox};
+use crate::ending::{finish, outbox};
 use crate::stepped::{Limit, Stepped};
 use crate::world::World;
+use nq_base::ending::Fault;
 use nq_base::{Host, Party, SkewBroken};
 use nq_clock::Skew;
 use nq_keeper::Keeper;
@@ -32,19 +33,19 @@ fn sending_host(sender: Party) -> Host
 }
 
 /// How the server took an event in, for the event.
-fn made(taken: Received) -> Result<(), Halt>
+fn made(taken: Received) -> Result<(), Fault>
     ensures { result ≡ received taken }
 {
     match taken {
         Received::Done | Received::Dropped(_) => Ok(()),
-        Received::Fault => Err(Halt::Fault),
-        Received::Memory => Err(Halt::Memory),
-        Received::Spent => Err(Halt::Spent),
+        Received::Fault => Err(Fault::Keep),
+        Received::Memory => Err(Fault::Memory),
+        Received::Spent => Err(Fault::Spent),
     }
 }
 
 /// The test of skew follows a tick of the server's clock, if it was made.
-fn follow(made: &Result<(), Halt>, skew: &mut Skew) -> Result<(), SkewBroken>
+fn follow(made: &Result<(), Fault>, skew: &mut Skew) -> Result<(), SkewBroken>
     ensures clocks { OnOk result (Clocks made.now Event.ServerTick skew.old skew.new) }
     ensures hosts { length skew.new.hosts ≡ length skew.old.hosts }
     ensures window { skew.new.window ≡ skew.old.window }

@@ -7,7 +7,7 @@ ghost use Rattle.nq_model.specs.protocol.ClientStep.{client_call, client_tick, n
 ghost use Rattle.nq_world.specs.Moving.{ActsAt, Clocks, called, heeded};
 
 use crate::clocks::{shown, time_after};
-use crate::ending::Halt;
+use nq_base::ending::Fault;
 use nq_base::{Answer, Call, Entry, Host, Inc, Journal, Who};
 use nq_client::{Client, Heard, StartClient};
 use nq_clock::Skew;
@@ -16,23 +16,23 @@ use std::alloc::Global;
 use std::mem;
 
 /// What an answer to a call means for the event.
-fn called(answer: &Answer) -> Result<(), Halt>
+fn called(answer: &Answer) -> Result<(), Fault>
     ensures { result ≡ called answer.now }
 {
     match answer {
-        Answer::Memory => Err(Halt::Memory),
-        Answer::Spent => Err(Halt::Spent),
+        Answer::Memory => Err(Fault::Memory),
+        Answer::Spent => Err(Fault::Spent),
         _ => Ok(()),
     }
 }
 
 /// What is heard of a tick or a datagram means for the event.
-fn heeded(heard: &Heard) -> Result<(), Halt>
+fn heeded(heard: &Heard) -> Result<(), Fault>
     ensures { result ≡ heeded heard.now }
 {
     match heard {
-        Heard::Memory => Err(Halt::Memory),
-        Heard::Spent => Err(Halt::Spent),
+        Heard::Memory => Err(Fault::Memory),
+        Heard::Spent => Err(Fault::Spent),
         Heard::Nothing | Heard::Answered(_) | Heard::Ignored => Ok(()),
     }
 }
@@ -44,7 +44,7 @@ pub(crate) fn call(
     op: &Call,
     out: &mut Outbox,
     log: &mut Journal,
-) -> Result<(), Halt>
+) -> Result<(), Fault>
     requires there { host < length clients.old.items }
     requires empty { out.old.datagrams ≡ [] }
     ensures acts { ActsAt host (λ c. Some (client_call c op.now)) result clients.old.items clients.new.items out.new.datagrams log.old.entries log.new.entries }
@@ -61,7 +61,7 @@ pub(crate) fn tick(
     host: Host,
     out: &mut Outbox,
     log: &mut Journal,
-) -> Result<(), Halt>
+) -> Result<(), Fault>
     requires there { host < length clients.old.items }
     requires tested { length clients.old.items ≡ length skew.old.hosts }
     requires empty { out.old.datagrams ≡ [] }
@@ -71,14 +71,14 @@ pub(crate) fn tick(
 {
     let client = &mut clients[host.0 as usize];
     let Some(time) = time_after(client.time()) else {
-        return Err(Halt::Spent);
+        return Err(Fault::Spent);
     };
     match heeded(&client.tick(time, out, log)) {
         Ok(()) => {
             skew.client_tick(host);
             Ok(())
         }
-        Err(halt) => Err(halt),
+        Err(why) => Err(why),
     }
 }
 
@@ -90,7 +90,7 @@ pub(crate) fn hear(
     datagram: &[u8],
     out: &mut Outbox,
     log: &mut Journal,
-) -> Result<(), Halt>
+) -> Result<(), Fault>
     requires empty { out.old.datagrams ≡ [] }
     ensures acts { ActsAt host (λ c. hears_in c number datagram.now) result clients.old.items clients.new.items out.new.datagrams log.old.entries log.new.entries }
     ensures hosts { length clients.new.items ≡ length clients.old.items }
@@ -122,7 +122,7 @@ pub(crate) fn restart(
     host: Host,
     out: &mut Outbox,
     log: &mut Journal,
-) -> Result<(), Halt>
+) -> Result<(), Fault>
     requires there { host < length clients.old.items }
     requires empty { out.old.datagrams ≡ [] }
     ensures acts { ActsAt host (λ c. Some (restart c)) result clients.old.items clients.new.items out.new.datagrams log.old.entries log.new.entries }
@@ -131,10 +131,10 @@ pub(crate) fn restart(
     log.reserve(1)?;
     let client = &mut clients[host.0 as usize];
     let Some(time) = shown(client.time()) else {
-        return Err(Halt::Spent);
+        return Err(Fault::Spent);
     };
     let Some(who) = next_incarnation(&client.who()) else {
-        return Err(Halt::Spent);
+        return Err(Fault::Spent);
     };
     match Client::start(alloc, who.host, who.inc, client.term(), time, out) {
         Ok(next) => {
@@ -142,6 +142,6 @@ pub(crate) fn restart(
             log.push(Entry::B { who }).unwrap();
             Ok(())
         }
-        Err(StartClient::Memory) => Err(Halt::Memory),
+        Err(StartClient::Memory) => Err(Fault::Memory),
     }
 }

@@ -6,32 +6,11 @@ ghost use Rattle.nq_world.specs.Moving.{Ends, HasRoom};
 
 use crate::sending::send;
 use crate::stepped::{Limit, Stepped};
+use nq_base::ending::Fault;
 use nq_base::{NoMemory, Party};
 use nq_link::net::Packets;
 use nq_wire::Outbox;
 use std::alloc::Global;
-
-/// Why an event was not taken in.
-#[derive(Clone, Copy)]
-pub(crate) enum Halt {
-    /// The keeper failed.
-    Fault,
-    /// Memory was wanting.
-    Memory,
-    /// A count, a clock, a boot or an incarnation is at its last number. No run of so few events comes there.
-    Spent,
-}
-
-impl From<NoMemory> for Halt {
-    ghost use Rattle.std.specs.Prelude.{◌≡◌};
-    ghost use Rattle.nq_world.specs.declared.ending.Halt.TheVariants.{Memory};
-
-    ghost from_gives = { λ _ halt. halt ≡ Memory };
-
-    fn from(_: NoMemory) -> Halt {
-        Halt::Memory
-    }
-}
 
 /// The most datagrams that an event sends.
 const MOST_SENDS: usize = 64;
@@ -53,7 +32,7 @@ pub(crate) fn outbox(alloc: Global, packets: &mut Packets) -> Result<Outbox, NoM
 
 /// Ends an event: where it was made, its datagrams are sent, as by this party, and it is counted.
 pub(crate) fn finish(
-    made: Result<(), Halt>,
+    made: Result<(), Fault>,
     packets: &mut Packets,
     events: &mut u32,
     sender: Party,
@@ -71,8 +50,8 @@ pub(crate) fn finish(
                 Err(NoMemory::Memory) => Stepped::Memory,
             }
         }
-        Err(Halt::Fault) => Stepped::Fault,
-        Err(Halt::Memory) => Stepped::Memory,
-        Err(Halt::Spent) => Stepped::Limit(Limit::Events),
+        Err(Fault::Memory) => Stepped::Memory,
+        Err(Fault::Spent) => Stepped::Limit(Limit::Events),
+        Err(Fault::Keep | Fault::Link | Fault::NoAnswer) => Stepped::Fault,
     }
 }

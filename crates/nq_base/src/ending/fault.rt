@@ -1,6 +1,9 @@
-//! Why turns stop.
+//! Why turns and events stop.
 
-/// Why the turns of a server, or those of a client for one of its calls, stop before they bring what they were taken for.
+use nq_memory::NoMemory;
+
+/// Why the turns of a server, those of a client for one of its calls, or an event of a world, stop before they bring what they
+/// were taken for.
 #[derive(Clone, Copy)]
 pub enum Fault {
     /// The link failed.
@@ -13,4 +16,15 @@ pub enum Fault {
     Spent,
     /// All turns of a client were taken, and none brought the answer.
     NoAnswer,
+}
+
+impl From<NoMemory> for Fault {
+    ghost use Rattle.std.specs.Prelude.{◌≡◌};
+    ghost use Rattle.nq_base.specs.declared.ending.fault.Fault.TheVariants.{Memory};
+
+    ghost from_gives = { λ _ fault. fault ≡ Memory };
+
+    fn from(_: NoMemory) -> Fault {
+        Fault::Memory
+    }
 }
