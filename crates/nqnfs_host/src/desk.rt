@@ -6,7 +6,7 @@ use nq_base::{Answer, Call, Entry, FileId, Journal, Party, Who};
 use nq_calling::{call_now, lost_text};
 use nq_client::Client;
 use nq_clock::{Clock, StdClock};
-use nq_diary::Diary;
+use nq_diary::{Diary, Noted};
 use nq_hosts::node::client_turn;
 use nq_link::{Link, send_all};
 use nq_wire::Outbox;
@@ -53,6 +53,8 @@ pub(crate) struct HostDesk {
     pub(crate) link: HostLink,
     clock: StdClock<HostRuntime>,
     diary: Diary,
+    /// Whether all that was done was noted.
+    pub(crate) is_noted: bool,
     /// Why no more can be asked, if that is so.
     pub(crate) halt: Option<Fault>,
     answer: Option<Answer>,
@@ -79,6 +81,7 @@ impl HostDesk {
             link,
             clock,
             diary,
+            is_noted: true,
             halt: None,
             answer: None,
             lost: Vec::new(alloc),
@@ -126,7 +129,8 @@ impl HostDesk {
 
     /// Notes what was done, lets go what came of it, and keeps the losses in words.
     fn keep(&mut self, log: &Journal) {
-        let _noted = self.diary.note(log);
+        let noted = self.diary.note(log);
+        self.is_noted = self.is_noted && matches!(noted, Noted::All);
         self.link.let_go();
         self.note(log);
     }
@@ -244,6 +248,7 @@ impl HostDesk {
             link: _link,
             clock: _clock,
             diary: _diary,
+            is_noted: _,
             halt: _,
             answer: _answer,
             lost: _lost,

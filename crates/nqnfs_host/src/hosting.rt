@@ -36,6 +36,9 @@ const MOST_CALLS: u32 = 256;
 /// After how many ticks without an ask it stores what is delayed.
 const QUIET: u64 = 2;
 
+/// After how many ticks without an ask, and behind the last look, it looks whether bytes that it stored are still told under their name.
+const LOOKS: u64 = 10;
+
 /// How often it looks at most, in the end, whether what was delayed is stored.
 const FAREWELL: u32 = 400;
 
@@ -53,11 +56,15 @@ pub(crate) struct Hosting {
     first: usize,
     work: Option<Work>,
     aside: Option<Work>,
+    /// Whose ask is taken up next, and the ask.
+    held: Option<(usize, Ask)>,
     ledger: Ledger,
     made: u32,
     /// How many requests for pages of lists were sent.
     listed: u32,
     asked: u64,
+    /// When it last looked after bytes that it stored.
+    looked: u64,
     /// How long the ask at work waits.
     waiting: Waiting,
     /// Who told it to end, and the number of that ask.
@@ -98,10 +105,12 @@ impl Hosting {
             first: 0,
             work: None,
             aside: None,
+            held: None,
             ledger,
             made: 0,
             listed: 0,
             asked: 0,
+            looked: 0,
             waiting: Waiting::new(alloc, 0),
             ender: None,
         })
@@ -111,11 +120,18 @@ impl Hosting {
     pub(crate) fn run(&mut self, rt: &HostRuntime) -> io::Result<()> {
         let mut events = Events::with_capacity(self.alloc, MOST_EVENTS)?;
         let mut is_busy = false;
+        let mut is_told = false;
         for _round in 0..u64::MAX {
             let wait = if is_busy { 0 } else { WAIT };
             self.poll
                 .poll(&mut events, Some(Duration::from_millis(wait)))?;
             is_busy = self.round();
+            if !self.desk.is_noted && !is_told {
+                is_told = true;
+                let _told = eprintln!(rt;
+                    "nqnfs_host: the journal cannot be written, so it misses what was done"
+                );
+            }
             if self.desk.halt.is_some() {
                 return Ok(());
             }
@@ -203,11 +219,15 @@ impl Hosting {
             Some(work) => work.place(),
             None => NOBODY,
         };
+        let next = match &self.held {
+            Some((place, _)) => *place,
+            None => NOBODY,
+        };
         for (place, asker) in self.askers.iter_mut().enumerate() {
             let mut is_over = false;
             if let Some(asker) = asker {
                 asker.write();
-                is_over = asker.is_over && place != at_work;
+                is_over = asker.is_over && place != at_work && place != next;
             }
             if is_over {
                 *asker = None;
@@ -308,11 +328,30 @@ impl Hosting {
         }
     }
 
-    /// Finds out why the ask at work waits, and tells whoever asked.
+    /// Who waits, and the number of the ask: whoever asked what is at work, or else is next.
+    fn waiter(&mut self) -> Option<(usize, u32)> {
+        let (place, number) = match &self.work {
+            Some(work) => (work.place(), work.number()),
+            None => return None,
+        };
+        if place != NOBODY {
+            return Some((place, number));
+        }
+        self.hold();
+        match &self.held {
+            Some((place, ask)) => Some((*place, ask.number)),
+            None => None,
+        }
+    }
+
+    /// Finds out why an ask waits, and tells whoever asked.
     fn wait_on(&mut self) {
-        let (place, number, is_listing) = match &self.work {
-            Some(work) => (work.place(), work.number(), work.is_listing()),
-            None => return,
+        let Some((place, number)) = self.waiter() else {
+            return;
+        };
+        let is_listing = match &self.work {
+            Some(work) => work.is_listing(),
+            None => false,
         };
         if !is_listing {
             self.hear_page();
@@ -371,13 +410,28 @@ impl Hosting {
             self.work = Some(Work::tidy(self.alloc, made));
             return true;
         }
-        self.take_ask() || self.take_delayed()
+        self.take_ask() || self.take_delayed() || self.take_oldest()
     }
 
-    /// Takes the next ask, from each asker in turn. Whether there was one.
+    /// Takes up the next ask. Whether there was one.
     fn take_ask(&mut self) -> bool {
+        self.hold();
+        match self.held.take() {
+            Some((place, ask)) => {
+                self.begin(place, ask);
+                true
+            }
+            None => false,
+        }
+    }
+
+    /// Takes the next ask out, from each asker in turn, unless one is taken out already.
+    fn hold(&mut self) {
         let count = self.askers.len();
         for step in 0..count {
+            if self.held.is_some() || self.ender.is_some() {
+                return;
+            }
             let place = self.first.saturating_add(step) % count;
             let ask = match self.askers.get_mut(place) {
                 Some(Some(asker)) => asker.next_ask(),
@@ -387,11 +441,18 @@ impl Hosting {
                 self.first = place.saturating_add(1);
                 self.asked = self.desk.time();
                 self.waiting = Waiting::new(self.alloc, self.asked);
-                self.begin(place, ask);
-                return true;
+                self.keep(place, ask);
             }
         }
-        false
+    }
+
+    /// Keeps an ask to be taken up next, or that somebody wants it to end.
+    fn keep(&mut self, place: usize, ask: Ask) {
+        if ask.text.as_slice() == b"end".as_slice() {
+            self.ender = Some((place, ask.number));
+        } else {
+            self.held = Some((place, ask));
+        }
     }
 
     /// Begins to store what is delayed, where nobody has asked for a while. Whether there was anything.
@@ -408,13 +469,27 @@ impl Hosting {
         }
     }
 
+    /// Begins to look whether bytes that it stored are still told under their name, where nobody has asked for a while: another host may have
+    /// stored others under the name, and been cut off before it removed these. Whether there was anything.
+    fn take_oldest(&mut self) -> bool {
+        let now = self.desk.time();
+        if now.saturating_sub(self.asked) < LOOKS || now.saturating_sub(self.looked) < LOOKS {
+            return false;
+        }
+        self.looked = now;
+        let _doubted = self.ledger.doubt_oldest();
+        match self.ledger.next_left() {
+            Some(made) => {
+                self.work = Some(Work::tidy(self.alloc, made));
+                true
+            }
+            None => false,
+        }
+    }
+
     /// Begins the work for an ask.
     fn begin(&mut self, place: usize, ask: Ask) {
         let number = ask.number;
-        if ask.text.as_slice() == b"end".as_slice() {
-            self.ender = Some((place, number));
-            return;
-        }
         if let Some(name) = name_stored(&ask.text) {
             return self.begin_store(place, ask, name);
         }
@@ -540,10 +615,12 @@ impl Hosting {
             first: _,
             work: _work,
             aside: _aside,
+            held: _held,
             ledger: _ledger,
             made: _,
             listed: _,
             asked: _,
+            looked: _,
             waiting: _waiting,
             ender: _,
         } = self;
