@@ -4,7 +4,7 @@ ghost use Rattle.std.specs.Prelude.{Option, Some};
 ghost use Rattle.nq_base.specs.declared.Answer.{Answer};
 ghost use Rattle.nq_base.specs.declared.Call.{Call};
 
-use nq_base::{Answer, Call, FileId, Journal, Ticks, Who};
+use nq_base::{Answer, Call, FileId, Journal, Ticks};
 
 /// What comes of the pages of lists.
 #[derive(Drop)]
@@ -48,7 +48,7 @@ pub trait Askers {
         ensures { takes self.old answer.now self.new };
 
     /// Takes the page of a list that came, if any, and tells which one is asked for next.
-    fn turn_page(&mut self, who: Who, now: Ticks, page: Option<Vec<u8>>) -> Paged
+    fn turn_page(&mut self, now: Ticks, page: Option<Vec<u8>>) -> Paged
         ensures { stirs self.old self.new };
 
     /// Whether somebody wants the host to end.
