@@ -4,7 +4,7 @@ ghost use Rattle.std.specs.Prelude.{Option, Some};
 ghost use Rattle.nq_base.specs.declared.Answer.{Answer};
 ghost use Rattle.nq_base.specs.declared.Call.{Call};
 
-use nq_base::{Answer, Call, FileId, Journal, Ticks};
+use nq_base::{Answer, Call, FileId, Journal};
 
 /// What comes of the pages of lists.
 #[derive(Drop)]
@@ -39,8 +39,8 @@ pub trait Askers {
     fn note(&mut self, log: &Journal)
         ensures { stirs self.old self.new };
 
-    /// The call that is made next, if any. The client shows this time, and delays writes of this file for the longest time, if of any.
-    fn next_call(&mut self, now: Ticks, delayed: Option<FileId>) -> Option<Call>
+    /// The call that is made next, if any. The client shows this time in ticks, and delays writes of this file for the longest time, if of any.
+    fn next_call(&mut self, now: u64, delayed: Option<FileId>) -> Option<Call>
         ensures { gives self.old result self.new };
 
     /// Takes the answer to the call that it gave last.
@@ -48,7 +48,7 @@ pub trait Askers {
         ensures { takes self.old answer.now self.new };
 
     /// Takes the page of a list that came, if any, and tells which one is asked for next.
-    fn turn_page(&mut self, now: Ticks, page: Option<Vec<u8>>) -> Paged
+    fn turn_page(&mut self, now: u64, page: Option<Vec<u8>>) -> Paged
         ensures { stirs self.old self.new };
 
     /// Whether somebody wants the host to end.

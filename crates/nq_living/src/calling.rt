@@ -53,7 +53,7 @@ fn call_next<L: Line, C: Clock, A: Askers>(
         (life host.old (clock_told C.floor C.readings C.reads clock.old) (link_told L.sent L.waiting L.faults L.receives link.old) askers.old)
         (life host.new (clock_told C.floor C.readings C.reads clock.new) (link_told L.sent L.waiting L.faults L.receives link.new) askers.new) }
 {
-    let now = host.client.time();
+    let now = host.client.time().0;
     let delayed = first_delayed(&host.client);
     match askers.next_call(now, delayed) {
         Some(call) => make(alloc, host, link, clock, askers, &call),

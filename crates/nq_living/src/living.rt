@@ -85,7 +85,7 @@ fn turn_page<L: Line, A: Askers>(host: &Host, link: &mut L, askers: &mut A) -> b
         askers.old askers.new }
 {
     let page = link.take_page();
-    let paged = askers.turn_page(host.client.time(), page);
+    let paged = askers.turn_page(host.client.time().0, page);
     post(link, &paged.request);
     paged.is_over
 }

@@ -7,7 +7,7 @@ use crate::ledger::Ledger;
 use crate::notes::Notes;
 use crate::starts::pause;
 use nq_asks::Kind;
-use nq_base::{Answer, Call, FileId, Journal, Name, NoMemory, Ticks, Who};
+use nq_base::{Answer, Call, FileId, Journal, Name, NoMemory, Who};
 use nq_living::{Askers, Paged};
 use nq_tasks::{
     Ask, Came, Listed, Made, NO_MEMORY, NOBODY, Reply, Waiting, Work, name_stored, own_name,
@@ -51,9 +51,9 @@ pub(crate) struct Hosting {
     /// How many requests for pages of lists were sent.
     listed: u32,
     /// When it was last asked.
-    asked: Ticks,
+    asked: u64,
     /// When it last looked after bytes that it stored.
-    looked: Ticks,
+    looked: u64,
     /// Who told it to end, and the number of that ask.
     ender: Option<(usize, u32)>,
 }
@@ -83,7 +83,7 @@ impl Askers for Hosting {
         self.notes.note(log);
     }
 
-    fn next_call(&mut self, now: Ticks, delayed: Option<FileId>) -> Option<Call> {
+    fn next_call(&mut self, now: u64, delayed: Option<FileId>) -> Option<Call> {
         for _ask in 0..MOST_ASKS {
             if self.ender.is_some() {
                 return None;
@@ -112,7 +112,7 @@ impl Askers for Hosting {
         self.came(came);
     }
 
-    fn turn_page(&mut self, now: Ticks, page: Option<Vec<u8>>) -> Paged {
+    fn turn_page(&mut self, now: u64, page: Option<Vec<u8>>) -> Paged {
         let is_listing = match &self.work {
             Some(work) => work.is_listing(),
             None => false,
@@ -211,7 +211,7 @@ impl Hosting {
     // ---- lists, and what waits
 
     /// Goes on with the list at work: takes the page that came, if one did. The request for the next one, where that is due.
-    fn list_on(&mut self, now: Ticks, page: Option<Vec<u8>>) -> Option<Vec<u8>> {
+    fn list_on(&mut self, now: u64, page: Option<Vec<u8>>) -> Option<Vec<u8>> {
         if let Some(page) = &page {
             let came = self.take_page(page);
             self.came(came);
@@ -235,7 +235,7 @@ impl Hosting {
     }
 
     /// The request for the next page of the list at work, where that is due.
-    fn page_due(&mut self, now: Ticks) -> Result<Option<Vec<u8>>, NoMemory> {
+    fn page_due(&mut self, now: u64) -> Result<Option<Vec<u8>>, NoMemory> {
         let (who, number) = (self.who(), self.next_number());
         match &mut self.work {
             Some(work) => work.asks_page(who, number, now),
@@ -257,7 +257,7 @@ impl Hosting {
     }
 
     /// Takes the page that came, which may tell whether the server recovers. The request that asks so, where somebody waits and that is due.
-    fn probe(&mut self, now: Ticks, page: Option<Vec<u8>>) -> Option<Vec<u8>> {
+    fn probe(&mut self, now: u64, page: Option<Vec<u8>>) -> Option<Vec<u8>> {
         if let Some(page) = &page {
             let who = self.who();
             self.waiting.take(self.alloc, who, page);
@@ -271,7 +271,7 @@ impl Hosting {
     }
 
     /// Who waits, and the number of the ask: whoever asked what is at work, or else is next.
-    fn waiter(&mut self, now: Ticks) -> Option<(usize, u32)> {
+    fn waiter(&mut self, now: u64) -> Option<(usize, u32)> {
         let (place, number) = match &self.work {
             Some(work) => (work.place(), work.number()),
             None => return None,
@@ -287,7 +287,7 @@ impl Hosting {
     }
 
     /// Tells whoever waits why, once it has waited for a while.
-    fn tell_waiting(&mut self, now: Ticks) {
+    fn tell_waiting(&mut self, now: u64) {
         let Some((place, number)) = self.waiter(now) else {
             return;
         };
@@ -300,7 +300,7 @@ impl Hosting {
 
     /// Takes up what is to be done next: what was put aside, else tidying up, else an ask, else storing what is delayed, else a look after
     /// bytes that were stored. Whether there was anything.
-    fn take_up(&mut self, now: Ticks, delayed: Option<FileId>) -> bool {
+    fn take_up(&mut self, now: u64, delayed: Option<FileId>) -> bool {
         if self.aside.is_some() {
             self.work = self.aside.take();
             return true;
@@ -313,7 +313,7 @@ impl Hosting {
     }
 
     /// Takes up the next ask. Whether there was one.
-    fn take_ask(&mut self, now: Ticks) -> bool {
+    fn take_ask(&mut self, now: u64) -> bool {
         self.hold(now);
         match self.held.take() {
             Some((place, ask)) => {
@@ -325,7 +325,7 @@ impl Hosting {
     }
 
     /// Takes the next ask out, unless one is taken out already.
-    fn hold(&mut self, now: Ticks) {
+    fn hold(&mut self, now: u64) {
         if self.held.is_some() || self.ender.is_some() {
             return;
         }
@@ -341,7 +341,7 @@ impl Hosting {
     }
 
     /// Begins to store what is delayed, where nobody has asked for a while. Whether there was anything.
-    fn take_delayed(&mut self, now: Ticks, delayed: Option<FileId>) -> bool {
+    fn take_delayed(&mut self, now: u64, delayed: Option<FileId>) -> bool {
         if now.saturating_sub(self.asked) < QUIET {
             return false;
         }
@@ -356,7 +356,7 @@ impl Hosting {
 
     /// Begins to look whether bytes that it stored are still told under their name, where nobody has asked for a while: another host may have
     /// stored others under the name, and been cut off before it removed these. Whether there was anything.
-    fn take_oldest(&mut self, now: Ticks) -> bool {
+    fn take_oldest(&mut self, now: u64) -> bool {
         if now.saturating_sub(self.asked) < LOOKS || now.saturating_sub(self.looked) < LOOKS {
             return false;
         }

@@ -242,7 +242,13 @@ fn live(
     let Ok(door) = Door::open(rt, &mut link, door) else {
         return told(rt, Ending::LinkFault, "its sockets cannot be waited for");
     };
-    let (Ok(watch), Ok(noting), Ok(asked)) = (rt.clone(), rt.clone(), rt.clone()) else {
+    let Ok(watch) = rt.clone() else {
+        return told_memory(rt);
+    };
+    let Ok(noting) = rt.clone() else {
+        return told_memory(rt);
+    };
+    let Ok(asked) = rt.clone() else {
         return told_memory(rt);
     };
     let notes = Notes::new(noting, diary);
