@@ -66,7 +66,7 @@ fn run_over<D: Disk + Drop>(
     for link in links.iter() {
         tell_taken(rt, link);
     }
-    Ok(ended.status)
+    Ok(ended.end)
 }
 
 /// Says which port another program has, if the link could not have its own.

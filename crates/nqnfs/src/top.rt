@@ -27,11 +27,11 @@ pub(crate) fn ran<S: Source, K: Sink, D: Disk + Drop, L: Link, C: Clock>(
     link: &mut L,
     links: &mut [L],
     clock: &mut C,
-) -> Result<Ended<D>, NoMemory>
+) -> Result<Ended<u8, D>, NoMemory>
     requires tells { makes_a_run (command_of words.now) ≡ true → (bytes : List ℕ) × (D.told disk ≡ Some bytes) }
     requires lasts { place_of (command_of words.now) ≡ Place.File → D.told disk ≡ None }
     requires links { (hosts turns : ℕ) → command_of words.now ≡ Some (Command.Loop hosts turns) → length links.old ≡ hosts + 1 }
-    ensures never { IfOk result (λ ended. command_of words.now ≡ None → ended.status ≡ status_of Ending.Usage) }
+    ensures never { IfOk result (λ ended. command_of words.now ≡ None → ended.end ≡ status_of Ending.Usage) }
 {
     let mut fates: Vec<Box<dyn Fate>> = Vec::new(alloc);
     fates.push(Box::new(alloc, SteadyFate::new())?)?;

@@ -8,7 +8,7 @@ ghost use Rattle.nq_store.specs.Opening.{back_of};
 ghost use Rattle.nqnfsd.specs.Statuses.{EndsSo, IsWithoutParts, end_of_turns, end_unopened, file_at};
 ghost use Rattle.std.specs.Prelude.{◌≡◌, ◌≤◌, IfErr, IfOk};
 
-use nq_base::ending::{Ending, Fault};
+use nq_base::ending::{Ended, Ending, Fault};
 use nq_base::{Entry, Host, Journal, Party, Ticks};
 use nq_clock::{Clock, StdClock};
 use nq_diary::Diary;
@@ -19,7 +19,7 @@ use nq_lister::Lister;
 use nq_server::Server;
 use nq_service::mount::{Greeter, Survey, serve_image};
 use nq_serving::traffic::CountedLink;
-use nq_serving::{Ended, Extension, MOST_TURNS, Watcher};
+use nq_serving::{Extension, MOST_TURNS, Watcher};
 use nq_store::OpenFault;
 use nq_udp::{Book, UdpLink};
 use nq_wire::Outbox;

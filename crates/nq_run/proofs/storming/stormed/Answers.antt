@@ -11,7 +11,7 @@ use Rattle.nq_run.proofs.storming.stormed.Goals as goal
 pub returns-in-Ok-clause-storms : goal.returns-in-Ok-clause-storms
 returns-in-Ok-clause-storms g c =
     let end = c.run_storm-finished.result.end in
-    let served = c.run_storm-finished.result.keeper in
+    let served = c.run_storm-finished.result.left in
     let kept = content_of g.D.Disk.told served in
     let held = g.K.Sink.held c.args.out.now in
     let now = g.K.Sink.held c.run_storm-finished.new.out in
@@ -36,7 +36,7 @@ returns-in-Ok-clause-storms g c =
 pub returns-in-Ok-clause-follows : goal.returns-in-Ok-clause-follows
 returns-in-Ok-clause-follows g c =
     subst (λ d. g.D.Disk.follows c.args.disk d) (sym c.into_disk.ensures)
-    (g.met.D.Disk.follows_on c.args.disk c.in-Ok.store.disk c.run_storm-finished.result.keeper.disk c.in-Ok.ensures.follows
+    (g.met.D.Disk.follows_on c.args.disk c.in-Ok.store.disk c.run_storm-finished.result.left.disk c.in-Ok.ensures.follows
     c.run_storm-finished.ensures.follows.disk)
 
 pub returns-in-Ok-clause-never : goal.returns-in-Ok-clause-never
