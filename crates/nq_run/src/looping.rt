@@ -41,9 +41,9 @@ pub(crate) fn looped<K: Sink, D: Disk + Drop, L: Link, C: Clock>(
                 left: finished.left.into_disk(),
             }
         }
-        Err(left) => Ended {
-            end: left.end.status(),
-            left: left.left,
+        Err(ended) => Ended {
+            end: ended.end.status(),
+            left: ended.left,
         },
     }
 }

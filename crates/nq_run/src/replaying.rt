@@ -59,9 +59,9 @@ fn play_on<K: Sink, D: Disk + Drop>(
                 left: finished.left.into_disk(),
             }
         }
-        Err(left) => Ended {
-            end: left.end.status(),
-            left: left.left,
+        Err(ended) => Ended {
+            end: ended.end.status(),
+            left: ended.left,
         },
     }
 }

@@ -44,9 +44,9 @@ pub(crate) fn stormed<K: Sink, D: Disk + Drop>(
                     left: finished.left.into_disk(),
                 }
             }
-            Err(left) => Ended {
-                end: left.end.status(),
-                left: left.left,
+            Err(ended) => Ended {
+                end: ended.end.status(),
+                left: ended.left,
             },
         },
         None => Ended {

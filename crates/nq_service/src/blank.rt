@@ -17,8 +17,8 @@ pub fn emptied<D: Disk + Drop>(alloc: Global, disk: D) -> Result<Store<D>, Ended
     ensures empty { IfOk result (λ store. content_of D.told store ≡ Some empty_kept) }
     ensures fresh { IfOk result IsFresh }
     ensures counts { IfOk result (λ store. D.faults store.disk ≡ D.faults disk) }
-    ensures fails { IfErr result (λ left. EmptiesNot left.end (D.faults disk) (D.faults left.left)) }
-    ensures follows { D.follows disk (disk_in (λ store. store.disk) (λ left. left.left) result) }
+    ensures fails { IfErr result (λ back. EmptiesNot back.end (D.faults disk) (D.faults back.left)) }
+    ensures follows { D.follows disk (disk_in (λ store. store.disk) (λ back. back.left) result) }
 {
     let mut disk = disk;
     match format(&mut disk) {
@@ -36,8 +36,8 @@ fn opened<D: Disk + Drop>(alloc: Global, disk: D) -> Result<Store<D>, Ended<Endi
     ensures empty { IfOk result (λ store. content_of D.told store ≡ Some empty_kept) }
     ensures fresh { IfOk result IsFresh }
     ensures counts { IfOk result (λ store. D.faults store.disk ≡ D.faults disk) }
-    ensures fails { IfErr result (λ left. EmptiesNot left.end (D.faults disk) (D.faults left.left)) }
-    ensures follows { D.follows disk (disk_in (λ store. store.disk) (λ left. left.left) result) }
+    ensures fails { IfErr result (λ back. EmptiesNot back.end (D.faults disk) (D.faults back.left)) }
+    ensures follows { D.follows disk (disk_in (λ store. store.disk) (λ back. back.left) result) }
 {
     match Store::open(alloc, disk) {
         Ok(store) => Ok(store),

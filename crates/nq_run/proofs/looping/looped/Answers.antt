@@ -20,4 +20,4 @@ returns-in-Ok-clause-follows g c =
 
 pub returns-in-Err-clause-loops : goal.returns-in-Err-clause-loops
 returns-in-Err-clause-loops g c =
-    loops_not c.in-Err.left.end c.status-in-Err.result c.args.hosts c.args.turns _ _ _ _ _ _ _ c.status-in-Err.ensures c.in-Err.ensures.fails
+    loops_not c.in-Err.ended.end c.status-in-Err.result c.args.hosts c.args.turns _ _ _ _ _ _ _ c.status-in-Err.ensures c.in-Err.ensures.fails

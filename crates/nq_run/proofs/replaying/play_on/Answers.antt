@@ -27,6 +27,6 @@ returns-in-Ok-clause-follows g c =
 
 pub returns-in-Err-clause-plays : goal.returns-in-Err-clause-plays
 returns-in-Err-clause-plays g c =
-    plays_not c.in-Err.left.end c.status-in-Err.result c.args.script.now.head (play c.args.script.now.head c.args.script.now.lines) _ _ _ _ _
+    plays_not c.in-Err.ended.end c.status-in-Err.result c.args.script.now.head (play c.args.script.now.head c.args.script.now.lines) _ _ _ _ _
     c.status-in-Err.ensures
     c.in-Err.ensures.fails

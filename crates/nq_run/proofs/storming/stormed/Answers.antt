@@ -48,7 +48,7 @@ returns-in-Ok-clause-alone g c = λ none.
     absurd (never_usage c.run_storm-finished.result.end c.status.result _ _ _ _ _ _ _ c.status.ensures c.run_storm-finished.ensures.ends none)
 
 pub returns-in-Err-clause-storms : goal.returns-in-Err-clause-storms
-returns-in-Err-clause-storms g c = storms_not c.in-Err.left.end c.status-in-Err.result c.args.kind c.args.start c.args.events _ _ _ _ _ _ _
+returns-in-Err-clause-storms g c = storms_not c.in-Err.ended.end c.status-in-Err.result c.args.kind c.args.start c.args.events _ _ _ _ _ _ _
     c.status-in-Err.ensures c.in-Err.ensures.fails
 
 pub returns-in-Err-clause-never : goal.returns-in-Err-clause-never
@@ -57,7 +57,7 @@ returns-in-Err-clause-never g c = λ others. absurd (none_among _ c.args.kind c.
 
 pub returns-in-Err-clause-alone : goal.returns-in-Err-clause-alone
 returns-in-Err-clause-alone g c = λ none.
-    absurd (starts_usage c.in-Err.left.end c.status-in-Err.result _ _ c.status-in-Err.ensures c.in-Err.ensures.fails none)
+    absurd (starts_usage c.in-Err.ended.end c.status-in-Err.result _ _ c.status-in-Err.ensures c.in-Err.ensures.fails none)
 
 pub returns-in-None-clause-storms : goal.returns-in-None-clause-storms
 returns-in-None-clause-storms g c =
