@@ -8,6 +8,7 @@ ghost use Rattle.nq_command.specs.declared.commands.Command.{Command};
 ghost use Rattle.nq_run.specs.Frames.{makes_a_run};
 ghost use Rattle.nq_run.specs.Setting.{place_of};
 ghost use Rattle.nq_run.specs.declared.setting.Place.{Place};
+ghost use Rattle.nq_udp.specs.UdpLink.{IsBoundBy};
 
 use crate::top::ran;
 use nq_base::Party;
@@ -99,9 +100,10 @@ fn link_of(rt: &HostRuntime, party: Party) -> Result<UdpLink<HostRuntime>, NoMem
     }
 }
 
-/// A link whose socket is bound, if the machine lets it.
+/// A link whose socket is bound where it listens, if the machine lets it.
 fn opened(link: UdpLink<HostRuntime>) -> UdpLink<HostRuntime>
-    ensures { result ≡ link }
+    ensures same { result ≡ record link { bound = result.bound } }
+    ensures bound { IsBoundBy link result.bound }
 {
     let mut link = link;
     link.open();
