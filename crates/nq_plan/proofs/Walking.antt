@@ -1,9 +1,8 @@
--- Steps of the loops over ids, marks, words and free blocks.
+-- Steps of the loops over ids, marks and free blocks.
 use Rattle.std.proofs.Common.{◌≡◌, ◌≤◌, ◌<◌, ◌+◌, ◌-◌, ◌++◌, ℕ, zero, suc, Bool, true, false, List, [], ◌∷◌, Option, length, get_or, take, drop}
 use Rattle.std.proofs.Common.{if◌then◌else◌, refl, sym, ap, ◌∙◌, arith, length-append}
 use Rattle.std.specs.Prelude.{filter}
 use Rattle.std.proofs.lemmas.List.{append_assoc, append-nil, at_drop_more, at_drop_all}
-use Rattle.nq_base.specs.Block.{repeated, word}
 use Rattle.nq_image.specs.Kept.{numbers_from}
 use Rattle.nq_image.specs.Standing.{PlacedFile, row_id}
 use Rattle.nq_plan.specs.Finding.{nearer, nearest}
@@ -34,14 +33,6 @@ no-block-left given i blocks marks whole le so =
     let F : List ℕ → List Bool = λ bs. marked_all given bs marks in
     let step : F (drop i blocks) ≡ marks = at_drop_all F blocks i le in
     sym step ∙ so
-
--- ---- words
-
-pub word-passes : (count i value : ℕ) (bytes whole : List ℕ) → i < count → bytes ++ repeated (count - i) value ≡ whole → (bytes ++ word value)
-    ++ repeated (count - (i + 1)) value ≡ whole
-word-passes count i value bytes whole lt so =
-    let next : count - i ≡ suc (count - (i + 1)) = omega arith in
-    append_assoc bytes (word value) (repeated (count - (i + 1)) value) ∙ sym (ap (λ (n : ℕ). bytes ++ repeated n value) next) ∙ so
 
 -- ---- free blocks
 
