@@ -9,7 +9,6 @@ use Rattle.nq_image.specs.Standing.{PlacedFile, row_id}
 use Rattle.nq_plan.specs.Finding.{nearer, nearest}
 use Rattle.nq_plan.specs.Held.{HeldTables}
 use Rattle.nq_plan.specs.Placing.{free_blocks, is_free}
-use Rattle.nq_plan.specs.Settling.{marked_all}
 
 -- ---- the least id above another
 
@@ -27,13 +26,6 @@ no-id-left after i best rows whole le so =
     sym step ∙ so
 
 -- ---- marks
-
-pub no-block-left : (given : Bool) (i : ℕ) (blocks : List ℕ) (marks whole : List Bool) → length blocks ≤ i → marked_all given (drop i blocks) marks
-    ≡ whole → marks ≡ whole
-no-block-left given i blocks marks whole le so =
-    let F : List ℕ → List Bool = λ bs. marked_all given bs marks in
-    let step : F (drop i blocks) ≡ marks = at_drop_all F blocks i le in
-    sym step ∙ so
 
 -- ---- words
 
