@@ -1,4 +1,4 @@
--- Steps of the loops over ids, marks and free blocks.
+-- Steps of the loops over ids and free blocks.
 use Rattle.std.proofs.Common.{◌≡◌, ◌≤◌, ◌<◌, ◌+◌, ◌-◌, ◌++◌, ℕ, zero, suc, Bool, true, false, List, [], ◌∷◌, Option, length, get_or, take, drop}
 use Rattle.std.proofs.Common.{if◌then◌else◌, refl, sym, ap, ◌∙◌, arith, length-append}
 use Rattle.std.specs.Prelude.{filter}
@@ -8,7 +8,6 @@ use Rattle.nq_image.specs.Standing.{PlacedFile, row_id}
 use Rattle.nq_plan.specs.Finding.{nearer, nearest}
 use Rattle.nq_plan.specs.Held.{HeldTables}
 use Rattle.nq_plan.specs.Placing.{free_blocks, is_free}
-use Rattle.nq_plan.specs.Settling.{marked_all}
 
 -- ---- the least id above another
 
@@ -23,15 +22,6 @@ pub no-id-left : (after i : ℕ) (best : Option ℕ) (rows : List (Option Placed
     → nearest after best (drop i rows) ≡ whole → best ≡ whole
 no-id-left after i best rows whole le so =
     let step : nearest after best (drop i rows) ≡ best = at_drop_all (nearest after best) rows i le in
-    sym step ∙ so
-
--- ---- marks
-
-pub no-block-left : (given : Bool) (i : ℕ) (blocks : List ℕ) (marks whole : List Bool) → length blocks ≤ i → marked_all given (drop i blocks) marks
-    ≡ whole → marks ≡ whole
-no-block-left given i blocks marks whole le so =
-    let F : List ℕ → List Bool = λ bs. marked_all given bs marks in
-    let step : F (drop i blocks) ≡ marks = at_drop_all F blocks i le in
     sym step ∙ so
 
 -- ---- free blocks
