@@ -15,7 +15,7 @@ use Rattle.walk_steps.proofs.NoCrash.{one-first}
 use Rattle.law_rounds.specs.Efforts.{writes_to, read_left, lease_left, sent_left, job_left, requests_left, put_delays, may_delay, delays_left}
 use Rattle.law_rounds.specs.Turns.{turns_left}
 use Rattle.law_rounds.proofs.ClientCount.{client-count}
-use Rattle.law_rounds.proofs.EffortReplies.{two-left}
+use Rattle.law_rounds.proofs.EffortCalls.{two-left}
 use Rattle.law_rounds.specs.DeliveryEnds.{calmed, delayed_in_all, growth, most_turns, most_growths, enough_for, IsDelivered, DeliveryEnds}
 use Rattle.law_rounds.proofs.ClientSteps.{sum_of}
 use Rattle.law_rounds.proofs.Ends.{ends}

@@ -341,12 +341,12 @@ fn keep<K: Keeper>(
     ensures goes { IsOn plan.now place course.old → OnOk result (IsOn plan.now (place + 1) course.new) }
     ensures plays { OnOk result (PlaysOn K.content plan.now world.old world.new course.old course.new) }
 {
-    let Some(event) = plan.old.events.get(place) else {
+    let Some(event) = plan.old.events.get(place)? else {
         return Ok(());
     };
-    match packet_of(event) {
+    match packet_of(&event) {
         Some(packet) => keep_delivery(world, course, plan, place, packet),
-        None => happen(world, course, plan, event, Some(place)),
+        None => happen(world, course, plan, &event, Some(place)),
     }
 }
 

@@ -71,10 +71,7 @@ impl Old {
 
     /// Whether a clock ticks in the event at a place.
     pub(crate) fn is_tick(&self, place: usize) -> bool {
-        matches!(
-            self.events.get(place),
-            Some(Event::ServerTick) | Some(Event::ClientTick(_))
-        )
+        self.events.is_tick(place)
     }
 
     /// Whether a packet never arrives, though one that was sent later does.

@@ -8,12 +8,11 @@ ghost use Rattle.nq_serving.specs.declared.turning.LinkPolicy.{LinkPolicy};
 ghost use Rattle.nq_clock.specs.Clocks.{clock_told};
 ghost use Rattle.nq_link.specs.Links.{link_told};
 
-use crate::ended::Ended;
 use crate::serving::boot_and_run;
 use crate::turning::LinkPolicy;
 use crate::watching::Nobody;
 use nq_base::NoMemory;
-use nq_base::ending::{Ending, Fault};
+use nq_base::ending::{Ended, Ending, Fault};
 use nq_clock::Clock;
 use nq_io::{Put, Sink};
 use nq_keeper::Keeper;

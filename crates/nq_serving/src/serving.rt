@@ -10,12 +10,11 @@ ghost use Rattle.nq_clock.specs.Clocks.{clock_told};
 ghost use Rattle.nq_link.specs.Links.{link_told};
 ghost use Rattle.nq_server.specs.Holding.{keeper_in};
 
-use crate::ended::Ended;
 use crate::extending::Extension;
 use crate::turning::{LinkPolicy, take_turns};
 use crate::watching::Watcher;
 use nq_base::Ticks;
-use nq_base::ending::Fault;
+use nq_base::ending::{Ended, Fault};
 use nq_clock::Clock;
 use nq_keeper::Keeper;
 use nq_link::Link;

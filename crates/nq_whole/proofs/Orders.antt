@@ -1,5 +1,5 @@
 -- The head is written behind all the bytes that it tells.
-use Rattle.std.proofs.Common.{◌≡◌, ◌≤◌, ◌<◌, ℕ, suc, ◌+◌, ◌*◌, Bool, true, false, nat_le, List, [], ◌∷◌, ◌++◌, Option, Some, None, length, if◌then◌else◌, refl, sym, subst, ap, ◌∙◌, append_assoc, append-nil, arith}
+use Rattle.std.proofs.Common.{◌≡◌, ◌<◌, ℕ, ◌+◌, ◌*◌, Bool, true, false, nat_le, List, [], ◌∷◌, ◌++◌, Option, Some, None, length, if◌then◌else◌, refl, sym, subst, append_assoc, append-nil, arith}
 use Rattle.std.specs.Prelude.{Contains, ◌==◌}
 use Rattle.nq_base.specs.Block.{value_of}
 use Rattle.std.proofs.lemmas.Bool.Decides.{nat_tests}
@@ -24,9 +24,6 @@ choice P false one other is so = so refl
 
 whole-more : (calls more : Made) (file : ℕ) (bytes : List ℕ) → IsWhole calls file bytes → IsWhole (calls ++ more) file bytes
 whole-more calls more file bytes is = λ place below. let one = is place below in (one.0, Contains-append_left calls more _ one.1)
-
-stored-more : (calls more : Made) (file count : ℕ) (bytes : List ℕ) → AreStored calls file count bytes → AreStored (calls ++ more) file count bytes
-stored-more calls more file count bytes are = λ place below. let one = are place below in (one.0, Contains-append_left calls more _ one.1)
 
 -- so many blocks are stored, and the next step
 filled-stands : (calls : Made) (file place : ℕ) (bytes : List ℕ) → AreStored calls file place bytes

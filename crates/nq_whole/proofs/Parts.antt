@@ -1,11 +1,10 @@
 -- What came so far stays part of one stored file.
-use Rattle.std.proofs.Common.{◌≡◌, ◌≢◌, ◌≤◌, ℕ, ◌+◌, ◌*◌, Bool, true, false, nat_le, nat_lt, List, [], ◌++◌, Option, Some, None, length, take, ◌∷◌, if◌then◌else◌, refl, sym, subst, ap, ◌∙◌, suc, arith}
-use Rattle.std.specs.Prelude.{⊤}
+use Rattle.std.proofs.Common.{◌≡◌, ◌≢◌, ℕ, ◌+◌, ◌*◌, Bool, true, false, nat_le, nat_lt, List, [], ◌++◌, Option, Some, None, length, take, ◌∷◌, if◌then◌else◌, refl, sym, subst, ap, ◌∙◌, suc, arith}
 use Rattle.std.proofs.lemmas.Bool.Decides.{nat_tests}
 use Rattle.nq_base.specs.declared.Answer.{Answer}
 use Rattle.nq_whole.specs.Pieces.{joined_pieces, piece_of}
 use Rattle.nq_whole.proofs.Joining.{whole}
-use Rattle.nq_whole.specs.Getting.{GetStep, Gets, Gives, HasPartAt, IsLawfulAt, IsPiece, IsStored, KeepsPart, TellsStored, found, get_at, headed}
+use Rattle.nq_whole.specs.Getting.{GetStep, Gets, Gives, HasPartAt, IsLawfulAt, IsStored, KeepsPart, found, get_at, headed}
 use Rattle.nq_whole.specs.Getting.{AreLawful, Takes, gets_after}
 use Rattle.nq_whole.specs.Answers.{body_in, is_gone}
 use Rattle.nq_whole.specs.Getting.{missed, reached, read_on, told}

@@ -40,7 +40,7 @@ pub(crate) const LAST: u32 = 4_000;
 /// What came of a scene: how it ended, and how many datagrams were sent.
 #[derive(Drop)]
 pub(crate) struct Played {
-    ended: Ended<MemDisk>,
+    ended: Ended<u8, MemDisk>,
     sent: u32,
 }
 
@@ -81,8 +81,8 @@ fn tell(rt: &HostRuntime, line: &str, left: Vec<u8>) -> Option<Vec<u8>> {
     let mut out = MemSink::new(alloc, MOST_PRINTED, failing(alloc, scene, "unput")).ok()?;
     let played = play(alloc, scene, &words, &mut source, &mut out, left).ok()?;
     tell_printed(rt, scene, out.bytes(), played.sent)?;
-    println!(rt; "status {}", played.ended.status).ok()?;
-    played.ended.disk.bytes().to_vec(alloc).ok()
+    println!(rt; "status {}", played.ended.end).ok()?;
+    played.ended.left.bytes().to_vec(alloc).ok()
 }
 
 /// Prints what a scene printed, or what is told in its place.

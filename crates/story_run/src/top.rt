@@ -22,7 +22,7 @@ pub(crate) fn ran<S: Source, K: Sink, D: Disk + Drop, L: Link, C: Clock>(
     link: &mut L,
     links: &mut [L],
     clock: &mut C,
-) -> Result<Ended<D>, NoMemory>
+) -> Result<Ended<u8, D>, NoMemory>
     requires tells { makes_a_run (command_of words.now) ≡ true → (bytes : List ℕ) × (D.told disk ≡ Some bytes) }
     requires links { (hosts turns : ℕ) → command_of words.now ≡ Some (Command.Loop hosts turns) → length links.old ≡ hosts + 1 }
 {

@@ -1,55 +1,20 @@
 //! Requests that are decided once.
 
-ghost use Rattle.std.specs.Prelude.{◌≡◌, ◌<◌, All, IfNone, IfSome, Some, None, true};
+ghost use Rattle.std.specs.Prelude.{◌≡◌, ◌<◌, IfNone, IfSome, Some, None, true};
 ghost use Rattle.std.specs.Option.{ForSome};
-ghost use Rattle.nq_base.specs.Block.{filled};
 ghost use Rattle.nq_base.specs.declared.Request.{Request as Asked};
-ghost use Rattle.nq_model.specs.protocol.Change.{Fits, IsBody, IsChangeWithin};
-ghost use Rattle.nq_model.specs.protocol.Decided.{HasText, decided, decided_before, no_effect, change_of, change_with, fresh_decided, is_decided_once, sequence_decided, attach_decided, if_fresh, effect_of, row_with};
+ghost use Rattle.nq_model.specs.protocol.Change.{Fits, IsChangeWithin};
+ghost use Rattle.nq_model.specs.protocol.Decided.{decided, decided_before, no_effect, change_of, change_with, fresh_decided, is_decided_once, sequence_decided, attach_decided, if_fresh, effect_of, row_with};
 ghost use Rattle.nq_model.specs.protocol.Kept.{can_be_kept, host_row};
 ghost use Rattle.nq_model.specs.protocol.Message.{asker};
 ghost use Rattle.nq_model.specs.protocol.Profile.{most_hosts};
 ghost use Rattle.nq_keeper.specs.RequestsCapped.{capped};
 ghost use Rattle.nq_keeper.specs.Deciding.{Decides, IsOfHost, IsOfSequence, Gives, LeavesGiven};
 
+use crate::requests::for_proofs::has_text;
 use crate::requests::{asking, effects};
 use crate::{KeepFault, Keeper, can_be_kept};
-use nq_base::{Block, Decided, Effect, Gate, Request, Seen, Seq, Verdict, Who};
-
-/// Bytes are numbers below 256.
-fn are_bytes(bytes: &[u8])
-    ensures { All (λ byte. byte < 256) bytes.now }
-{
-    let _count = bytes.len();
-}
-
-/// So are those of a block that repeats a word.
-fn is_fill(_value: u32)
-    ensures { All (λ byte. byte < 256) (filled _value) }
-{}
-
-/// A block has 4096 bytes.
-fn is_body(block: &Block)
-    ensures { IsBody block.now }
-{
-    match block.seen() {
-        Seen::Filled(value) => is_fill(value),
-        Seen::Bytes(bytes) => are_bytes(bytes),
-    }
-}
-
-/// The name and the body of a request are such as there can be.
-fn has_text(request: &Request)
-    ensures { HasText request.now }
-{
-    match request {
-        Request::Create { name, .. } => {
-            let _bytes = name.as_bytes();
-        }
-        Request::Write { body, .. } => is_body(body),
-        _ => {}
-    }
-}
+use nq_base::{Decided, Effect, Gate, Request, Seq, Verdict, Who};
 
 /// Keeps an effect with the row of the host that asked, in one change, where that row can be kept.
 fn conclude<K: Keeper>(

@@ -10,11 +10,11 @@ ghost use Rattle.nq_store.specs.Storing.{IsFresh};
 use crate::mount::opening::open_or_make;
 use crate::mount::survey::{Survey, surveyed};
 use crate::recent::RecentKeeper;
-use nq_base::ending::Fault;
+use nq_base::ending::{Ended, Fault};
 use nq_clock::Clock;
 use nq_disk::Disk;
 use nq_link::Link;
-use nq_serving::{Ended, Extension, Watcher, keep_serving};
+use nq_serving::{Extension, Watcher, keep_serving};
 use nq_store::{OpenFault, Store};
 use std::alloc::Global;
 
