@@ -144,32 +144,32 @@ due-time ticked reading at after false test takes =
 
 -- a tick that did not go on: memory was refused, or the client takes in no more
 stopped-tick : (how : Heard) (why : Fault) → Err why ≡ goes_on how → refusal_of (Err why) ≡ None → ⊥
-stopped-tick Heard.Nothing why is none = cc
-stopped-tick Heard.Ignored why is none = cc
-stopped-tick (Heard.Answered answer) why is none = cc
-stopped-tick Heard.Memory Fault.Memory is none = cc
-stopped-tick Heard.Memory why is none = cc
-stopped-tick Heard.Spent Fault.Spent is none = cc
-stopped-tick Heard.Spent why is none = cc
+stopped-tick Heard.Nothing why is on = cc
+stopped-tick Heard.Ignored why is on = cc
+stopped-tick (Heard.Answered answer) why is on = cc
+stopped-tick Heard.Memory Fault.Memory is on = cc
+stopped-tick Heard.Memory why is on = cc
+stopped-tick Heard.Spent Fault.Spent is on = cc
+stopped-tick Heard.Spent why is on = cc
 
 stopped : (due : Bool) (reading : ℕ) (why : Fault) (at after : Moment)
     → Takes (if due then Some (Given.ticks reading) else None) (Err why) at after → refusal_of (Err why) ≡ None → ⊥
-stopped true reading why at after takes none = stopped-tick takes.how why takes.so none
-stopped false reading why at after takes none = let is = takes.0 in cc
+stopped true reading why at after takes on = stopped-tick takes.how why takes.so on
+stopped false reading why at after takes on = let is = takes.0 in cc
 
 -- ---- the turn
 
 goes-time : (goes ended : Result (Option Answer) Fault) (reading : ℕ) (link link' : LinkTold) (at between after : Moment)
     → Takes (tick_due at.client.client.now reading) goes at between → GoesOn goes ended link link' between after → refusal_of ended ≡ None
     → reading ≤ after.client.client.now
-goes-time (Ok ticked) ended reading link link' at between after takes rest none =
-    let due = due-time ticked reading at between (nat_lt at.client.client.now reading) refl takes in
-    let waits = receives-time rest.0 link rest.1.0 between after rest.1.1.0 in omega arith
-goes-time (Err why) ended reading link link' at between after takes rest none =
-    absurd (stopped (nat_lt at.client.client.now reading) reading why at between takes (subst (λ e. refusal_of e ≡ None) rest.0 none))
+goes-time (Ok answer) ended reading link link' at between after takes rest on =
+    let due = due-time answer reading at between (nat_lt at.client.client.now reading) refl takes in
+    let waits = receives-time rest.0 link rest.1 between after rest.2 in omega arith
+goes-time (Err why) ended reading link link' at between after takes rest on =
+    absurd (stopped (nat_lt at.client.client.now reading) reading why at between takes (subst (λ e. refusal_of e ≡ None) rest.0 on))
 
 -- behind a turn that took in what it read and heard, the client's time is no less than the reading
 pub turn-time : (ended : Result (Option Answer) Fault) (clock clock' : ClockTold) (link link' : LinkTold) (at after : Moment)
     → (stages : Stages ended clock clock' link link' at after) → refusal_of ended ≡ None → stages.reading ≤ after.client.client.now
-turn-time ended clock clock' link link' at after stages none =
-    goes-time stages.goes ended stages.reading link link' at stages.between after stages.ticks stages.rest none
+turn-time ended clock clock' link link' at after stages on =
+    goes-time stages.goes ended stages.reading link link' at stages.between after stages.ticks stages.rest on

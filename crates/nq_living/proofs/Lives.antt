@@ -27,7 +27,7 @@ module _ {A : Type 0} (gives : A → Option Call → A → Type 0) (takes : A �
   joined : (count : ℕ) (at between after : Life A) → Lived gives takes stirs at between → Lives gives takes stirs count between after
       → Lived gives takes stirs at after
   joined zero at between after lived same = subst (Lived gives takes stirs at) (sym same) lived
-  joined (suc count) at between after lived lives = more at lives.0 after (joined count at between lives.0 lived lives.1.0) lives.1.1
+  joined (suc count) at between after lived lives = more at lives.0 after (joined count at between lives.0 lived lives.1) lives.2
 
   -- some steps behind others
   pub then : (at between after : Life A) → Lived gives takes stirs at between → Lived gives takes stirs between after → Lived gives takes stirs at after
