@@ -75,14 +75,14 @@ module _ {A : Type 0} (gives : A → Option Call → A → Type 0) (takes : A �
       one at after (called (record { ready = ready; call = call; given = given; gave = gives-it; makes = makes }))
 
   -- no call was given
-  pub gave-none : (at : Life A) (askers : A) → gives at.askers None askers → Lived gives takes stirs at (record at { askers = askers })
-  gave-none at askers given = one at (record at { askers = askers }) (idle (given, refl))
+  pub gave_none : (at : Life A) (askers : A) → gives at.askers None askers → Lived gives takes stirs at (record at { askers = askers })
+  gave_none at askers given = one at (record at { askers = askers }) (idle (given, refl))
 
   -- those who ask did something of their own
-  pub stirred-by : (at : Life A) (askers : A) → stirs at.askers askers → Lived gives takes stirs at (record at { askers = askers })
-  stirred-by at askers moves = one at (record at { askers = askers }) (stirred (moves, refl))
+  pub stirred_by : (at : Life A) (askers : A) → stirs at.askers askers → Lived gives takes stirs at (record at { askers = askers })
+  stirred_by at askers moves = one at (record at { askers = askers }) (stirred (moves, refl))
 
   -- a page of a list was turned
-  pub turned-page : (at : Life A) (link : LinkTold) (askers : A) → TurnsPage stirs at.link link at.askers askers
+  pub turned_page : (at : Life A) (link : LinkTold) (askers : A) → TurnsPage stirs at.link link at.askers askers
       → Lived gives takes stirs at (record at { link = link; askers = askers })
-  turned-page at link askers turns = one at (record at { link = link; askers = askers }) (paged (turns, refl))
+  turned_page at link askers turns = one at (record at { link = link; askers = askers }) (paged (turns, refl))

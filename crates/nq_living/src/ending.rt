@@ -1,9 +1,9 @@
 //! How a host ends.
 
-ghost use Rattle.std.specs.Prelude.{◌≡◌, Option, Some};
+ghost use Rattle.std.specs.Prelude.{◌≡◌, true};
 ghost use Rattle.nq_clock.specs.Clocks.{clock_told};
 ghost use Rattle.nq_link.specs.Links.{link_told};
-ghost use Rattle.nq_living.specs.Living.{Lived, life};
+ghost use Rattle.nq_living.specs.Living.{Lived, is_ready, life};
 
 use crate::askers::Askers;
 use crate::calling::make;
@@ -70,9 +70,24 @@ fn store_on<L: Line, C: Clock, A: Askers>(
         (life host.old (clock_told C.floor C.readings C.reads clock.old) (link_told L.sent L.waiting L.faults L.receives link.old) askers.old)
         (life host.new (clock_told C.floor C.readings C.reads clock.new) (link_told L.sent L.waiting L.faults L.receives link.new) askers.new) }
 {
-    if !is_ready(&host.client) {
-        return;
+    if is_ready(&host.client) {
+        store_now(alloc, host, link, clock, askers);
     }
+}
+
+/// Stores what is delayed of a file, where a call can be made.
+fn store_now<L: Line, C: Clock, A: Askers>(
+    alloc: Global,
+    host: &mut Host,
+    link: &mut L,
+    clock: &mut C,
+    askers: &mut A,
+)
+    requires { is_ready host.old.client.client ≡ true }
+    ensures { Lived A.gives A.takes A.stirs
+        (life host.old (clock_told C.floor C.readings C.reads clock.old) (link_told L.sent L.waiting L.faults L.receives link.old) askers.old)
+        (life host.new (clock_told C.floor C.readings C.reads clock.new) (link_told L.sent L.waiting L.faults L.receives link.new) askers.new) }
+{
     if let Some(file) = first_delayed(&host.client) {
         let call = askers.last_call(file);
         let _answered = make(alloc, host, link, clock, askers, &call);

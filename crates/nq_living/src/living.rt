@@ -46,18 +46,38 @@ pub fn live<L: Line, C: Clock, A: Askers>(
 {
     let mut is_busy = false;
     for _round in 0..rounds {
-        if !askers.wait(is_busy) {
-            return End::Deaf;
-        }
-        is_busy = round(alloc, host, link, clock, askers);
-        if host.halt.is_some() {
-            return End::Halted;
-        }
-        if end_on(alloc, host, link, clock, askers) {
-            return End::Told;
+        if let Some(end) = live_on(alloc, host, link, clock, askers, &mut is_busy) {
+            return end;
         }
     }
     End::Rounds
+}
+
+/// Lives for one round, which waits first. Why it lives no more, if that is so.
+fn live_on<L: Line, C: Clock, A: Askers>(
+    alloc: Global,
+    host: &mut Host,
+    link: &mut L,
+    clock: &mut C,
+    askers: &mut A,
+    is_busy: &mut bool,
+) -> Option<End>
+    ensures { Lived A.gives A.takes A.stirs
+        (life host.old (clock_told C.floor C.readings C.reads clock.old) (link_told L.sent L.waiting L.faults L.receives link.old) askers.old)
+        (life host.new (clock_told C.floor C.readings C.reads clock.new) (link_told L.sent L.waiting L.faults L.receives link.new) askers.new) }
+{
+    if !askers.wait(*is_busy) {
+        return Some(End::Deaf);
+    }
+    *is_busy = round(alloc, host, link, clock, askers);
+    if host.halt.is_some() {
+        return Some(End::Halted);
+    }
+    if end_on(alloc, host, link, clock, askers) {
+        Some(End::Told)
+    } else {
+        None
+    }
 }
 
 /// Hears all once, and does what can be done. Whether something is left to be done at once.
