@@ -4,7 +4,7 @@ use crate::askers::Asker;
 use crate::link::HostLink;
 use mio::net::UnixListener;
 use mio::{Events, Interest, Poll, Token};
-use nq_asks::Kind;
+use nq_asks::AnswerKind;
 use nq_tasks::{Ask, NOBODY};
 use std::alloc::Global;
 use std::io;
@@ -177,7 +177,7 @@ impl Door {
         &mut self,
         place: usize,
         number: u32,
-        kind: Kind,
+        kind: AnswerKind,
         text: &[u8],
         bytes: &[u8],
     ) {

@@ -6,11 +6,11 @@ use crate::door::Door;
 use crate::ledger::Ledger;
 use crate::notes::Notes;
 use crate::starts::pause;
-use nq_asks::Kind;
+use nq_asks::AnswerKind;
 use nq_base::{Answer, Call, FileId, Journal, Name, NoMemory, Who};
 use nq_living::{Askers, Paged};
 use nq_tasks::{
-    Ask, Came, Listed, Made, NO_MEMORY, NOBODY, Reply, Waiting, Work, name_stored, own_name,
+    Ask, AskReply, Came, Listed, Made, NO_MEMORY, NOBODY, Waiting, Work, name_stored, own_name,
 };
 use std::alloc::Global;
 
@@ -106,7 +106,7 @@ impl Askers for Hosting {
 
     fn take(&mut self, answer: &Answer) {
         let came = match &mut self.work {
-            Some(work) => work.take(answer),
+            Some(work) => work.take_answer(answer),
             None => Came::On,
         };
         self.came(came);
@@ -153,7 +153,7 @@ impl Askers for Hosting {
             self.refuse(place, number, STILL_DELAYED);
             return false;
         }
-        self.reply(place, number, Kind::Done, b"ok", &[]);
+        self.reply(place, number, AnswerKind::Done, b"ok", &[]);
         true
     }
 }
@@ -260,7 +260,7 @@ impl Hosting {
     fn probe(&mut self, now: u64, page: Option<Vec<u8>>) -> Option<Vec<u8>> {
         if let Some(page) = &page {
             let who = self.who();
-            self.waiting.take(self.alloc, who, page);
+            self.waiting.take_page(self.alloc, who, page);
         }
         self.waiter(now)?;
         let (who, number) = (self.who(), self.next_number());
@@ -292,7 +292,8 @@ impl Hosting {
             return;
         };
         if let Some(words) = self.waiting.tells(now) {
-            self.door.answer(place, number, Kind::Wait, words, &[]);
+            self.door
+                .answer(place, number, AnswerKind::Wait, words, &[]);
         }
     }
 
@@ -422,7 +423,7 @@ impl Hosting {
             }
             Came::Over(reply) => {
                 self.work = None;
-                let Reply {
+                let AskReply {
                     place,
                     number,
                     kind,
@@ -444,17 +445,18 @@ impl Hosting {
 
     /// Refuses an ask.
     fn refuse(&mut self, place: usize, number: u32, why: &[u8]) {
-        self.reply(place, number, Kind::Refused, why, &[]);
+        self.reply(place, number, AnswerKind::Refused, why, &[]);
     }
 
     /// Answers an ask. Before, whoever asked is told of the delayed writes that were lost since somebody was told.
-    fn reply(&mut self, place: usize, number: u32, kind: Kind, text: &[u8], bytes: &[u8]) {
+    fn reply(&mut self, place: usize, number: u32, kind: AnswerKind, text: &[u8], bytes: &[u8]) {
         if !self.door.has(place) {
             return;
         }
         let lost = self.notes.take_lost();
         if !lost.is_empty() {
-            self.door.answer(place, number, Kind::Note, &lost, &[]);
+            self.door
+                .answer(place, number, AnswerKind::Note, &lost, &[]);
         }
         self.door.answer(place, number, kind, text, bytes);
     }
