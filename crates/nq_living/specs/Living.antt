@@ -75,8 +75,8 @@ pub record Makes {A : Type 0} (takes : A → Answer → A → Type 0) (stirs : A
   pub hands : Hands takes (final answer) told after.askers
 
 -- those who ask gave a call while no other one was under way, and it was made
-pub record Calls {A : Type 0} (gives : A → Option Call → A → Type 0) (takes : A → Answer → A → Type 0) (stirs : A → A → Type 0) (at after : Life A)
-    : Type 0 where
+pub record Calls {A : Type 0} (gives : A → Option Call → A → Type 0) (takes : A → Answer → A → Type 0) (stirs : A → A → Type 0)
+    (at after : Life A) : Type 0 where
   pub ready : is_ready at.client.client ≡ true
   pub call : Call
   pub given : A
@@ -115,8 +115,8 @@ Pages stirs at after =
     TurnsPage stirs at.link after.link at.askers after.askers × (after ≡ record at { link = after.link; askers = after.askers })
 
 -- one step of a host that lives: a turn, a call, no call, a page of a list, or what those who ask do by themselves
-pub data Step (A : Type 0) (gives : A → Option Call → A → Type 0) (takes : A → Answer → A → Type 0) (stirs : A → A → Type 0) (at after : Life A)
-    : Type 0 where
+pub data Step (A : Type 0) (gives : A → Option Call → A → Type 0) (takes : A → Answer → A → Type 0) (stirs : A → A → Type 0)
+    (at after : Life A) : Type 0 where
   turned : Turns takes stirs at after → Step A gives takes stirs at after
   called : Calls gives takes stirs at after → Step A gives takes stirs at after
   idle : GivesNone gives at after → Step A gives takes stirs at after
@@ -124,14 +124,14 @@ pub data Step (A : Type 0) (gives : A → Option Call → A → Type 0) (takes :
   stirred : Stirs stirs at after → Step A gives takes stirs at after
 
 -- so many steps one after another
-abbrev pub Lives : {A : Type 0} → (gives : A → Option Call → A → Type 0) → (takes : A → Answer → A → Type 0) → (stirs : A → A → Type 0) → (count : ℕ)
-    → (at after : Life A) → Type 0
+abbrev pub Lives : {A : Type 0} → (gives : A → Option Call → A → Type 0) → (takes : A → Answer → A → Type 0) → (stirs : A → A → Type 0)
+    → (count : ℕ) → (at after : Life A) → Type 0
 Lives gives takes stirs zero at after = after ≡ at
 Lives {A = A} gives takes stirs (suc count) at after =
     (between : Life A) × Lives gives takes stirs count at between × Step A gives takes stirs between after
 
 -- some steps one after another
-pub record Lived {A : Type 0} (gives : A → Option Call → A → Type 0) (takes : A → Answer → A → Type 0) (stirs : A → A → Type 0) (at after : Life A)
-    : Type 0 where
+pub record Lived {A : Type 0} (gives : A → Option Call → A → Type 0) (takes : A → Answer → A → Type 0) (stirs : A → A → Type 0)
+    (at after : Life A) : Type 0 where
   pub count : ℕ
   pub lives : Lives gives takes stirs count at after
