@@ -6,6 +6,7 @@ mod asks;
 mod desk;
 mod inbox;
 mod listing;
+mod tasks;
 mod texts;
 mod waiting;
 mod work;
