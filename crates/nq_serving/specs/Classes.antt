@@ -1,6 +1,5 @@
 -- What kind of message a datagram is, for the counts of what comes to a server and goes from it.
 use Rattle.std.specs.Prelude.{ℕ, ◌×◌, ◌==◌, List, Option, Some, None, Result, Ok, Err, if◌then◌else◌}
-use Rattle.nq_base.specs.declared.Refusal.TheVariants.{TryLater, Fenced as TooLate}
 use Rattle.nq_xdr.specs.declared.fault.XdrFault.{XdrFault}
 use Rattle.nq_xdr.specs.declared.rpc.fault.RpcFault.{RpcFault}
 use Rattle.nq_xdr.specs.declared.rpc.message.Head.{Head}
@@ -8,7 +7,6 @@ use Rattle.nq_xdr.specs.declared.rpc.message.Message.{Message}
 use Rattle.nq_xdr.specs.declared.rpc.message.Outcome.{Outcome}
 use Rattle.nq_xdr.specs.Reading.{word_at}
 use Rattle.nq_xdr.specs.RpcReading.{message_at}
-use Rattle.nq_wire.specs.Status.{status_number}
 use Rattle.nq_datagrams.specs.Messages.{program}
 use Rattle.nq_serving.specs.declared.traffic.classes.ClassHeard.{ClassHeard}
 use Rattle.nq_serving.specs.declared.traffic.classes.ClassSaid.{ClassSaid}
@@ -41,17 +39,21 @@ number_behind (Err e) = None
 unfoldable pub status_in : List ℕ → Option ℕ
 status_in results = number_behind (word_at results)
 
--- a reply, by its status; that to NULL has none
-abbrev pub status_class : Option ℕ → ClassSaid
-status_class None = ClassSaid.Done
-status_class (Some status) =
-    if status == 0 then ClassSaid.Done
-    else (if status == status_number TryLater then ClassSaid.Later
-    else (if status == status_number TooLate then ClassSaid.Fenced else ClassSaid.Refused))
+-- a reply, by its status: OK, TRYLATER, FENCED, or another one
+unfoldable pub status_class : ℕ → ClassSaid
+status_class status =
+    if status == 0 then ClassSaid.Done else (
+    if status == 501 then ClassSaid.Later else (
+    if status == 502 then ClassSaid.Fenced else ClassSaid.Refused))
+
+-- a reply, by the status in its results; that to NULL has none
+abbrev pub results_class : Option ℕ → ClassSaid
+results_class None = ClassSaid.Done
+results_class (Some status) = status_class status
 
 -- a reply, by its outcome
 abbrev pub outcome_class : Outcome → ClassSaid
-outcome_class (Outcome.Success results) = status_class (status_in results)
+outcome_class (Outcome.Success results) = results_class (status_in results)
 outcome_class other = ClassSaid.Error
 
 -- what was sent, by the message that is read

@@ -2,7 +2,8 @@
 
 ghost use Rattle.std.specs.Prelude.{◌≡◌, Ok};
 ghost use Rattle.nq_xdr.specs.Lent.{lent_message, lent_outcome};
-ghost use Rattle.nq_serving.specs.Classes.{call_class, class_heard, class_said, heard_as, outcome_class, said_as, status_class, status_in};
+ghost use Rattle.nq_xdr.specs.Reading.{word_at};
+ghost use Rattle.nq_serving.specs.Classes.{call_class, class_heard, class_said, heard_as, number_read, outcome_class, results_class, said_as, status_class, status_in};
 
 use nq_datagrams::PROGRAM;
 use nq_xdr::Reader;
@@ -33,12 +34,6 @@ pub(crate) enum ClassSaid {
     /// A reply that there is no such call.
     Error,
 }
-
-/// The status of a request that is to come again later.
-const TRY_LATER: u32 = 501;
-
-/// The status of a delayed write that comes too late.
-const FENCED: u32 = 502;
 
 /// What kind of message came.
 pub(crate) fn class_heard(bytes: &[u8]) -> ClassHeard
@@ -96,8 +91,18 @@ fn answered(outcome: LentOutcome<'_>) -> ClassSaid
     ensures { result ≡ outcome_class (lent_outcome outcome.entry) }
 {
     match outcome {
-        LentOutcome::Success(results) => status_said(status_of(results)),
+        LentOutcome::Success(results) => carried_out(results),
         _ => ClassSaid::Error,
+    }
+}
+
+/// Of what kind a reply with these results is; that to NULL has none.
+fn carried_out(results: &[u8]) -> ClassSaid
+    ensures { result ≡ results_class (status_in results.now) }
+{
+    match status_of(results) {
+        None => ClassSaid::Done,
+        Some(status) => status_said(status),
     }
 }
 
@@ -109,21 +114,30 @@ fn status_of(results: &[u8]) -> Option<u32>
     let mut reader = Reader::new(results);
     match reader.u32() {
         Err(_) => None,
-        Ok(_) => match reader.u32() {
-            Err(_) => None,
-            Ok(status) => Some(status),
-        },
+        Ok(_) => word_behind(reader),
     }
 }
 
-/// What a reply with this status says; that to NULL has none.
-fn status_said(status: Option<u32>) -> ClassSaid
+/// The word that is read next.
+fn word_behind(reader: Reader<'_>) -> Option<u32>
+    ensures { result ≡ number_read (word_at reader.entry) }
+{
+    let mut reader = reader;
+    match reader.u32() {
+        Err(_) => None,
+        Ok(word) => Some(word),
+    }
+}
+
+/// What a reply with this status says: OK, TRYLATER, FENCED, or another one.
+#[tactic(auto, unfolding(crate::specs::Classes::status_class))]
+fn status_said(status: u32) -> ClassSaid
     ensures { result ≡ status_class status }
 {
     match status {
-        None | Some(0) => ClassSaid::Done,
-        Some(TRY_LATER) => ClassSaid::Later,
-        Some(FENCED) => ClassSaid::Fenced,
-        Some(_) => ClassSaid::Refused,
+        0 => ClassSaid::Done,
+        501 => ClassSaid::Later,
+        502 => ClassSaid::Fenced,
+        _ => ClassSaid::Refused,
     }
 }
