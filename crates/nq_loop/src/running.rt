@@ -18,12 +18,12 @@ use crate::schedules::loop_head;
 use crate::state::LoopState;
 use crate::taking::take_turns;
 use crate::turns::Halt;
-use nq_base::ending::Ending;
+use nq_base::ending::{Ended, Ending};
 use nq_clock::Clock;
 use nq_io::Sink;
 use nq_keeper::Keeper;
 use nq_link::Link;
-use nq_replay::{Finished, tell_limit};
+use nq_replay::tell_limit;
 use nq_script::{Head, Schedule};
 use nq_world::{NewFault, World, begin};
 use std::alloc::Global;
@@ -48,7 +48,7 @@ pub fn run_loop<P: Keeper, K: Sink, L: Link, C: Clock>(
     links: &mut [L],
     clock: &mut C,
     out: &mut K,
-) -> Finished<P>
+) -> Ended<Ending, P>
     requires empty { P.content keeper ≡ Some empty_kept }
     requires some { 1 ≤ hosts }
     requires few { hosts ≤ 64 }
@@ -56,28 +56,29 @@ pub fn run_loop<P: Keeper, K: Sink, L: Link, C: Clock>(
     ensures ends { LoopEnds result.end hosts turns (clock_told C.floor C.readings C.reads clock.old) (clock_told C.floor C.readings C.reads clock.new)
         (map (told_of L.sent L.waiting L.faults L.receives) links.old) (map (told_of L.sent L.waiting L.faults L.receives) links.new)
         (K.held out.old) (K.held out.new) (K.faults out.old) (K.faults out.new) }
-    ensures keeps { result.end ≡ Ending.Done → KeepsLoop hosts turns (clock_told C.floor C.readings C.reads clock.old) (clock_told C.floor C.readings C.reads clock.new)
+    ensures keeps { result.end ≡ Ending.Done
+        → KeepsLoop hosts turns (clock_told C.floor C.readings C.reads clock.old) (clock_told C.floor C.readings C.reads clock.new)
         (map (told_of L.sent L.waiting L.faults L.receives) links.old) (map (told_of L.sent L.waiting L.faults L.receives) links.new)
-        (K.held out.old) (K.held out.new) (P.content result.keeper) }
-    ensures counts { CountsKeeper result.end (P.faults keeper) (P.faults result.keeper) }
+        (K.held out.old) (K.held out.new) (P.content result.left) }
+    ensures counts { CountsKeeper result.end (P.faults keeper) (P.faults result.left) }
     ensures sink { CountsSink result.end (K.faults out.old) (K.faults out.new) }
-    ensures follows { P.follows keeper result.keeper }
+    ensures follows { P.follows keeper result.left }
 {
     let Ok(head) = loop_head(alloc, hosts) else {
-        return Finished {
+        return Ended {
             end: Ending::Memory,
-            keeper,
+            left: keeper,
         };
     };
     match begin(alloc, &head, keeper) {
         Ok(world) => loop_over(alloc, &head, world, hosts, turns, links, clock, out),
-        Err(NewFault::Failed(keeper)) => Finished {
+        Err(NewFault::Failed(keeper)) => Ended {
             end: Ending::KeepFault,
-            keeper,
+            left: keeper,
         },
-        Err(NewFault::Memory(keeper)) => Finished {
+        Err(NewFault::Memory(keeper)) => Ended {
             end: Ending::Memory,
-            keeper,
+            left: keeper,
         },
     }
 }
@@ -92,7 +93,7 @@ fn loop_over<P: Keeper, K: Sink, L: Link, C: Clock>(
     links: &mut [L],
     clock: &mut C,
     out: &mut K,
-) -> Finished<P>
+) -> Ended<Ending, P>
     requires head { head.now ≡ loop_head hosts }
     requires some { 1 ≤ hosts }
     requires few { hosts ≤ 64 }
@@ -102,31 +103,32 @@ fn loop_over<P: Keeper, K: Sink, L: Link, C: Clock>(
     ensures ends { LoopEnds result.end hosts turns (clock_told C.floor C.readings C.reads clock.old) (clock_told C.floor C.readings C.reads clock.new)
         (map (told_of L.sent L.waiting L.faults L.receives) links.old) (map (told_of L.sent L.waiting L.faults L.receives) links.new)
         (K.held out.old) (K.held out.new) (K.faults out.old) (K.faults out.new) }
-    ensures keeps { result.end ≡ Ending.Done → KeepsLoop hosts turns (clock_told C.floor C.readings C.reads clock.old) (clock_told C.floor C.readings C.reads clock.new)
+    ensures keeps { result.end ≡ Ending.Done
+        → KeepsLoop hosts turns (clock_told C.floor C.readings C.reads clock.old) (clock_told C.floor C.readings C.reads clock.new)
         (map (told_of L.sent L.waiting L.faults L.receives) links.old) (map (told_of L.sent L.waiting L.faults L.receives) links.new)
-        (K.held out.old) (K.held out.new) (P.content result.keeper) }
-    ensures counts { CountsKeeper result.end (P.faults world.server.keeper) (P.faults result.keeper) }
+        (K.held out.old) (K.held out.new) (P.content result.left) }
+    ensures counts { CountsKeeper result.end (P.faults world.server.keeper) (P.faults result.left) }
     ensures sink { CountsSink result.end (K.faults out.old) (K.faults out.new) }
-    ensures follows { P.follows world.server.keeper result.keeper }
+    ensures follows { P.follows world.server.keeper result.left }
 {
     let mut world = world;
     let Ok(mut ran) = Schedule::new(alloc) else {
-        return Finished {
+        return Ended {
             end: Ending::Memory,
-            keeper: world.into_keeper(),
+            left: world.into_keeper(),
         };
     };
     let Ok(mut state) = LoopState::new(alloc, hosts) else {
-        return Finished {
+        return Ended {
             end: Ending::Memory,
-            keeper: world.into_keeper(),
+            left: world.into_keeper(),
         };
     };
     let last = take_turns(alloc, &mut world, links, clock, &mut state, &mut ran, turns);
     let end = tell(alloc, head, &world, &ran, last, out);
-    Finished {
+    Ended {
         end,
-        keeper: world.into_keeper(),
+        left: world.into_keeper(),
     }
 }
 

@@ -2,7 +2,6 @@
 #![tactic(auto)]
 
 pub mod asides;
-mod finished;
 mod parts;
 pub mod play;
 mod printing;
@@ -11,7 +10,6 @@ mod schedules;
 mod texts;
 pub mod version_one;
 
-pub use finished::Finished;
 pub use nq_base::NoMemory;
 pub use parts::print_parts;
 pub use printing::{Bound, script_text, tell_over};

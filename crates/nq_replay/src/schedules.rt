@@ -19,10 +19,9 @@ ghost use Rattle.nq_script.specs.declared.heads.Head.{Head};
 ghost use Rattle.nq_world.specs.Playing.{CountsFaults, HasSettings, Plays};
 ghost use Rattle.nq_world.specs.declared.stepped.Stepped.{Stepped};
 
-use crate::finished::Finished;
 use crate::play::{Played, play};
 use crate::printing::{Bound, limit_text, script_text, skew_text};
-use nq_base::ending::Ending;
+use nq_base::ending::{Ended, Ending};
 use nq_base::{Journal, SkewBroken};
 use nq_io::{Sink, put_line};
 use nq_journal::{Printed, print};
@@ -48,25 +47,25 @@ pub fn replay<P: Keeper, K: Sink>(
     keeper: P,
     script: &Script,
     out: &mut K,
-) -> Finished<P>
+) -> Ended<Ending, P>
     requires ready { IsReady script.now }
     requires empty { P.content keeper ≡ Some empty_kept }
     ensures ends { EndsOver result.end script.now.head (play script.now.head script.now.lines) (K.held out.old) (K.held out.new)
         (K.faults out.old) (K.faults out.new) }
-    ensures keeps { result.end ≡ Ending.Done → KeepsPlayed script.now.head (play script.now.head script.now.lines) (P.content result.keeper) }
-    ensures counts { CountsKeeper result.end (P.faults keeper) (P.faults result.keeper) }
+    ensures keeps { result.end ≡ Ending.Done → KeepsPlayed script.now.head (play script.now.head script.now.lines) (P.content result.left) }
+    ensures counts { CountsKeeper result.end (P.faults keeper) (P.faults result.left) }
     ensures sink { CountsSink result.end (K.faults out.old) (K.faults out.new) }
-    ensures follows { P.follows keeper result.keeper }
+    ensures follows { P.follows keeper result.left }
 {
     match begin(alloc, &script.head, keeper) {
         Ok(world) => replay_over(alloc, world, script, out),
-        Err(NewFault::Failed(keeper)) => Finished {
+        Err(NewFault::Failed(keeper)) => Ended {
             end: Ending::KeepFault,
-            keeper,
+            left: keeper,
         },
-        Err(NewFault::Memory(keeper)) => Finished {
+        Err(NewFault::Memory(keeper)) => Ended {
             end: Ending::Memory,
-            keeper,
+            left: keeper,
         },
     }
 }
@@ -77,23 +76,23 @@ fn replay_over<P: Keeper, K: Sink>(
     world: World<P>,
     script: &Script,
     out: &mut K,
-) -> Finished<P>
+) -> Ended<Ending, P>
     requires ready { IsReady script.now }
     requires settings { HasSettings script.now.head.hosts script.now.head.longest script.now.head.term world }
     requires plays { Plays (beginning script.now.head) [] world (P.content world.server.keeper) }
     ensures ends { EndsOver result.end script.now.head (play script.now.head script.now.lines) (K.held out.old) (K.held out.new)
         (K.faults out.old) (K.faults out.new) }
-    ensures keeps { result.end ≡ Ending.Done → KeepsPlayed script.now.head (play script.now.head script.now.lines) (P.content result.keeper) }
-    ensures counts { CountsKeeper result.end (P.faults world.server.keeper) (P.faults result.keeper) }
+    ensures keeps { result.end ≡ Ending.Done → KeepsPlayed script.now.head (play script.now.head script.now.lines) (P.content result.left) }
+    ensures counts { CountsKeeper result.end (P.faults world.server.keeper) (P.faults result.left) }
     ensures sink { CountsSink result.end (K.faults out.old) (K.faults out.new) }
-    ensures follows { P.follows world.server.keeper result.keeper }
+    ensures follows { P.follows world.server.keeper result.left }
 {
     let mut world = world;
     let played = play_over(alloc, &mut world, script);
     let end = tell(alloc, &world, script.head.version, played, out);
-    Finished {
+    Ended {
         end,
-        keeper: world.into_keeper(),
+        left: world.into_keeper(),
     }
 }
 

@@ -5,12 +5,12 @@ ghost use Rattle.nq_loop.specs.Sending.{told_of};
 ghost use Rattle.nq_clock.specs.Clocks.{clock_told};
 ghost use Rattle.nq_run.specs.Running.{LoopsOn};
 
+use nq_base::ending::Ended;
 use nq_clock::Clock;
 use nq_disk::Disk;
 use nq_io::Sink;
 use nq_link::Link;
 use nq_loop::run_loop;
-use nq_service::Ended;
 use nq_service::blank::emptied;
 use std::alloc::Global;
 
@@ -23,27 +23,27 @@ pub(crate) fn looped<K: Sink, D: Disk + Drop, L: Link, C: Clock>(
     links: &mut [L],
     clock: &mut C,
     out: &mut K,
-) -> Ended<D>
+) -> Ended<u8, D>
     requires tells { (bytes : List ℕ) × (D.told disk ≡ Some bytes) }
     requires some { 1 ≤ hosts }
     requires few { hosts ≤ 64 }
     requires links { length links.old ≡ hosts + 1 }
-    ensures loops { LoopsOn result.status hosts turns (clock_told C.floor C.readings C.reads clock.old) (clock_told C.floor C.readings C.reads clock.new)
+    ensures loops { LoopsOn result.end hosts turns (clock_told C.floor C.readings C.reads clock.old) (clock_told C.floor C.readings C.reads clock.new)
         (map (told_of L.sent L.waiting L.faults L.receives) links.old) (map (told_of L.sent L.waiting L.faults L.receives) links.new)
-        (K.held out.old) (K.held out.new) (K.faults out.old) (K.faults out.new) (D.faults disk) (D.faults result.disk) (D.told result.disk) }
-    ensures follows { D.follows disk result.disk }
+        (K.held out.old) (K.held out.new) (K.faults out.old) (K.faults out.new) (D.faults disk) (D.faults result.left) (D.told result.left) }
+    ensures follows { D.follows disk result.left }
 {
     match emptied(alloc, disk) {
         Ok(store) => {
             let finished = run_loop(alloc, store, hosts, turns, links, clock, out);
             Ended {
-                status: finished.end.status(),
-                disk: finished.keeper.into_disk(),
+                end: finished.end.status(),
+                left: finished.left.into_disk(),
             }
         }
-        Err(left) => Ended {
-            status: left.end.status(),
-            disk: left.disk,
+        Err(ended) => Ended {
+            end: ended.end.status(),
+            left: ended.left,
         },
     }
 }

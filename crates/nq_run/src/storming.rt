@@ -9,9 +9,9 @@ ghost use Rattle.nq_storm.specs.Kinds.{TellOthers};
 
 use crate::fates::place_of;
 use crate::usage::usage;
+use nq_base::ending::Ended;
 use nq_disk::Disk;
 use nq_io::Sink;
-use nq_service::Ended;
 use nq_service::blank::emptied;
 use nq_storm::fates::Fate;
 use nq_storm::run_storm;
@@ -26,32 +26,33 @@ pub(crate) fn stormed<K: Sink, D: Disk + Drop>(
     start: u64,
     events: u32,
     out: &mut K,
-) -> Ended<D>
+) -> Ended<u8, D>
     requires { (bytes : List ℕ) × (D.told disk ≡ Some bytes) }
-    ensures storms { StormsOn result.status kind start events (map (λ fate. (Fate-box fate).told fate.value) fates.old)
-        (map (λ fate. fate_told ((Fate-box fate).told fate.value) (asks fate)) fates.old) (map (λ fate. fate_told ((Fate-box fate).told fate.value) (asks fate)) fates.new)
-        (K.held out.old) (K.held out.new) (K.faults out.old) (K.faults out.new) (D.faults disk) (D.faults result.disk) (D.told result.disk) }
-    ensures never { TellOthers kind (map (λ fate. (Fate-box fate).told fate.value) fates.old) → (result.status ≡ status_of Ending.Usage) × (result.disk ≡ disk) }
-    ensures alone { result.status ≡ status_of Ending.Usage → result.disk ≡ disk }
-    ensures follows { D.follows disk result.disk }
+    ensures storms { StormsOn result.end kind start events (map (λ fate. (Fate-box fate).told fate.value) fates.old)
+        (map (λ fate. fate_told ((Fate-box fate).told fate.value) (asks fate)) fates.old)
+        (map (λ fate. fate_told ((Fate-box fate).told fate.value) (asks fate)) fates.new)
+        (K.held out.old) (K.held out.new) (K.faults out.old) (K.faults out.new) (D.faults disk) (D.faults result.left) (D.told result.left) }
+    ensures never { TellOthers kind (map (λ fate. (Fate-box fate).told fate.value) fates.old) → (result.end ≡ status_of Ending.Usage) × (result.left ≡ disk) }
+    ensures alone { result.end ≡ status_of Ending.Usage → result.left ≡ disk }
+    ensures follows { D.follows disk result.left }
 {
     match place_of(fates, kind) {
         Some(place) => match emptied(alloc, disk) {
             Ok(store) => {
                 let finished = run_storm(alloc, store, &mut *fates[place], start, events, out);
                 Ended {
-                    status: finished.end.status(),
-                    disk: finished.keeper.into_disk(),
+                    end: finished.end.status(),
+                    left: finished.left.into_disk(),
                 }
             }
-            Err(left) => Ended {
-                status: left.end.status(),
-                disk: left.disk,
+            Err(ended) => Ended {
+                end: ended.end.status(),
+                left: ended.left,
             },
         },
         None => Ended {
-            status: usage(out),
-            disk,
+            end: usage(out),
+            left: disk,
         },
     }
 }

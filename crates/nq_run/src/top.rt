@@ -30,12 +30,13 @@ use crate::replaying::replayed;
 use crate::staged::staged;
 use crate::storming::stormed;
 use crate::usage::usage;
+use nq_base::ending::Ended;
 use nq_clock::Clock;
-use nq_command::{Command, Words};
+use nq_command::{Command, CommandWords};
 use nq_disk::Disk;
 use nq_io::{Sink, Source};
 use nq_link::Link;
-use nq_service::{Ended, format_disk, serve_disk};
+use nq_service::{format_disk, serve_disk};
 use nq_storm::fates::Fate;
 use std::alloc::Global;
 
@@ -62,7 +63,7 @@ const MOST_BYTES: usize = 16_777_216;
 /// `docs/commands.md` says when each status comes, and what is printed then.
 pub fn run<S: Source, K: Sink, D: Disk + Drop, L: Link, C: Clock>(
     alloc: Global,
-    words: &Words,
+    words: &CommandWords,
     input: &mut S,
     out: &mut K,
     disk: D,
@@ -70,55 +71,58 @@ pub fn run<S: Source, K: Sink, D: Disk + Drop, L: Link, C: Clock>(
     links: &mut [L],
     clock: &mut C,
     fates: &mut [Box<dyn Fate>],
-) -> Ended<D>
+) -> Ended<u8, D>
     requires tells { makes_a_run (command_of words.now) ≡ true → (bytes : List ℕ) × (D.told disk ≡ Some bytes) }
     requires links { (hosts turns : ℕ) → command_of words.now ≡ Some (Command.Loop hosts turns) → length links.old ≡ hosts + 1 }
-    ensures usage { result.status ≡ status_of Ending.Usage → SaysNothing (command_of words.now) (map (λ fate. (Fate-box fate).told fate.value) fates.old) }
-    ensures never { NeverSays (command_of words.now) (map (λ fate. (Fate-box fate).told fate.value) fates.old) → result.status ≡ status_of Ending.Usage }
-    ensures known { AreTheFour (map (λ fate. (Fate-box fate).told fate.value) fates.old) → result.status ≡ status_of Ending.Usage → command_of words.now ≡ None }
-    ensures nothing { result.status ≡ status_of Ending.Usage
+    ensures usage { result.end ≡ status_of Ending.Usage → SaysNothing (command_of words.now) (map (λ fate. (Fate-box fate).told fate.value) fates.old) }
+    ensures never { NeverSays (command_of words.now) (map (λ fate. (Fate-box fate).told fate.value) fates.old) → result.end ≡ status_of Ending.Usage }
+    ensures known { AreTheFour (map (λ fate. (Fate-box fate).told fate.value) fates.old) → result.end ≡ status_of Ending.Usage → command_of words.now ≡ None }
+    ensures nothing { result.end ≡ status_of Ending.Usage
         → (S.left input.new ≡ S.left input.old) × PrintsLine usage_line (K.held out.old) (K.held out.new) (K.faults out.old) (K.faults out.new) }
-    ensures formats { IsFormat words.now → Formats D.faults D.told D.may_leave result.status disk result.disk }
+    ensures formats { IsFormat words.now → Formats D.faults D.told D.may_leave result.end disk result.left }
     ensures quiet { IsFormat words.now → out.new ≡ out.old }
     ensures serves { (turns longest : ℕ) → command_of words.now ≡ Some (Command.Serve turns longest)
-        → ServesDisk D.told D.faults D.may_leave D.follows D.leaves result.status longest turns disk result.disk
+        → ServesDisk D.told D.faults D.may_leave D.follows D.leaves result.end longest turns disk result.left
         (clock_told C.floor C.readings C.reads clock.old) (clock_told C.floor C.readings C.reads clock.new)
         (link_told L.sent L.waiting L.faults L.receives link.old)
         (link_told L.sent L.waiting L.faults L.receives link.new)
         (K.held out.old) (K.held out.new) (K.faults out.old) (K.faults out.new) }
     ensures replays { IsReplay words.now
-        → ReplaysOn most_bytes result.status (S.left input.old) (S.left input.new) (K.held out.old) (K.held out.new)
-        (S.faults input.old) (S.faults input.new) (K.faults out.old) (K.faults out.new) (D.faults disk) (D.faults result.disk)
-        (D.told result.disk) disk result.disk }
+        → ReplaysOn most_bytes result.end (S.left input.old) (S.left input.new) (K.held out.old) (K.held out.new)
+        (S.faults input.old) (S.faults input.new) (K.faults out.old) (K.faults out.new) (D.faults disk) (D.faults result.left)
+        (D.told result.left) disk result.left }
     ensures storms { (kind start events : ℕ) → command_of words.now ≡ Some (Command.Storm kind start events)
-        → StormsOn result.status kind start events (map (λ fate. (Fate-box fate).told fate.value) fates.old)
-        (map (λ fate. fate_told ((Fate-box fate).told fate.value) (asks fate)) fates.old) (map (λ fate. fate_told ((Fate-box fate).told fate.value) (asks fate)) fates.new)
-        (K.held out.old) (K.held out.new) (K.faults out.old) (K.faults out.new) (D.faults disk) (D.faults result.disk) (D.told result.disk) }
+        → StormsOn result.end kind start events (map (λ fate. (Fate-box fate).told fate.value) fates.old)
+        (map (λ fate. fate_told ((Fate-box fate).told fate.value) (asks fate)) fates.old)
+        (map (λ fate. fate_told ((Fate-box fate).told fate.value) (asks fate)) fates.new)
+        (K.held out.old) (K.held out.new) (K.faults out.old) (K.faults out.new) (D.faults disk) (D.faults result.left) (D.told result.left) }
     ensures loops { (hosts turns : ℕ) → command_of words.now ≡ Some (Command.Loop hosts turns)
-        → LoopsOn result.status hosts turns (clock_told C.floor C.readings C.reads clock.old) (clock_told C.floor C.readings C.reads clock.new)
+        → LoopsOn result.end hosts turns (clock_told C.floor C.readings C.reads clock.old) (clock_told C.floor C.readings C.reads clock.new)
         (map (told_of L.sent L.waiting L.faults L.receives) links.old) (map (told_of L.sent L.waiting L.faults L.receives) links.new)
-        (K.held out.old) (K.held out.new) (K.faults out.old) (K.faults out.new) (D.faults disk) (D.faults result.disk) (D.told result.disk) }
+        (K.held out.old) (K.held out.new) (K.faults out.old) (K.faults out.new) (D.faults disk) (D.faults result.left) (D.told result.left) }
     ensures checks { IsCheck words.now
-        → ChecksFor most_bytes result.status (S.left input.old) (S.left input.new) (K.held out.old) (K.held out.new)
+        → ChecksFor most_bytes result.end (S.left input.old) (S.left input.new) (K.held out.old) (K.held out.new)
         (S.faults input.old) (S.faults input.new) (K.faults out.old) (K.faults out.new) }
     ensures stages { IsStaged words.now
-        → StagesFor most_bytes result.status (S.left input.old) (S.left input.new) (K.held out.old) (K.held out.new)
+        → StagesFor most_bytes result.end (S.left input.old) (S.left input.new) (K.held out.old) (K.held out.new)
         (S.faults input.old) (S.faults input.new) (K.faults out.old) (K.faults out.new) }
     ensures names { IsNames words.now
-        → NamesFor most_bytes result.status (S.left input.old) (S.left input.new) (K.held out.old) (K.held out.new)
+        → NamesFor most_bytes result.end (S.left input.old) (S.left input.new) (K.held out.old) (K.held out.new)
         (S.faults input.old) (S.faults input.new) (K.faults out.old) (K.faults out.new) }
     ensures attends { (host inc turns : ℕ) → command_of words.now ≡ Some (Command.Client host inc turns)
-        → Attends turns (record { host = host; inc = inc }) most_bytes result.status (S.left input.old) (S.left input.new) (S.faults input.old) (S.faults input.new)
-        (K.held out.old) (K.held out.new) (K.faults out.old) (K.faults out.new) (clock_told C.floor C.readings C.reads clock.old) (clock_told C.floor C.readings C.reads clock.new)
+        → Attends turns (record { host = host; inc = inc }) most_bytes result.end (S.left input.old) (S.left input.new) (S.faults input.old)
+        (S.faults input.new)
+        (K.held out.old) (K.held out.new) (K.faults out.old) (K.faults out.new) (clock_told C.floor C.readings C.reads clock.old)
+        (clock_told C.floor C.readings C.reads clock.new)
         (link_told L.sent L.waiting L.faults L.receives link.old)
         (link_told L.sent L.waiting L.faults L.receives link.new) }
     // Refuses a run that passes over a fault of its input or its output and ends with 0.
-    ensures faultless { result.status ≡ status_of Ending.Done
+    ensures faultless { result.end ≡ status_of Ending.Done
         → (S.faults input.new ≡ S.faults input.old) × (K.faults out.new ≡ K.faults out.old) }
-    ensures follows { D.follows disk result.disk }
-    ensures disk { uses_disk (command_of words.now) ≡ false → result.disk ≡ disk }
-    ensures untouched { NeverSays (command_of words.now) (map (λ fate. (Fate-box fate).told fate.value) fates.old) → result.disk ≡ disk }
-    ensures alone { result.status ≡ status_of Ending.Usage → result.disk ≡ disk }
+    ensures follows { D.follows disk result.left }
+    ensures disk { uses_disk (command_of words.now) ≡ false → result.left ≡ disk }
+    ensures untouched { NeverSays (command_of words.now) (map (λ fate. (Fate-box fate).told fate.value) fates.old) → result.left ≡ disk }
+    ensures alone { result.end ≡ status_of Ending.Usage → result.left ≡ disk }
     ensures input { reads_input (command_of words.now) ≡ false → input.new ≡ input.old }
     ensures link { uses_link (command_of words.now) ≡ false → link.new ≡ link.old }
     ensures hosts { uses_links (command_of words.now) ≡ false → links.new ≡ links.old }
@@ -131,7 +135,7 @@ pub fn run<S: Source, K: Sink, D: Disk + Drop, L: Link, C: Clock>(
 /// Runs the command that words say over a disk. Where they say none, it prints so.
 fn run_command<S: Source, K: Sink, D: Disk + Drop, L: Link, C: Clock>(
     alloc: Global,
-    words: &Words,
+    words: &CommandWords,
     input: &mut S,
     out: &mut K,
     disk: D,
@@ -139,44 +143,50 @@ fn run_command<S: Source, K: Sink, D: Disk + Drop, L: Link, C: Clock>(
     links: &mut [L],
     clock: &mut C,
     fates: &mut [Box<dyn Fate>],
-) -> Ended<D>
+) -> Ended<u8, D>
     requires tells { makes_a_run (command_of words.now) ≡ true → (bytes : List ℕ) × (D.told disk ≡ Some bytes) }
     requires links { (hosts turns : ℕ) → command_of words.now ≡ Some (Command.Loop hosts turns) → length links.old ≡ hosts + 1 }
     ensures does { Does (command_of words.now)
-        (Formats D.faults D.told D.may_leave result.status disk result.disk × (out.new ≡ out.old))
-        (λ turns longest. ServesDisk D.told D.faults D.may_leave D.follows D.leaves result.status longest turns disk result.disk
+        (Formats D.faults D.told D.may_leave result.end disk result.left × (out.new ≡ out.old))
+        (λ turns longest. ServesDisk D.told D.faults D.may_leave D.follows D.leaves result.end longest turns disk result.left
         (clock_told C.floor C.readings C.reads clock.old) (clock_told C.floor C.readings C.reads clock.new)
         (link_told L.sent L.waiting L.faults L.receives link.old)
         (link_told L.sent L.waiting L.faults L.receives link.new)
         (K.held out.old) (K.held out.new) (K.faults out.old) (K.faults out.new))
-        (ReplaysOn most_bytes result.status (S.left input.old) (S.left input.new) (K.held out.old) (K.held out.new)
-        (S.faults input.old) (S.faults input.new) (K.faults out.old) (K.faults out.new) (D.faults disk) (D.faults result.disk)
-        (D.told result.disk) disk result.disk)
-        (λ kind start events. StormsOn result.status kind start events (map (λ fate. (Fate-box fate).told fate.value) fates.old)
-        (map (λ fate. fate_told ((Fate-box fate).told fate.value) (asks fate)) fates.old) (map (λ fate. fate_told ((Fate-box fate).told fate.value) (asks fate)) fates.new)
-        (K.held out.old) (K.held out.new) (K.faults out.old) (K.faults out.new) (D.faults disk) (D.faults result.disk) (D.told result.disk))
-        (λ hosts turns. LoopsOn result.status hosts turns (clock_told C.floor C.readings C.reads clock.old) (clock_told C.floor C.readings C.reads clock.new)
+        (ReplaysOn most_bytes result.end (S.left input.old) (S.left input.new) (K.held out.old) (K.held out.new)
+        (S.faults input.old) (S.faults input.new) (K.faults out.old) (K.faults out.new) (D.faults disk) (D.faults result.left)
+        (D.told result.left) disk result.left)
+        (λ kind start events. StormsOn result.end kind start events (map (λ fate. (Fate-box fate).told fate.value) fates.old)
+        (map (λ fate. fate_told ((Fate-box fate).told fate.value) (asks fate)) fates.old)
+        (map (λ fate. fate_told ((Fate-box fate).told fate.value) (asks fate)) fates.new)
+        (K.held out.old) (K.held out.new) (K.faults out.old) (K.faults out.new) (D.faults disk) (D.faults result.left) (D.told result.left))
+        (λ hosts turns. LoopsOn result.end hosts turns (clock_told C.floor C.readings C.reads clock.old) (clock_told C.floor C.readings C.reads clock.new)
         (map (told_of L.sent L.waiting L.faults L.receives) links.old) (map (told_of L.sent L.waiting L.faults L.receives) links.new)
-        (K.held out.old) (K.held out.new) (K.faults out.old) (K.faults out.new) (D.faults disk) (D.faults result.disk) (D.told result.disk))
-        (ChecksFor most_bytes result.status (S.left input.old) (S.left input.new) (K.held out.old) (K.held out.new)
+        (K.held out.old) (K.held out.new) (K.faults out.old) (K.faults out.new) (D.faults disk) (D.faults result.left) (D.told result.left))
+        (ChecksFor most_bytes result.end (S.left input.old) (S.left input.new) (K.held out.old) (K.held out.new)
         (S.faults input.old) (S.faults input.new) (K.faults out.old) (K.faults out.new))
-        (StagesFor most_bytes result.status (S.left input.old) (S.left input.new) (K.held out.old) (K.held out.new)
+        (StagesFor most_bytes result.end (S.left input.old) (S.left input.new) (K.held out.old) (K.held out.new)
         (S.faults input.old) (S.faults input.new) (K.faults out.old) (K.faults out.new))
-        (NamesFor most_bytes result.status (S.left input.old) (S.left input.new) (K.held out.old) (K.held out.new)
+        (NamesFor most_bytes result.end (S.left input.old) (S.left input.new) (K.held out.old) (K.held out.new)
         (S.faults input.old) (S.faults input.new) (K.faults out.old) (K.faults out.new))
-        (λ host inc turns. Attends turns (record { host = host; inc = inc }) most_bytes result.status (S.left input.old) (S.left input.new) (S.faults input.old) (S.faults input.new)
-        (K.held out.old) (K.held out.new) (K.faults out.old) (K.faults out.new) (clock_told C.floor C.readings C.reads clock.old) (clock_told C.floor C.readings C.reads clock.new)
+        (λ host inc turns. Attends turns (record { host = host; inc = inc }) most_bytes result.end (S.left input.old) (S.left input.new) (S.faults input.old)
+        (S.faults input.new)
+        (K.held out.old) (K.held out.new) (K.faults out.old) (K.faults out.new) (clock_told C.floor C.readings C.reads clock.old)
+        (clock_told C.floor C.readings C.reads clock.new)
         (link_told L.sent L.waiting L.faults L.receives link.old)
         (link_told L.sent L.waiting L.faults L.receives link.new)) }
-    ensures usage { result.status ≡ status_of Ending.Usage → SaysNothing (command_of words.now) (map (λ fate. (Fate-box fate).told fate.value) fates.old)
+    ensures usage { result.end ≡ status_of Ending.Usage → SaysNothing (command_of words.now) (map (λ fate. (Fate-box fate).told fate.value) fates.old)
         × (S.left input.new ≡ S.left input.old) × PrintsLine usage_line (K.held out.old) (K.held out.new) (K.faults out.old) (K.faults out.new) }
-    ensures never { NeverSays (command_of words.now) (map (λ fate. (Fate-box fate).told fate.value) fates.old) → (result.status ≡ status_of Ending.Usage) × (result.disk ≡ disk) }
-    ensures alone { result.status ≡ status_of Ending.Usage → result.disk ≡ disk }
-    ensures faultless { result.status ≡ status_of Ending.Done
+    ensures never { NeverSays (command_of words.now) (map (λ fate. (Fate-box fate).told fate.value) fates.old) → (result.end ≡ status_of Ending.Usage)
+        × (result.left ≡ disk) }
+    ensures alone { result.end ≡ status_of Ending.Usage → result.left ≡ disk }
+    ensures faultless { result.end ≡ status_of Ending.Done
         → (S.faults input.new ≡ S.faults input.old) × (K.faults out.new ≡ K.faults out.old) }
-    ensures follows { D.follows disk result.disk }
-    ensures keeps { Unless (uses_disk (command_of words.now)) (result.disk ≡ disk) × Unless (reads_input (command_of words.now)) (input.new ≡ input.old) × Unless (uses_link (command_of words.now)) (link.new ≡ link.old)
-        × Unless (uses_links (command_of words.now)) (links.new ≡ links.old) × Unless (reads_clock (command_of words.now)) (clock.new ≡ clock.old) × Unless (uses_fates (command_of words.now)) (fates.new ≡ fates.old) }
+    ensures follows { D.follows disk result.left }
+    ensures keeps { Unless (uses_disk (command_of words.now)) (result.left ≡ disk) × Unless (reads_input (command_of words.now)) (input.new ≡ input.old)
+        × Unless (uses_link (command_of words.now)) (link.new ≡ link.old)
+        × Unless (uses_links (command_of words.now)) (links.new ≡ links.old) × Unless (reads_clock (command_of words.now)) (clock.new ≡ clock.old)
+        × Unless (uses_fates (command_of words.now)) (fates.new ≡ fates.old) }
 {
     match words.command() {
         Some(Command::Format) => format_disk(disk),
@@ -195,24 +205,24 @@ fn run_command<S: Source, K: Sink, D: Disk + Drop, L: Link, C: Clock>(
             looped(alloc, disk, hosts, turns, links, clock, out)
         }
         Some(Command::Check) => Ended {
-            status: checked(alloc, input, out, MOST_BYTES),
-            disk,
+            end: checked(alloc, input, out, MOST_BYTES),
+            left: disk,
         },
         Some(Command::Staged) => Ended {
-            status: staged(alloc, input, out, MOST_BYTES),
-            disk,
+            end: staged(alloc, input, out, MOST_BYTES),
+            left: disk,
         },
         Some(Command::Names) => Ended {
-            status: named(alloc, input, out, MOST_BYTES),
-            disk,
+            end: named(alloc, input, out, MOST_BYTES),
+            left: disk,
         },
         Some(Command::Client { host, inc, turns }) => Ended {
-            status: attended(alloc, host, inc, turns, input, out, link, clock, MOST_BYTES),
-            disk,
+            end: attended(alloc, host, inc, turns, input, out, link, clock, MOST_BYTES),
+            left: disk,
         },
         None => Ended {
-            status: usage(out),
-            disk,
+            end: usage(out),
+            left: disk,
         },
     }
 }

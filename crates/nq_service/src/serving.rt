@@ -11,7 +11,7 @@ ghost use Rattle.nq_service.specs.Serving.{EndsServing, PrintsBehind, ServesDisk
 ghost use Rattle.nq_store.specs.Storing.{GoesOn, LeavesKept, content_of, faults_of};
 
 use nq_base::NoMemory;
-use nq_base::ending::Ending;
+use nq_base::ending::{Ended, Ending};
 use nq_clock::Clock;
 use nq_disk::Disk;
 use nq_io::{Sink, put_line};
@@ -25,15 +25,6 @@ const BOOT_PLACE: u64 = 8;
 
 /// The exit status where a byte of the image says that it cannot be served from.
 const BAD_IMAGE: u8 = 10;
-
-/// How a command over a disk ended, and the disk as it left it.
-#[derive(Drop)]
-pub struct Ended<D> {
-    /// The exit status.
-    pub status: u8,
-    /// The disk that was handed in.
-    pub disk: D,
-}
 
 /// Serves over the image on a disk for so many turns, as [`serve`] tells of the store that the disk opens as. What a stop at any
 /// moment of the call may leave on the disk opens, and stands for what was kept at first, or after some of the steps: the boot, and
@@ -51,15 +42,15 @@ pub fn serve_disk<D: Disk + Drop, L: Link, C: Clock, K: Sink>(
     link: &mut L,
     clock: &mut C,
     out: &mut K,
-) -> Ended<D>
+) -> Ended<u8, D>
     requires long { 5 ≤ longest }
     requires short { longest ≤ 600 }
-    ensures serves { ServesDisk D.told D.faults D.may_leave D.follows D.leaves result.status longest turns disk result.disk
+    ensures serves { ServesDisk D.told D.faults D.may_leave D.follows D.leaves result.end longest turns disk result.left
         (clock_told C.floor C.readings C.reads clock.old) (clock_told C.floor C.readings C.reads clock.new)
         (link_told L.sent L.waiting L.faults L.receives link.old)
         (link_told L.sent L.waiting L.faults L.receives link.new)
         (K.held out.old) (K.held out.new) (K.faults out.old) (K.faults out.new) }
-    ensures follows { D.follows disk result.disk }
+    ensures follows { D.follows disk result.left }
 {
     match Store::open(alloc, disk) {
         Ok(store) => serve_store(alloc, store, turns, longest, link, clock, out),
@@ -71,28 +62,28 @@ pub fn serve_disk<D: Disk + Drop, L: Link, C: Clock, K: Sink>(
 }
 
 /// A command that ended so.
-pub(crate) fn ended_with<D>(end: Ending, disk: D) -> Ended<D>
-    ensures status { result.status ≡ status_of end }
-    ensures disk { result.disk ≡ disk }
+pub(crate) fn ended_with<D>(end: Ending, disk: D) -> Ended<u8, D>
+    ensures status { result.end ≡ status_of end }
+    ensures disk { result.left ≡ disk }
 {
     Ended {
-        status: end.status(),
-        disk,
+        end: end.status(),
+        left: disk,
     }
 }
 
 /// Tells which byte of an image is the first wrong one, and ends with the status of that.
-fn refuse<D: Drop, K: Sink>(alloc: Global, disk: D, place: u64, out: &mut K) -> Ended<D>
-    ensures tells { TellsByte place result.status (K.held out.old) (K.held out.new) (K.faults out.old) (K.faults out.new) }
-    ensures disk { result.disk ≡ disk }
+fn refuse<D: Drop, K: Sink>(alloc: Global, disk: D, place: u64, out: &mut K) -> Ended<u8, D>
+    ensures tells { TellsByte place result.end (K.held out.old) (K.held out.new) (K.faults out.old) (K.faults out.new) }
+    ensures disk { result.left ≡ disk }
 {
     let Ok(line) = image_text(alloc, place) else {
         return ended_with(Ending::Memory, disk);
     };
     put_line(out, line.as_bytes());
     Ended {
-        status: BAD_IMAGE,
-        disk,
+        end: BAD_IMAGE,
+        left: disk,
     }
 }
 
@@ -116,7 +107,7 @@ fn serve_store<D: Disk + Drop, L: Link, C: Clock, K: Sink>(
     link: &mut L,
     clock: &mut C,
     out: &mut K,
-) -> Ended<D>
+) -> Ended<u8, D>
     requires long { 5 ≤ longest }
     requires short { longest ≤ 600 }
     ensures serves { EndsServing D.told D.faults D.follows
@@ -125,7 +116,7 @@ fn serve_store<D: Disk + Drop, L: Link, C: Clock, K: Sink>(
         (clock_told C.floor C.readings C.reads clock.old) (clock_told C.floor C.readings C.reads clock.new)
         (link_told L.sent L.waiting L.faults L.receives link.old)
         (link_told L.sent L.waiting L.faults L.receives link.new))
-        result.status turns store result.disk
+        result.end turns store result.left
         (link_told L.sent L.waiting L.faults L.receives link.old)
         (link_told L.sent L.waiting L.faults L.receives link.new)
         (K.held out.old) (K.held out.new) (K.faults out.old) (K.faults out.new) }
@@ -135,9 +126,9 @@ fn serve_store<D: Disk + Drop, L: Link, C: Clock, K: Sink>(
 }
 
 /// Tells how serving ended, with the byte of the image that says so where no number is left for a boot.
-fn tell_end<D: Drop, K: Sink>(alloc: Global, end: Ending, disk: D, out: &mut K) -> Ended<D>
-    ensures prints { PrintsBehind end result.status (K.held out.old) (K.held out.new) (K.faults out.old) (K.faults out.new) }
-    ensures disk { result.disk ≡ disk }
+fn tell_end<D: Drop, K: Sink>(alloc: Global, end: Ending, disk: D, out: &mut K) -> Ended<u8, D>
+    ensures prints { PrintsBehind end result.end (K.held out.old) (K.held out.new) (K.faults out.old) (K.faults out.new) }
+    ensures disk { result.left ≡ disk }
 {
     match end {
         Ending::Spent => refuse(alloc, disk, BOOT_PLACE, out),

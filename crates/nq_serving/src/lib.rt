@@ -2,7 +2,6 @@
 //! went over a link.
 #![tactic(auto)]
 
-mod ended;
 mod extending;
 mod node;
 mod printing;
@@ -11,7 +10,6 @@ pub mod traffic;
 mod turning;
 mod watching;
 
-pub use ended::Ended;
 pub use extending::Extension;
 pub use printing::serve;
 pub use serving::{MOST_TURNS, keep_serving};

@@ -8,12 +8,11 @@ ghost use Rattle.nq_serving.specs.declared.turning.LinkPolicy.{LinkPolicy};
 ghost use Rattle.nq_clock.specs.Clocks.{clock_told};
 ghost use Rattle.nq_link.specs.Links.{link_told};
 
-use crate::ended::Ended;
 use crate::serving::boot_and_run;
 use crate::turning::LinkPolicy;
 use crate::watching::Nobody;
 use nq_base::NoMemory;
-use nq_base::ending::{Ending, Fault};
+use nq_base::ending::{Ended, Ending, Fault};
 use nq_clock::Clock;
 use nq_io::{Put, Sink};
 use nq_keeper::Keeper;
@@ -41,7 +40,8 @@ pub fn serve<K: Keeper, L: Link, C: Clock, S: Sink>(
 ) -> Ended<Ending, K>
     requires long { 5 ≤ longest }
     requires short { longest ≤ 600 }
-    ensures serves { Tells result.end turns (λ ended. LeavesServing K.content K.faults LinkPolicy.Stop no_extension K.follows K.leaves longest turns keeper ended result.left
+    ensures serves { Tells result.end turns
+        (λ ended. LeavesServing K.content K.faults LinkPolicy.Stop no_extension K.follows K.leaves longest turns keeper ended result.left
         (clock_told C.floor C.readings C.reads clock.old) (clock_told C.floor C.readings C.reads clock.new)
         (link_told L.sent L.waiting L.faults L.receives link.old)
         (link_told L.sent L.waiting L.faults L.receives link.new))

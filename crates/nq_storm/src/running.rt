@@ -19,10 +19,10 @@ use crate::printing::print_storm;
 use crate::schedules::storm_head;
 use crate::stormed::Stormed;
 use crate::storms::storm;
-use nq_base::ending::Ending;
+use nq_base::ending::{Ended, Ending};
 use nq_io::Sink;
 use nq_keeper::Keeper;
-use nq_replay::{Finished, tell_limit};
+use nq_replay::tell_limit;
 use nq_script::{Head, Schedule};
 use nq_world::{NewFault, World, begin};
 use std::alloc::Global;
@@ -44,30 +44,30 @@ pub fn run_storm<P: Keeper, K: Sink>(
     start: u64,
     events: u32,
     out: &mut K,
-) -> Finished<P>
+) -> Ended<Ending, P>
     requires { P.content keeper ≡ Some empty_kept }
     ensures ends { StormEnds result.end start events (told fate.old) (K.held out.old) (K.held out.new) (K.faults out.old) (K.faults out.new) }
-    ensures keeps { result.end ≡ Ending.Done → KeepsStorm start events (told fate.old) (K.held out.old) (K.held out.new) (P.content result.keeper) }
+    ensures keeps { result.end ≡ Ending.Done → KeepsStorm start events (told fate.old) (K.held out.old) (K.held out.new) (P.content result.left) }
     ensures asks { AsksFor result.end events (asks fate.old) (asks fate.new) }
-    ensures counts { CountsKeeper result.end (P.faults keeper) (P.faults result.keeper) }
+    ensures counts { CountsKeeper result.end (P.faults keeper) (P.faults result.left) }
     ensures sink { CountsSink result.end (K.faults out.old) (K.faults out.new) }
-    ensures follows { P.follows keeper result.keeper }
+    ensures follows { P.follows keeper result.left }
 {
     let Ok(head) = storm_head(alloc) else {
-        return Finished {
+        return Ended {
             end: Ending::Memory,
-            keeper,
+            left: keeper,
         };
     };
     match begin(alloc, &head, keeper) {
         Ok(world) => storm_over(alloc, &head, world, fate, start, events, out),
-        Err(NewFault::Failed(keeper)) => Finished {
+        Err(NewFault::Failed(keeper)) => Ended {
             end: Ending::KeepFault,
-            keeper,
+            left: keeper,
         },
-        Err(NewFault::Memory(keeper)) => Finished {
+        Err(NewFault::Memory(keeper)) => Ended {
             end: Ending::Memory,
-            keeper,
+            left: keeper,
         },
     }
 }
@@ -82,29 +82,29 @@ fn storm_over<P: Keeper, K: Sink>(
     start: u64,
     events: u32,
     out: &mut K,
-) -> Finished<P>
+) -> Ended<Ending, P>
     requires head { head.now ≡ storm_head }
     requires settings { HasSettings 4 60 30 world }
     requires plays { Plays (beginning storm_head) [] world (P.content world.server.keeper) }
     ensures ends { StormEnds result.end start events (told fate.old) (K.held out.old) (K.held out.new) (K.faults out.old) (K.faults out.new) }
-    ensures keeps { result.end ≡ Ending.Done → KeepsStorm start events (told fate.old) (K.held out.old) (K.held out.new) (P.content result.keeper) }
+    ensures keeps { result.end ≡ Ending.Done → KeepsStorm start events (told fate.old) (K.held out.old) (K.held out.new) (P.content result.left) }
     ensures asks { AsksFor result.end events (asks fate.old) (asks fate.new) }
-    ensures counts { CountsKeeper result.end (P.faults world.server.keeper) (P.faults result.keeper) }
+    ensures counts { CountsKeeper result.end (P.faults world.server.keeper) (P.faults result.left) }
     ensures sink { CountsSink result.end (K.faults out.old) (K.faults out.new) }
-    ensures follows { P.follows world.server.keeper result.keeper }
+    ensures follows { P.follows world.server.keeper result.left }
 {
     let mut world = world;
     let Ok(mut ran) = Schedule::new(alloc) else {
-        return Finished {
+        return Ended {
             end: Ending::Memory,
-            keeper: world.into_keeper(),
+            left: world.into_keeper(),
         };
     };
     let stormed = storm(alloc, &mut world, fate, start, events, &mut ran);
     let end = tell(alloc, head, &world, &ran, stormed, out);
-    Finished {
+    Ended {
         end,
-        keeper: world.into_keeper(),
+        left: world.into_keeper(),
     }
 }
 

@@ -9,20 +9,22 @@ use nq_clock::Clock;
 use nq_disk::Disk;
 use nq_io::{Sink, Source};
 use nq_link::Link;
-use nq_run::{CutFate, Ended, Fate, HostileFate, LossyFate, NoMemory, SteadyFate, Words, run};
+use nq_run::{
+    CommandWords, CutFate, Ended, Fate, HostileFate, LossyFate, NoMemory, SteadyFate, run,
+};
 use std::alloc::Global;
 
 /// Runs what the words say, with the four fates. What `run` promises is said there; no line here needs it.
 pub(crate) fn ran<S: Source, K: Sink, D: Disk + Drop, L: Link, C: Clock>(
     alloc: Global,
-    words: &Words,
+    words: &CommandWords,
     input: &mut S,
     out: &mut K,
     disk: D,
     link: &mut L,
     links: &mut [L],
     clock: &mut C,
-) -> Result<Ended<D>, NoMemory>
+) -> Result<Ended<u8, D>, NoMemory>
     requires tells { makes_a_run (command_of words.now) ≡ true → (bytes : List ℕ) × (D.told disk ≡ Some bytes) }
     requires links { (hosts turns : ℕ) → command_of words.now ≡ Some (Command.Loop hosts turns) → length links.old ≡ hosts + 1 }
 {

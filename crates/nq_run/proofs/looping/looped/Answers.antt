@@ -5,7 +5,7 @@ use Rattle.nq_run.proofs.looping.looped.Goals as goal
 
 pub returns-in-Ok-clause-loops : goal.returns-in-Ok-clause-loops
 returns-in-Ok-clause-loops g c =
-    let served = c.run_loop-finished.result.keeper in
+    let served = c.run_loop-finished.result.left in
     loops_on g.D.Disk.told g.D.Disk.faults g.D.Disk.follows c.status.result c.args.hosts c.args.turns _ _ _ _ _ _ _ _ c.args.disk c.in-Ok.store served
     c.into_disk.result c.into_disk.ensures
     g.met.D.Disk.rises c.in-Ok.ensures.fresh c.in-Ok.ensures.counts c.run_loop-finished.ensures.follows
@@ -15,9 +15,9 @@ returns-in-Ok-clause-loops g c =
 pub returns-in-Ok-clause-follows : goal.returns-in-Ok-clause-follows
 returns-in-Ok-clause-follows g c =
     subst (λ d. g.D.Disk.follows c.args.disk d) (sym c.into_disk.ensures)
-    (g.met.D.Disk.follows_on c.args.disk c.in-Ok.store.disk c.run_loop-finished.result.keeper.disk c.in-Ok.ensures.follows
+    (g.met.D.Disk.follows_on c.args.disk c.in-Ok.store.disk c.run_loop-finished.result.left.disk c.in-Ok.ensures.follows
     c.run_loop-finished.ensures.follows.disk)
 
 pub returns-in-Err-clause-loops : goal.returns-in-Err-clause-loops
 returns-in-Err-clause-loops g c =
-    loops_not c.in-Err.left.end c.status-in-Err.result c.args.hosts c.args.turns _ _ _ _ _ _ _ c.status-in-Err.ensures c.in-Err.ensures.fails
+    loops_not c.in-Err.ended.end c.status-in-Err.result c.args.hosts c.args.turns _ _ _ _ _ _ _ c.status-in-Err.ensures c.in-Err.ensures.fails

@@ -9,7 +9,7 @@ returns-in-Ok-clause-plays g c =
     let head = c.args.script.now.head in
     let due = play head c.args.script.now.lines in
     let disk = c.args.disk in
-    let served = c.replay-finished.result.keeper in
+    let served = c.replay-finished.result.left in
     let held = g.K.Sink.held c.args.out.now in
     let now = g.K.Sink.held c.replay-finished.new.out in
     let w = g.K.Sink.faults c.args.out.now in
@@ -22,11 +22,11 @@ returns-in-Ok-clause-plays g c =
 pub returns-in-Ok-clause-follows : goal.returns-in-Ok-clause-follows
 returns-in-Ok-clause-follows g c =
     subst (λ d. g.D.Disk.follows c.args.disk d) (sym c.into_disk.ensures)
-    (g.met.D.Disk.follows_on c.args.disk c.in-Ok.store.disk c.replay-finished.result.keeper.disk c.in-Ok.ensures.follows
+    (g.met.D.Disk.follows_on c.args.disk c.in-Ok.store.disk c.replay-finished.result.left.disk c.in-Ok.ensures.follows
     c.replay-finished.ensures.follows.disk)
 
 pub returns-in-Err-clause-plays : goal.returns-in-Err-clause-plays
 returns-in-Err-clause-plays g c =
-    plays_not c.in-Err.left.end c.status-in-Err.result c.args.script.now.head (play c.args.script.now.head c.args.script.now.lines) _ _ _ _ _
+    plays_not c.in-Err.ended.end c.status-in-Err.result c.args.script.now.head (play c.args.script.now.head c.args.script.now.lines) _ _ _ _ _
     c.status-in-Err.ensures
     c.in-Err.ensures.fails

@@ -15,11 +15,11 @@ returns-in-Ok-clause-replays g c =
     let between = c.read_script.new.out in
     let out' = c.play_on.new.out in
     let disk = c.args.disk in
-    let disk' = c.play_on.result.disk in
+    let disk' = c.play_on.result.left in
     let bytes = g.D.Disk.told disk' in
-    subst (λ out. ReplaysOn c.args.limit c.play_on.result.status (left input) (left input') (held out) (held out') (reads input) (reads input')
+    subst (λ out. ReplaysOn c.args.limit c.play_on.result.end (left input) (left input') (held out) (held out') (reads input) (reads input')
     (writes out) (writes out') (faults disk) (faults disk') bytes disk disk') c.in-Ok.ensures.quiet
-    (replays_on c.in-Ok.script c.args.limit c.play_on.result.status (left input) (left input') (held between) (held out') (reads input) (reads input')
+    (replays_on c.in-Ok.script c.args.limit c.play_on.result.end (left input) (left input') (held between) (held out') (reads input) (reads input')
     (writes between) (writes out') (faults disk) (faults disk') bytes disk disk'
     c.in-Ok.ensures.read c.in-Ok.ensures.source c.play_on.ensures.plays c.in-Ok.ensures.limit c.in-Ok.ensures.script)
 

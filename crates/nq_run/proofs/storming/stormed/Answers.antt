@@ -11,7 +11,7 @@ use Rattle.nq_run.proofs.storming.stormed.Goals as goal
 pub returns-in-Ok-clause-storms : goal.returns-in-Ok-clause-storms
 returns-in-Ok-clause-storms g c =
     let end = c.run_storm-finished.result.end in
-    let served = c.run_storm-finished.result.keeper in
+    let served = c.run_storm-finished.result.left in
     let kept = content_of g.D.Disk.told served in
     let held = g.K.Sink.held c.args.out.now in
     let now = g.K.Sink.held c.run_storm-finished.new.out in
@@ -36,7 +36,7 @@ returns-in-Ok-clause-storms g c =
 pub returns-in-Ok-clause-follows : goal.returns-in-Ok-clause-follows
 returns-in-Ok-clause-follows g c =
     subst (λ d. g.D.Disk.follows c.args.disk d) (sym c.into_disk.ensures)
-    (g.met.D.Disk.follows_on c.args.disk c.in-Ok.store.disk c.run_storm-finished.result.keeper.disk c.in-Ok.ensures.follows
+    (g.met.D.Disk.follows_on c.args.disk c.in-Ok.store.disk c.run_storm-finished.result.left.disk c.in-Ok.ensures.follows
     c.run_storm-finished.ensures.follows.disk)
 
 pub returns-in-Ok-clause-never : goal.returns-in-Ok-clause-never
@@ -48,7 +48,7 @@ returns-in-Ok-clause-alone g c = λ none.
     absurd (never_usage c.run_storm-finished.result.end c.status.result _ _ _ _ _ _ _ c.status.ensures c.run_storm-finished.ensures.ends none)
 
 pub returns-in-Err-clause-storms : goal.returns-in-Err-clause-storms
-returns-in-Err-clause-storms g c = storms_not c.in-Err.left.end c.status-in-Err.result c.args.kind c.args.start c.args.events _ _ _ _ _ _ _
+returns-in-Err-clause-storms g c = storms_not c.in-Err.ended.end c.status-in-Err.result c.args.kind c.args.start c.args.events _ _ _ _ _ _ _
     c.status-in-Err.ensures c.in-Err.ensures.fails
 
 pub returns-in-Err-clause-never : goal.returns-in-Err-clause-never
@@ -57,7 +57,7 @@ returns-in-Err-clause-never g c = λ others. absurd (none_among _ c.args.kind c.
 
 pub returns-in-Err-clause-alone : goal.returns-in-Err-clause-alone
 returns-in-Err-clause-alone g c = λ none.
-    absurd (starts_usage c.in-Err.left.end c.status-in-Err.result _ _ c.status-in-Err.ensures c.in-Err.ensures.fails none)
+    absurd (starts_usage c.in-Err.ended.end c.status-in-Err.result _ _ c.status-in-Err.ensures c.in-Err.ensures.fails none)
 
 pub returns-in-None-clause-storms : goal.returns-in-None-clause-storms
 returns-in-None-clause-storms g c =

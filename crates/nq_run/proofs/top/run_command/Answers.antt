@@ -25,12 +25,12 @@ returns-in-Some-Format-clause-does g c = rw (sym c.command.ensures.says ∙ c.in
     (c.format_disk.ensures.formats, refl)
 
 pub returns-in-Some-Format-clause-usage : goal.returns-in-Some-Format-clause-usage
-returns-in-Some-Format-clause-usage g c = λ none. absurd (formats_usage g.D.Disk.faults g.D.Disk.told g.D.Disk.may_leave c.format_disk.result.status
-    c.args.disk c.format_disk.result.disk c.format_disk.ensures.formats none)
+returns-in-Some-Format-clause-usage g c = λ none. absurd (formats_usage g.D.Disk.faults g.D.Disk.told g.D.Disk.may_leave c.format_disk.result.end
+    c.args.disk c.format_disk.result.left c.format_disk.ensures.formats none)
 
 pub returns-in-Some-Format-clause-alone : goal.returns-in-Some-Format-clause-alone
-returns-in-Some-Format-clause-alone g c = λ none. absurd (formats_usage g.D.Disk.faults g.D.Disk.told g.D.Disk.may_leave c.format_disk.result.status
-    c.args.disk c.format_disk.result.disk c.format_disk.ensures.formats none)
+returns-in-Some-Format-clause-alone g c = λ none. absurd (formats_usage g.D.Disk.faults g.D.Disk.told g.D.Disk.may_leave c.format_disk.result.end
+    c.args.disk c.format_disk.result.left c.format_disk.ensures.formats none)
 
 pub returns-in-Some-Format-clause-never : goal.returns-in-Some-Format-clause-never
 returns-in-Some-Format-clause-never g c = λ never. absurd (rw (sym c.command.ensures.says ∙ c.in-Some-Format.is ∙ ap Some c.in-Some-Format.field-0-is)
@@ -57,12 +57,12 @@ returns-in-Some-Serve-clause-does g c = rw (sym c.command.ensures.says ∙ c.in-
 
 pub returns-in-Some-Serve-clause-usage : goal.returns-in-Some-Serve-clause-usage
 returns-in-Some-Serve-clause-usage g c = λ none. absurd (serves_usage g.D.Disk.told g.D.Disk.faults g.D.Disk.may_leave g.D.Disk.follows
-    g.D.Disk.leaves c.serve_disk.result.status c.in-Some-Serve.longest c.in-Some-Serve.turns c.args.disk c.serve_disk.result.disk _ _ _ _ _ _ _ _
+    g.D.Disk.leaves c.serve_disk.result.end c.in-Some-Serve.longest c.in-Some-Serve.turns c.args.disk c.serve_disk.result.left _ _ _ _ _ _ _ _
     c.serve_disk.ensures.serves none)
 
 pub returns-in-Some-Serve-clause-alone : goal.returns-in-Some-Serve-clause-alone
 returns-in-Some-Serve-clause-alone g c = λ none. absurd (serves_usage g.D.Disk.told g.D.Disk.faults g.D.Disk.may_leave g.D.Disk.follows
-    g.D.Disk.leaves c.serve_disk.result.status c.in-Some-Serve.longest c.in-Some-Serve.turns c.args.disk c.serve_disk.result.disk _ _ _ _ _ _ _ _
+    g.D.Disk.leaves c.serve_disk.result.end c.in-Some-Serve.longest c.in-Some-Serve.turns c.args.disk c.serve_disk.result.left _ _ _ _ _ _ _ _
     c.serve_disk.ensures.serves none)
 
 pub returns-in-Some-Serve-clause-never : goal.returns-in-Some-Serve-clause-never
@@ -72,7 +72,7 @@ pub returns-in-Some-Serve-clause-faultless : goal.returns-in-Some-Serve-clause-f
 returns-in-Some-Serve-clause-faultless g c = λ done. (
   refl,
   serves_faultless g.D.Disk.told g.D.Disk.faults g.D.Disk.may_leave g.D.Disk.follows
-      g.D.Disk.leaves c.serve_disk.result.status c.in-Some-Serve.longest c.in-Some-Serve.turns c.args.disk c.serve_disk.result.disk _ _ _ _ _ _ _ _
+      g.D.Disk.leaves c.serve_disk.result.end c.in-Some-Serve.longest c.in-Some-Serve.turns c.args.disk c.serve_disk.result.left _ _ _ _ _ _ _ _
       c.serve_disk.ensures.serves done,
 )
 
@@ -94,19 +94,19 @@ unfolding most_bytes
 returns-in-Some-Replay-clause-does g c = rw (sym c.command.ensures.says ∙ c.in-Some-Replay.is ∙ ap Some c.in-Some-Replay.field-0-is) c.replayed.ensures.replays
 
 pub returns-in-Some-Replay-clause-usage : goal.returns-in-Some-Replay-clause-usage
-returns-in-Some-Replay-clause-usage g c = λ none. absurd (replays_usage _ c.replayed.result.status _ _ _ _ _ _ _ _ _ _ _ c.args.disk
-    c.replayed.result.disk c.replayed.ensures.replays none)
+returns-in-Some-Replay-clause-usage g c = λ none. absurd (replays_usage _ c.replayed.result.end _ _ _ _ _ _ _ _ _ _ _ c.args.disk
+    c.replayed.result.left c.replayed.ensures.replays none)
 
 pub returns-in-Some-Replay-clause-alone : goal.returns-in-Some-Replay-clause-alone
-returns-in-Some-Replay-clause-alone g c = λ none. absurd (replays_usage _ c.replayed.result.status _ _ _ _ _ _ _ _ _ _ _ c.args.disk
-    c.replayed.result.disk c.replayed.ensures.replays none)
+returns-in-Some-Replay-clause-alone g c = λ none. absurd (replays_usage _ c.replayed.result.end _ _ _ _ _ _ _ _ _ _ _ c.args.disk
+    c.replayed.result.left c.replayed.ensures.replays none)
 
 pub returns-in-Some-Replay-clause-never : goal.returns-in-Some-Replay-clause-never
 returns-in-Some-Replay-clause-never g c = λ never. absurd (rw (sym c.command.ensures.says ∙ c.in-Some-Replay.is ∙ ap Some c.in-Some-Replay.field-0-is)
     at never)
 
 pub returns-in-Some-Replay-clause-faultless : goal.returns-in-Some-Replay-clause-faultless
-returns-in-Some-Replay-clause-faultless g c = replays_faultless _ c.replayed.result.status _ _ _ _ _ _ _ _ _ _ _ c.args.disk c.replayed.result.disk
+returns-in-Some-Replay-clause-faultless g c = replays_faultless _ c.replayed.result.end _ _ _ _ _ _ _ _ _ _ _ c.args.disk c.replayed.result.left
     c.replayed.ensures.replays
 
 pub returns-in-Some-Replay-clause-follows : goal.returns-in-Some-Replay-clause-follows
@@ -127,7 +127,7 @@ returns-in-Some-Storm-clause-does g c = rw (sym c.command.ensures.says ∙ c.in-
 
 pub returns-in-Some-Storm-clause-usage : goal.returns-in-Some-Storm-clause-usage
 returns-in-Some-Storm-clause-usage g c = λ none.
-    let u = storms_usage c.stormed.result.status c.in-Some-Storm.kind c.in-Some-Storm.start c.in-Some-Storm.events _ _ _ _ _ _ _ _ _ _
+    let u = storms_usage c.stormed.result.end c.in-Some-Storm.kind c.in-Some-Storm.start c.in-Some-Storm.events _ _ _ _ _ _ _ _ _ _
     c.stormed.ensures.storms none in
     (rw (sym c.command.ensures.says ∙ c.in-Some-Storm.is ∙ ap Some c.in-Some-Storm.field-0-is) u.0, refl, u.1)
 
@@ -141,7 +141,7 @@ returns-in-Some-Storm-clause-never g c = λ never. c.stormed.ensures.never (rw (
 pub returns-in-Some-Storm-clause-faultless : goal.returns-in-Some-Storm-clause-faultless
 returns-in-Some-Storm-clause-faultless g c = λ done. (
   refl,
-  storms_faultless c.stormed.result.status c.in-Some-Storm.kind c.in-Some-Storm.start
+  storms_faultless c.stormed.result.end c.in-Some-Storm.kind c.in-Some-Storm.start
       c.in-Some-Storm.events _ _ _ _ _ _ _ _ _ _ c.stormed.ensures.storms done,
 )
 
@@ -162,11 +162,11 @@ pub returns-in-Some-Loop-clause-does : goal.returns-in-Some-Loop-clause-does
 returns-in-Some-Loop-clause-does g c = rw (sym c.command.ensures.says ∙ c.in-Some-Loop.is ∙ ap Some c.in-Some-Loop.field-0-is) c.looped.ensures.loops
 
 pub returns-in-Some-Loop-clause-usage : goal.returns-in-Some-Loop-clause-usage
-returns-in-Some-Loop-clause-usage g c = λ none. absurd (loops_usage c.looped.result.status c.in-Some-Loop.hosts c.in-Some-Loop.turns _ _ _ _ _ _ _ _ _
+returns-in-Some-Loop-clause-usage g c = λ none. absurd (loops_usage c.looped.result.end c.in-Some-Loop.hosts c.in-Some-Loop.turns _ _ _ _ _ _ _ _ _
     _ _ c.looped.ensures.loops none)
 
 pub returns-in-Some-Loop-clause-alone : goal.returns-in-Some-Loop-clause-alone
-returns-in-Some-Loop-clause-alone g c = λ none. absurd (loops_usage c.looped.result.status c.in-Some-Loop.hosts c.in-Some-Loop.turns _ _ _ _ _ _ _ _ _
+returns-in-Some-Loop-clause-alone g c = λ none. absurd (loops_usage c.looped.result.end c.in-Some-Loop.hosts c.in-Some-Loop.turns _ _ _ _ _ _ _ _ _
     _ _ c.looped.ensures.loops none)
 
 pub returns-in-Some-Loop-clause-never : goal.returns-in-Some-Loop-clause-never
@@ -175,7 +175,7 @@ returns-in-Some-Loop-clause-never g c = λ never. absurd (rw (sym c.command.ensu
 pub returns-in-Some-Loop-clause-faultless : goal.returns-in-Some-Loop-clause-faultless
 returns-in-Some-Loop-clause-faultless g c = λ done. (
   refl,
-  loops_faultless c.looped.result.status c.in-Some-Loop.hosts c.in-Some-Loop.turns _ _ _ _ _ _ _ _ _ _ _
+  loops_faultless c.looped.result.end c.in-Some-Loop.hosts c.in-Some-Loop.turns _ _ _ _ _ _ _ _ _ _ _
       c.looped.ensures.loops done,
 )
 

@@ -12,7 +12,7 @@ returns-in-Ok-clause-serves g c =
     let link_of = link_told g.L.Link.sent g.L.Link.waiting g.L.Link.faults g.L.Link.receives in
     let disk = c.args.disk in
     inr (serves_opened g.D.Disk.told g.D.Disk.faults g.D.Disk.may_leave g.D.Disk.follows g.D.Disk.leaves c.args.longest
-    c.serve_store.result.status c.args.turns disk c.in-Ok.store c.serve_store.result.disk (clock_of c.args.clock.now) (clock_of
+    c.serve_store.result.end c.args.turns disk c.in-Ok.store c.serve_store.result.left (clock_of c.args.clock.now) (clock_of
     c.serve_store.new.clock)
     (link_of c.args.link.now) (link_of c.serve_store.new.link) (g.K.Sink.held c.args.out.now) (g.K.Sink.held c.serve_store.new.out)
     (g.K.Sink.faults c.args.out.now) (g.K.Sink.faults c.serve_store.new.out) c.open.result c.in-Ok.is (g.met.D.Disk.told_may_stay disk)
@@ -24,9 +24,9 @@ pub returns-in-Err-NotAnImage-clause-serves : goal.returns-in-Err-NotAnImage-cla
 returns-in-Err-NotAnImage-clause-serves g c =
     let is = c.in-Err-NotAnImage.is ∙ ap Err c.in-Err-NotAnImage.field-0-is in
     let disk = c.args.disk in
-    let left = c.refuse.result.disk in
+    let left = c.refuse.result.left in
     inl (record {
-      why = not_an_image (λ store. store.disk) g.D.Disk.told g.D.Disk.faults disk c.in-Err-NotAnImage.disk left c.open.result c.refuse.result.status
+      why = not_an_image (λ store. store.disk) g.D.Disk.told g.D.Disk.faults disk c.in-Err-NotAnImage.disk left c.open.result c.refuse.result.end
           (g.K.Sink.held c.args.out.now) (g.K.Sink.held c.refuse.new.out) (g.K.Sink.faults c.args.out.now) (g.K.Sink.faults c.refuse.new.out) is
           c.refuse.ensures.disk
           c.open.ensures.wrong c.open.ensures.stays c.open.ensures.cause c.refuse.ensures.tells;
@@ -41,10 +41,10 @@ pub returns-in-Err-BadField-clause-serves : goal.returns-in-Err-BadField-clause-
 returns-in-Err-BadField-clause-serves g c =
     let is = c.in-Err-BadField.is ∙ ap Err c.in-Err-BadField.field-0-is in
     let disk = c.args.disk in
-    let left = c.refuse-in-Err-BadField.result.disk in
+    let left = c.refuse-in-Err-BadField.result.left in
     inl (record {
       why = bad_field (λ store. store.disk) g.D.Disk.told g.D.Disk.faults disk c.in-Err-BadField.disk left c.open.result c.in-Err-BadField.place
-          c.refuse-in-Err-BadField.result.status
+          c.refuse-in-Err-BadField.result.end
           (g.K.Sink.held c.args.out.now) (g.K.Sink.held c.refuse-in-Err-BadField.new.out) (g.K.Sink.faults c.args.out.now) (g.K.Sink.faults
           c.refuse-in-Err-BadField.new.out) is c.refuse-in-Err-BadField.ensures.disk
           c.open.ensures.wrong c.open.ensures.stays c.open.ensures.cause c.refuse-in-Err-BadField.ensures.tells;
@@ -59,9 +59,9 @@ pub returns-in-Err-Failed-clause-serves : goal.returns-in-Err-Failed-clause-serv
 returns-in-Err-Failed-clause-serves g c =
     let is = c.in-Err-Failed.is ∙ ap Err c.in-Err-Failed.field-0-is in
     let disk = c.args.disk in
-    let left = c.ended_with.result.disk in
+    let left = c.ended_with.result.left in
     inl (record {
-      why = failed (λ store. store.disk) g.D.Disk.told g.D.Disk.faults disk c.in-Err-Failed.disk left c.open.result c.ended_with.result.status
+      why = failed (λ store. store.disk) g.D.Disk.told g.D.Disk.faults disk c.in-Err-Failed.disk left c.open.result c.ended_with.result.end
           (g.K.Sink.held c.args.out.now) (g.K.Sink.faults c.args.out.now) is c.ended_with.ensures.disk
           c.ended_with.ensures.status c.open.ensures.cause;
       clocks = refl;
@@ -75,10 +75,10 @@ pub returns-in-Err-Memory-clause-serves : goal.returns-in-Err-Memory-clause-serv
 returns-in-Err-Memory-clause-serves g c =
     let is = c.in-Err-Memory.is ∙ ap Err c.in-Err-Memory.field-0-is in
     let disk = c.args.disk in
-    let left = c.ended_with-in-Err-Memory.result.disk in
+    let left = c.ended_with-in-Err-Memory.result.left in
     inl (record {
       why = lacks_memory (λ store. store.disk) g.D.Disk.told g.D.Disk.faults disk c.in-Err-Memory.disk left c.open.result
-          c.ended_with-in-Err-Memory.result.status
+          c.ended_with-in-Err-Memory.result.end
           (g.K.Sink.held c.args.out.now) (g.K.Sink.faults c.args.out.now) is c.ended_with-in-Err-Memory.ensures.disk
           c.ended_with-in-Err-Memory.ensures.status c.open.ensures.cause;
       clocks = refl;
