@@ -1,5 +1,5 @@
 -- What kind of message a datagram is, for the counts of what comes to a server and goes from it.
-use Rattle.std.specs.Prelude.{ℕ, ◌×◌, ◌==◌, List, Option, Some, None, Result, Ok, Err, if◌then◌else◌}
+use Rattle.std.specs.Prelude.{ℕ, ◌==◌, List, Option, Some, None, Result, Ok, Err, if◌then◌else◌}
 use Rattle.nq_xdr.specs.declared.fault.XdrFault.{XdrFault}
 use Rattle.nq_xdr.specs.declared.rpc.fault.RpcFault.{RpcFault}
 use Rattle.nq_xdr.specs.declared.rpc.message.Head.{Head}
