@@ -8,7 +8,8 @@ What host 0 reads next has to be what host 1 wrote, and what it writes next has 
 begins again in another folder. The file that it makes there has to be another one. `shared`: two hosts write and read one file in turn, without
 waiting for leases to run out. `words`: each line that cannot be done is answered with what is wrong. `end`: host 0 is told to end behind a
 write, which has to be stored. `lost`: host 0 is stopped behind a write until host 1 could write. Whoever asks host 0 next has to be told of
-the loss. `names`: names are listed, and of one that is removed nothing stays. `waits`: whoever waits is told why. `many`: for N seconds (60)
+the loss. `names`: names are listed, and of one that is removed nothing stays. `left`: bytes that are told under no name any more go, though nobody
+asks their host. `waits`: whoever waits is told why. `many`: for N seconds (60)
 four askers store and get whole files of two names at two hosts, while askers, hosts and the server are killed. Each file that is got has to be
 one that was stored and that no later one had replaced. Each scene (all, where none is named) has a server of its own and says what
 came. The status is 1 where something else came than has to. Build the three programs before.
@@ -27,6 +28,8 @@ import time
 ROOT = pathlib.Path(__file__).resolve().parent.parent
 # Longer than a lease of 30 seconds, the skew and the write slack.
 IDLE = 45
+# For how many seconds nobody asks a host, so that it has looked after what it stored.
+LOOKS = 25
 # For how many seconds an answer is waited for.
 PATIENCE = 60
 
@@ -165,6 +168,20 @@ def names(programs, folder, _seconds):
         return all(went)
     finally:
         one.ends()
+
+
+def left(programs, folder, _seconds):
+    """Whether a host that nobody asks finds bytes that it stored and that are told under no name any more, and removes them."""
+    one, other = Host(programs, 0, folder / "one"), Host(programs, 1, folder / "other")
+    (folder / "one" / "copy").write_bytes(b"x" * 5000)
+    try:
+        went = [one.asks("store copy paper", "ok, 5000 bytes stored"), other.asks("lookup paper", "ok, file 2"), other.asks("put 2 0 5", "ok"),
+                other.asks("fetch 1 0", "ok, value 2021161080")]
+        time.sleep(LOOKS)
+        return all([*went, other.asks("ls ~", "ok, no file"), other.asks("ls", "paper 2"), other.asks("fetch 2 0", "ok, value 5")])
+    finally:
+        one.ends()
+        other.ends()
 
 
 def waits(programs, folder, _seconds):
@@ -320,7 +337,7 @@ def many(programs, folder, seconds):
     return not tries.faults and tries.did["stored"] > 0 and tries.did["got"] > 0
 
 
-SCENES = {"idle": idle, "folder": folder, "shared": shared, "words": words, "end": end, "lost": lost, "names": names, "waits": waits, "many": many}
+SCENES = {"idle": idle, "folder": folder, "shared": shared, "words": words, "end": end, "lost": lost, "names": names, "left": left, "waits": waits, "many": many}
 
 
 def begun(server, folder, longest):
