@@ -76,7 +76,7 @@ module _ (price note : ℕ) where
 
       by : (op : Call) → fresh_for price (record u { through = true }) op ≤ price
       by (Call.Write file block body) = omega arith
-      by (Call.WriteSync file block body) = put u.written
+      by (Call.Put file block body) = put u.written
       by (Call.Sync file) = omega arith
       by (Call.Create name blocks) = omega arith
       by (Call.Lookup name) = omega arith
@@ -100,7 +100,7 @@ module _ (price note : ℕ) where
 
       by : (op : Call) → fresh_for price u op ≤ price + price
       by (Call.Write file block body) = write u.through
-      by (Call.WriteSync file block body) = let less = put u.written in omega arith
+      by (Call.Put file block body) = let less = put u.written in omega arith
       by (Call.Sync file) = omega arith
       by (Call.Create name blocks) = omega arith
       by (Call.Lookup name) = omega arith
@@ -138,7 +138,7 @@ module _ (price note : ℕ) where
   -- a call that writes to a file
   written-call : (file : ℕ) (op : Call) → writes_to file op ≡ true → (block : ℕ) × (body : List ℕ) × (op ≡ Call.Write file block body)
   written-call file (Call.Write f block body) e = (block, body, ap (λ g. Call.Write g block body) (same-number f file e))
-  written-call file (Call.WriteSync f block body) e = absurd (cc)
+  written-call file (Call.Put f block body) e = absurd (cc)
   written-call file (Call.Sync f) e = absurd (cc)
   written-call file (Call.Create name blocks) e = absurd (cc)
   written-call file (Call.Lookup name) e = absurd (cc)

@@ -47,7 +47,7 @@ module _ (price note : ℕ) where
       by : (op : Call) → u.call ≡ op → fresh_for price u op ≤ read_left price u op + price
       by (Call.Read file block) is = omega arith
       by (Call.Write file block body) is = let same : fresh_left price u ≡ write_price price u.through = ap (fresh_for price u) is in omega arith
-      by (Call.WriteSync file block body) is = let same : fresh_left price u ≡ put_price price u.written = ap (fresh_for price u) is in omega arith
+      by (Call.Put file block body) is = let same : fresh_left price u ≡ put_price price u.written = ap (fresh_for price u) is in omega arith
       by (Call.Sync file) is = omega arith
       by (Call.Create name blocks) is = omega arith
       by (Call.Lookup name) is = omega arith

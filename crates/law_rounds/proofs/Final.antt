@@ -45,7 +45,7 @@ calls-most now false (Some u) (Some t) = by t.job t.request
     read (Call.Read file block) = omega arith
     read (Call.Fetch file block) = two-left 2 2 u
     read (Call.Write file block body) = two-left 2 2 u
-    read (Call.WriteSync file block body) = two-left 2 2 u
+    read (Call.Put file block body) = two-left 2 2 u
     read (Call.Sync file) = two-left 2 2 u
     read (Call.Create name blocks) = two-left 2 2 u
     read (Call.Lookup name) = two-left 2 2 u
@@ -84,7 +84,7 @@ delays-most (Some u) = by u.call
 
     by : (op : Call) → may_delay u.written op ≤ 1
     by (Call.Write file block body) = omega arith
-    by (Call.WriteSync file block body) = put u.written
+    by (Call.Put file block body) = put u.written
     by (Call.Sync file) = omega arith
     by (Call.Create name blocks) = omega arith
     by (Call.Lookup name) = omega arith

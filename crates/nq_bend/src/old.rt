@@ -163,7 +163,7 @@ fn play<K: Keeper, P: Patience>(
         let Some(event) = next else {
             break;
         };
-        if !take(world, &mut run, &mut delivered, &script.head, event)? {
+        if !take_event(world, &mut run, &mut delivered, &script.head, event)? {
             break;
         }
     }
@@ -172,7 +172,7 @@ fn play<K: Keeper, P: Patience>(
 
 /// Gives an event to a world, and notes it if the world takes it in; whether it does.
 #[tactic(auto, using(crate::proofs::Coming::can_come, crate::proofs::Coming::settings_on, crate::proofs::Events::all_last))]
-fn take<K: Keeper>(
+fn take_event<K: Keeper>(
     world: &mut World<K>,
     run: &mut Old,
     delivered: &mut Delivered,

@@ -29,7 +29,7 @@ pub(crate) enum KeptCall {
         block: BlockNo,
         value: u32,
     },
-    WriteSync {
+    Put {
         file: FileId,
         block: BlockNo,
         value: u32,
@@ -71,7 +71,7 @@ pub(crate) fn keep_call(alloc: Global, told: &Told) -> Result<KeptCall, NoMemory
         Told::Read { file, block } => KeptCall::Read { file, block },
         Told::Fetch { file, block } => KeptCall::Fetch { file, block },
         Told::Write { file, block, value } => KeptCall::Write { file, block, value },
-        Told::WriteSync { file, block, value } => KeptCall::WriteSync { file, block, value },
+        Told::Put { file, block, value } => KeptCall::Put { file, block, value },
         Told::Sync { file } => KeptCall::Sync { file },
         Told::Resize { file, blocks } => KeptCall::Resize { file, blocks },
         Told::Remove { file } => KeptCall::Remove { file },
@@ -98,7 +98,7 @@ pub(crate) fn told_of(kept: &KeptCall) -> Told
             block: *block,
             value: *value,
         },
-        KeptCall::WriteSync { file, block, value } => Told::WriteSync {
+        KeptCall::Put { file, block, value } => Told::Put {
             file: *file,
             block: *block,
             value: *value,
@@ -155,7 +155,7 @@ fn is_filled_call(call: &Call) -> bool
     ensures { IsTrue result → IsFilledCall call.now }
 {
     match call {
-        Call::Write { body, .. } | Call::WriteSync { body, .. } => is_filled(body),
+        Call::Write { body, .. } | Call::Put { body, .. } => is_filled(body),
         _ => true,
     }
 }

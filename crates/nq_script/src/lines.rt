@@ -3,7 +3,8 @@
 ghost use Rattle.std.specs.Prelude.{◌≡◌, ◌↔◌, ℕ, IfOk, IfSome, IsNone, IsTrue};
 ghost use Rattle.nq_script.specs.Kept.{kept_line};
 ghost use Rattle.nq_script.specs.Lines.{line_of};
-ghost use Rattle.nq_script.specs.Reading.{told_line, call_line, deliver_line, clock_line, tick_line, server_ticks, client_ticks, round_line, restart_line, crash_line, word_line, times_of};
+ghost use Rattle.nq_script.specs.Reading.{told_line, call_line, deliver_line, clock_line, tick_line, server_ticks, client_ticks, round_line, restart_line};
+ghost use Rattle.nq_script.specs.Reading.{crash_line, word_line, times_of};
 ghost use Rattle.nq_script.specs.declared.lines.Line.{Line};
 
 use crate::calls::call_of;

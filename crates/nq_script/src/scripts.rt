@@ -124,7 +124,8 @@ fn read_script(alloc: Global, text: &[u8]) -> Result<Script, ScriptFault>
 /// Reads the lines of events, of which the first has the number `first`, up to `end`, which ends the text.
 fn read_lines(alloc: Global, text: &[u8], head: &Head, first: u32) -> Result<Lines, ScriptFault>
     requires { first + length text.now < 2 ^ 32 }
-    ensures { Answers result (λ lines. EndsWith head.now lines text.now) (λ number. WrongLine head.now first text.now number ⊎ WrongEnd head.now first text.now number) }
+    ensures { Answers result (λ lines. EndsWith head.now lines text.now) (λ number. WrongLine head.now first text.now number
+        ⊎ WrongEnd head.now first text.now number) }
 {
     let mut lines = Lines::new(alloc);
     let mut rest = text;

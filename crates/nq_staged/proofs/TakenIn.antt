@@ -19,7 +19,7 @@ use Rattle.nq_stage.specs.Outer.{Outer, Side, Outside}
 use Rattle.nq_stage.specs.Outside.{beside, offers, offers_body, sends_stage, served_stage, takes_stage}
 use Rattle.nq_staged.specs.Around.{AroundOver, offers_at, once_sent, over, side_offers, side_offers_as}
 use Rattle.nq_staged.specs.Taking.{IsTakenIn}
-use Rattle.nq_staged.specs.declared.commit.taking.Taken.{Taken}
+use Rattle.nq_staged.specs.declared.commit.taking.PacketTaken.{PacketTaken}
 use Rattle.nq_staged.proofs.Sending.{set-same}
 
 -- ---- STAGE
@@ -33,7 +33,7 @@ stage-as o host p (Some s) reply pool is =
 
 pub stage_taken : (a : AroundOver) (host : ℕ) (p : Outer) (reply : List ℕ) (pool : Bodies) → option_map (staged a.pool) (own_stage host p.bytes)
     ≡ Some (reply, pool)
-    → IsTakenIn Taken.Beside p.stands a (record a {
+    → IsTakenIn PacketTaken.Beside p.stands a (record a {
       pool = pool;
       counts = record a.counts { staged = a.counts.staged + 1 };
       due = Some (beside Party.Server (Party.Client host) reply);

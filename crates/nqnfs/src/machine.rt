@@ -15,7 +15,7 @@ use nq_base::Party;
 use nq_clock::StdClock;
 use nq_disk::{Disk, FileDisk};
 use nq_io::streams::{StdSink, StdSource};
-use nq_run::{NoMemory, Place, Words, blank_disk, parties_of, party_of, place_of};
+use nq_run::{CommandWords, NoMemory, Place, blank_disk, parties_of, party_of, place_of};
 use nq_udp::UdpLink;
 use std::io;
 
@@ -23,7 +23,7 @@ use std::io;
 const IMAGE: &str = "nqnfs.img";
 
 /// Runs what the words say, with the links of a loop and the link of the party that they name; the status.
-pub(crate) fn run(rt: &HostRuntime, words: &Words) -> Result<u8, NoMemory>
+pub(crate) fn run(rt: &HostRuntime, words: &CommandWords) -> Result<u8, NoMemory>
     ensures never { IfOk result (λ status. command_of words.now ≡ None → status ≡ status_of Ending.Usage) }
     ensures known { IfOk result (λ status. status ≡ status_of Ending.Usage → command_of words.now ≡ None) }
 {
@@ -47,7 +47,7 @@ fn image(rt: &HostRuntime) -> Result<FileDisk, NoMemory>
 /// Runs what the words say, over a disk and the clock of the machine; the status.
 fn run_over<D: Disk + Drop>(
     rt: &HostRuntime,
-    words: &Words,
+    words: &CommandWords,
     disk: D,
     link: &mut UdpLink<HostRuntime>,
     links: &mut [UdpLink<HostRuntime>],

@@ -60,7 +60,7 @@ abbrev pub IsOfBlock : (file block : ℕ) → Call → Type 0
 IsOfBlock file block (Call.Read f b) = (f ≡ file) × (b ≡ block)
 IsOfBlock file block (Call.Fetch f b) = (f ≡ file) × (b ≡ block)
 IsOfBlock file block (Call.Write f b body) = (f ≡ file) × (b ≡ block)
-IsOfBlock file block (Call.WriteSync f b body) = (f ≡ file) × (b ≡ block)
+IsOfBlock file block (Call.Put f b body) = (f ≡ file) × (b ≡ block)
 IsOfBlock file block other = ⊥
 
 read-of-block : (op : Call) (file block : ℕ) → IsRead op file block → IsOfBlock file block op

@@ -87,7 +87,7 @@ pub fn push_told(out: &mut Vec<u8>, told: &Told) -> Result<(), NoMemory>
             b"write",
             &[u64::from(file.0), u64::from(block.0), u64::from(*value)],
         ),
-        Told::WriteSync { file, block, value } => push_command(
+        Told::Put { file, block, value } => push_command(
             out,
             b"put",
             &[u64::from(file.0), u64::from(block.0), u64::from(*value)],

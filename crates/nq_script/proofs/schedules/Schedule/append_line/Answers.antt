@@ -10,7 +10,7 @@ append_kept-requires c =
     let items = c.deref.result.now in
     let read = slice_get_read items (length items) c.args.place c.in-Some.kept.now refl c.in-Some.ensures.lookup.3.0 c.in-Some.ensures.lookup.1 in
     let there : slice_get c.args.self.now c.args.place ≡ Some (event_of c.in-Some.kept.now) =
-      slice_get-map event_of items c.args.place ∙ ap (option_map event_of) read in
+    slice_get-map event_of items c.args.place ∙ ap (option_map event_of) read in
     record { has = c.requires.has (event_of c.in-Some.kept.now) there }
 
 pub unreachable-requires : goal.unreachable-requires
@@ -23,5 +23,5 @@ returns c =
     let items = c.deref.result.now in
     let read = slice_get_read items (length items) c.args.place c.in-Some.kept.now refl c.in-Some.ensures.lookup.3.0 c.in-Some.ensures.lookup.1 in
     let there : slice_get c.args.self.now c.args.place ≡ Some (event_of c.in-Some.kept.now) =
-      slice_get-map event_of items c.args.place ∙ ap (option_map event_of) read in
+    slice_get-map event_of items c.args.place ∙ ap (option_map event_of) read in
     on_ok_weaker c.append_kept.result (λ said. (event_of c.in-Some.kept.now, said.0, there, said.1, said.2)) c.append_kept.ensures
