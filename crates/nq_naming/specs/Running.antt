@@ -1,4 +1,4 @@
--- What `run_names` reads and prints. Below, `left` is what was left in the source before it and `rest` is what is left after it, where the
+-- What `names` reads and prints. Below, `left` is what was left in the source before it and `rest` is what is left after it, where the
 -- source tells them; `held` is what the sink held before it and `now` is what it holds after it, where the sink tells them; `r` and `r'`
 -- are the source's counts of faults before and after, and `w` and `w'` the sink's.
 use Rattle.std.specs.List.{AllByRecursion}
