@@ -91,7 +91,7 @@ def told(words):
         "read": "Read",
         "fetch": "Fetch",
         "write": "Write",
-        "put": "WriteSync",
+        "put": "Put",
         "sync": "Sync",
         "resize": "Resize",
         "remove": "Remove",
@@ -169,7 +169,7 @@ def call(words):
     """A call of a user; a value stands for the block that is filled with it."""
     kind, rest = words[0], words[1:]
     if kind in ("write", "put"):
-        constructor = "Write" if kind == "write" else "WriteSync"
+        constructor = "Write" if kind == "write" else "Put"
         return f"(Call.{constructor} {rest[0]} {rest[1]} (filled {rest[2]}))"
     return told(words).replace("Told.", "Call.")
 

@@ -1,25 +1,23 @@
 -- A call that is answered at once with a block is a read under a lease that runs.
-use Rattle.std.proofs.Common.{◌≡◌, ◌<◌, ◌⊎◌, ℕ, Bool, true, false, ◌&&◌, List, [], ◌∷◌, Option, Some, None, Result, Ok, Err, refl, sym, ap, ◌∙◌, inl, inr, subst}
+use Rattle.std.proofs.Common.{◌≡◌, ℕ, Bool, false, List, Option, Some, None, Result, Ok, Err, refl, sym, ap, ◌∙◌, inl, inr, subst}
 use Rattle.std.proofs.lemmas.Bool.{and_parts}
 use Rattle.nq_base.specs.Entries.{EntryList}
-use Rattle.nq_base.specs.Plain.{plain_answer}
 use Rattle.nq_base.specs.declared.Answer.{Answer}
 use Rattle.nq_base.specs.declared.Call.{Call}
 use Rattle.nq_base.specs.declared.Value.{Value}
 use Rattle.nq_base.specs.declared.ending.fault.Fault.{Fault}
-use Rattle.nq_calling.specs.Calling.{CallsNow, Makes, MakesUnless, refusal_of}
+use Rattle.nq_calling.specs.Calling.{MakesUnless, refusal_of}
 use Rattle.nq_client.specs.Counted.{Counted}
 use Rattle.nq_client.specs.Outcome.{or_pending}
-use Rattle.nq_clock.specs.Clocks.{ClockTold}
 use Rattle.nq_link.specs.Links.{LinkTold}
-use Rattle.nq_model.specs.protocol.Client.{Client, ClientStep, Lease, UnderWay, lease_on, lets_read, is_live}
-use Rattle.nq_model.specs.protocol.ClientStep.{begins_call, client_call, is_called, says_busy, sends_unless_cached}
+use Rattle.nq_model.specs.protocol.Client.{Client, ClientStep, lease_on}
+use Rattle.nq_model.specs.protocol.ClientStep.{begins_call, client_call, is_called, says_busy}
 use Rattle.nq_model.specs.protocol.Send.{send_next, sends_request, after_seq, after_number, takes_push, gives_up}
 use Rattle.nq_model.specs.protocol.Settle.{answers, reads_cached, marks_written, settle, after_write}
 use Rattle.nq_model.specs.protocol.Table.{caches}
 use Rattle.walk_steps.proofs.ClientMoves.{some-same}
 use Rattle.walk_steps.proofs.SendCases.{send-moves}
-use Rattle.walk_steps.proofs.SettleCases.{settle-cases, CanRead, IsRead}
+use Rattle.walk_steps.proofs.SettleCases.{settle-cases, IsRead}
 use Rattle.walk_steps.proofs.StepCases.{call-cases, unless-cached-cases}
 use Rattle.walk_steps.proofs.Tests.{is-below}
 use Rattle.law_calling.specs.ReadsRun.{ReadsRun, HoldsLease, file_read}

@@ -12,7 +12,7 @@ use Rattle.nq_directory.specs.Prefix.{directory}
 use Rattle.nq_directory.specs.declared.listing.messages.DirTag.{DirTag}
 use Rattle.nq_directory.specs.declared.listing.messages.ReadDir.{ReadDir}
 use Rattle.nq_directory.specs.Messages.{Answer, Listing, page, most_names}
-use Rattle.nq_directory.specs.Reading.{read_dir_in, dir_vacated_in, dir_evicted_in, told_in}
+use Rattle.nq_directory.specs.Reading.{read_dir_in, dir_vacated_in, told_in}
 use Rattle.nq_model.specs.protocol.Client.{Lease}
 use Rattle.nq_model.specs.protocol.Kept.{File, Kept, host_row}
 use Rattle.nq_model.specs.laws.LeaseInterval.{cover_end}
@@ -64,14 +64,6 @@ pub record ToldTo (sent : List Outer) (host xid inc : ℕ) (a : Answer) : Type 0
   pub to : packet.to ≡ Party.Client host
   pub beside : packet.is ≡ None
   pub reads : told_in xid inc packet.bytes ≡ Some a
-
--- a host was asked to give a list up
-pub record NoticedTo (sent : List Outer) (host : ℕ) (t : DirTag) : Type 0 where
-  pub packet : Outer
-  pub there : In sent packet
-  pub to : packet.to ≡ Party.Client host
-  pub beside : packet.is ≡ None
-  pub reads : dir_evicted_in packet.bytes ≡ Some t
 
 -- ---- one claim
 

@@ -137,10 +137,6 @@ module _ (most : ℕ) (head : Head) (w : World) (ran : List Event) (known : IsKn
   abbrev crashed : ℕ → World
   crashed longest = step w (Event.Crash longest)
 
-  crash-server : (longest : ℕ) → (step w (Event.Crash longest)).server ≡ boot w.server.kept longest w.server.now (last_in w.server.phase w.server.table)
-  unfolding crash after_server
-  crash-server longest = refl
-
   crash-kept : (longest : ℕ) → (crashed longest).server.kept ≡ record w.server.kept { boot = w.server.kept.boot + 1 }
   unfolding boot crash after_server
   crash-kept longest = booted-kept w.server.kept longest known.runs.served.opened

@@ -180,9 +180,6 @@ module _ (codec : IsCodec) (most : ℕ) (head : Head) (o : Outside) (bound : ℕ
       → InvOf (sends_all u number ps) b later
   as-inner u number ps b later h = subst (λ x. InvOf x b later) (sym (sent-all u number ps)) h
 
-  client-same : (a b : ℕ) → Party.Client a ≡ Party.Client b → a ≡ b
-  client-same a b e = cc
-
   no-server : (host : ℕ) → Party.Server ≡ Party.Client host → ⊥
   no-server host e = cc
 

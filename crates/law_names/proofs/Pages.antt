@@ -95,11 +95,6 @@ behind-ascends prefix after (f ∷ files) apart = elim (decided (is_behind prefi
   | inr h ↦ rw h (behind-ascends prefix after files apart.2)
 ]
 
--- what a search finds behind the first
-not-first : {A : Type 0} (b : Bool) (x : A) (rest : Option A) → b ≡ false → (if b then Some x else rest) ≡ None → rest ≡ None
-not-first true x rest e h = absurd (cc)
-not-first false x rest e h = h
-
 not-named : {A : Type 0} (b : Bool) (x : A) (rest : Option A) → (if b then Some x else rest) ≡ None → (b ≡ false) × (rest ≡ None)
 not-named true x rest h = absurd (cc)
 not-named false x rest h = (refl, h)

@@ -21,7 +21,7 @@ use Rattle.nq_name_server.specs.Serving.{Serves, ToHost, notices, notice_to, cha
 use Rattle.nq_name_server.specs.Serving.{vacates, ticks}
 use Rattle.walk_steps.proofs.ClientMoves.{some-same, none-some}
 use Rattle.walk_steps.proofs.Covers.{GoesOnAt, fitting-goes-on, marked-goes-on, same-goes-on}
-use Rattle.walk_steps.proofs.ServerEffects.{unique-in}
+use Rattle.walk_steps.proofs.TermsDrawn.{unique-in}
 use Rattle.walk_steps.proofs.Packets.{In}
 use Rattle.walk_steps.proofs.AskCases.{asks}
 use Rattle.walk_steps.proofs.RowChanges.{find-not-vacated}

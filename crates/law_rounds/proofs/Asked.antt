@@ -22,7 +22,7 @@ use Rattle.nq_model.specs.protocol.ServerStep.{get_lease, look, perform, not_att
 use Rattle.nq_model.specs.protocol.Table.{is_writing, find_row, drop_row, same_tag, with_rows}
 use Rattle.walk_steps.proofs.ClientMoves.{some-same}
 use Rattle.walk_steps.proofs.Rows.{same-number, number-same}
-use Rattle.walk_steps.proofs.ServerCases.{found-file}
+use Rattle.walk_steps.proofs.DecideCases.{found-file}
 use Rattle.walk_steps.proofs.Tests.{is-below}
 
 -- ---- the question that a request puts to the lease table

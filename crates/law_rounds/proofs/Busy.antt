@@ -79,7 +79,7 @@ module _ (t : ClientStep) (u : UnderWay) (called : t.client.call ≡ Some u) (fr
       (λ e. refl)
       (λ e. refl)
 
-  put : (file block : ℕ) (body : List ℕ) → u.call ≡ Call.WriteSync file block body → (b : Bool) → u.written ≡ b
+  put : (file block : ℕ) (body : List ℕ) → u.call ≡ Call.Put file block body → (b : Bool) → u.written ≡ b
       → is_asking (next_put t b true file block body) ≡ true
   unfolding sends_request
   put file block body is true e = synced file (of_put block body is e)
@@ -93,7 +93,7 @@ module _ (t : ClientStep) (u : UnderWay) (called : t.client.call ≡ Some u) (fr
   goes (Call.Read file block) is = refl
   goes (Call.Fetch file block) is = refl
   goes (Call.Write file block body) is = written file block body
-  goes (Call.WriteSync file block body) is = put file block body is u.written refl
+  goes (Call.Put file block body) is = put file block body is u.written refl
   goes (Call.Sync file) is = synced file (of_sync is)
   goes (Call.Resize file blocks) is = changed file (Request.Resize t.client.who t.client.seq u.q file blocks)
   goes (Call.Remove file) is = changed file (Request.Remove t.client.who t.client.seq u.q file)

@@ -21,8 +21,9 @@ use Rattle.walk_steps.proofs.RepliedCases.{replied-cases}
 use Rattle.walk_steps.proofs.SendCases.{send-cases}
 use Rattle.walk_steps.proofs.SettleCases.{settle-cases}
 use Rattle.walk_steps.proofs.StepCases.{tick-cases, evicted-cases, heard-cases}
-use Rattle.law_rounds.proofs.EffortReplies.{Goes, start, optional-goes, pushed-goes, refused-goes, read-goes, write-goes, known-goes, attached-goes}
-use Rattle.law_rounds.proofs.EffortReplies.{start-same}
+use Rattle.law_rounds.proofs.EffortHeard.{Goes, start, optional-goes, pushed-goes, refused-goes, known-goes}
+use Rattle.law_rounds.proofs.EffortCalls.{read-goes, write-goes, attached-goes}
+use Rattle.law_rounds.proofs.EffortHeard.{start-same}
 
 -- a call that is open now was open before
 abbrev pub StillOpen : (before after : Option UnderWay) → Type 0

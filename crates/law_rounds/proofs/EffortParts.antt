@@ -106,13 +106,13 @@ module _ (price note : ℕ) where
       by renewing is e = rw is refl
       by pushing is e = rw is refl
 
-  puts-left : (now : ℕ) (pauses : Bool) (u : UnderWay) (ticket : Option Ticket) (file block : ℕ) (body : List ℕ) → u.call ≡ Call.WriteSync file block
+  puts-left : (now : ℕ) (pauses : Bool) (u : UnderWay) (ticket : Option Ticket) (file block : ℕ) (body : List ℕ) → u.call ≡ Call.Put file block
       body → ticket_is_for_call ticket ≡ false → requests_left price now pauses (Some (record u { written = true })) ticket ≡ 0
   puts-left now true u ticket file block body is own = refl
   puts-left now false u ticket file block body is own = settling-left now (record u { written = true }) ticket own
       ∙ ap (fresh_for price (record u { written = true })) is
 
-  puts-cheap : (t : ClientStep) (u : UnderWay) (file block : ℕ) (body : List ℕ) → IsSettling t u → u.call ≡ Call.WriteSync file block body → u.written
+  puts-cheap : (t : ClientStep) (u : UnderWay) (file block : ℕ) (body : List ℕ) → IsSettling t u → u.call ≡ Call.Put file block body → u.written
       ≡ false → Cheaper t (marks_written (delays t file block body) u)
   unfolding marks_written after_write
   puts-cheap t u file block body is put first =

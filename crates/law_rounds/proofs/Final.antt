@@ -15,7 +15,7 @@ use Rattle.walk_steps.proofs.NoCrash.{one-first}
 use Rattle.law_rounds.specs.Efforts.{writes_to, read_left, lease_left, sent_left, job_left, requests_left, put_delays, may_delay, delays_left}
 use Rattle.law_rounds.specs.Turns.{turns_left}
 use Rattle.law_rounds.proofs.ClientCount.{client-count}
-use Rattle.law_rounds.proofs.EffortReplies.{two-left}
+use Rattle.law_rounds.proofs.EffortCalls.{two-left}
 use Rattle.law_rounds.specs.DeliveryEnds.{calmed, delayed_in_all, growth, most_turns, most_growths, enough_for, IsDelivered, DeliveryEnds}
 use Rattle.law_rounds.proofs.ClientSteps.{sum_of}
 use Rattle.law_rounds.proofs.Ends.{ends}
@@ -45,7 +45,7 @@ calls-most now false (Some u) (Some t) = by t.job t.request
     read (Call.Read file block) = omega arith
     read (Call.Fetch file block) = two-left 2 2 u
     read (Call.Write file block body) = two-left 2 2 u
-    read (Call.WriteSync file block body) = two-left 2 2 u
+    read (Call.Put file block body) = two-left 2 2 u
     read (Call.Sync file) = two-left 2 2 u
     read (Call.Create name blocks) = two-left 2 2 u
     read (Call.Lookup name) = two-left 2 2 u
@@ -84,7 +84,7 @@ delays-most (Some u) = by u.call
 
     by : (op : Call) → may_delay u.written op ≤ 1
     by (Call.Write file block body) = omega arith
-    by (Call.WriteSync file block body) = put u.written
+    by (Call.Put file block body) = put u.written
     by (Call.Sync file) = omega arith
     by (Call.Create name blocks) = omega arith
     by (Call.Lookup name) = omega arith

@@ -13,6 +13,8 @@ pub mod NoticeRows
 pub mod Turns
 pub mod Efforts
 pub mod EffortParts
+pub mod EffortHeard
+pub mod EffortCalls
 pub mod EffortReplies
 pub mod HostsBelow
 pub mod ClientCount

@@ -31,8 +31,9 @@ use Rattle.walk_steps.proofs.Steps.{Changes, nothing, by_client, by_server, Clie
 use Rattle.walk_steps.proofs.Worlds.{Holds, run-holds, get-set-same, get-set-other, first-client}
 use Rattle.walk_steps.proofs.Rows.{same-number, number-same}
 use Rattle.law_rounds.specs.RequestsAreMeant.{wanted, IsMeant, RequestsAreMeant}
-use Rattle.law_rounds.proofs.EffortReplies.{Goes, start as spent, start-same, known-goes, optional-goes, pushed-goes, refused-goes, read-goes}
-use Rattle.law_rounds.proofs.EffortReplies.{write-goes, attached-goes}
+use Rattle.law_rounds.proofs.EffortHeard.{Goes, start as spent, start-same, known-goes, optional-goes, pushed-goes, refused-goes}
+use Rattle.law_rounds.proofs.EffortCalls.{read-goes}
+use Rattle.law_rounds.proofs.EffortCalls.{write-goes, attached-goes}
 
 -- a client's request is meant
 Meant : Client → Type 0

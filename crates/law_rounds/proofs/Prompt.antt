@@ -19,8 +19,10 @@ use Rattle.walk_steps.proofs.RepliedCases.{replied-cases}
 use Rattle.walk_steps.proofs.SendCases.{send-moves}
 use Rattle.walk_steps.proofs.SettleCases.{settle-cases}
 use Rattle.walk_steps.proofs.StepCases.{call-cases, unless-cached-cases, tick-cases, heard-cases}
-use Rattle.law_rounds.proofs.EffortReplies.{Goes, start, start-same, known-goes, optional-goes, pushed-goes, refused-goes, read-goes, write-goes}
-use Rattle.law_rounds.proofs.EffortReplies.{attached-goes, evicted-goes}
+use Rattle.law_rounds.proofs.EffortHeard.{Goes, start, start-same, known-goes, optional-goes, pushed-goes, refused-goes}
+use Rattle.law_rounds.proofs.EffortCalls.{read-goes, write-goes}
+use Rattle.law_rounds.proofs.EffortCalls.{attached-goes}
+use Rattle.law_rounds.proofs.EffortReplies.{evicted-goes}
 
 pub record Prompt (c : Client) : Type 0 where
   pub short : c.pause ≤ c.now + patience

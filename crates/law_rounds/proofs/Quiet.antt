@@ -60,8 +60,8 @@ module _ (most : ℕ) (head : Head) where
 
           by : (b : Bool) (op : Call) → u.written ≡ b → u.call ≡ op → waits_to_store b op ≡ false
           by b (Call.Sync file) e is = absurd (none-waits file (of_sync is))
-          by true (Call.WriteSync file block body) e is = absurd (none-waits file (of_put block body is e))
-          by false (Call.WriteSync file block body) e is = refl
+          by true (Call.Put file block body) e is = absurd (none-waits file (of_put block body is e))
+          by false (Call.Put file block body) e is = refl
           by b (Call.Create name blocks) e is = refl
           by b (Call.Lookup name) e is = refl
           by b (Call.Attr file) e is = refl

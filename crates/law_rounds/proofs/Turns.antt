@@ -29,7 +29,8 @@ use Rattle.law_rounds.specs.Efforts.{effort, requests_left}
 use Rattle.law_rounds.specs.SendsAgain.{SendsAgain, the_same, delayed_writes, nothing_now}
 use Rattle.law_rounds.specs.Turns.{asking_turns, IsOfUse, IsOfUseTo, TakesTurn, fewer, again, silent, TurnsFall}
 use Rattle.law_rounds.proofs.EffortParts.{settle-cheap, send-cheap}
-use Rattle.law_rounds.proofs.EffortReplies.{CancelCosts, cancels-cost, replied-lean, cancel-costs, uncancelled-costs}
+use Rattle.law_rounds.proofs.EffortCalls.{replied-lean}
+use Rattle.law_rounds.proofs.EffortReplies.{CancelCosts, cancels-cost, cancel-costs, uncancelled-costs}
 use Rattle.law_rounds.proofs.Efforts.{total, total-more, lease_weight, reply_weight, want_weight, weight, sent_weight, cost}
 use Rattle.law_rounds.proofs.GoingOn.{calls-go-on}
 use Rattle.law_rounds.proofs.Meant.{replied-free}

@@ -17,7 +17,7 @@ put_price price false = price
 
 abbrev pub fresh_for : (price : ℕ) → UnderWay → Call → ℕ
 fresh_for price u (Call.Write file block body) = write_price price u.through
-fresh_for price u (Call.WriteSync file block body) = put_price price u.written
+fresh_for price u (Call.Put file block body) = put_price price u.written
 fresh_for price u (Call.Sync file) = 0
 fresh_for price u other = price
 
@@ -69,7 +69,7 @@ put_delays false = 1
 
 abbrev pub may_delay : (written : Bool) → Call → ℕ
 may_delay written (Call.Write file block body) = 1
-may_delay written (Call.WriteSync file block body) = put_delays written
+may_delay written (Call.Put file block body) = put_delays written
 may_delay written other = 0
 
 abbrev pub delays_left : Option UnderWay → ℕ

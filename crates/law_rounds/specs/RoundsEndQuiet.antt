@@ -20,7 +20,7 @@ pub record GoesOnFor (now : ℕ) (l : Lease) : Type 0 where
 -- whether a call waits for delayed writes to be stored: a sync does, and a put whose write was delayed
 abbrev pub waits_to_store : (written : Bool) → Call → Bool
 waits_to_store written (Call.Sync file) = true
-waits_to_store written (Call.WriteSync file block body) = written
+waits_to_store written (Call.Put file block body) = written
 waits_to_store written other = false
 
 -- a client is attached, and has no request under way, no push and no notice that waits. If it has an open call it pauses, for 2 ticks at

@@ -23,7 +23,7 @@ use Rattle.nq_model.specs.laws.Chained.{has_done_write, KnowsFile}
 use Rattle.walk_steps.proofs.ClientMoves.{some-same, none-some}
 use Rattle.walk_steps.proofs.Runs.{Runs, none-served}
 use Rattle.walk_steps.proofs.LeaseIntervals.{run-runs, tick-sends, crash-sends}
-use Rattle.walk_steps.proofs.ServerEffects.{standing-serving}
+use Rattle.walk_steps.proofs.TermsDrawn.{standing-serving}
 use Rattle.nq_model.specs.laws.Bounds.{KeepsBounds}
 use Rattle.nq_model.specs.protocol.Client.{Client, ClientStep, revision_of, revision_or_zero}
 use Rattle.nq_model.specs.protocol.ClientStep.{client_call, client_tick, restart, starts, fresh_client, attached_client, next_incarnation}

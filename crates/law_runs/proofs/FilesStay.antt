@@ -22,7 +22,8 @@ use Rattle.nq_model.specs.protocol.World.{Head, World, after_server, after_clien
 use Rattle.nq_model.specs.protocol.World.{deliver, step, run}
 use Rattle.walk_steps.proofs.KeptChanges.{find-own-replaced, find-other-replaced, find-not-removed, find-added}
 use Rattle.walk_steps.proofs.Rows.{same-number, number-same}
-use Rattle.walk_steps.proofs.ServerCases.{found-file, server-hears, server-ticks}
+use Rattle.walk_steps.proofs.DecideCases.{found-file}
+use Rattle.walk_steps.proofs.ServerCases.{server-hears, server-ticks}
 use Rattle.law_runs.specs.Staying.{KeepsUnder, IsRemoval, WasRemoved, FilesStayUntilRemoved}
 
 -- ---- the files of a server

@@ -149,7 +149,7 @@ settled t m = settle-cases t FitsIn (record {
       (delayed t file block body (brought (Call.Write file block body) u write (m.called u is.called)) m);
   putting =
       λ u file block body lease is put written can below room. marked (delays t file block body) u (m.called u is.called)
-      (delayed t file block body (brought (Call.WriteSync file block body) u put (m.called u is.called)) m);
+      (delayed t file block body (brought (Call.Put file block body) u put (m.called u is.called)) m);
   write_waits = λ u sync file block body is write waits. m;
   syncing = λ u file is sync clean. answered t u.q (Answer.Ok Value.Nothing) None m;
   sync_waits = λ u file is sync dirty. m;
@@ -223,7 +223,7 @@ sends in_tick t m = send-cases in_tick t FitsIn (record {
   fetching = λ u file block f op. sends-fit t for_call _ tt m;
   writing = λ u file block body f op through. write-fits t file block body (brought (Call.Write file block body) u op (m.called u f.called)) m;
   leasing = λ u file block body f op through shares. sends-fit t for_call _ tt m;
-  putting = λ u file block body f op written. write-fits t file block body (brought (Call.WriteSync file block body) u op (m.called u f.called)) m;
+  putting = λ u file block body f op written. write-fits t file block body (brought (Call.Put file block body) u op (m.called u f.called)) m;
   resizing = λ u file blocks f op clean. sends-fit (after_seq (gives_up t file)) for_call _ tt (seq-fits (gives_up t file) (gives-fits t file m));
   removing = λ u file f op clean. sends-fit (after_seq (gives_up t file)) for_call _ tt (seq-fits (gives_up t file) (gives-fits t file m));
   renewing = λ file lease ticks free nothing unpaused due held of clean unnoticed. sends-fit t Job.renewing _ tt m;

@@ -3,7 +3,7 @@ use Rattle.std.proofs.Common.{◌≡◌, ◌≤◌, ◌⊎◌, ℕ, ◌+◌, Boo
 use Rattle.std.proofs.Common.{refl, sym, subst, ap, ◌∙◌, arith, inl, inr}
 use Rattle.std.proofs.lemmas.Bool.{and_parts, not-true, not_from_false}
 use Rattle.nq_base.specs.declared.Call.{Call}
-use Rattle.nq_base.specs.declared.Call.TheVariants.{Write, WriteSync, Sync, Resize, Remove}
+use Rattle.nq_base.specs.declared.Call.TheVariants.{Write, Put, Sync, Resize, Remove}
 use Rattle.nq_base.specs.declared.Entry.{Entry}
 use Rattle.nq_base.specs.declared.Entry.TheVariants.{C, L, A}
 use Rattle.nq_base.specs.declared.Loss.{Loss}
@@ -142,7 +142,7 @@ journals-busy {who = who} {calls = calls} {losses = losses} {old = old} tells h 
 -- a call that has to report losses changes or syncs the file
 pub reporting-changed : (op : Call) (file : ℕ) → IsReporting file (told op) → changed_file op ≡ Some file
 reporting-changed (Write f block body) file h = ap Some h
-reporting-changed (WriteSync f block body) file h = ap Some h
+reporting-changed (Put f block body) file h = ap Some h
 reporting-changed (Sync f) file h = ap Some h
 reporting-changed (Resize f blocks) file h = ap Some h
 reporting-changed (Remove f) file h = ap Some h
@@ -150,14 +150,14 @@ reporting-changed other file h = absurd h
 
 pub changed-speaks : (op : Call) (file : ℕ) → changed_file op ≡ Some file → SpeaksOf file (Some (told op))
 changed-speaks (Write f block body) file h = cc
-changed-speaks (WriteSync f block body) file h = cc
+changed-speaks (Put f block body) file h = cc
 changed-speaks (Sync f) file h = cc
 changed-speaks (Resize f blocks) file h = cc
 changed-speaks (Remove f) file h = cc
 changed-speaks other file h = absurd (cc)
 
 pub waits-speaks : (op : Call) (file : ℕ) (written : Bool) → waits_for file written op ≡ true → SpeaksOf file (Some (told op))
-waits-speaks (WriteSync f block body) file written h = same-number f file (and_parts _ _ h).0
+waits-speaks (Put f block body) file written h = same-number f file (and_parts _ _ h).0
 waits-speaks (Sync f) file written h = same-number f file h
 waits-speaks (Resize f blocks) file written h = same-number f file h
 waits-speaks (Remove f) file written h = same-number f file h
@@ -169,7 +169,7 @@ speaks-one (Some (Told.Attr f)) a b h k = sym h ∙ k
 speaks-one (Some (Told.Read f block)) a b h k = sym h ∙ k
 speaks-one (Some (Told.Fetch f block)) a b h k = sym h ∙ k
 speaks-one (Some (Told.Write f block value)) a b h k = sym h ∙ k
-speaks-one (Some (Told.WriteSync f block value)) a b h k = sym h ∙ k
+speaks-one (Some (Told.Put f block value)) a b h k = sym h ∙ k
 speaks-one (Some (Told.Sync f)) a b h k = sym h ∙ k
 speaks-one (Some (Told.Resize f blocks)) a b h k = sym h ∙ k
 speaks-one (Some (Told.Remove f)) a b h k = sym h ∙ k

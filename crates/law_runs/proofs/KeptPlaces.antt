@@ -7,7 +7,7 @@ use Rattle.nq_base.specs.declared.Loss.{Loss}
 use Rattle.nq_base.specs.declared.Said.{Said}
 use Rattle.nq_base.specs.declared.Said.TheVariants.{Ok, OkValue, OkBy, Lost, Busy}
 use Rattle.nq_base.specs.declared.Told.{Told}
-use Rattle.nq_base.specs.declared.Told.TheVariants.{Create, Lookup, Attr, Read, Fetch, Write, WriteSync, Sync, Resize, Remove}
+use Rattle.nq_base.specs.declared.Told.TheVariants.{Create, Lookup, Attr, Read, Fetch, Write, Put, Sync, Resize, Remove}
 use Rattle.nq_base.specs.declared.Who.{Who}
 use Rattle.walk_files.proofs.Placed.{call-later, call-told}
 use Rattle.nq_model.proofs.Lists.{exists-map, each-map, exists-right}
@@ -80,7 +80,7 @@ resize-later later journal answered who q file other before h = absurd h
 
 pub kept-later : (later journal before : List Entry) (who : Who) (q : ℕ) (o : Option Told) → IsKept journal before who q o
     → IsKept (later ++ journal) before who q o
-kept-later later journal before who q (Some (WriteSync file block value)) h = h
+kept-later later journal before who q (Some (Put file block value)) h = h
 kept-later later journal before who q (Some (Sync file)) h =
     each-map _ _ before (λ write s. settled-later later journal journal later before who file write s) h
 kept-later later journal before who q (Some (Resize file blocks)) h = somewhere-more _ _ before (λ e b r. resize-later later journal before who q file e b r) h

@@ -8,7 +8,7 @@ use Rattle.nq_base.specs.declared.HostRow.{HostRow}
 use Rattle.nq_base.specs.declared.Reply.{Reply}
 use Rattle.nq_base.specs.declared.Request.{Request}
 use Rattle.nq_base.specs.declared.Verdict.{Verdict}
-use Rattle.walk_files.proofs.ClientParts.{IsOverKnown}
+use Rattle.walk_files.proofs.KnownContents.{IsOverKnown}
 use Rattle.walk_files.proofs.Facts.{History, SetsBlock, Changed, GrantTells, Tells, LineTells}
 use Rattle.law_runs.proofs.RunContents.{run-fits}
 use Rattle.law_runs.proofs.WorldFacts.{history_now, Fits}

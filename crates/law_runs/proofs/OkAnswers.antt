@@ -206,11 +206,11 @@ write-in who q file block number value (e ∷ before) (inr h) = inr (write-in wh
 
 -- a put whose write was delayed, of a clean file
 pub put-ok : (who : Who) (u : UnderWay) (file block : ℕ) (body : List ℕ) (journal : List Entry) (dirty : List Push) (push : Option Push)
-    → IsOpenAs who u journal → u.call ≡ Call.WriteSync file block body → PutWaits who u.q file block journal → is_clean_in file dirty push ≡ true
+    → IsOpenAs who u journal → u.call ≡ Call.Put file block body → PutWaits who u.q file block journal → is_clean_in file dirty push ≡ true
     → ((n value : ℕ) → In (A who u.q Ok ∷ journal) (W who file block n value false)
     → CoversNumber (A who u.q Ok ∷ journal) who file block n ⊎ LiesWithin dirty push file block n) → OkAt (A who u.q Ok) journal who u.q
 put-ok who u file block body journal dirty push h is waits clean unsaved = record {
-  told = told (Call.WriteSync file block body);
+  told = told (Call.Put file block body);
   wrote = tt;
   asks = h.tells ∙ ap (λ op. Some (told op)) is;
   kept = somewhere-more (IsPutWrite who u.q file block waits.number waits.value) (IsPutKept journal who u.q) journal keeps waits.stands;

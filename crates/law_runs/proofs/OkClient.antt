@@ -177,7 +177,7 @@ module _ (line : HostRow) (c : Client) (journal : List Entry) (h : Ready line c 
   -- a call that is told losses asks for a change
   changed-changes : (file : ℕ) (op : Call) → changed_file op ≡ Some file → IsChanging (Some (told op))
   changed-changes file (Call.Write f block body) e = tt
-  changed-changes file (Call.WriteSync f block body) e = tt
+  changed-changes file (Call.Put f block body) e = tt
   changed-changes file (Call.Sync f) e = tt
   changed-changes file (Call.Resize f blocks) e = tt
   changed-changes file (Call.Remove f) e = tt

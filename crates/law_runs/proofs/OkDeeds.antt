@@ -5,7 +5,7 @@ use Rattle.nq_base.specs.declared.Entry.TheVariants.{W, R, Z, A}
 use Rattle.nq_base.specs.declared.Said.{Said}
 use Rattle.nq_base.specs.declared.Said.TheVariants.{Ok, OkValue, OkBy}
 use Rattle.nq_base.specs.declared.Told.{Told}
-use Rattle.nq_base.specs.declared.Told.TheVariants.{Read, Fetch, Write, WriteSync, Resize, Remove}
+use Rattle.nq_base.specs.declared.Told.TheVariants.{Read, Fetch, Write, Put, Resize, Remove}
 use Rattle.nq_base.specs.declared.Who.{Who}
 use Rattle.law_runs.proofs.RunCalls.{calls-known}
 use Rattle.law_runs.proofs.Places.{in-placed, placed-order, told-whole, fact-whole, one-answer}
@@ -206,8 +206,8 @@ module _ (j : List Entry) (t : Throughout Placed j) (kept : Throughout KeptHere 
       by (Write file block value) is k made =
           write-deed who q file block value (Write file block value) (λ f b v h. (sym h.0, sym h.1, sym h.2)) before ordered
           (asks-only who q _ before is) made
-      by (WriteSync file block value) is k made =
-          write-deed who q file block value (WriteSync file block value) (λ f b v h. (sym h.0, sym h.1, sym h.2)) before ordered
+      by (Put file block value) is k made =
+          write-deed who q file block value (Put file block value) (λ f b v h. (sym h.0, sym h.1, sym h.2)) before ordered
           (asks-only who q _ before is) (somewhere-more (IsPutKept before who q) (IsMadeOpen who q) before (λ x b h. (h.0, h.1)) k)
       by (Resize file blocks) is k made =
           resize-deed (A who q Ok ∷ before) before file who q file blocks (Resize file blocks) (λ f n h. (sym h.0, sym h.1)) before ordered

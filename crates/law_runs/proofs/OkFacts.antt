@@ -77,7 +77,7 @@ IsFor u dirty push (Request.Lookup w name) = u.call ≡ Call.Lookup name
 IsFor u dirty push (Request.Create w seq name blocks) = u.call ≡ Call.Create name blocks
 IsFor u dirty push (Request.GetAttr w file) = u.call ≡ Call.Attr file
 IsFor u dirty push (Request.Read w q file block want) = IsRead u.call file block
-IsFor u dirty push (Request.Write w seq file block first last base body) = (u.call ≡ Call.Write file block body) ⊎ (u.call ≡ Call.WriteSync file block body)
+IsFor u dirty push (Request.Write w seq file block first last base body) = (u.call ≡ Call.Write file block body) ⊎ (u.call ≡ Call.Put file block body)
 IsFor u dirty push (Request.Resize w seq q file blocks) = (u.call ≡ Call.Resize file blocks) × (q ≡ u.q) × (is_clean_in file dirty push ≡ true)
 IsFor u dirty push (Request.Remove w seq q file) = (u.call ≡ Call.Remove file) × (q ≡ u.q) × (is_clean_in file dirty push ≡ true)
 IsFor u dirty push other = ⊤
@@ -98,7 +98,7 @@ pub record KeepsOk (Spared : UnderWay → Type 0) (line : HostRow) (who : Who) (
   -- while a sync, resize or removal is under way, its file has no unnamed loss
   pub told : (u : UnderWay) (file : ℕ) → call ≡ Some u → Spared u → cleans file u.call ≡ true → losses_of file losses ≡ []
   -- the delayed write of a put stands, and is not lost
-  pub put : (u : UnderWay) (file block : ℕ) (body : List ℕ) → call ≡ Some u → Spared u → u.call ≡ Call.WriteSync file block body → u.written ≡ true
+  pub put : (u : UnderWay) (file block : ℕ) (body : List ℕ) → call ≡ Some u → Spared u → u.call ≡ Call.Put file block body → u.written ≡ true
       → PutWaits who u.q file block journal
   -- a call's request that was done has made what it asks
   pub made : (t : Ticket) (u : UnderWay) (n : ℕ) → ticket ≡ Some t → t.job ≡ for_call → call ≡ Some u → sequence_of t.request ≡ Some n

@@ -89,9 +89,9 @@ pub record IsLossOn (who : Who) (number file : ℕ) (e : Entry) : Type 0 where
   pub below : writes.last < number
   pub on : writes.file ≡ file
 
-spared-other : (file f block : ℕ) (body : List ℕ) (u : UnderWay) → Sparing file u → u.call ≡ Call.WriteSync f block body → u.written ≡ true → f ≡ file → ⊥
+spared-other : (file f block : ℕ) (body : List ℕ) (u : UnderWay) → Sparing file u → u.call ≡ Call.Put f block body → u.written ≡ true → f ≡ file → ⊥
 spared-other file f block body u s is written same =
-    let a : waits_for file true (Call.WriteSync f block body) ≡ false = subst (λ w. waits_for file w (Call.WriteSync f block body) ≡ false) written
+    let a : waits_for file true (Call.Put f block body) ≡ false = subst (λ w. waits_for file w (Call.Put f block body) ≡ false) written
     (subst (λ op. waits_for file u.written op ≡ false) is s) in
     let b : (f == file) ≡ true = number-same f file same in
     both (f == file) b a
@@ -181,7 +181,7 @@ cleans-other file f u s c same = by u.call refl
     by (Call.Read n block) e = let a : cleans f (Call.Read n block) ≡ true = ap (cleans f) (sym e) ∙ c in absurd (cc)
     by (Call.Fetch n block) e = let a : cleans f (Call.Fetch n block) ≡ true = ap (cleans f) (sym e) ∙ c in absurd (cc)
     by (Call.Write n block body) e = let a : cleans f (Call.Write n block body) ≡ true = ap (cleans f) (sym e) ∙ c in absurd (cc)
-    by (Call.WriteSync n block body) e = let a : cleans f (Call.WriteSync n block body) ≡ true = ap (cleans f) (sym e) ∙ c in absurd (cc)
+    by (Call.Put n block body) e = let a : cleans f (Call.Put n block body) ≡ true = ap (cleans f) (sym e) ∙ c in absurd (cc)
 
 pub spent-loses : {call : Option UnderWay} {line : HostRow} {journal : List Entry} (t : ClientStep) (file : ℕ) → Spent call All line journal t
     → Spent call (Sparing file) line journal (loses t file)

@@ -60,7 +60,7 @@ waits-changes : (file : ℕ) (written : Bool) (op : Call) → waits_for file wri
 waits-changes file written (Call.Sync f) e = tt
 waits-changes file written (Call.Resize f blocks) e = tt
 waits-changes file written (Call.Remove f) e = tt
-waits-changes file written (Call.WriteSync f block body) e = tt
+waits-changes file written (Call.Put f block body) e = tt
 waits-changes file written other e = absurd (cc)
 
 spent-names : {call : Option UnderWay} {Spared : UnderWay → Type 0} {line : HostRow} {journal : List Entry} (t : ClientStep) (u : UnderWay) (file : ℕ)
@@ -199,9 +199,6 @@ refused-here who u Refusal.Fenced request before counted final h = absurd (uncou
 
 module _ (line : HostRow) (journal : List Entry) (c : Client) (number : ℕ) (ticket : Ticket) (r : Reply) (is : c.ticket ≡ Some ticket)
     (m : Mid All line journal (book_of (begun c))) (tells : (n : ℕ) → sequence_of ticket.request ≡ Some n → Tells line c.who n ticket.request r) where
-  t : ClientStep
-  t = spends (begun c)
-
   spent : Spent c.call All line journal (spends (begun c))
   unfolding spends
   spent = record {
@@ -302,7 +299,7 @@ module _ (line : HostRow) (journal : List Entry) (c : Client) (number : ℕ) (ti
 
   -- a write that went through
   through-here : (u : UnderWay) (file block : ℕ) (body : List ℕ) → c.call ≡ Some u
-      → (u.call ≡ Call.Write file block body) ⊎ (u.call ≡ Call.WriteSync file block body) → Somewhere (IsThroughWrite c.who u.q) journal
+      → (u.call ≡ Call.Write file block body) ⊎ (u.call ≡ Call.Put file block body) → Somewhere (IsThroughWrite c.who u.q) journal
       → KeptHere (A c.who u.q Said.Ok) journal
   through-here u file block body e (inl write) made = (
     answers-open c.who u Said.Ok journal (m.keeps.is_open u e) (changing-form u (Call.Write file block body) write tt),
@@ -310,9 +307,9 @@ module _ (line : HostRow) (journal : List Entry) (c : Client) (number : ℕ) (ti
         (somewhere-more (IsThroughWrite c.who u.q) (IsMadeOpen c.who u.q) journal (λ x before h. (h.0, h.2)) made),
   )
   through-here u file block body e (inr put) made = (
-    answers-open c.who u Said.Ok journal (m.keeps.is_open u e) (changing-form u (Call.WriteSync file block body) put tt),
+    answers-open c.who u Said.Ok journal (m.keeps.is_open u e) (changing-form u (Call.Put file block body) put tt),
     record {
-      told = told (Call.WriteSync file block body);
+      told = told (Call.Put file block body);
       asks = (m.keeps.is_open u e).tells ∙ ap (λ op. Some (told op)) put;
       kept = somewhere-more (IsThroughWrite c.who u.q) (IsPutKept journal c.who u.q) journal (λ x before h. (h.0, h.2, inl h.1)) made;
       wrote = tt;

@@ -149,7 +149,7 @@ module _ {line : HostRow} {journal : List Entry} (t : ClientStep) (m : Mid All l
       d
 
   -- a put's write was delayed
-  mid-puts : (u : UnderWay) (file block : ℕ) (body : List ℕ) → IsSettling t u → u.call ≡ Call.WriteSync file block body
+  mid-puts : (u : UnderWay) (file block : ℕ) (body : List ℕ) → IsSettling t u → u.call ≡ Call.Put file block body
       → Mid All line journal (book_of (marks_written (delays t file block body) u))
   unfolding marks_written after_write
   mid-puts u file block body is put = record {
@@ -179,8 +179,8 @@ module _ {line : HostRow} {journal : List Entry} (t : ClientStep) (m : Mid All l
     open_after : IsOpenAs t.client.who (record u { written = true }) (w ∷ t.entries ++ journal)
     open_after = let k = open-more t.client.who u w (t.entries ++ journal) (λ a. a) o in record { is_open = k.is_open; tells = k.tells }
 
-    no-cleans : {op : Call} (f : ℕ) → op ≡ Call.WriteSync file block body → cleans f op ≡ true → ⊥
-    no-cleans f e c = let bad : cleans f (Call.WriteSync file block body) ≡ true = subst (λ x. cleans f x ≡ true) e c in absurd (cc)
+    no-cleans : {op : Call} (f : ℕ) → op ≡ Call.Put file block body → cleans f op ≡ true → ⊥
+    no-cleans f e c = let bad : cleans f (Call.Put file block body) ≡ true = subst (λ x. cleans f x ≡ true) e c in absurd (cc)
 
     own : PutWaits t.client.who u.q file block (w ∷ t.entries ++ journal)
     own = record {
@@ -194,7 +194,7 @@ module _ {line : HostRow} {journal : List Entry} (t : ClientStep) (m : Mid All l
       unlost first last (inl e) to = absurd (cc)
       unlost first last (inr i) to = let below = m.keeps.numbers.lost file block first last i in absurd (omega arith)
 
-    waits : (f b : ℕ) (x : List ℕ) → Call.WriteSync file block body ≡ Call.WriteSync f b x → (v : UnderWay) → u.q ≡ v.q
+    waits : (f b : ℕ) (x : List ℕ) → Call.Put file block body ≡ Call.Put f b x → (v : UnderWay) → u.q ≡ v.q
         → PutWaits t.client.who v.q f b (w ∷ t.entries ++ journal)
     waits f b x e v q =
         let one : file ≡ f = cc in
@@ -206,7 +206,7 @@ module _ {line : HostRow} {journal : List Entry} (t : ClientStep) (m : Mid All l
   -- a sync, or a put, asks for a change
   sync-form : (u : UnderWay) (file : ℕ) → IsSync u file → IsChanging (Some (told u.call))
   sync-form u file (of_sync e) = changing-form u (Call.Sync file) e tt
-  sync-form u file (of_put block body e written) = changing-form u (Call.WriteSync file block body) e tt
+  sync-form u file (of_put block body e written) = changing-form u (Call.Put file block body) e tt
 
   sync-here : (u : UnderWay) (file : ℕ) → IsSettling t u → IsSync u file → is_clean t.client file ≡ true
       → After journal (book_of (answers t u.q (Answer.Ok Value.Nothing) None)) → OkAt (A t.client.who u.q Said.Ok) (t.entries ++ journal) t.client.who u.q
@@ -316,7 +316,7 @@ module _ {line : HostRow} {journal : List Entry} (t : ClientStep) (m : Mid All l
   decides u request is for_it draws = record { keeps = sent-keeps _ u is for_it (undone request draws) m.keeps.numbers m.keeps; kept = m.kept; own = m.own }
 
   writes : (u : UnderWay) (file block : ℕ) (body : List ℕ) → t.client.call ≡ Some u
-      → (u.call ≡ Call.Write file block body) ⊎ (u.call ≡ Call.WriteSync file block body) → End line journal (book_of (sends_write t file block body))
+      → (u.call ≡ Call.Write file block body) ⊎ (u.call ≡ Call.Put file block body) → End line journal (book_of (sends_write t file block body))
   unfolding sends_request after_number
   writes u file block body is for_it =
       record {

@@ -7,7 +7,7 @@ use Rattle.nq_base.specs.declared.Who.{Who}
 use Rattle.nq_model.specs.laws.AnswersAreOfTheirCalls.{AnswersAreOfTheirCalls}
 use Rattle.nq_model.specs.laws.BusyIsSaidAtOnce.{IsStarting, BusyIsSaidAtOnce}
 use Rattle.nq_model.specs.laws.Ordered.{HasOpen}
-use Rattle.law_runs.specs.Refused.{a_vanished_write, a_late_busy, a_busy_for_nothing, OnlyDeedsRefuse, OnlyCallsRefuse, OnlyBusyRefuses}
+use Rattle.law_runs.specs.Refused.{a_vanished_write, a_late_busy, OnlyDeedsRefuse, OnlyCallsRefuse, OnlyBusyRefuses}
 use Rattle.law_runs.specs.Refused.{OnlyCausesRefuse, OnlyFormsRefuse}
 
 abbrev first-host : Who

@@ -11,9 +11,9 @@ use Rattle.nq_base.specs.declared.Party.{Party}
 use Rattle.nq_base.specs.declared.Request.{Request}
 use Rattle.nq_base.specs.declared.Who.{Who}
 use Rattle.walk_steps.proofs.ClientMoves.{some-same, none-some}
-use Rattle.walk_files.proofs.ClientContents.{call-mid, tick-mid}
+use Rattle.walk_files.proofs.ContentsSent.{call-mid, tick-mid}
 use Rattle.walk_files.proofs.ClientHears.{hear-mid}
-use Rattle.walk_files.proofs.ClientParts.{part_of, IsOverKnown, IsFair, Mid}
+use Rattle.walk_files.proofs.KnownContents.{part_of, IsOverKnown, IsFair, Mid}
 use Rattle.walk_files.proofs.Facts.{Follows, follows, line-follows}
 use Rattle.walk_files.proofs.FileMoves.{files-idle, unused-idle, map-replicate, zeros-value}
 use Rattle.walk_files.proofs.ServerContents.{IsFirst, Hearing, hears}

@@ -21,7 +21,7 @@ one-host = record { hosts = 1; term = 30; longest = 60; files = (97 ∷ [], 1) �
 -- the newest event first
 abbrev some-calls : List Event
 some-calls =
-    Event.Deliver 9 ∷ Event.Deliver 8 ∷ Event.Call 0 (Call.WriteSync 1 0 (filled 8)) ∷ Event.Deliver 7 ∷ Event.Deliver 6 ∷ Event.Deliver 5 ∷ Event.Deliver 4
+    Event.Deliver 9 ∷ Event.Deliver 8 ∷ Event.Call 0 (Call.Put 1 0 (filled 8)) ∷ Event.Deliver 7 ∷ Event.Deliver 6 ∷ Event.Deliver 5 ∷ Event.Deliver 4
     ∷ Event.Call 0 (Call.Resize 1 2) ∷ Event.Deliver 3 ∷ Event.Deliver 2 ∷ Event.Call 0 (Call.Write 1 0 (filled 7))
     ∷ Event.Call 0 (Call.Read 1 0) ∷ Event.Deliver 1 ∷ Event.Deliver 0 ∷ Event.Call 0 (Call.Read 1 0) ∷ []
 

@@ -14,7 +14,7 @@ one-host = record { hosts = 1; term = 30; longest = 60; files = (97 ∷ [], 1) �
 
 -- a put, and the packet that brings it; the newest event first
 abbrev one-put : List Event
-one-put = Event.Deliver 0 ∷ Event.Call 0 (Call.WriteSync 1 0 (filled 7)) ∷ []
+one-put = Event.Deliver 0 ∷ Event.Call 0 (Call.Put 1 0 (filled 7)) ∷ []
 
 seven : IsFilled (filled 7)
 unfolding filled

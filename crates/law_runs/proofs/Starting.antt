@@ -9,7 +9,7 @@ use Rattle.nq_model.specs.laws.BusyIsSaidAtOnce.{IsBusyOnly, IsStarting, IsStart
 use Rattle.nq_model.specs.protocol.Client.{Client, ClientStep, Job, attaching, begun, UnderWay}
 use Rattle.nq_model.specs.protocol.ClientStep.{begins_call, says_busy, client_call, at_time, sends_again, client_tick, next_incarnation}
 use Rattle.nq_model.specs.protocol.Hear.{hear, spends, attached, vacates_lease, notes_notice, cancels, evicted, goes_on, replied}
-use Rattle.nq_model.specs.laws.Journal.{Each, Exists}
+use Rattle.nq_model.specs.laws.Journal.{Each}
 use Rattle.nq_model.specs.protocol.Message.{Message}
 use Rattle.nq_model.specs.protocol.Send.{sends_request, after_seq, after_number, takes_push, gives_up, send_next}
 use Rattle.nq_model.specs.protocol.Settle.{settle, settle_under_way}

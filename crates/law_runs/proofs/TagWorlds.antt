@@ -21,7 +21,7 @@ use Rattle.walk_steps.proofs.NoCrash.{bounds-before}
 use Rattle.walk_steps.proofs.Packets.{In, in-append, in-get, Told, Asked, not-both}
 use Rattle.law_runs.proofs.RowNumbers.{row-numbered}
 use Rattle.walk_steps.proofs.Rows.{same-number, number-same}
-use Rattle.walk_steps.proofs.ServerEffects.{standing-serving}
+use Rattle.walk_steps.proofs.TermsDrawn.{standing-serving}
 use Rattle.walk_steps.proofs.ServerHears.{hears-effect}
 use Rattle.walk_steps.proofs.ServerKnows.{IsNew, new_reply, new_error, new_notice, Effect}
 use Rattle.walk_steps.proofs.ServerTables.{StandingFitsOf, NoneRecovering}

@@ -8,8 +8,8 @@ use Rattle.nq_base.specs.declared.Reply.{Reply}
 use Rattle.nq_base.specs.declared.Request.{Request}
 use Rattle.nq_base.specs.declared.Who.{Who}
 use Rattle.walk_steps.proofs.ClientFacts.{changes_file, push_in}
-use Rattle.walk_files.proofs.ClientParts.{part_of, IsKnown, IsClean, IsOverKnown, IsPending, IsFair, fair-more, NoneFrom, only-delayed, Mid}
-use Rattle.walk_files.proofs.ClientParts.{known-follows, clean-follows}
+use Rattle.walk_files.proofs.KnownContents.{part_of, IsKnown, IsClean, IsOverKnown, IsPending, IsFair, fair-more, NoneFrom, only-delayed, Mid}
+use Rattle.walk_files.proofs.KnownContents.{known-follows, clean-follows}
 use Rattle.walk_files.proofs.Facts.{History, Follows, follows, Tells, tells-follows, LineTells, line-follows, FilesFit, UnusedFit}
 use Rattle.walk_files.proofs.FileMoves.{files-idle, unused-idle}
 use Rattle.walk_files.proofs.ServerDelays.{Never, never-delayed}

@@ -25,7 +25,8 @@ use Rattle.nq_model.specs.protocol.ServerStep.{attaches, vacates, tells_later, g
 use Rattle.nq_model.specs.protocol.ServerStep.{fence, at_time}
 use Rattle.nq_model.specs.protocol.Table.{Table, with_rows}
 use Rattle.walk_steps.proofs.Rows.{choice}
-use Rattle.walk_steps.proofs.ServerCases.{found-file, server-hears, server-ticks}
+use Rattle.walk_steps.proofs.DecideCases.{found-file}
+use Rattle.walk_steps.proofs.ServerCases.{server-hears, server-ticks}
 
 -- ---- a step of the server
 

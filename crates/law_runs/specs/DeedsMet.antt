@@ -6,7 +6,7 @@ use Rattle.nq_base.specs.declared.Event.{Event}
 use Rattle.nq_base.specs.declared.Said.{Said}
 use Rattle.nq_base.specs.declared.Said.TheVariants.{Ok, OkValue, OkBy}
 use Rattle.nq_base.specs.declared.Told.{Told}
-use Rattle.nq_base.specs.declared.Told.TheVariants.{Read, Write, WriteSync, Resize}
+use Rattle.nq_base.specs.declared.Told.TheVariants.{Read, Write, Put, Resize}
 use Rattle.nq_model.specs.laws.Bounds.{KeepsBounds}
 use Rattle.nq_model.specs.laws.Journal.{call_of}
 use Rattle.nq_model.specs.laws.JournalTest.{exists}
@@ -20,7 +20,7 @@ is_write_done said call = false
 
 -- whether it is `ok` to a `put`
 abbrev pub is_put_done : Said → Option Told → Bool
-is_put_done Ok (Some (WriteSync file block value)) = true
+is_put_done Ok (Some (Put file block value)) = true
 is_put_done said call = false
 
 -- whether it is `ok` to a `resize`

@@ -31,9 +31,6 @@ abbrev pub AllLinked : Server → (sender : ℕ) → Datagram → List Packet �
 AllLinked s sender d sends =
     (host x inc : ℕ) (st : Refusal) → In sends (to_host host (reply x (Reply.Refused inc st))) → Link s sender d host x inc
 
-refused-inc : (i j : ℕ) (a b : Refusal) → Reply.Refused i a ≡ Reply.Refused j b → i ≡ j
-refused-inc i j a b e = cc
-
 module _ (s : Server) (sender next : ℕ) (d : Datagram) where
   none : AllLinked s sender d []
   none host x inc st i = absurd i

@@ -72,7 +72,7 @@ settled t h = settle-cases t Asks (record {
   others = λ u is needs. h;
 })
   where
-    no-put : (file block : ℕ) (body : List ℕ) (u v : UnderWay) → u.call ≡ Call.WriteSync file block body → Some (record u { written = true }) ≡ Some v
+    no-put : (file block : ℕ) (body : List ℕ) (u v : UnderWay) → u.call ≡ Call.Put file block body → Some (record u { written = true }) ≡ Some v
         → needs_no_lease v.call ≡ true → ⊥
     no-put file block body u v put called look =
         let same : u.call ≡ v.call = ap (λ (x : UnderWay). x.call) (some-same (record u { written = true }) v called) in

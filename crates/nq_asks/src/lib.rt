@@ -7,5 +7,5 @@
 mod lines;
 mod numbers;
 
-pub use lines::{Kind, answer_in, ask_in, push_answer, push_ask};
+pub use lines::{AnswerKind, answer_in, ask_in, push_answer, push_ask};
 pub use numbers::{Numbers, numbers_rise};

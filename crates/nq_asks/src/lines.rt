@@ -2,7 +2,7 @@
 
 ghost use Rattle.std.specs.Prelude.{◌≡◌, ◌<◌, ◌^◌, ◌++◌, ◌∷◌, ℕ, List, Some, IfSome, OnOk, option_map};
 ghost use Rattle.nq_asks.specs.Lines.{answer_line, answer_told, ask_line, kind_of, kind_then, kind_word};
-ghost use Rattle.nq_asks.specs.declared.lines.Kind.{Kind};
+ghost use Rattle.nq_asks.specs.declared.lines.AnswerKind.{AnswerKind};
 ghost use Rattle.nq_script.specs.Reading.{number_then};
 
 use nq_base::NoMemory;
@@ -10,7 +10,7 @@ use nq_script::words::{cut, is, number32, push_bytes, push_digits};
 
 /// The kind of a line that a host sends.
 #[derive(Clone, Copy)]
-pub enum Kind {
+pub enum AnswerKind {
     /// It was done; the words say what came.
     Done,
     /// It was refused; the words say why.
@@ -57,33 +57,33 @@ fn numbered(line: &[u8]) -> Option<(u32, &[u8])>
 }
 
 /// The word of a kind.
-fn kind_word(kind: Kind) -> &'static [u8]
+fn kind_word(kind: AnswerKind) -> &'static [u8]
     ensures { result.now ≡ kind_word kind }
 {
     match kind {
-        Kind::Done => b"ok",
-        Kind::Refused => b"no",
-        Kind::Bytes => b"bytes",
-        Kind::Note => b"note",
-        Kind::Wait => b"wait",
+        AnswerKind::Done => b"ok",
+        AnswerKind::Refused => b"no",
+        AnswerKind::Bytes => b"bytes",
+        AnswerKind::Note => b"note",
+        AnswerKind::Wait => b"wait",
     }
 }
 
 /// The kind that a word tells.
 #[tactic(auto, unfolding(crate::specs::Lines::kind_of))]
-fn kind_of(word: &[u8]) -> Option<Kind>
+fn kind_of(word: &[u8]) -> Option<AnswerKind>
     ensures { result ≡ kind_of word.now }
 {
     if is(word, b"ok") {
-        Some(Kind::Done)
+        Some(AnswerKind::Done)
     } else if is(word, b"no") {
-        Some(Kind::Refused)
+        Some(AnswerKind::Refused)
     } else if is(word, b"bytes") {
-        Some(Kind::Bytes)
+        Some(AnswerKind::Bytes)
     } else if is(word, b"note") {
-        Some(Kind::Note)
+        Some(AnswerKind::Note)
     } else if is(word, b"wait") {
-        Some(Kind::Wait)
+        Some(AnswerKind::Wait)
     } else {
         None
     }
@@ -94,7 +94,12 @@ fn kind_of(word: &[u8]) -> Option<Kind>
 /// # Errors
 ///
 /// Only want of memory.
-pub fn push_answer(out: &mut Vec<u8>, number: u32, kind: Kind, text: &[u8]) -> Result<(), NoMemory>
+pub fn push_answer(
+    out: &mut Vec<u8>,
+    number: u32,
+    kind: AnswerKind,
+    text: &[u8],
+) -> Result<(), NoMemory>
     ensures { OnOk result (out.new.items ≡ out.old.items ++ answer_line number kind text.now) }
 {
     push_digits(out, u64::from(number))?;
@@ -105,10 +110,10 @@ pub fn push_answer(out: &mut Vec<u8>, number: u32, kind: Kind, text: &[u8]) -> R
 }
 
 /// The number of the ask that a line answers, its kind and its words; None where a line is no answer.
-pub fn answer_in(line: &[u8]) -> Option<(u32, Kind, &[u8])>
+pub fn answer_in(line: &[u8]) -> Option<(u32, AnswerKind, &[u8])>
     ensures is { option_map (λ r. (r.0, (r.1, r.2.now))) result ≡ answer_told line.now }
     ensures found { IfSome result (λ r. line.now ≡ answer_line r.0 r.1 r.2.now) }
-    ensures only { (number : ℕ) (kind : Kind) (text : List ℕ) → number < 2 ^ 32 → line.now ≡ answer_line number kind text
+    ensures only { (number : ℕ) (kind : AnswerKind) (text : List ℕ) → number < 2 ^ 32 → line.now ≡ answer_line number kind text
         → answer_told line.now ≡ Some (number, (kind, text)) }
 {
     answered(line)
@@ -116,7 +121,7 @@ pub fn answer_in(line: &[u8]) -> Option<(u32, Kind, &[u8])>
 
 /// The answer that a line tells.
 #[tactic(auto, unfolding(crate::specs::Lines::answer_told, crate::specs::Lines::kind_then))]
-fn answered(line: &[u8]) -> Option<(u32, Kind, &[u8])>
+fn answered(line: &[u8]) -> Option<(u32, AnswerKind, &[u8])>
     ensures { option_map (λ r. (r.0, (r.1, r.2.now))) result ≡ answer_told line.now }
 {
     let (number, rest) = numbered(line)?;

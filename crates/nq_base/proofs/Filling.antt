@@ -32,8 +32,3 @@ filled-value v = digits v
 pub zeros-length : length zeros ≡ 4096
 unfolding zeros
 zeros-length = filled-length 0
-
--- the value of a block of zeros is zero
-pub zeros-value : value_of zeros ≡ 0
-unfolding zeros
-zeros-value = filled-value 0

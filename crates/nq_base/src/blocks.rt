@@ -1,6 +1,7 @@
 //! A block of a file.
 
-ghost use Rattle.std.specs.Prelude.{◌≡◌, ◌≢◌, ◌<◌, ◌==◌, ◌&&◌, get_or, ◌+◌, ◌*◌, ◌↔◌, ℕ, true, false, length, take, drop, refl, IsSome, IsOk, IfSome, IfOk, OnOk};
+ghost use Rattle.std.specs.Prelude.{◌≡◌, ◌≢◌, ◌<◌, ◌==◌, ◌&&◌, get_or, ◌+◌, ◌*◌, ◌↔◌, ℕ, true, false, length, take, drop, refl, IsSome, IsOk, IfSome, IfOk};
+ghost use Rattle.std.specs.Prelude.{OnOk};
 ghost use Rattle.nq_base.specs.Block.{word, value_of, repeated, filled};
 ghost use Rattle.nq_base.specs.Seen.{seen_bytes};
 

@@ -43,7 +43,7 @@ pub enum Call {
         body: Block,
     },
     /// Writes a block, and is answered once the write is stored.
-    WriteSync {
+    Put {
         file: FileId,
         block: BlockNo,
         body: Block,
@@ -88,7 +88,7 @@ impl Call {
                 block: *block,
                 value: body.value(),
             },
-            Call::WriteSync { file, block, body } => Told::WriteSync {
+            Call::Put { file, block, body } => Told::Put {
                 file: *file,
                 block: *block,
                 value: body.value(),
@@ -130,7 +130,7 @@ impl Call {
                 block: *block,
                 body: body.copied(alloc)?,
             },
-            Call::WriteSync { file, block, body } => Call::WriteSync {
+            Call::Put { file, block, body } => Call::Put {
                 file: *file,
                 block: *block,
                 body: body.copied(alloc)?,

@@ -38,7 +38,7 @@ pub enum Told {
         value: u32,
     },
     /// `put`.
-    WriteSync {
+    Put {
         file: FileId,
         block: BlockNo,
         value: u32,

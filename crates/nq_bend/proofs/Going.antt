@@ -89,23 +89,6 @@ along-with head old bends count was event c d told spared going here stands w is
   leaves = subst (AllByRecursion (IsLeftOut old)) (sym w.leaves) is.leaves;
 }
 
--- the run is over: what is next in the old run does not happen
-pub over-skips : (head : Head) (old : List Event) (bends : List Bend) (count : ℕ) (c : Course) → c.is_over ≡ true → IsCourse head old bends count c
-    → IsCourse head old bends (count + 1) c
-over-skips head old bends count c over is = record {
-  told = is.told;
-  many = is.many;
-  keeps = record {
-    reached = is.keeps.reached;
-    few = let few : is.keeps.reached ≤ count = is.keeps.few in omega arith;
-    acts = is.keeps.acts;
-    whole = is.keeps.whole;
-    all = λ going. absurd (cc);
-  };
-  spared = is.spared;
-  leaves = is.leaves;
-}
-
 out-keeps : (old : List Event) (out : LeftOut) (c d : Course) → IsLeftOut old out → IsWithout out c d → (over : Bool) → c.is_over ≡ over
     → Keeps old out.event c.is_over c → Keeps old (out.event + 1) d.is_over d
 out-keeps old out c d left w true is k = record {

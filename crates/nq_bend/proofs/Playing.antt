@@ -1,5 +1,5 @@
 -- A world plays the new run on, or refuses its last event.
-use Rattle.std.proofs.Common.{◌≡◌, ℕ, List, [], ◌∷◌, ◌++◌, true, false, Bool, Option, Some, Result, Ok, Err, OnOk, reverse, sym, ap, subst, ◌∙◌}
+use Rattle.std.proofs.Common.{◌≡◌, ℕ, [], ◌∷◌, ◌++◌, true, false, Bool, Option, Result, Ok, Err, OnOk, reverse, sym, ap, subst, ◌∙◌}
 use Rattle.std.proofs.lemmas.List.{reverse-append}
 use Rattle.nq_base.specs.declared.Event.{Event}
 use Rattle.nq_bend.specs.Bending.{AreTaken, EndsSo, RunsTo}

@@ -6,7 +6,7 @@ use Rattle.nq_bend.specs.Bending.{EndsSo, IsLeftOut, IsSpared, KeepsActs, TellsA
 use Rattle.nq_bend.specs.declared.bends.Bend.{Bend}
 use Rattle.nq_bend.specs.declared.bends.LeftOut.{LeftOut}
 use Rattle.nq_bend.specs.declared.course.Course.{Course}
-use Rattle.nq_bend.specs.declared.plan.Plan.{Plan}
+use Rattle.nq_bend.specs.declared.plan.BendPlan.{BendPlan}
 use Rattle.nq_model.specs.protocol.Kept.{Kept}
 use Rattle.nq_replay.specs.Texts.{IsTellable}
 use Rattle.nq_script.specs.declared.heads.Head.{Head}
@@ -31,11 +31,11 @@ pub record IsCourse (head : Head) (old : List Event) (bends : List Bend) (count 
   pub leaves : AllByRecursion (IsLeftOut old) c.left.items
 
 -- a new run of a plan behind so many events of the old one
-abbrev pub IsOn : Plan → (count : ℕ) → Course → Type 0
+abbrev pub IsOn : BendPlan → (count : ℕ) → Course → Type 0
 IsOn plan count c = IsCourse plan.head.now plan.old.now.events plan.bends.now count c
 
 -- a world has the settings of the head of a plan
-abbrev pub HasHead : {K : Type 0} → Plan → WorldOver K → Type 0
+abbrev pub HasHead : {K : Type 0} → BendPlan → WorldOver K → Type 0
 HasHead plan w = HasSettings plan.head.now.hosts plan.head.now.longest plan.head.now.term w
 
 -- a delivery stands for any, and another event for itself
@@ -91,6 +91,6 @@ pub record IsPlayed {K : Type 0} (head : Head) (w : WorldOver K) (told : Option 
   pub plays : c.is_over ≡ false → Plays (beginning head) (reverse c.ran) w told
 
 -- a world whose keeper tells its content so plays the new run on
-abbrev pub PlaysOn : {K : Type 0} → (content : K → Option Kept) → Plan → (old new : WorldOver K) → (c d : Course) → Type 0
+abbrev pub PlaysOn : {K : Type 0} → (content : K → Option Kept) → BendPlan → (old new : WorldOver K) → (c d : Course) → Type 0
 PlaysOn content plan old new c d =
     IsPlayed plan.head.now old (content old.server.keeper) c → IsPlayed plan.head.now new (content new.server.keeper) d

@@ -18,7 +18,7 @@ ghost use Rattle.nq_world.specs.Playing.{Plays};
 use crate::bends::{Bend, BendFault, Bent, Then};
 use crate::course::{Course, come, drain, happen};
 use crate::old::{Old, run_of};
-use crate::plan::Plan;
+use crate::plan::BendPlan;
 use crate::puts::read_put;
 use nq_base::{Event, NoMemory};
 use nq_keeper::{Keeper, ListKeeper};
@@ -100,7 +100,7 @@ fn run_bent<P: Patience>(
     ensures goes { IfOk result (IsCourse head.now old.now.events bends.now (length old.now.events)) }
     ensures ends { IfOk result (λ c. EndsSo head.now c.is_over c.ran) }
 {
-    let plan = Plan {
+    let plan = BendPlan {
         head,
         old,
         bends,
@@ -124,7 +124,7 @@ fn run_bent<P: Patience>(
 fn play<K: Keeper, P: Patience>(
     alloc: Global,
     world: &mut World<K>,
-    plan: &Plan<'_>,
+    plan: &BendPlan<'_>,
     patience: &mut P,
 ) -> Result<Course, BendFault>
     requires fits { FitsHead plan.now.head.now }
@@ -148,7 +148,7 @@ fn finish<K: Keeper, P: Patience>(
     alloc: Global,
     world: &mut World<K>,
     course: &mut Course,
-    plan: &Plan<'_>,
+    plan: &BendPlan<'_>,
     patience: &mut P,
 ) -> Result<(), BendFault>
     requires fits { FitsHead plan.now.head.now }
@@ -173,7 +173,7 @@ fn change<K: Keeper, P: Patience>(
     alloc: Global,
     world: &mut World<K>,
     course: &mut Course,
-    plan: &Plan<'_>,
+    plan: &BendPlan<'_>,
     place: usize,
     patience: &mut P,
 ) -> Result<(), BendFault>
@@ -194,7 +194,7 @@ fn change<K: Keeper, P: Patience>(
 fn settle<K: Keeper, P: Patience>(
     world: &mut World<K>,
     course: &mut Course,
-    plan: &Plan<'_>,
+    plan: &BendPlan<'_>,
     place: usize,
     patience: &mut P,
 ) -> Result<(), BendFault>
@@ -217,7 +217,7 @@ fn make<K: Keeper>(
     alloc: Global,
     world: &mut World<K>,
     course: &mut Course,
-    plan: &Plan<'_>,
+    plan: &BendPlan<'_>,
     place: usize,
     number: usize,
 ) -> Result<(), BendFault>
@@ -235,7 +235,7 @@ fn make<K: Keeper>(
             let Some(lines) = read_put(alloc, plan.head, line)? else {
                 return Err(BendFault::Bad(number));
             };
-            put(world, course, plan, &lines)?;
+            put_event(world, course, plan, &lines)?;
         }
         Bend::Later { packet, event } if *event == place => deliver(world, course, plan, *packet)?,
         Bend::Cut { host, at } if *at == place => course.set_cut(*host, true),
@@ -246,10 +246,10 @@ fn make<K: Keeper>(
 }
 
 /// Lets happen what lines tell.
-fn put<K: Keeper>(
+fn put_event<K: Keeper>(
     world: &mut World<K>,
     course: &mut Course,
-    plan: &Plan<'_>,
+    plan: &BendPlan<'_>,
     lines: &Lines,
 ) -> Result<(), NoMemory>
     requires told { AllByRecursion (TellsEvent plan.now.head.now) lines.now }
@@ -269,7 +269,7 @@ fn put<K: Keeper>(
 fn put_line<K: Keeper>(
     world: &mut World<K>,
     course: &mut Course,
-    plan: &Plan<'_>,
+    plan: &BendPlan<'_>,
     lines: &Lines,
     place: usize,
 ) -> Result<(), NoMemory>
@@ -289,7 +289,7 @@ fn put_line<K: Keeper>(
 fn repeat<K: Keeper>(
     world: &mut World<K>,
     course: &mut Course,
-    plan: &Plan<'_>,
+    plan: &BendPlan<'_>,
     event: &Event,
     times: u32,
 ) -> Result<(), NoMemory>
@@ -309,7 +309,7 @@ fn repeat<K: Keeper>(
 fn deliver<K: Keeper>(
     world: &mut World<K>,
     course: &mut Course,
-    plan: &Plan<'_>,
+    plan: &BendPlan<'_>,
     packet: u64,
 ) -> Result<(), NoMemory>
     requires settings { HasHead plan.now world.old }
@@ -331,7 +331,7 @@ fn deliver<K: Keeper>(
 fn keep<K: Keeper>(
     world: &mut World<K>,
     course: &mut Course,
-    plan: &Plan<'_>,
+    plan: &BendPlan<'_>,
     place: usize,
 ) -> Result<(), NoMemory>
     requires there { place < length plan.now.old.now.events }
@@ -341,12 +341,12 @@ fn keep<K: Keeper>(
     ensures goes { IsOn plan.now place course.old → OnOk result (IsOn plan.now (place + 1) course.new) }
     ensures plays { OnOk result (PlaysOn K.content plan.now world.old world.new course.old course.new) }
 {
-    let Some(event) = plan.old.events.get(place) else {
+    let Some(event) = plan.old.events.get(place)? else {
         return Ok(());
     };
-    match packet_of(event) {
+    match packet_of(&event) {
         Some(packet) => keep_delivery(world, course, plan, place, packet),
-        None => happen(world, course, plan, event, Some(place)),
+        None => happen(world, course, plan, &event, Some(place)),
     }
 }
 
@@ -369,7 +369,7 @@ fn packet_of(event: &Event) -> Option<u64>
 fn keep_delivery<K: Keeper>(
     world: &mut World<K>,
     course: &mut Course,
-    plan: &Plan<'_>,
+    plan: &BendPlan<'_>,
     place: usize,
     packet: u64,
 ) -> Result<(), NoMemory>
@@ -393,7 +393,7 @@ fn keep_delivery<K: Keeper>(
 fn double<K: Keeper>(
     world: &mut World<K>,
     course: &mut Course,
-    plan: &Plan<'_>,
+    plan: &BendPlan<'_>,
     place: usize,
     packet: u64,
     event: &Event,

@@ -12,7 +12,7 @@ ghost use Rattle.nq_script.specs.declared.heads.Head.{Head};
 use crate::bends::{BendFault, LeftOut, Why};
 use crate::lanes::Lanes;
 use crate::old::Old;
-use crate::plan::Plan;
+use crate::plan::BendPlan;
 use nq_base::{Event, Host, NoMemory, Party};
 use nq_keeper::Keeper;
 use nq_observe::{Patience, Post};
@@ -85,7 +85,7 @@ impl Course {
     }
 
     /// The packet of the new run that arrives where one of the old arrived in the event at a place; else why none does.
-    pub(crate) fn fate_of(&self, plan: &Plan<'_>, packet: u64, place: usize) -> Result<u64, Why>
+    pub(crate) fn fate_of(&self, plan: &BendPlan<'_>, packet: u64, place: usize) -> Result<u64, Why>
         ensures { IfOk result (λ new. IsSpared plan.now.bends.now self.now.lanes.olds.items (Event.Deliver new)) }
     {
         if let Some(why) = plan.leaves(packet, place) {
@@ -130,7 +130,7 @@ impl Course {
     }
 
     /// The first packet under way that can arrive: any, or one that is late at a place of the old run.
-    fn next_waiting(&self, plan: &Plan<'_>, late: Option<usize>) -> Option<u64> {
+    fn next_waiting(&self, plan: &BendPlan<'_>, late: Option<usize>) -> Option<u64> {
         match late {
             Some(place) => self.next_late(plan, place),
             None => self.next_of_all(),
@@ -149,7 +149,7 @@ impl Course {
     }
 
     /// The first packet under way that can arrive and was to arrive before this place of the old run.
-    fn next_late(&self, plan: &Plan<'_>, place: usize) -> Option<u64> {
+    fn next_late(&self, plan: &BendPlan<'_>, place: usize) -> Option<u64> {
         for packet in &self.hasty {
             if !self.is_cut(*packet) && self.is_late(plan, *packet, place) {
                 return Some(*packet);
@@ -159,7 +159,7 @@ impl Course {
     }
 
     /// Whether a packet is none of the old run, or one that was to arrive before this place there.
-    fn is_late(&self, plan: &Plan<'_>, packet: u64, place: usize) -> bool {
+    fn is_late(&self, plan: &BendPlan<'_>, packet: u64, place: usize) -> bool {
         match self.lanes.olds.get(packet as usize) {
             Some(Some(old)) => match plan.moment_of(*old) {
                 Some(moment) => moment < place,
@@ -188,7 +188,7 @@ impl Course {
     }
 
     /// Whether an event is no delivery, or that of a packet that was sent and is not lost.
-    fn spares(&self, plan: &Plan<'_>, event: &Event) -> bool
+    fn spares(&self, plan: &BendPlan<'_>, event: &Event) -> bool
         ensures { IsTrue result → IsSpared plan.now.bends.now self.now.lanes.olds.items event.now }
     {
         match event {
@@ -202,7 +202,7 @@ impl Course {
     }
 
     /// Whether a packet of the new run was sent and is not lost.
-    fn spares_packet(&self, plan: &Plan<'_>, packet: u64) -> bool
+    fn spares_packet(&self, plan: &BendPlan<'_>, packet: u64) -> bool
         ensures { IsTrue result → IsSpared plan.now.bends.now self.now.lanes.olds.items (Event.Deliver packet) }
     {
         match self.lanes.olds.get(packet as usize) {
@@ -244,7 +244,7 @@ impl Course {
     fn close<K: Keeper>(
         &mut self,
         world: &World<K>,
-        plan: &Plan<'_>,
+        plan: &BendPlan<'_>,
         event: &Event,
         stepped: Stepped,
     ) -> Result<(), NoMemory>
@@ -275,7 +275,7 @@ impl Course {
         &mut self,
         world: &World<K>,
         event: &Event,
-        plan: &Plan<'_>,
+        plan: &BendPlan<'_>,
     ) -> Result<(), NoMemory>
         ensures goes { (count : ℕ) → IsOn plan.now count self.old → OnOk result (IsOn plan.now count self.new) }
         ensures still { OnOk result (IsStill self.old self.new) }
@@ -305,7 +305,7 @@ impl Course {
     }
 
     /// Notes a packet that was sent. It is under way, if it is not barred.
-    fn note_sent(&mut self, plan: &Plan<'_>, number: usize) -> Result<(), NoMemory>
+    fn note_sent(&mut self, plan: &BendPlan<'_>, number: usize) -> Result<(), NoMemory>
         ensures goes { (count : ℕ) → IsOn plan.now count self.old → OnOk result (IsOn plan.now count self.new) }
         ensures still { OnOk result (IsStill self.old self.new) }
     {
@@ -334,7 +334,7 @@ impl Course {
 }
 
 /// Whether a packet that is sent may be late, where it is this one of the old run, if it is one.
-fn may_be_late(plan: &Plan<'_>, lanes: &Lanes, sent: &Sent, old: Option<u64>) -> bool {
+fn may_be_late(plan: &BendPlan<'_>, lanes: &Lanes, sent: &Sent, old: Option<u64>) -> bool {
     match old {
         Some(old) => plan.moment_of(old).is_some(),
         None => lanes.was_heard(sent, plan.old),
@@ -354,7 +354,7 @@ fn clear(waiting: &mut Vec<bool>, packet: u64) {
 pub(crate) fn happen<K: Keeper>(
     world: &mut World<K>,
     course: &mut Course,
-    plan: &Plan<'_>,
+    plan: &BendPlan<'_>,
     event: &Event,
     origin: Option<usize>,
 ) -> Result<(), NoMemory>
@@ -380,7 +380,7 @@ pub(crate) fn happen<K: Keeper>(
 pub(crate) fn come<K: Keeper>(
     world: &mut World<K>,
     course: &mut Course,
-    plan: &Plan<'_>,
+    plan: &BendPlan<'_>,
     event: &Event,
 ) -> Result<(), NoMemory>
     requires settings { HasHead plan.now world.old }
@@ -399,7 +399,7 @@ pub(crate) fn come<K: Keeper>(
 pub(crate) fn drain<K: Keeper, P: Patience>(
     world: &mut World<K>,
     course: &mut Course,
-    plan: &Plan<'_>,
+    plan: &BendPlan<'_>,
     late: Option<usize>,
     patience: &mut P,
 ) -> Result<(), BendFault>

@@ -127,7 +127,7 @@ impl Lane {
     }
 
     /// The packet of the old run that the next one of the new run is.
-    fn take(&mut self) -> Option<u64> {
+    fn next_packet(&mut self) -> Option<u64> {
         let place = self.new;
         self.new = place.saturating_add(1);
         match self.old.get(place) {
@@ -141,7 +141,7 @@ impl Lane {
 fn match_in(lanes: &mut Vec<Lane>, packet: &Sent) -> Option<u64> {
     for lane in lanes.iter_mut() {
         if lane.is_of(packet) {
-            return lane.take();
+            return lane.next_packet();
         }
     }
     None

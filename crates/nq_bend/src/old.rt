@@ -71,10 +71,7 @@ impl Old {
 
     /// Whether a clock ticks in the event at a place.
     pub(crate) fn is_tick(&self, place: usize) -> bool {
-        matches!(
-            self.events.get(place),
-            Some(Event::ServerTick) | Some(Event::ClientTick(_))
-        )
+        self.events.is_tick(place)
     }
 
     /// Whether a packet never arrives, though one that was sent later does.
@@ -166,7 +163,7 @@ fn play<K: Keeper, P: Patience>(
         let Some(event) = next else {
             break;
         };
-        if !take(world, &mut run, &mut delivered, &script.head, event)? {
+        if !take_event(world, &mut run, &mut delivered, &script.head, event)? {
             break;
         }
     }
@@ -175,7 +172,7 @@ fn play<K: Keeper, P: Patience>(
 
 /// Gives an event to a world, and notes it if the world takes it in; whether it does.
 #[tactic(auto, using(crate::proofs::Coming::can_come, crate::proofs::Coming::settings_on, crate::proofs::Events::all_last))]
-fn take<K: Keeper>(
+fn take_event<K: Keeper>(
     world: &mut World<K>,
     run: &mut Old,
     delivered: &mut Delivered,

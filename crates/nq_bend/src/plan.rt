@@ -10,7 +10,7 @@ use nq_script::Head;
 
 /// The run that is bent, and how.
 #[derive(Clone, Copy)]
-pub(crate) struct Plan<'a> {
+pub(crate) struct BendPlan<'a> {
     /// With what both runs begin.
     pub(crate) head: &'a Head,
     /// The run.
@@ -21,7 +21,7 @@ pub(crate) struct Plan<'a> {
     pub(crate) then: Then,
 }
 
-impl Plan<'_> {
+impl BendPlan<'_> {
     /// The place of the first change that says nothing that can be done, whatever its line says.
     pub(crate) fn first_bad(&self) -> Option<usize> {
         let hosts = self.head.hosts;

@@ -55,7 +55,7 @@ impl Blocks {
     }
 
     /// Puts a block in front. The last one goes where there would be more than 512.
-    pub(crate) fn put(&mut self, key: &Key, body: Block) -> Result<(), NoMemory>
+    pub(crate) fn put_block(&mut self, key: &Key, body: Block) -> Result<(), NoMemory>
         ensures put { OnOk result (self.new ≡ put_clean key.now.file key.now.block body self.old) }
         ensures refused { OnErr result (self.new ≡ self.old) }
         ensures succeeds { IsSome (clean_at key.now.file key.now.block self.old) → IsOk result }

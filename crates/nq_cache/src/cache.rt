@@ -60,12 +60,12 @@ impl Cache {
     /// # Errors
     ///
     /// Only want of memory, and then nothing changed. A block that is there wants none.
-    pub fn put(&mut self, file: FileId, block: BlockNo, body: Block) -> Result<(), NoMemory>
+    pub fn put_block(&mut self, file: FileId, block: BlockNo, body: Block) -> Result<(), NoMemory>
         ensures put { OnOk result (self.new ≡ record self.old { clean = put_clean file block body self.old.clean }) }
         ensures refused { OnErr result (self.new ≡ self.old) }
         ensures succeeds { IsSome (clean_at file block self.old.clean) → IsOk result }
     {
-        self.clean.put(&Key { file, block }, body)
+        self.clean.put_block(&Key { file, block }, body)
     }
 
     /// Takes a block out, if it is there.
@@ -143,6 +143,6 @@ impl Cache {
         ensures succeeds { 1 ≤ self.old.spare → IsOk result }
         ensures spare { self.old.spare ≤ self.new.spare + 1 }
     {
-        self.revisions.put(file, rev)
+        self.revisions.put_revision(file, rev)
     }
 }

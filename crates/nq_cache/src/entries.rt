@@ -1,7 +1,8 @@
 //! Clean blocks on an `LruCache`: it has room for one more than there may be, so that a block can be put in before
 //! another goes.
 
-ghost use Rattle.std.specs.Prelude.{◌≡◌, ◌≤◌, ◌<◌, ◌+◌, ◌-◌, ◌∷◌, ◌++◌, [], false, true, length, take, drop, filter, option_copied, option_map, IsSome, IsOk, OnOk, OnErr, IfOk, IsTrue, if◌then◌else◌};
+ghost use Rattle.std.specs.Prelude.{◌≡◌, ◌≤◌, ◌<◌, ◌+◌, ◌-◌, ◌∷◌, ◌++◌, [], false, true, length, take, drop, filter, option_copied, option_map, IsSome, IsOk};
+ghost use Rattle.std.specs.Prelude.{OnOk, OnErr, IfOk, IsTrue, if◌then◌else◌};
 ghost use Rattle.nq_model.specs.protocol.Client.{clean_at, drop_clean, purge, put_clean};
 ghost use Rattle.nq_model.specs.protocol.Profile.{most_clean, at_most};
 ghost use Rattle.nq_model.specs.protocol.Settle.{clean_body, looked_up};
@@ -29,7 +30,8 @@ pub(crate) type Entries = LruCache<Key, Block>;
 pub(crate) fn put_first(entries: &mut Entries, key: &Key, body: Block) -> Result<(), NoMemory>
     requires room { entries.old.cap ≡ 513 }
     requires few { length entries.old.entries ≤ 512 }
-    ensures put { OnOk result (clean_blocks entries.new.entries ≡ record { file = key.now.file; block = key.now.block; body = body } ∷ drop_clean key.now.file key.now.block (clean_blocks entries.old.entries)) }
+    ensures put { OnOk result (clean_blocks entries.new.entries
+        ≡ record { file = key.now.file; block = key.now.block; body = body } ∷ drop_clean key.now.file key.now.block (clean_blocks entries.old.entries)) }
     ensures refused { OnErr result (entries.new ≡ entries.old) }
     ensures succeeds { IsSome (clean_at key.now.file key.now.block (clean_blocks entries.old.entries)) → IsOk result }
     ensures room { entries.new.cap ≡ entries.old.cap }

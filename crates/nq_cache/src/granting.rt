@@ -50,12 +50,13 @@ fn caches_granted(
     body: &Block,
     rev: Rev,
 ) -> Result<(), NoMemory>
-    ensures cached { OnOk result (cache.new ≡ record cache.old { clean = put_clean file block body.now (clean_at_revision file rev cache.old.revisions cache.old.clean) }) }
+    ensures cached { OnOk result (cache.new
+        ≡ record cache.old { clean = put_clean file block body.now (clean_at_revision file rev cache.old.revisions cache.old.clean) }) }
     ensures refused { OnErr result (cache.new ≡ cache.old) }
 {
     let body = body.copied(alloc)?;
     if has_revision(cache, file, rev) {
-        cache.put(file, block, body)
+        cache.put_block(file, block, body)
     } else {
         cache.put_alone(file, block, body)
     }
@@ -71,7 +72,8 @@ pub fn caches_read(
     body: &Block,
     grant: &Option<Grant>,
 ) -> Result<(), NoMemory>
-    ensures cached { OnOk result (cache.new ≡ record cache.old { clean = clean_after_reply file block body.now grant.now cache.old.revisions cache.old.clean }) }
+    ensures cached { OnOk result (cache.new
+        ≡ record cache.old { clean = clean_after_reply file block body.now grant.now cache.old.revisions cache.old.clean }) }
     ensures refused { OnErr result (cache.new ≡ cache.old) }
 {
     match grant {
@@ -114,11 +116,15 @@ pub fn caches_written(
     rev: Rev,
     holds: bool,
 ) -> Result<(), NoMemory>
-    ensures cached { OnOk result (cache.new ≡ record cache.old { clean = (if holds && is_revision_before rev (revision_of file cache.old.revisions) then put_clean file block body.now cache.old.clean else purge file cache.old.clean) }) }
+    ensures cached { OnOk result (cache.new
+        ≡ record cache.old {
+          clean = (if holds && is_revision_before rev
+              (revision_of file cache.old.revisions) then put_clean file block body.now cache.old.clean else purge file cache.old.clean);
+        }) }
     ensures refused { OnErr result (cache.new ≡ cache.old) }
 {
     if holds && is_revision_before(cache, file, rev) {
-        return cache.put(file, block, body.copied(alloc)?);
+        return cache.put_block(file, block, body.copied(alloc)?);
     }
     cache.purge(file);
     Ok(())

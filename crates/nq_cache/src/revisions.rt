@@ -1,6 +1,7 @@
 //! The revisions of files, in order of files.
 
-ghost use Rattle.std.specs.Prelude.{◌≡◌, ◌≤◌, ◌<◌, ◌+◌, ◌-◌, [], ◌∷◌, map, length, slice_set, slice_get, option_map, vec_len, vec_capacity, IsTrue, ◌↔◌, IsSomeAnd, IsSome, IsOk, IfOk, OnOk, OnErr};
+ghost use Rattle.std.specs.Prelude.{◌≡◌, ◌≤◌, ◌<◌, ◌+◌, ◌-◌, [], ◌∷◌, map, length, slice_set, slice_get, option_map, vec_len, vec_capacity, IsTrue, ◌↔◌};
+ghost use Rattle.std.specs.Prelude.{IsSomeAnd, IsSome, IsOk, IfOk, OnOk, OnErr};
 ghost use Rattle.std.specs.List.{insert};
 ghost use Rattle.nq_model.specs.protocol.Client.{revision_of, put_revision};
 ghost use Rattle.nq_cache.specs.Revisions.{revision, of_file, Ascends, IsPlace};
@@ -11,13 +12,13 @@ use std::marker::Model;
 
 /// The revision of a file's clean blocks.
 #[derive(Clone, Copy)]
-pub(crate) struct Known {
+pub(crate) struct KnownRevision {
     pub(crate) file: FileId,
     pub(crate) rev: Rev,
 }
 
 /// Where the revision of a file stands, or would stand.
-fn place_of(known: &[Known], file: FileId) -> usize
+fn place_of(known: &[KnownRevision], file: FileId) -> usize
     requires { Ascends known.now }
     ensures { IsPlace file known.now result }
 {
@@ -25,7 +26,7 @@ fn place_of(known: &[Known], file: FileId) -> usize
 }
 
 /// What stands at the place of a file, if that is of the file.
-fn at(known: &[Known], place: usize, file: FileId) -> Option<Known>
+fn at(known: &[KnownRevision], place: usize, file: FileId) -> Option<KnownRevision>
     ensures { result ≡ of_file file (slice_get known.now place) }
 {
     match known.get(place) {
@@ -35,7 +36,7 @@ fn at(known: &[Known], place: usize, file: FileId) -> Option<Known>
 }
 
 /// The revision of a file.
-fn find(known: &[Known], file: FileId) -> Option<Known>
+fn find(known: &[KnownRevision], file: FileId) -> Option<KnownRevision>
     requires { Ascends known.now }
     ensures { option_map revision result ≡ revision_of file (map revision known.now) }
 {
@@ -43,7 +44,7 @@ fn find(known: &[Known], file: FileId) -> Option<Known>
 }
 
 /// Puts a revision that is there in the place of another of its file.
-fn replace(known: &mut Vec<Known>, place: usize, new: Known)
+fn replace(known: &mut Vec<KnownRevision>, place: usize, new: KnownRevision)
     requires { place < vec_len known.old }
     ensures items { known.new.items ≡ slice_set known.old.items place new }
     ensures len { vec_len known.new ≡ vec_len known.old }
@@ -53,7 +54,7 @@ fn replace(known: &mut Vec<Known>, place: usize, new: Known)
 }
 
 /// Puts a revision that is not there at a place, without memory.
-fn insert(known: &mut Vec<Known>, place: usize, new: Known)
+fn insert(known: &mut Vec<KnownRevision>, place: usize, new: KnownRevision)
     requires within { place ≤ vec_len known.old }
     requires room { vec_len known.old < vec_capacity known.old }
     ensures items { known.new.items ≡ insert known.old.items place new }
@@ -64,19 +65,21 @@ fn insert(known: &mut Vec<Known>, place: usize, new: Known)
 }
 
 /// Puts a revision at the place of its file.
-fn put(known: &mut Vec<Known>, file: FileId, rev: Rev) -> Result<(), NoMemory>
+fn put_revision(known: &mut Vec<KnownRevision>, file: FileId, rev: Rev) -> Result<(), NoMemory>
     requires { Ascends known.old.items }
     ensures put { OnOk result (map revision known.new.items ≡ put_revision file rev (map revision known.old.items)) }
     ensures ascends { Ascends known.new.items }
-    ensures refused { OnErr result ((known.new.items ≡ known.old.items) × (vec_len known.new ≡ vec_len known.old) × (vec_capacity known.new ≡ vec_capacity known.old)) }
+    ensures refused { OnErr result ((known.new.items ≡ known.old.items) × (vec_len known.new ≡ vec_len known.old)
+        × (vec_capacity known.new ≡ vec_capacity known.old)) }
     ensures there { IsSome (revision_of file (map revision known.old.items)) → IsOk result }
-    ensures kept { IsSome (revision_of file (map revision known.old.items)) → (vec_len known.new ≡ vec_len known.old) × (vec_capacity known.new ≡ vec_capacity known.old) }
+    ensures kept { IsSome (revision_of file (map revision known.old.items)) → (vec_len known.new ≡ vec_len known.old)
+        × (vec_capacity known.new ≡ vec_capacity known.old) }
     ensures room { vec_len known.old < vec_capacity known.old → IsOk result }
     ensures len { vec_len known.new ≤ vec_len known.old + 1 }
     ensures capacity { vec_capacity known.old ≤ vec_capacity known.new }
 {
     let place = place_of(known, file);
-    let new = Known { file, rev };
+    let new = KnownRevision { file, rev };
     if is_at(known, place, file) {
         replace(known, place, new);
         Ok(())
@@ -88,7 +91,7 @@ fn put(known: &mut Vec<Known>, file: FileId, rev: Rev) -> Result<(), NoMemory>
 }
 
 /// Whether the revision of a file stands at a place.
-fn is_at(known: &[Known], place: usize, file: FileId) -> bool
+fn is_at(known: &[KnownRevision], place: usize, file: FileId) -> bool
     ensures { IsTrue result ↔ IsSomeAnd (slice_get known.now place) (λ k. k.file ≡ file) }
 {
     match known.get(place) {
@@ -100,7 +103,7 @@ fn is_at(known: &[Known], place: usize, file: FileId) -> bool
 /// Revisions in order of files. Clauses see them and how many more files get one before memory is wanted.
 #[derive(Drop)]
 pub(crate) struct Revisions {
-    known: Vec<Known>,
+    known: Vec<KnownRevision>,
 }
 
 impl Model for Revisions {
@@ -147,7 +150,7 @@ impl Revisions {
     }
 
     /// Gives a file a revision.
-    pub(crate) fn put(&mut self, file: FileId, rev: Rev) -> Result<(), NoMemory>
+    pub(crate) fn put_revision(&mut self, file: FileId, rev: Rev) -> Result<(), NoMemory>
         ensures put { OnOk result (self.new.items ≡ put_revision file rev self.old.items) }
         ensures refused { OnErr result (self.new ≡ self.old) }
         ensures there { IsSome (revision_of file self.old.items) → IsOk result }
@@ -155,6 +158,6 @@ impl Revisions {
         ensures succeeds { 1 ≤ self.old.spare → IsOk result }
         ensures spare { self.old.spare ≤ self.new.spare + 1 }
     {
-        put(&mut self.known, file, rev)
+        put_revision(&mut self.known, file, rev)
     }
 }

@@ -8,7 +8,7 @@ use Rattle.nq_base.specs.declared.Entry.TheVariants.{C, W, R, L, A}
 use Rattle.nq_base.specs.declared.Loss.{Loss}
 use Rattle.nq_base.specs.declared.Said.TheVariants.{Ok, OkValue, OkBy, Lost}
 use Rattle.nq_base.specs.declared.Told.{Told}
-use Rattle.nq_base.specs.declared.Told.TheVariants.{WriteSync}
+use Rattle.nq_base.specs.declared.Told.TheVariants.{Put}
 use Rattle.nq_base.specs.declared.Who.{Who}
 use Rattle.nq_model.specs.laws.Journal.{Throughout, AtEachPlace, call_of}
 use Rattle.nq_model.specs.laws.JournalTest.{each, exists, number_of, somewhere, throughout, is_answer, is_call, is_counted, is_open, is_read_by, is_stored}
@@ -172,7 +172,7 @@ somewhere_same f g Fact same (entry ∷ before) h =
 
 kept_call : (whole before : List Entry) (who : Who) (q : ℕ) (call : Option Told) → Throughout WriteInOrder before
     → is_kept whole before who q call ≡ is_kept_by_law whole before who q call
-kept_call whole before who q (Some (WriteSync file block value)) h =
+kept_call whole before who q (Some (Put file block value)) h =
     somewhere_same (is_put_kept before who q) (is_put_kept_by_law before who q) WriteInOrder (put_same before who q) before h
 kept_call whole before who q other h = refl
 

@@ -11,8 +11,8 @@ use Rattle.nq_base.specs.declared.Entry.TheVariants.{C, W, S, L, Z, A}
 use Rattle.nq_base.specs.declared.Said.TheVariants.{OkBy, Busy as SaidBusy}
 use Rattle.nq_base.specs.declared.Told.{Told}
 use Rattle.nq_base.specs.declared.Who.{Who}
-use Rattle.nq_rules.specs.declared.keys.Kind.{Kind}
-use Rattle.nq_rules.specs.declared.keys.Kind.TheVariants.{Calls, Covers, Cuts, Own}
+use Rattle.nq_rules.specs.declared.keys.KeyKind.{KeyKind}
+use Rattle.nq_rules.specs.declared.keys.KeyKind.TheVariants.{Calls, Covers, Cuts, Own}
 use Rattle.nq_rules.specs.declared.sought.Sought.{Sought}
 use Rattle.nq_rules.specs.declared.sought.Sought.TheVariants.{Call, Answer, AnswerBy, AnswerWith, Busy, Resize, Cut, Cover, Store, Loss, Covered, Lost}
 use Rattle.nq_check.specs.Links.{IsFree, is_link}
@@ -185,7 +185,7 @@ sought_linked (Covered cover) entry h = by_cover_linked cover.now entry h
 sought_linked (Lost loss) entry h = lost_linked loss.now entry h
 
 -- the same, where key and kind are known by what they are equal to
-pub sought_here : (sought : Sought) (kind : Kind) (key : Spot) → kind ≡ kind_sought sought → key ≡ spot_sought sought → (entry : Entry)
+pub sought_here : (sought : Sought) (kind : KeyKind) (key : Spot) → kind ≡ kind_sought sought → key ≡ spot_sought sought → (entry : Entry)
     → passes sought entry ≡ true → is_link kind key entry ≡ true
 sought_here sought kind key k e entry h =
     subst (λ z. is_link z key entry ≡ true) (sym k) (subst (λ z. is_link (kind_sought sought) z entry ≡ true) (sym e) (sought_linked sought entry h))

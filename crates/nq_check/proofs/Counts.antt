@@ -7,8 +7,8 @@ use Rattle.std.proofs.Math.Seq.{take-length}
 use Rattle.nq_base.specs.declared.Entry.{Entry}
 use Rattle.nq_base.specs.declared.Entry.TheVariants.{R}
 use Rattle.nq_base.specs.declared.Who.{Who}
-use Rattle.nq_rules.specs.declared.keys.Kind.{Kind}
-use Rattle.nq_rules.specs.declared.keys.Kind.TheVariants.{Reads}
+use Rattle.nq_rules.specs.declared.keys.KeyKind.{KeyKind}
+use Rattle.nq_rules.specs.declared.keys.KeyKind.TheVariants.{Reads}
 use Rattle.nq_check.specs.Links.{IsFree, is_link}
 use Rattle.nq_rules.specs.Marks.{Spot, spot}
 use Rattle.nq_check.proofs.Climbs.{climb, link_call}
@@ -40,7 +40,7 @@ pub valued_linked : (key : Spot) (whole : List Entry) (who : Who) (q value : ℕ
     → is_counted_with whole who q value entry ≡ true → is_link Reads key entry ≡ true
 valued_linked key whole who q value e entry h = counted_linked key whole who q e entry (with_linked_at whole who q value entry h)
 
-skip_number : (test : Entry → Bool) (kind : Kind) (key : Spot) (whole : List Entry) (from to : ℕ)
+skip_number : (test : Entry → Bool) (kind : KeyKind) (key : Spot) (whole : List Entry) (from to : ℕ)
     → ((entry : Entry) → test entry ≡ true → is_link kind key entry ≡ true) → from ≤ to → to ≤ length whole → IsFree kind key whole from to
     → number_of test (reverse (take to whole)) ≡ number_of test (reverse (take from whole))
 skip_number test kind key whole from to linked a b free =
@@ -61,7 +61,7 @@ count_low true m = omega arith
 count_low false m = omega arith
 
 -- before the walk
-pub number_first : (test : Entry → Bool) (kind : Kind) (key : Spot) (whole : List Entry) (from : ℕ)
+pub number_first : (test : Entry → Bool) (kind : KeyKind) (key : Spot) (whole : List Entry) (from : ℕ)
     → ((entry : Entry) → test entry ≡ true → is_link kind key entry ≡ true) → from ≤ length whole → IsFree kind key whole from (length whole)
     → number_of test (reverse whole) ≡ number_of test (reverse (take from whole)) + 0
 number_first test kind key whole from linked a free =
@@ -71,7 +71,7 @@ number_first test kind key whole from linked a free =
     (sym all ∙ skip_number test kind key whole from (length whole) linked a (omega arith) free)
 
 -- at each entry of the walk
-pub number_last : (test : Entry → Bool) (kind : Kind) (key : Spot) (whole : List Entry) (next k : ℕ) (x : Entry) (counts : Bool) (number : ℕ)
+pub number_last : (test : Entry → Bool) (kind : KeyKind) (key : Spot) (whole : List Entry) (next k : ℕ) (x : Entry) (counts : Bool) (number : ℕ)
     → ((entry : Entry) → test entry ≡ true → is_link kind key entry ≡ true) → 0 < k → k ≤ length whole → next ≤ k - 1 → slice_get whole (k - 1) ≡ Some x
     → counts ≡ test x → IsFree kind key whole next (k - 1)
     → number_of test (reverse (take k whole)) + number ≡ number_of test (reverse (take next whole)) + (if counts then 1 + number else number)

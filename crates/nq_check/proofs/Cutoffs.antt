@@ -14,7 +14,7 @@ use Rattle.nq_check.specs.Links.{IsFree, is_link}
 use Rattle.nq_rules.specs.Marks.{Spot, same_spot, spot}
 use Rattle.nq_check.specs.Rising.{IsNoLater, Rises}
 use Rattle.nq_rules.specs.declared.excused.Granted.{Granted}
-use Rattle.nq_rules.specs.declared.keys.Kind.TheVariants.{Grants, Stores, Own}
+use Rattle.nq_rules.specs.declared.keys.KeyKind.TheVariants.{Grants, Stores, Own}
 use Rattle.nq_check.proofs.Climbs.{climb, link_call}
 use Rattle.nq_check.proofs.Followed.{taken_last}
 use Rattle.nq_check.proofs.Spots.{same_self}

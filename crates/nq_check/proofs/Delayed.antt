@@ -14,7 +14,7 @@ use Rattle.nq_rules.specs.Kept.{is_kept, is_kept_at}
 use Rattle.nq_check.specs.Links.{IsFree, is_link}
 use Rattle.nq_rules.specs.Marks.{Spot, spot}
 use Rattle.nq_check.specs.Settling.{call_of_ok, is_sizing_of, is_sync_of}
-use Rattle.nq_rules.specs.declared.keys.Kind.TheVariants.{Delays}
+use Rattle.nq_rules.specs.declared.keys.KeyKind.TheVariants.{Delays}
 use Rattle.nq_check.proofs.Climbs.{climb}
 use Rattle.nq_check.proofs.Followed.{taken_last}
 use Rattle.nq_check.proofs.OwnWrite.{or_here, or_there, somewhere_before}

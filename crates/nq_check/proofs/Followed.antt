@@ -7,8 +7,8 @@ use Rattle.std.proofs.Math.Seq.{take-length}
 use Rattle.nq_base.specs.declared.Entry.{Entry}
 use Rattle.nq_base.specs.declared.Told.{Told}
 use Rattle.nq_base.specs.declared.Who.{Who}
-use Rattle.nq_rules.specs.declared.keys.Kind.{Kind}
-use Rattle.nq_rules.specs.declared.keys.Kind.TheVariants.{Calls}
+use Rattle.nq_rules.specs.declared.keys.KeyKind.{KeyKind}
+use Rattle.nq_rules.specs.declared.keys.KeyKind.TheVariants.{Calls}
 use Rattle.nq_check.specs.Links.{IsFree, IsLinked}
 use Rattle.nq_rules.specs.Keys.{spot_of}
 use Rattle.nq_rules.specs.Marks.{Spot, same_spot, spot}
@@ -18,7 +18,7 @@ use Rattle.nq_rules.proofs.Places.{taken_here}
 use Rattle.nq_model.specs.laws.Journal.{call_of, told_by}
 
 -- the link of an entry of a key passes over none of that key
-pub back_free : (kind : Kind) (whole : List Entry) (n : ℕ) (heads : List (Spot × ℕ)) (earlier : List ℕ) (place : ℕ) (entry : Entry) (e : ℕ) (key : Spot)
+pub back_free : (kind : KeyKind) (whole : List Entry) (n : ℕ) (heads : List (Spot × ℕ)) (earlier : List ℕ) (place : ℕ) (entry : Entry) (e : ℕ) (key : Spot)
     → IsLinked kind whole n heads earlier → slice_get whole place ≡ Some entry → slice_get earlier place ≡ Some e
     → same_spot (spot_of kind entry) key ≡ true → IsFree kind key whole e place
 back_free kind whole n heads earlier place entry e key h there link same =
@@ -39,7 +39,7 @@ told_last key who q whole next k x e up within low there free =
     ∙ ap (λ c. option_or c (told_by x who q)) (skip_told key who q whole next (k - 1) e low (omega arith) free)
 
 -- what is free up to a place is free up to an earlier one
-pub free_within : (kind : Kind) (key : Spot) (whole : List Entry) (from to upto : ℕ) → upto ≤ to → IsFree kind key whole from to
+pub free_within : (kind : KeyKind) (key : Spot) (whole : List Entry) (from to upto : ℕ) → upto ≤ to → IsFree kind key whole from to
     → IsFree kind key whole from upto
 free_within kind key whole from to upto low free p x a b h = free p x a (omega arith) h
 

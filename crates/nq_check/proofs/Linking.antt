@@ -5,7 +5,7 @@ use Rattle.std.specs.Prelude.{if◌then◌else◌}
 use Rattle.std.specs.List.{slice_get}
 use Rattle.std.proofs.lemmas.Bool.{cases_lt, cases_Bool}
 use Rattle.nq_base.specs.declared.Entry.{Entry}
-use Rattle.nq_rules.specs.declared.keys.Kind.{Kind}
+use Rattle.nq_rules.specs.declared.keys.KeyKind.{KeyKind}
 use Rattle.nq_check.specs.Links.{IsFree, IsHeadNext, IsLinked, IsLinkedNext, is_link}
 use Rattle.nq_rules.specs.Keys.{is_member, spot_of}
 use Rattle.nq_rules.specs.Marks.{IsMarked, Spot, mark_at, same_spot}
@@ -22,7 +22,7 @@ if_none false b n m e = refl
 if_none true b n m e = absurd (cc)
 
 -- the heads move to an entry that links lead to
-pub member_headed : (kind : Kind) (place : ℕ) (entry : Entry) (old new : List (Spot × ℕ)) (link : ℕ) → is_member kind entry ≡ true
+pub member_headed : (kind : KeyKind) (place : ℕ) (entry : Entry) (old new : List (Spot × ℕ)) (link : ℕ) → is_member kind entry ≡ true
     → IsMarked (spot_of kind entry) (place + 1) old new → link ≡ mark_at old (spot_of kind entry) → IsHeadNext kind place entry old new link
 member_headed kind place entry old new link m h l = record {
   known = inl l;
@@ -30,19 +30,19 @@ member_headed kind place entry old new link m h l = record {
 }
 
 -- and stay where links do not lead to it
-stays : (kind : Kind) (place : ℕ) (entry : Entry) (old : List (Spot × ℕ)) → is_member kind entry ≡ false → (key : Spot)
+stays : (kind : KeyKind) (place : ℕ) (entry : Entry) (old : List (Spot × ℕ)) → is_member kind entry ≡ false → (key : Spot)
     → mark_at old key ≡ (if is_link kind key entry then place + 1 else mark_at old key)
 stays kind place entry old m key = if_none (is_member kind entry) (same_spot (spot_of kind entry) key) (place + 1) (mark_at old key) m
 
-pub asked_headed : (kind : Kind) (place : ℕ) (entry : Entry) (old : List (Spot × ℕ)) (link : ℕ) → is_member kind entry ≡ false
+pub asked_headed : (kind : KeyKind) (place : ℕ) (entry : Entry) (old : List (Spot × ℕ)) (link : ℕ) → is_member kind entry ≡ false
     → link ≡ mark_at old (spot_of kind entry) → IsHeadNext kind place entry old old link
 asked_headed kind place entry old link m l = record { known = inl l; marked = stays kind place entry old m }
 
-pub unasked_headed : (kind : Kind) (place : ℕ) (entry : Entry) (old : List (Spot × ℕ)) → is_member kind entry ≡ false
+pub unasked_headed : (kind : KeyKind) (place : ℕ) (entry : Entry) (old : List (Spot × ℕ)) → is_member kind entry ≡ false
     → IsHeadNext kind place entry old old place
 unasked_headed kind place entry old m = record { known = inr refl; marked = stays kind place entry old m }
 
-pub head_linked : (kind : Kind) (place : ℕ) (entry : Entry) (old new : List (Spot × ℕ)) (before after : List ℕ) (link : ℕ)
+pub head_linked : (kind : KeyKind) (place : ℕ) (entry : Entry) (old new : List (Spot × ℕ)) (before after : List ℕ) (link : ℕ)
     → IsHeadNext kind place entry old new link → after ≡ before ++ link ∷ [] → IsLinkedNext kind place entry old new before after
 head_linked kind place entry old new before after link h p = record { link = link; pushed = p; head = h }
 
@@ -69,7 +69,7 @@ at_else : (b : Bool) (n m k : ℕ) → b ≡ false → k ≡ (if b then n else m
 at_else true n m k e h = absurd (cc)
 at_else false n m k e h = h
 
-free_here : (kind : Kind) (key : Spot) (whole : List Entry) (place : ℕ) (entry : Entry) → slice_get whole place ≡ Some entry
+free_here : (kind : KeyKind) (key : Spot) (whole : List Entry) (place : ℕ) (entry : Entry) → slice_get whole place ≡ Some entry
     → is_link kind key entry ≡ false → (from : ℕ) → IsFree kind key whole from place → IsFree kind key whole from (place + 1)
 free_here kind key whole place entry there misses from free p x a b h =
     elim (cases_lt p place) [
@@ -80,7 +80,7 @@ free_here kind key whole place entry there misses from free p x a b h =
           subst (λ y. is_link kind key y ≡ false) (some_one entry x (sym there ∙ at)) misses
     ]
 
-newest_next : (kind : Kind) (whole : List Entry) (place : ℕ) (entry : Entry) (old new : List (Spot × ℕ)) → slice_get whole place ≡ Some entry
+newest_next : (kind : KeyKind) (whole : List Entry) (place : ℕ) (entry : Entry) (old new : List (Spot × ℕ)) → slice_get whole place ≡ Some entry
     → ((key : Spot) → mark_at new key ≡ (if is_link kind key entry then place + 1 else mark_at old key))
     → ((key : Spot) → IsFree kind key whole (mark_at old key) place) → (key : Spot) → IsFree kind key whole (mark_at new key) (place + 1)
 newest_next kind whole place entry old new there marked free key =
@@ -93,7 +93,7 @@ newest_next kind whole place entry old new there marked free key =
           subst (λ m. IsFree kind key whole m (place + 1)) (sym here) (free_here kind key whole place entry there n (mark_at old key) (free key))
     ]
 
-back_here : (kind : Kind) (whole : List Entry) (place : ℕ) (entry : Entry) (old : List (Spot × ℕ)) (link : ℕ)
+back_here : (kind : KeyKind) (whole : List Entry) (place : ℕ) (entry : Entry) (old : List (Spot × ℕ)) (link : ℕ)
     → ((key : Spot) → IsFree kind key whole (mark_at old key) place) → (link ≡ mark_at old (spot_of kind entry)) ⊎ (link ≡ place)
     → IsFree kind (spot_of kind entry) whole link place
 back_here kind whole place entry old link newest known =
@@ -102,7 +102,7 @@ back_here kind whole place entry old link newest known =
       | inr l ↦ λ p x a b h. absurd (omega arith)
     ]
 
-back_next : (kind : Kind) (whole : List Entry) (place : ℕ) (entry : Entry) (old : List (Spot × ℕ)) (earlier : List ℕ) (link : ℕ)
+back_next : (kind : KeyKind) (whole : List Entry) (place : ℕ) (entry : Entry) (old : List (Spot × ℕ)) (earlier : List ℕ) (link : ℕ)
     → slice_get whole place ≡ Some entry → IsLinked kind whole place old earlier → (link ≡ mark_at old (spot_of kind entry)) ⊎ (link ≡ place)
     → (p : ℕ) (x : Entry) (e : ℕ) → slice_get whole p ≡ Some x → slice_get (earlier ++ link ∷ []) p ≡ Some e → IsFree kind (spot_of kind x) whole e p
 back_next kind whole place entry old earlier link there h known p x e at pushed =
@@ -117,7 +117,7 @@ back_next kind whole place entry old earlier link there h known p x e at pushed 
           (subst (λ y. IsFree kind (spot_of kind y) whole link place) is (back_here kind whole place entry old link h.newest known)))
     ]
 
-pub linked_next : (kind : Kind) (whole : List Entry) (place : ℕ) (entry : Entry) (old new : List (Spot × ℕ)) (before after : List ℕ)
+pub linked_next : (kind : KeyKind) (whole : List Entry) (place : ℕ) (entry : Entry) (old new : List (Spot × ℕ)) (before after : List ℕ)
     → slice_get whole place ≡ Some entry → IsLinked kind whole place old before → IsLinkedNext kind place entry old new before after
     → IsLinked kind whole (place + 1) new after
 linked_next kind whole place entry old new before after there h n =
@@ -127,14 +127,14 @@ linked_next kind whole place entry old new before after there h n =
       back = back_next kind whole place entry old before n.link there h n.head.known;
     })
 
-none_at_start : (kind : Kind) (whole : List Entry) → IsLinked kind whole 0 [] []
+none_at_start : (kind : KeyKind) (whole : List Entry) → IsLinked kind whole 0 [] []
 none_at_start kind whole = record {
   long = refl;
   newest = λ key p x a b h. absurd (omega arith);
   back = λ p x e h link. absurd (cc);
 }
 
-pub none_linked : (kind : Kind) (whole : List Entry) (heads : List (Spot × ℕ)) (earlier : List ℕ) → heads ≡ [] → earlier ≡ []
+pub none_linked : (kind : KeyKind) (whole : List Entry) (heads : List (Spot × ℕ)) (earlier : List ℕ) → heads ≡ [] → earlier ≡ []
     → IsLinked kind whole 0 heads earlier
 none_linked kind whole heads earlier h e =
     subst (λ l. IsLinked kind whole 0 l earlier) (sym h) (subst (λ l. IsLinked kind whole 0 [] l) (sym e) (none_at_start kind whole))

@@ -1,5 +1,5 @@
 -- Entries whose ranges are apart cover no write twice.
-use Rattle.std.proofs.Common.{◌≡◌, ◌<◌, ◌≤◌, ◌⊎◌, ℕ, ◌+◌, ◌-◌, List, [], ◌∷◌, length, reverse, Some, true, false, inl, inr, refl, sym, ◌∙◌, ap}
+use Rattle.std.proofs.Common.{◌≡◌, ◌<◌, ◌≤◌, ℕ, ◌+◌, ◌-◌, List, [], ◌∷◌, length, Some, true, false, inl, inr, refl, sym, ◌∙◌, ap}
 use Rattle.std.proofs.Common.{subst, arith}
 use Rattle.std.specs.Prelude.{◌&&◌, nat_eq, nat_lt}
 use Rattle.std.specs.List.{slice_get}
@@ -9,7 +9,7 @@ use Rattle.nq_base.specs.declared.Entry.{Entry}
 use Rattle.nq_base.specs.declared.Entry.TheVariants.{W, S, L}
 use Rattle.nq_base.specs.declared.Who.{Who}
 use Rattle.nq_model.specs.laws.FateTest.{is_accounted_at, is_first_to_cover}
-use Rattle.nq_model.specs.laws.Journal.{Covers, Each, Exists, IsWithin}
+use Rattle.nq_model.specs.laws.Journal.{Covers, Each, Exists}
 use Rattle.nq_model.specs.laws.JournalTest.{covers, each, exists}
 use Rattle.nq_check.specs.Apart.{AreApart, FollowsAt, IsBelow, IsRanked, IsRankedBelow, Range, is_below, range_of}
 use Rattle.nq_check.specs.Covered.{covers_some}

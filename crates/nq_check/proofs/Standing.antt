@@ -8,8 +8,8 @@ use Rattle.std.proofs.lemmas.Option.{slice_get_cases}
 use Rattle.nq_base.specs.declared.Entry.{Entry}
 use Rattle.nq_base.specs.declared.Entry.TheVariants.{W}
 use Rattle.nq_base.specs.declared.Who.{Who}
-use Rattle.nq_rules.specs.declared.keys.Kind.{Kind}
-use Rattle.nq_rules.specs.declared.keys.Kind.TheVariants.{Writes}
+use Rattle.nq_rules.specs.declared.keys.KeyKind.{KeyKind}
+use Rattle.nq_rules.specs.declared.keys.KeyKind.TheVariants.{Writes}
 use Rattle.nq_check.specs.Links.{IsFree, is_link}
 use Rattle.nq_rules.specs.Keys.{block_spot}
 use Rattle.nq_rules.specs.Marks.{Spot}
@@ -39,11 +39,11 @@ false_of true b f h = absurd (let t = f refl in cc)
 false_of false b f h = refl
 
 -- where the links of a key lead to none, no entry passes a test of entries of that key
-pub none_first : (test : Entry → Bool) (kind : Kind) (key : Spot) (whole : List Entry) (from to : ℕ)
+pub none_first : (test : Entry → Bool) (kind : KeyKind) (key : Spot) (whole : List Entry) (from to : ℕ)
     → ((entry : Entry) → test entry ≡ true → is_link kind key entry ≡ true) → IsFree kind key whole from to → NoneBetween test whole from to
 none_first test kind key whole from to linked free p y a b h = false_of (test y) (is_link kind key y) (linked y) (free p y a b h)
 
-pub none_more : (test : Entry → Bool) (kind : Kind) (key : Spot) (whole : List Entry) (next k to : ℕ) (x : Entry)
+pub none_more : (test : Entry → Bool) (kind : KeyKind) (key : Spot) (whole : List Entry) (next k to : ℕ) (x : Entry)
     → ((entry : Entry) → test entry ≡ true → is_link kind key entry ≡ true) → 0 < k → slice_get whole (k - 1) ≡ Some x → test x ≡ false
     → IsFree kind key whole next (k - 1) → NoneBetween test whole k to → NoneBetween test whole next to
 none_more test kind key whole next k to x linked up there fails free none p y a b h =

@@ -1,5 +1,5 @@
 -- Which writes are stored, one more of them at a time.
-use Rattle.std.proofs.Common.{◌≡◌, ℕ, ◌+◌, List, [], ◌∷◌, ◌++◌, length, reverse, Some, Bool, true, false, ◌||◌, inl, inr, refl, sym, ◌∙◌, ap, subst, arith}
+use Rattle.std.proofs.Common.{◌≡◌, ℕ, ◌+◌, List, [], ◌∷◌, ◌++◌, length, reverse, Some, Bool, false, ◌||◌, inl, inr, refl, sym, ◌∙◌, ap, subst}
 use Rattle.std.specs.List.{slice_get}
 use Rattle.nq_base.specs.declared.Entry.{Entry}
 use Rattle.nq_base.specs.declared.Entry.TheVariants.{W, S}

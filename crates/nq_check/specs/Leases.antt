@@ -6,12 +6,12 @@ use Rattle.nq_base.specs.declared.Entry.TheVariants.{S}
 use Rattle.nq_base.specs.declared.Who.{Who}
 use Rattle.nq_check.specs.Rising.{Rises}
 use Rattle.nq_check.specs.Tables.{AreTables}
-use Rattle.nq_check.specs.declared.tables.Tables.{Tables}
+use Rattle.nq_check.specs.declared.tables.LinkTables.{LinkTables}
 use Rattle.nq_model.specs.laws.CutOffTest.{ends}
 use Rattle.nq_model.specs.protocol.Profile.{write_slack}
 
 -- the entries of a journal are linked, and no S before a place tells a later time than one behind it
-pub record AreLinked (whole : List Entry) (found : Tables) (place : ℕ) : Type 0 where
+pub record AreLinked (whole : List Entry) (found : LinkTables) (place : ℕ) : Type 0 where
   pub tables : AreTables whole found
   pub rises : Rises whole place
   pub within : place < length whole

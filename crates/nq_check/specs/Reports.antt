@@ -3,7 +3,7 @@ use Rattle.std.specs.Prelude.{◌≡◌, ◌+◌, ◌-◌, ℕ, List, Option, So
 use Rattle.nq_base.specs.declared.Entry.{Entry}
 use Rattle.nq_base.specs.declared.Entry.TheVariants.{C}
 use Rattle.nq_base.specs.declared.Told.{Told}
-use Rattle.nq_base.specs.declared.Told.TheVariants.{Write, WriteSync, Sync, Resize, Remove}
+use Rattle.nq_base.specs.declared.Told.TheVariants.{Write, Put, Sync, Resize, Remove}
 use Rattle.nq_base.specs.declared.Who.{Who}
 use Rattle.nq_rules.specs.Marks.{Spot, mark_at, spot}
 use Rattle.nq_check.specs.Tables.{NoneBetween}
@@ -13,7 +13,7 @@ use Rattle.nq_model.specs.laws.ReportedTest.{must_report}
 -- the incarnation and file whose losses a call reports, where it reports any
 abbrev pub reports_of : (who : Who) → Told → Option Spot
 reports_of who (Write file block value) = Some (spot who file 0)
-reports_of who (WriteSync file block value) = Some (spot who file 0)
+reports_of who (Put file block value) = Some (spot who file 0)
 reports_of who (Sync file) = Some (spot who file 0)
 reports_of who (Resize file blocks) = Some (spot who file 0)
 reports_of who (Remove file) = Some (spot who file 0)

@@ -3,8 +3,8 @@ use Rattle.std.specs.Prelude.{◌≡◌, ◌<◌, ◌≤◌, ℕ, List, Some, Bo
 use Rattle.std.specs.List.{slice_get}
 use Rattle.nq_base.specs.declared.Entry.{Entry}
 use Rattle.nq_check.specs.declared.tables.Leases.{Leases}
-use Rattle.nq_check.specs.declared.tables.Tables.{Tables}
-use Rattle.nq_rules.specs.declared.keys.Kind.TheVariants.{Calls, Reads, Writes, Covers, Cuts, Own, Grants, Stores}
+use Rattle.nq_check.specs.declared.tables.LinkTables.{LinkTables}
+use Rattle.nq_rules.specs.declared.keys.KeyKind.TheVariants.{Calls, Reads, Writes, Covers, Cuts, Own, Grants, Stores}
 use Rattle.nq_check.specs.Links.{IsLinked}
 
 -- the grants, stores and writes before a place of a journal are linked
@@ -14,7 +14,7 @@ pub record AreLeasesTo (whole : List Entry) (linked : ℕ) (leases : Leases) : T
   pub own : IsLinked Own whole linked leases.own.heads.entries leases.own.earlier.items
 
 -- the entries before a place are linked in each kind
-pub record AreTablesTo (whole : List Entry) (linked : ℕ) (tables : Tables) : Type 0 where
+pub record AreTablesTo (whole : List Entry) (linked : ℕ) (tables : LinkTables) : Type 0 where
   pub calls : IsLinked Calls whole linked tables.calls.heads.entries tables.calls.earlier.items
   pub reads : IsLinked Reads whole linked tables.reads.heads.entries tables.reads.earlier.items
   pub writes : IsLinked Writes whole linked tables.writes.heads.entries tables.writes.earlier.items
@@ -23,7 +23,7 @@ pub record AreTablesTo (whole : List Entry) (linked : ℕ) (tables : Tables) : T
   pub leases : AreLeasesTo whole linked tables.leases
 
 -- all entries are
-abbrev pub AreTables : (whole : List Entry) → Tables → Type 0
+abbrev pub AreTables : (whole : List Entry) → LinkTables → Type 0
 AreTables whole = AreTablesTo whole (length whole)
 
 -- no entry from a place on and before another passes a test

@@ -6,20 +6,20 @@ ghost use Rattle.nq_check.specs.Tables.{HasBetween, NoneBetween};
 ghost use Rattle.nq_model.specs.laws.Journal.{call_of};
 ghost use Rattle.nq_model.specs.laws.JournalTest.{exists, loss_covers};
 ghost use Rattle.nq_rules.specs.Sought.{kind_sought, passes};
-ghost use Rattle.nq_rules.specs.declared.keys.Kind.TheVariants.{Calls, Own};
+ghost use Rattle.nq_rules.specs.declared.keys.KeyKind.TheVariants.{Calls, Own};
 
 use crate::links::{Links, head_at};
 use nq_base::{Entry, Told, Who};
 use nq_rules::entries::told_by;
-use nq_rules::keys::{Key, Kind, call_key, key_of, same_key};
+use nq_rules::keys::{EntryKey, KeyKind, call_key, key_of, same_key};
 use nq_rules::sought::{Sought, key_sought, kind_sought, passes};
 
 /// A place, counted from 1, back to which the links of a key lead to no entry before another place. The entries before a third
 /// one are linked.
 pub(crate) fn back_from(
     links: &Links,
-    kind: Kind,
-    key: Key,
+    kind: KeyKind,
+    key: EntryKey,
     whole: &[Entry],
     linked: usize,
     place: usize,
@@ -149,10 +149,10 @@ fn call_before(links: &Links, whole: &[Entry], place: usize, by: &Who, n: u64) -
 {
     let key = call_key(by, n);
     let mut call = None;
-    let mut at = back_from(links, Kind::Calls, key, whole, whole.len(), place);
+    let mut at = back_from(links, KeyKind::Calls, key, whole, whole.len(), place);
     while at > 0 {
         call = told_by(&whole[at - 1], by, n).or(call);
-        at = back_from(links, Kind::Calls, key, whole, whole.len(), at - 1);
+        at = back_from(links, KeyKind::Calls, key, whole, whole.len(), at - 1);
     }
     call
 }

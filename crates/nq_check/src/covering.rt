@@ -9,13 +9,13 @@ use crate::along::is_there;
 use crate::apart::apart_front;
 use crate::links::{Heads, head_at, set_head};
 use nq_base::{Entry, NoMemory, Number, Who};
-use nq_rules::keys::{Key, own_key};
+use nq_rules::keys::{EntryKey, own_key};
 use nq_rules::sought::Sought;
 use std::alloc::Global;
 use std::collections::HashMap;
 
 /// The key of a write by its number, as an incarnation counts it.
-pub(crate) fn number_key(who: &Who, number: Number) -> Key {
+pub(crate) fn number_key(who: &Who, number: Number) -> EntryKey {
     ((who.host.0, who.inc.0), (number.0, 0))
 }
 
@@ -54,7 +54,7 @@ fn below_highest(number: Number) -> usize
 
 #[tactic(auto, using(crate::proofs::Once::raised_to, crate::proofs::Once::raised_before))]
 /// Raises the number at a key to another where it is lower.
-fn raise(marks: &mut Heads, at: Key, number: usize) -> Result<(), NoMemory>
+fn raise(marks: &mut Heads, at: EntryKey, number: usize) -> Result<(), NoMemory>
     ensures { OnOk result (IsRaised at number marks.old.entries marks.new.entries) }
 {
     if head_at(marks, at) >= number {
@@ -64,7 +64,7 @@ fn raise(marks: &mut Heads, at: Key, number: usize) -> Result<(), NoMemory>
 }
 
 /// Whether numbers are above all that are covered on a block, or below them.
-fn is_outside(reach: &Reach, at: Key, first: Number, last: Number) -> bool
+fn is_outside(reach: &Reach, at: EntryKey, first: Number, last: Number) -> bool
     ensures { result ≡ is_outside 18446744073709551615 reach.now at first last }
 {
     head_at(&reach.highest, at) < first.0 as usize
@@ -72,7 +72,12 @@ fn is_outside(reach: &Reach, at: Key, first: Number, last: Number) -> bool
 }
 
 /// Whether numbers are above all that are covered on a block, or below them. Then they are taken in.
-fn covers_anew(reach: &mut Reach, at: Key, first: Number, last: Number) -> Result<bool, NoMemory>
+fn covers_anew(
+    reach: &mut Reach,
+    at: EntryKey,
+    first: Number,
+    last: Number,
+) -> Result<bool, NoMemory>
     ensures { IfOk result (λ anew. IsTrue anew → IsAnew 18446744073709551615 at first last reach.old reach.new) }
 {
     if !is_outside(reach, at, first, last) {

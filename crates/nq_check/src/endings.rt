@@ -16,12 +16,12 @@ ghost use Rattle.nq_model.specs.protocol.Table.{same_who};
 use crate::along::{back_from, covers_behind};
 use crate::links::{Heads, Links, head_at, set_head};
 use crate::rising::rising_front;
-use crate::tables::Tables;
+use crate::tables::LinkTables;
 use nq_base::{Entry, FileId, NoMemory, Ticks, Who};
 use nq_rules::excused::{
     Granted, WRITE_SLACK, ends_first, grant_by, has_passed, is_grant_over, is_long_wait,
 };
-use nq_rules::keys::{Key, Kind, file_key, own_key};
+use nq_rules::keys::{EntryKey, KeyKind, file_key, own_key};
 use std::alloc::Global;
 use std::collections::HashMap;
 
@@ -50,8 +50,8 @@ struct Lease<'a> {
 /// The place of the last entry of a key before a place, as the links from a later place lead to it. Counted from 1.
 fn last_before(
     links: &Links,
-    kind: Kind,
-    key: Key,
+    kind: KeyKind,
+    key: EntryKey,
     whole: &[Entry],
     from: usize,
     to: usize,
@@ -70,7 +70,7 @@ fn last_before(
 }
 
 /// The last grant of a lease before a place, if it is known.
-fn grant_before(tables: &Tables, whole: &[Entry], lease: &Lease, to: usize) -> Option<Granted>
+fn grant_before(tables: &LinkTables, whole: &[Entry], lease: &Lease, to: usize) -> Option<Granted>
     requires linked { AreLinked whole.now tables.now lease.now.place }
     requires upto { to ≤ lease.now.place }
     ensures { IfSome result (λ grant. given (Some grant) ≡ last_grant (reverse (take to whole.now)) lease.now.who.now lease.now.file) }
@@ -78,7 +78,7 @@ fn grant_before(tables: &Tables, whole: &[Entry], lease: &Lease, to: usize) -> O
     let key = file_key(lease.who, lease.file);
     let at = last_before(
         &tables.leases.grants,
-        Kind::Grants,
+        KeyKind::Grants,
         key,
         whole,
         lease.place,
@@ -101,7 +101,13 @@ fn is_store_past(entry: &Entry, at: Ticks) -> bool
 }
 
 /// Whether write slack has passed since each S of a lease before a place.
-fn are_stores_past(tables: &Tables, whole: &[Entry], lease: &Lease, to: usize, now: Ticks) -> bool
+fn are_stores_past(
+    tables: &LinkTables,
+    whole: &[Entry],
+    lease: &Lease,
+    to: usize,
+    now: Ticks,
+) -> bool
     requires linked { AreLinked whole.now tables.now lease.now.place }
     requires upto { to ≤ lease.now.place }
     ensures { IsTrue result → each (is_store_over lease.now.who.now lease.now.file now) (reverse (take to whole.now)) ≡ true }
@@ -109,7 +115,7 @@ fn are_stores_past(tables: &Tables, whole: &[Entry], lease: &Lease, to: usize, n
     let key = file_key(lease.who, lease.file);
     let at = last_before(
         &tables.leases.stores,
-        Kind::Stores,
+        KeyKind::Stores,
         key,
         whole,
         lease.place,
@@ -138,7 +144,7 @@ fn is_late(until: Ticks, heard: Ticks, now: Ticks, grant: Option<Granted>) -> bo
 
 /// Whether the lease of an L ended behind a place and before the L, late enough, by the F at a place that is counted from 1.
 fn ends_in_silence(
-    tables: &Tables,
+    tables: &LinkTables,
     whole: &[Entry],
     lease: &Lease,
     last: usize,
@@ -174,7 +180,7 @@ fn ends_in_silence(
 
 /// Whether it ended so by the last O, late enough since the last X before that.
 fn ends_by_opening(
-    tables: &Tables,
+    tables: &LinkTables,
     whole: &[Entry],
     lease: &Lease,
     last: usize,
@@ -203,7 +209,13 @@ fn ends_by_opening(
 }
 
 /// Whether the lease of an L ended behind a place and before the L.
-fn ends_behind(ends: &Ends, tables: &Tables, whole: &[Entry], lease: &Lease, last: usize) -> bool
+fn ends_behind(
+    ends: &Ends,
+    tables: &LinkTables,
+    whole: &[Entry],
+    lease: &Lease,
+    last: usize,
+) -> bool
     requires linked { AreLinked whole.now tables.now lease.now.place }
     ensures { IsTrue result → HasEndBetween whole.now last lease.now.place lease.now.who.now lease.now.file }
 {
@@ -216,7 +228,13 @@ fn ends_behind(ends: &Ends, tables: &Tables, whole: &[Entry], lease: &Lease, las
 
 /// Whether the entry at a place is no L, or a lease ended before it and behind each write that it covers, and it covers none
 /// behind it.
-fn is_ended_at(ends: &Ends, tables: &Tables, whole: &[Entry], place: usize, entry: &Entry) -> bool
+fn is_ended_at(
+    ends: &Ends,
+    tables: &LinkTables,
+    whole: &[Entry],
+    place: usize,
+    entry: &Entry,
+) -> bool
     requires linked { AreLinked whole.now tables.now place }
     requires there { slice_get whole.now place ≡ Some entry.now }
     ensures { IsTrue result → is_ended whole.now place entry.now ≡ true }
@@ -234,7 +252,7 @@ fn is_ended_at(ends: &Ends, tables: &Tables, whole: &[Entry], place: usize, entr
             let key = own_key(who, *file, *block);
             let last = back_from(
                 &tables.leases.own,
-                Kind::Own,
+                KeyKind::Own,
                 key,
                 whole,
                 whole.len(),
@@ -270,7 +288,7 @@ fn take_end(ends: &mut Ends, place: usize, entry: &Entry) -> Result<(), NoMemory
 }
 
 /// Whether an L is cut off.
-pub(crate) fn is_cut_off(tables: &Tables, whole: &[Entry], place: usize, entry: &Entry) -> bool
+pub(crate) fn is_cut_off(tables: &LinkTables, whole: &[Entry], place: usize, entry: &Entry) -> bool
     requires tables { AreTables whole.now tables.now }
     requires within { place < length whole.now }
     ensures { result ≡ is_cut_off (drop (place + 1) whole.now) entry.now (reverse (take place whole.now)) }
@@ -287,7 +305,7 @@ pub(crate) fn is_cut_off(tables: &Tables, whole: &[Entry], place: usize, entry: 
 /// Whether the entry at a place is no L, or is cut off. Where the times of stores rise, the last ends of its lease are looked at first.
 fn is_ended(
     ends: &Ends,
-    tables: &Tables,
+    tables: &LinkTables,
     whole: &[Entry],
     rising: usize,
     place: usize,
@@ -307,7 +325,7 @@ fn is_ended(
 /// A place below which a lease ended before each L and behind each write that it covers.
 pub(crate) fn endings_front(
     alloc: Global,
-    tables: &Tables,
+    tables: &LinkTables,
     whole: &[Entry],
 ) -> Result<usize, NoMemory>
     requires { AreTables whole.now tables.now }

@@ -11,7 +11,7 @@ use crate::along::is_there;
 use crate::covering::{accounted_front, number_key, places_of_writes};
 use crate::links::{Heads, head_at};
 use crate::stored::find_stored;
-use crate::tables::Tables;
+use crate::tables::LinkTables;
 use nq_base::{Entry, NoMemory, Number, Who};
 use nq_rules::entries::covers;
 use nq_rules::sought::Sought;
@@ -79,7 +79,7 @@ fn covered_at(
 /// The place, counted from 1, of the last write that an S or L covers, whose number is told; of the first one where that is not
 /// known, and of the last write of its block before it where neither is.
 fn last_covered(
-    tables: &Tables,
+    tables: &LinkTables,
     places: &Heads,
     whole: &[Entry],
     place: usize,
@@ -114,7 +114,7 @@ fn last_covered(
 /// a number below the first that is covered.
 fn settle(
     covered: &mut Vec<usize>,
-    tables: &Tables,
+    tables: &LinkTables,
     whole: &[Entry],
     from: usize,
     first: Number,
@@ -144,7 +144,7 @@ fn settle(
 /// to one that has a fate, and over no more writes than it has numbers.
 fn settle_near(
     covered: &mut Vec<usize>,
-    tables: &Tables,
+    tables: &LinkTables,
     whole: &[Entry],
     numbers: u64,
     place: usize,
@@ -173,7 +173,7 @@ fn settle_near(
 /// Sets the fate of the writes that an S or L covers.
 fn settle_all(
     covered: &mut Vec<usize>,
-    tables: &Tables,
+    tables: &LinkTables,
     places: &Heads,
     whole: &[Entry],
     place: usize,
@@ -199,7 +199,7 @@ fn settle_all(
 /// For each delayed write the place of an S or L that covers it.
 fn find_covered(
     alloc: Global,
-    tables: &Tables,
+    tables: &LinkTables,
     places: &Heads,
     whole: &[Entry],
 ) -> Result<Vec<usize>, NoMemory> {
@@ -214,7 +214,7 @@ fn find_covered(
 /// What became of the delayed writes of a journal, whose losses are named at these places.
 pub(crate) fn find_fates(
     alloc: Global,
-    tables: &Tables,
+    tables: &LinkTables,
     named: Heads,
     whole: &[Entry],
 ) -> Result<Fates, NoMemory>

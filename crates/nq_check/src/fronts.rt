@@ -9,7 +9,7 @@ use crate::kept_front::kept_front;
 use crate::namings::find_names;
 use crate::ordering::ordered_front;
 use crate::reported_front::reported_front;
-use crate::tables::Tables;
+use crate::tables::LinkTables;
 use nq_base::{Entry, NoMemory};
 use std::alloc::Global;
 
@@ -26,7 +26,7 @@ pub(crate) struct Fronts {
 /// The fronts of a journal.
 pub(crate) fn find_fronts(
     alloc: Global,
-    tables: &Tables,
+    tables: &LinkTables,
     whole: &[Entry],
 ) -> Result<Fronts, NoMemory>
     requires { AreTables whole.now tables.now }

@@ -11,7 +11,7 @@ use crate::endings::is_cut_off;
 use crate::fronts::{Fronts, find_fronts};
 use crate::legal::is_legal;
 use crate::rules::{Judged, Rule};
-use crate::tables::{Tables, make_tables};
+use crate::tables::{LinkTables, make_tables};
 use nq_base::{Entry, Journal, NoMemory};
 use nq_rules::accounted::is_accounted_at;
 use nq_rules::named::is_reported_at;
@@ -34,7 +34,7 @@ fn front_of(fronts: &Fronts, rule: Rule) -> usize
 
 /// Whether the entry at a place keeps a rule, which the entries before the front of the rule are known to keep.
 fn keeps(
-    tables: &Tables,
+    tables: &LinkTables,
     fronts: &Fronts,
     whole: &[Entry],
     place: usize,
@@ -65,7 +65,7 @@ fn keeps(
 #[tactic(auto, unfolding(crate::specs::Rules::first_rule))]
 /// The first rule under which the entry at a place is at fault.
 fn first_rule(
-    tables: &Tables,
+    tables: &LinkTables,
     fronts: &Fronts,
     whole: &[Entry],
     place: usize,
@@ -107,7 +107,7 @@ pub fn check(alloc: Global, journal: &Journal) -> Judged
 }
 
 /// Judges entries that are linked, the oldest first.
-fn judge_linked(alloc: Global, tables: &Tables, whole: &[Entry]) -> Judged
+fn judge_linked(alloc: Global, tables: &LinkTables, whole: &[Entry]) -> Judged
     requires { AreTables whole.now tables.now }
     ensures { IsVerdict result (verdict (reverse whole.now)) }
 {
@@ -118,7 +118,7 @@ fn judge_linked(alloc: Global, tables: &Tables, whole: &[Entry]) -> Judged
 }
 
 /// Judges entries, the oldest first.
-fn judge(tables: &Tables, fronts: &Fronts, whole: &[Entry]) -> Judged
+fn judge(tables: &LinkTables, fronts: &Fronts, whole: &[Entry]) -> Judged
     requires tables { AreTables whole.now tables.now }
     requires fronts { AreFronts whole.now fronts.now }
     ensures { IsVerdict result (verdict (reverse whole.now)) }

@@ -12,8 +12,8 @@ ghost use Rattle.nq_model.specs.laws.JournalTest.{is_answer};
 use crate::along::call_near;
 use crate::fates::Fates;
 use crate::puts::is_put_kept;
-use crate::syncs::{Asked, is_resize_kept, is_sync_kept};
-use crate::tables::Tables;
+use crate::syncs::{AskedCall, is_resize_kept, is_sync_kept};
+use crate::tables::LinkTables;
 use crate::trail::{Trail, no_trail, take_in};
 use nq_base::{Entry, NoMemory, Said, Told};
 use nq_rules::synchronized::is_kept;
@@ -21,13 +21,13 @@ use std::alloc::Global;
 
 /// Whether what an ok says is seen to be kept, with a look at few entries.
 fn is_seen_kept(
-    tables: &Tables,
+    tables: &LinkTables,
     fates: &Fates,
     trail: &Trail,
     whole: &[Entry],
     place: usize,
     entry: &Entry,
-    asked: &Asked,
+    asked: &AskedCall,
 ) -> bool
     requires ready { IsReady whole.now place tables.now trail.now.delays }
     requires there { slice_get whole.now place ≡ Some entry.now }
@@ -38,7 +38,7 @@ fn is_seen_kept(
         return false;
     };
     match told {
-        Told::WriteSync { .. } => {
+        Told::Put { .. } => {
             is_put_kept(
                 tables,
                 fates,
@@ -60,7 +60,7 @@ fn is_seen_kept(
 
 /// Whether an A that says ok is kept, where links show what its call asks.
 fn is_kept_at(
-    tables: &Tables,
+    tables: &LinkTables,
     fates: &Fates,
     trail: &Trail,
     whole: &[Entry],
@@ -77,7 +77,7 @@ fn is_kept_at(
             q,
             said: Said::Ok | Said::OkValue(_) | Said::OkBy { .. },
         } => {
-            let asked = Asked {
+            let asked = AskedCall {
                 who,
                 q: *q,
                 call: call_near(&tables.calls, whole, place, who, *q),
@@ -92,7 +92,7 @@ fn is_kept_at(
 /// How far the answers of a journal are kept, one after another, behind a trail that has nothing yet.
 fn keep_all(
     trail: &mut Trail,
-    tables: &Tables,
+    tables: &LinkTables,
     fates: &Fates,
     whole: &[Entry],
     ordered: usize,
@@ -114,7 +114,7 @@ fn keep_all(
 /// How far the answers of a journal are kept, one after another, among its entries that stand in order.
 pub(crate) fn kept_front(
     alloc: Global,
-    tables: &Tables,
+    tables: &LinkTables,
     fates: &Fates,
     whole: &[Entry],
     ordered: usize,

@@ -17,11 +17,11 @@ use crate::along::{
 };
 use crate::fates::{Fates, fate_at};
 use crate::stored::is_stored;
-use crate::tables::{Tables, answer_near};
+use crate::tables::{LinkTables, answer_near};
 use nq_base::{BlockNo, Entry, FileId, Said, Who};
 use nq_rules::calls::is_reading;
 use nq_rules::entries::{is_read_by, is_through, is_write_by, is_write_on, value_written};
-use nq_rules::keys::{Kind, block_key, call_key};
+use nq_rules::keys::{KeyKind, block_key, call_key};
 use nq_rules::sought::Sought;
 
 /// A read, as its R tells it.
@@ -35,7 +35,7 @@ struct Reading<'a> {
 }
 
 /// Whether an entry, which stands at a place, is a counted read.
-pub(crate) fn is_counted(tables: &Tables, whole: &[Entry], place: usize, entry: &Entry) -> bool
+pub(crate) fn is_counted(tables: &LinkTables, whole: &[Entry], place: usize, entry: &Entry) -> bool
     requires tables { AreTables whole.now tables.now }
     ensures { result ≡ is_counted (reverse whole.now) entry.now }
 {
@@ -59,7 +59,7 @@ pub(crate) fn is_counted(tables: &Tables, whole: &[Entry], place: usize, entry: 
 
 /// Whether an L before a place covers the write at another.
 fn is_lost(
-    tables: &Tables,
+    tables: &LinkTables,
     fates: &Fates,
     whole: &[Entry],
     place: usize,
@@ -81,7 +81,7 @@ fn is_lost(
 
 /// Whether the write at a place stands for the read at another.
 fn stands(
-    tables: &Tables,
+    tables: &LinkTables,
     fates: &Fates,
     whole: &[Entry],
     place: usize,
@@ -105,7 +105,7 @@ fn stands(
 
 /// The place of the last write before a read that stands for it, counted from 1, or 0 where there is none.
 fn last_standing(
-    tables: &Tables,
+    tables: &LinkTables,
     fates: &Fates,
     whole: &[Entry],
     place: usize,
@@ -122,14 +122,21 @@ fn last_standing(
         → stands (reverse whole.now) (reverse (take place whole.now)) read.now.who.now read.now.file read.now.block write ≡ true }
 {
     let key = block_key(read.file, read.block);
-    let mut at = back_from(&tables.writes, Kind::Writes, key, whole, whole.len(), place);
+    let mut at = back_from(
+        &tables.writes,
+        KeyKind::Writes,
+        key,
+        whole,
+        whole.len(),
+        place,
+    );
     while at > 0 {
         if stands(tables, fates, whole, place, read, at - 1, &whole[at - 1]) {
             return at;
         }
         at = back_from(
             &tables.writes,
-            Kind::Writes,
+            KeyKind::Writes,
             key,
             whole,
             whole.len(),
@@ -141,7 +148,7 @@ fn last_standing(
 
 /// The value of the last write before a read that stands for it, or 0 where there is none.
 fn standing_value(
-    tables: &Tables,
+    tables: &LinkTables,
     fates: &Fates,
     whole: &[Entry],
     place: usize,
@@ -169,7 +176,7 @@ fn standing_value(
 
 /// Whether a counted read is legal.
 fn is_legal_read(
-    tables: &Tables,
+    tables: &LinkTables,
     fates: &Fates,
     whole: &[Entry],
     place: usize,
@@ -198,7 +205,7 @@ fn is_legal_read(
 
 /// Whether an entry, which stands at a place, is a counted read by a call.
 fn is_counted_by(
-    tables: &Tables,
+    tables: &LinkTables,
     whole: &[Entry],
     place: usize,
     by: &Who,
@@ -213,7 +220,7 @@ fn is_counted_by(
 
 /// Whether an entry, which stands at a place, is a counted read by a call, of a value.
 fn is_counted_with(
-    tables: &Tables,
+    tables: &LinkTables,
     whole: &[Entry],
     place: usize,
     by: &Who,
@@ -240,7 +247,7 @@ fn counted(number: usize, here: bool) -> usize
 
 #[tactic(auto, unfolding(crate::specs::Legal::is_legal_answer))]
 /// Whether exactly one counted read is of a call and a value.
-fn is_legal_answer(tables: &Tables, whole: &[Entry], by: &Who, n: u64, v: u32) -> bool
+fn is_legal_answer(tables: &LinkTables, whole: &[Entry], by: &Who, n: u64, v: u32) -> bool
     requires tables { AreTables whole.now tables.now }
     ensures { result ≡ is_legal_answer (reverse whole.now) by.now n v }
 {
@@ -248,7 +255,7 @@ fn is_legal_answer(tables: &Tables, whole: &[Entry], by: &Who, n: u64, v: u32) -
     let mut number: usize = 0;
     let mut at = back_from(
         &tables.reads,
-        Kind::Reads,
+        KeyKind::Reads,
         key,
         whole,
         whole.len(),
@@ -257,13 +264,27 @@ fn is_legal_answer(tables: &Tables, whole: &[Entry], by: &Who, n: u64, v: u32) -
     while at > 0 {
         let counts = is_counted_with(tables, whole, at - 1, by, n, v, &whole[at - 1]);
         number = counted(number, counts);
-        at = back_from(&tables.reads, Kind::Reads, key, whole, whole.len(), at - 1);
+        at = back_from(
+            &tables.reads,
+            KeyKind::Reads,
+            key,
+            whole,
+            whole.len(),
+            at - 1,
+        );
     }
     number == 1
 }
 
 /// Whether the answer at a place is legal.
-fn answers_legally(tables: &Tables, whole: &[Entry], place: usize, by: &Who, n: u64, v: u32) -> bool
+fn answers_legally(
+    tables: &LinkTables,
+    whole: &[Entry],
+    place: usize,
+    by: &Who,
+    n: u64,
+    v: u32,
+) -> bool
     requires tables { AreTables whole.now tables.now }
     requires within { place < length whole.now }
     ensures { result ≡ (not (is_reading (call_of (reverse whole.now) by.now n)) || is_legal_answer (reverse whole.now) by.now n v) }
@@ -274,7 +295,7 @@ fn answers_legally(tables: &Tables, whole: &[Entry], place: usize, by: &Who, n: 
 
 /// Whether the entry at a place is legal, as the links show.
 pub(crate) fn is_legal(
-    tables: &Tables,
+    tables: &LinkTables,
     fates: &Fates,
     whole: &[Entry],
     place: usize,

@@ -3,17 +3,17 @@
 ghost use Rattle.std.specs.Prelude.{◌≡◌, ◌<◌, ◌+◌, [], List, IfOk, OnOk, Some, length};
 ghost use Rattle.std.specs.List.{slice_get};
 ghost use Rattle.nq_base.specs.declared.Entry.{Entry};
-ghost use Rattle.nq_rules.specs.declared.keys.Kind.{Kind};
+ghost use Rattle.nq_rules.specs.declared.keys.KeyKind.{KeyKind};
 ghost use Rattle.nq_check.specs.Links.{IsHeadNext, IsLinked, IsLinkedNext};
 ghost use Rattle.nq_rules.specs.Marks.{IsMarked, mark_at};
 
 use nq_base::{Entry, NoMemory};
-use nq_rules::keys::{Key, Kind, is_member, key_of};
+use nq_rules::keys::{EntryKey, KeyKind, is_member, key_of};
 use std::alloc::Global;
 use std::collections::HashMap;
 
 /// For each key a place, counted from 1, and 0 where there is none.
-pub(crate) type Heads = HashMap<Key, usize>;
+pub(crate) type Heads = HashMap<EntryKey, usize>;
 
 /// The links of a kind.
 #[derive(Drop)]
@@ -25,14 +25,14 @@ pub(crate) struct Links {
 }
 
 /// The place of the last entry of a key, counted from 1.
-pub(crate) fn head_at(heads: &Heads, at: Key) -> usize
+pub(crate) fn head_at(heads: &Heads, at: EntryKey) -> usize
     ensures { result ≡ mark_at heads.now.entries at }
 {
     heads.get(&at).copied().unwrap_or(0)
 }
 
 /// Sets the place of the last entry of a key.
-pub(crate) fn set_head(heads: &mut Heads, at: Key, place: usize) -> Result<(), NoMemory>
+pub(crate) fn set_head(heads: &mut Heads, at: EntryKey, place: usize) -> Result<(), NoMemory>
     ensures { OnOk result (IsMarked at place heads.old.entries heads.new.entries) }
 {
     heads.insert(at, place)?;
@@ -40,7 +40,7 @@ pub(crate) fn set_head(heads: &mut Heads, at: Key, place: usize) -> Result<(), N
 }
 
 /// Sets the place of the last entry of a key; the place that it had before.
-fn swap_head(heads: &mut Heads, at: Key, place: usize) -> Result<usize, NoMemory>
+fn swap_head(heads: &mut Heads, at: EntryKey, place: usize) -> Result<usize, NoMemory>
     ensures before { IfOk result (λ before. before ≡ mark_at heads.old.entries at) }
     ensures marked { OnOk result (IsMarked at place heads.old.entries heads.new.entries) }
 {
@@ -49,18 +49,26 @@ fn swap_head(heads: &mut Heads, at: Key, place: usize) -> Result<usize, NoMemory
 }
 
 /// Whether links are followed back from an entry to which they do not lead.
-fn asks(kind: Kind, entry: &Entry) -> bool {
+fn asks(kind: KeyKind, entry: &Entry) -> bool {
     match kind {
-        Kind::Grants | Kind::Stores => matches!(entry, Entry::L { .. }),
-        Kind::Own => matches!(entry, Entry::S { .. } | Entry::L { .. }),
-        Kind::Calls | Kind::Covers | Kind::Writes | Kind::Cuts => matches!(entry, Entry::R { .. }),
-        Kind::Reads | Kind::Delays => false,
+        KeyKind::Grants | KeyKind::Stores => matches!(entry, Entry::L { .. }),
+        KeyKind::Own => matches!(entry, Entry::S { .. } | Entry::L { .. }),
+        KeyKind::Calls | KeyKind::Covers | KeyKind::Writes | KeyKind::Cuts => matches!(
+            entry,
+            Entry::R { .. }
+        ),
+        KeyKind::Reads | KeyKind::Delays => false,
     }
 }
 
 #[tactic(auto, using(crate::proofs::Linking::member_headed, crate::proofs::Linking::asked_headed, crate::proofs::Linking::unasked_headed))]
 /// Takes in the entry at a place; its link, which is its own place where nobody follows it.
-fn link_head(heads: &mut Heads, kind: Kind, place: usize, entry: &Entry) -> Result<usize, NoMemory>
+fn link_head(
+    heads: &mut Heads,
+    kind: KeyKind,
+    place: usize,
+    entry: &Entry,
+) -> Result<usize, NoMemory>
     requires { place < 18446744073709551615 }
     ensures { IfOk result (IsHeadNext kind place entry.now heads.old.entries heads.new.entries) }
 {
@@ -78,7 +86,7 @@ fn link_head(heads: &mut Heads, kind: Kind, place: usize, entry: &Entry) -> Resu
 /// Links one more entry.
 pub(crate) fn link_entry(
     links: &mut Links,
-    kind: Kind,
+    kind: KeyKind,
     place: usize,
     entry: &Entry,
 ) -> Result<(), NoMemory>
@@ -94,7 +102,7 @@ pub(crate) fn link_entry(
 /// Links the entry at a place of a journal.
 pub(crate) fn link_at(
     links: &mut Links,
-    kind: Kind,
+    kind: KeyKind,
     whole: &[Entry],
     place: usize,
     entry: &Entry,
@@ -109,7 +117,7 @@ pub(crate) fn link_at(
 /// No links.
 pub(crate) fn no_links(alloc: Global) -> Links
     ensures empty { (result.heads.entries ≡ []) × (result.earlier.items ≡ []) }
-    ensures linked { (kind : Kind) (whole : List Entry) → IsLinked kind whole 0 result.heads.entries result.earlier.items }
+    ensures linked { (kind : KeyKind) (whole : List Entry) → IsLinked kind whole 0 result.heads.entries result.earlier.items }
 {
     Links {
         heads: HashMap::new(alloc),

@@ -8,10 +8,10 @@ ghost use Rattle.nq_model.specs.laws.JournalTest.{exists};
 
 use crate::along::call_along;
 use crate::links::{Heads, head_at, set_head};
-use crate::tables::Tables;
+use crate::tables::LinkTables;
 use nq_base::{Entry, Loss, NoMemory, Number, Said, Span, Spans, Told, Who};
 use nq_rules::calls::speaks_of;
-use nq_rules::keys::Key;
+use nq_rules::keys::EntryKey;
 use nq_rules::named::{is_name_of, span_at};
 use std::alloc::Global;
 use std::collections::HashMap;
@@ -33,7 +33,7 @@ pub(crate) struct Namings {
 }
 
 /// The key of a loss: its numbers, as an incarnation counts them.
-pub(crate) fn loss_key(who: &Who, first: Number, last: Number) -> Key
+pub(crate) fn loss_key(who: &Who, first: Number, last: Number) -> EntryKey
     ensures { result ≡ loss_spot who.now first last }
 {
     ((who.host.0, who.inc.0), (first.0, last.0))
@@ -129,7 +129,7 @@ fn name_all_anew(
 /// Names what the A of a call names at a place, with these spans.
 fn names_lost(
     names: &mut Names,
-    tables: &Tables,
+    tables: &LinkTables,
     whole: &[Entry],
     place: usize,
     who: &Who,
@@ -147,7 +147,7 @@ fn names_lost(
 /// Takes in the entry at a place. False where it is an A `lost` of which it is not known that it names losses anew.
 fn names_anew(
     names: &mut Names,
-    tables: &Tables,
+    tables: &LinkTables,
     whole: &[Entry],
     place: usize,
     entry: &Entry,
@@ -176,7 +176,7 @@ fn names_anew(
 }
 
 /// How far the entries name losses anew, one after another.
-fn name_all(names: &mut Names, tables: &Tables, whole: &[Entry]) -> Result<usize, NoMemory>
+fn name_all(names: &mut Names, tables: &LinkTables, whole: &[Entry]) -> Result<usize, NoMemory>
     requires { AreTables whole.now tables.now }
     ensures { IfOk result (λ front. PassBetween (is_naming whole.now) whole.now 0 front) }
 {
@@ -191,7 +191,7 @@ fn name_all(names: &mut Names, tables: &Tables, whole: &[Entry]) -> Result<usize
 /// The names of the losses of a journal, and a place below which each A `lost` names losses anew.
 pub(crate) fn find_names(
     alloc: Global,
-    tables: &Tables,
+    tables: &LinkTables,
     whole: &[Entry],
 ) -> Result<Namings, NoMemory>
     requires { AreTables whole.now tables.now }

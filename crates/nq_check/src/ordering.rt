@@ -10,21 +10,23 @@ ghost use Rattle.nq_model.specs.laws.OrderedTest.{is_busy_next};
 ghost use Rattle.nq_check.specs.declared.rules.Rule.TheVariants.{Ordered};
 
 use crate::legal::is_counted;
-use crate::tables::Tables;
+use crate::tables::LinkTables;
 use nq_base::{Entry, NoMemory, Who};
-use nq_rules::lines::{Line, after_answer, after_call, after_read, after_resize, after_write};
+use nq_rules::lines::{
+    CallProgress, after_answer, after_call, after_read, after_resize, after_write,
+};
 use nq_rules::ordered::is_busy_next;
 use std::alloc::Global;
 use std::collections::HashMap;
 
 /// The lines, each at its incarnation, the host first.
-type Lines = HashMap<(u32, u32), Line>;
+type Lines = HashMap<(u32, u32), CallProgress>;
 
 /// The line of an incarnation that has told nothing.
-fn no_line() -> Line
+fn no_line() -> CallProgress
     ensures { result ≡ no_line }
 {
-    Line {
+    CallProgress {
         highest: 0,
         last: 0,
         least: u64::MAX,
@@ -34,7 +36,7 @@ fn no_line() -> Line
 }
 
 /// The line of an incarnation.
-fn line_at(lines: &Lines, who: &Who) -> Line
+fn line_at(lines: &Lines, who: &Who) -> CallProgress
     ensures { result ≡ line_at lines.now.entries who.now }
 {
     match lines.get(&(who.host.0, who.inc.0)) {
@@ -44,7 +46,7 @@ fn line_at(lines: &Lines, who: &Who) -> Line
 }
 
 /// Sets the next line of an incarnation. False where there is none.
-fn set_next(lines: &mut Lines, who: &Who, next: Option<Line>) -> Result<bool, NoMemory>
+fn set_next(lines: &mut Lines, who: &Who, next: Option<CallProgress>) -> Result<bool, NoMemory>
     ensures { IfOk result (λ yes. IsTrue yes → IsNext who.now next lines.old.entries lines.new.entries) }
 {
     let Some(line) = next else {
@@ -74,7 +76,7 @@ fn is_busy_behind(whole: &[Entry], place: usize, by: &Who, n: u64) -> bool
 
 /// Whether the entry at a place has a next line where it needs one. Then that line is set.
 fn stands(
-    tables: &Tables,
+    tables: &LinkTables,
     whole: &[Entry],
     lines: &mut Lines,
     place: usize,
@@ -129,7 +131,7 @@ fn stands(
 /// A place below which each entry stands in order.
 pub(crate) fn ordered_front(
     alloc: Global,
-    tables: &Tables,
+    tables: &LinkTables,
     whole: &[Entry],
 ) -> Result<usize, NoMemory>
     requires { AreTables whole.now tables.now }

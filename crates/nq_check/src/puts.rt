@@ -11,16 +11,16 @@ ghost use Rattle.nq_model.specs.laws.JournalTest.{is_answer, is_stored, is_throu
 use crate::along::{back_from, is_before_near};
 use crate::fates::{Fates, fate_at};
 use crate::links::head_at;
-use crate::tables::Tables;
+use crate::tables::LinkTables;
 use crate::trail::Hints;
 use nq_base::{Entry, Who};
 use nq_rules::entries::{is_call, is_through, is_write_by};
-use nq_rules::keys::{Kind, call_key};
+use nq_rules::keys::{KeyKind, call_key};
 use nq_rules::sought::Sought;
 
 /// Whether a write is through, or an S before a place covers it. The entry that is its fate is looked at first.
 fn is_through_or_stored(
-    tables: &Tables,
+    tables: &LinkTables,
     fates: &Fates,
     whole: &[Entry],
     place: usize,
@@ -44,7 +44,7 @@ fn is_through_or_stored(
 /// Whether the last write of an incarnation before the A of its `put` is the write of that call, and is through or stored
 /// before the A.
 pub(crate) fn is_put_kept(
-    tables: &Tables,
+    tables: &LinkTables,
     fates: &Fates,
     hints: &Hints,
     whole: &[Entry],
@@ -60,7 +60,14 @@ pub(crate) fn is_put_kept(
     ensures { IsTrue result → somewhere (is_put_kept (reverse (take place whole.now)) by.now n) (reverse (take place whole.now)) ≡ true }
 {
     let key = call_key(by, n);
-    let call = back_from(&tables.calls, Kind::Calls, key, whole, whole.len(), place);
+    let call = back_from(
+        &tables.calls,
+        KeyKind::Calls,
+        key,
+        whole,
+        whole.len(),
+        place,
+    );
     let write = head_at(&hints.written, call_key(by, 0));
     if call == 0 || call > write || write >= place {
         return false;

@@ -9,7 +9,7 @@ ghost use Rattle.nq_check.specs.declared.rules.Rule.{Rule};
 use crate::endings::endings_front;
 use crate::namings::Namings;
 use crate::reports::{Found, reports_front};
-use crate::tables::Tables;
+use crate::tables::LinkTables;
 use nq_base::{Entry, NoMemory};
 use std::alloc::Global;
 
@@ -23,7 +23,7 @@ fn lower(a: usize, b: usize) -> usize
 /// A place below which each L is excused and reported, and each A `lost` names losses anew.
 pub(crate) fn reported_front(
     alloc: Global,
-    tables: &Tables,
+    tables: &LinkTables,
     names: &Namings,
     whole: &[Entry],
     ordered: usize,

@@ -13,23 +13,23 @@ ghost use Rattle.nq_model.specs.laws.ReportedTest.{names};
 use crate::along::{call_along, is_there};
 use crate::links::{Heads, head_at, set_head};
 use crate::namings::loss_key;
-use crate::tables::Tables;
+use crate::tables::LinkTables;
 use nq_base::{Entry, Loss, NoMemory, Said, Told, Who};
 use nq_rules::calls::speaks_of;
 use nq_rules::entries::is_answer;
-use nq_rules::keys::{Key, file_key};
+use nq_rules::keys::{EntryKey, file_key};
 use nq_rules::named::are_names_of;
 use nq_rules::sought::Sought;
 use std::alloc::Global;
 use std::collections::HashMap;
 
 /// The incarnation and file whose losses a call reports, if any.
-pub(crate) fn reports_of(who: &Who, told: &Told) -> Option<Key>
+pub(crate) fn reports_of(who: &Who, told: &Told) -> Option<EntryKey>
     ensures { result ≡ reports_of who.now told.now }
 {
     match told {
         Told::Write { file, .. } => Some(file_key(who, *file)),
-        Told::WriteSync { file, .. } => Some(file_key(who, *file)),
+        Told::Put { file, .. } => Some(file_key(who, *file)),
         Told::Sync { file } => Some(file_key(who, *file)),
         Told::Resize { file, .. } => Some(file_key(who, *file)),
         Told::Remove { file } => Some(file_key(who, *file)),
@@ -38,7 +38,7 @@ pub(crate) fn reports_of(who: &Who, told: &Told) -> Option<Key>
 }
 
 /// The incarnation and file whose losses the entry at a place may have to report.
-fn may_report(whole: &[Entry], place: usize, entry: &Entry) -> Option<Key>
+fn may_report(whole: &[Entry], place: usize, entry: &Entry) -> Option<EntryKey>
     requires { place < length whole.now }
     ensures { IsReportKey (reverse whole.now) entry.now result }
 {
@@ -70,7 +70,13 @@ fn take_report(
 }
 
 /// Whether an entry is an A `lost` that names a loss.
-pub(crate) fn names(tables: &Tables, whole: &[Entry], by: &Who, loss: &Loss, entry: &Entry) -> bool
+pub(crate) fn names(
+    tables: &LinkTables,
+    whole: &[Entry],
+    by: &Who,
+    loss: &Loss,
+    entry: &Entry,
+) -> bool
     requires tables { AreTables whole.now tables.now }
     ensures { result ≡ names (reverse whole.now) by.now loss.now entry.now }
 {
@@ -102,7 +108,7 @@ fn answers(call: &Entry, entry: &Entry) -> bool
 #[derive(Drop)]
 pub(crate) struct Found<'a> {
     /// The links of the journal.
-    pub(crate) tables: &'a Tables,
+    pub(crate) tables: &'a LinkTables,
     /// Where losses are named.
     pub(crate) named: &'a Heads,
     /// A place below which each entry stands in order.

@@ -3,7 +3,7 @@
 ghost use Rattle.std.specs.Prelude.{◌≡◌, ◌<◌, ◌≤◌, IsTrue, length, reverse, take, true};
 ghost use Rattle.nq_check.specs.Links.{IsLinked};
 ghost use Rattle.nq_check.specs.Tables.{AreTables};
-ghost use Rattle.nq_rules.specs.declared.keys.Kind.TheVariants.{Delays};
+ghost use Rattle.nq_rules.specs.declared.keys.KeyKind.TheVariants.{Delays};
 ghost use Rattle.nq_model.specs.laws.JournalTest.{exists};
 ghost use Rattle.nq_model.specs.laws.ReportedTest.{names};
 ghost use Rattle.nq_model.specs.laws.SynchronizedTest.{are_stored_or_told, is_named_loss, is_stored_or_told};
@@ -13,10 +13,10 @@ use crate::fates::{Fates, fate_at};
 use crate::links::{Heads, Links, head_at};
 use crate::namings::loss_key;
 use crate::reports::names;
-use crate::tables::Tables;
+use crate::tables::LinkTables;
 use nq_base::{Entry, FileId, Loss, Who};
 use nq_rules::entries::loss_covers;
-use nq_rules::keys::{Kind, file_key};
+use nq_rules::keys::{KeyKind, file_key};
 use nq_rules::sought::Sought;
 
 /// Whose delayed writes have to be settled: those of an incarnation on a file, before a place.
@@ -29,7 +29,7 @@ pub(crate) struct Settling<'a> {
 
 /// Whether an entry before an answer, at the place that is kept for a loss, names the loss.
 fn is_named_at(
-    tables: &Tables,
+    tables: &LinkTables,
     named: &Heads,
     whole: &[Entry],
     answered: &[Entry],
@@ -51,7 +51,7 @@ fn is_named_at(
 
 /// Whether an entry is an L that covers a write, and an entry before the answer is known to name it.
 fn is_named_loss(
-    tables: &Tables,
+    tables: &LinkTables,
     named: &Heads,
     whole: &[Entry],
     answered: &[Entry],
@@ -86,7 +86,7 @@ fn is_named_loss(
 
 /// Whether an S among the `stores` covers a write, or an L that is told.
 fn is_settled(
-    tables: &Tables,
+    tables: &LinkTables,
     fates: &Fates,
     whole: &[Entry],
     stores: &[Entry],
@@ -109,7 +109,7 @@ fn is_settled(
 /// Whether each of the delayed writes that have to be settled is stored, by an S among the `stores`, or told. Those before
 /// another place are known to be.
 pub(crate) fn are_settled(
-    tables: &Tables,
+    tables: &LinkTables,
     fates: &Fates,
     delays: &Links,
     whole: &[Entry],
@@ -128,13 +128,13 @@ pub(crate) fn are_settled(
     let place = these.place;
     let answered = &whole[..place];
     let key = file_key(these.who, these.file);
-    let mut at = back_from(delays, Kind::Delays, key, whole, place, place);
+    let mut at = back_from(delays, KeyKind::Delays, key, whole, place, place);
     while at > known {
         let fate = fate_at(fates, at - 1);
         if !is_settled(tables, fates, whole, stores, answered, fate, &whole[at - 1]) {
             return false;
         }
-        at = back_from(delays, Kind::Delays, key, whole, place, at - 1);
+        at = back_from(delays, KeyKind::Delays, key, whole, place, at - 1);
     }
     true
 }

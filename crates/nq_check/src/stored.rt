@@ -10,7 +10,7 @@ ghost use Rattle.nq_model.specs.laws.JournalTest.{is_stored};
 
 use crate::along::{is_somewhere, is_there};
 use crate::fates::{Fates, fate_at, place_in};
-use crate::tables::Tables;
+use crate::tables::LinkTables;
 use nq_base::{Entry, NoMemory};
 use nq_rules::sought::Sought;
 use std::alloc::Global;
@@ -28,7 +28,7 @@ fn is_delayed(entry: &Entry) -> bool
 /// Whether an S covers the write at a place. The entry that is its fate is looked at first: where all entries are known to
 /// account for what they cover, no S covers a write that was lost.
 fn seek_stored(
-    tables: &Tables,
+    tables: &LinkTables,
     accounted: usize,
     fate: usize,
     whole: &[Entry],
@@ -51,7 +51,7 @@ fn seek_stored(
 
 /// Whether the entry at a place is a delayed write that an S covers.
 fn is_covered(
-    tables: &Tables,
+    tables: &LinkTables,
     accounted: usize,
     fate: usize,
     whole: &[Entry],
@@ -94,7 +94,7 @@ fn told_at(stored: &Vec<bool>, at: usize) -> Option<bool>
 /// For each entry whether it is a delayed write that an S covers.
 pub(crate) fn find_stored(
     alloc: Global,
-    tables: &Tables,
+    tables: &LinkTables,
     covered: &Vec<usize>,
     accounted: usize,
     whole: &[Entry],
@@ -114,7 +114,7 @@ pub(crate) fn find_stored(
 
 /// Whether an S covers the write at a place.
 pub(crate) fn is_stored(
-    tables: &Tables,
+    tables: &LinkTables,
     fates: &Fates,
     whole: &[Entry],
     at: usize,

@@ -11,15 +11,15 @@ use crate::along::{back_from, call_along};
 use crate::fates::Fates;
 use crate::links::head_at;
 use crate::settled::{Settling, are_settled};
-use crate::tables::Tables;
+use crate::tables::LinkTables;
 use crate::trail::Trail;
 use nq_base::{Entry, FileId, Said, Told, Who};
 use nq_rules::entries::is_resize_by;
-use nq_rules::keys::{Kind, call_key, file_key};
+use nq_rules::keys::{KeyKind, call_key, file_key};
 
 /// A call as its A names it, and what it asks.
 #[derive(Drop)]
-pub(crate) struct Asked<'a> {
+pub(crate) struct AskedCall<'a> {
     pub(crate) who: &'a Who,
     pub(crate) q: u64,
     pub(crate) call: Option<Told>,
@@ -53,7 +53,7 @@ fn is_sizing_of(on: FileId, call: Option<Told>) -> bool
 }
 
 /// The call to which an entry says ok, if it is such an answer of an incarnation.
-fn call_of_ok(tables: &Tables, whole: &[Entry], by: &Who, entry: &Entry) -> Option<Told>
+fn call_of_ok(tables: &LinkTables, whole: &[Entry], by: &Who, entry: &Entry) -> Option<Told>
     requires tables { AreTables whole.now tables.now }
     ensures { result ≡ call_of_ok (reverse whole.now) by.now entry.now }
 {
@@ -69,7 +69,7 @@ fn call_of_ok(tables: &Tables, whole: &[Entry], by: &Who, entry: &Entry) -> Opti
 
 /// A place up to which an earlier `sync` has shown that delayed writes are stored or told.
 fn synced_before(
-    tables: &Tables,
+    tables: &LinkTables,
     trail: &Trail,
     whole: &[Entry],
     place: usize,
@@ -89,7 +89,7 @@ fn synced_before(
 
 /// A place up to which an earlier `resize` or `remove` has shown that delayed writes are stored before another place, or told.
 fn resized_before(
-    tables: &Tables,
+    tables: &LinkTables,
     trail: &Trail,
     whole: &[Entry],
     resize: usize,
@@ -111,7 +111,7 @@ fn resized_before(
 
 /// Whether each delayed write of an incarnation on a file before the A of its `sync` is stored or told.
 pub(crate) fn is_sync_kept(
-    tables: &Tables,
+    tables: &LinkTables,
     fates: &Fates,
     trail: &Trail,
     whole: &[Entry],
@@ -134,12 +134,12 @@ pub(crate) fn is_sync_kept(
 /// Whether the last entry of a call before its A is its Z, and each delayed write on the file before the A is
 /// stored before the Z, or told.
 pub(crate) fn is_resize_kept(
-    tables: &Tables,
+    tables: &LinkTables,
     fates: &Fates,
     trail: &Trail,
     whole: &[Entry],
     place: usize,
-    asked: &Asked,
+    asked: &AskedCall,
     on: FileId,
 ) -> bool
     requires ready { IsReady whole.now place tables.now trail.now.delays }
@@ -147,7 +147,14 @@ pub(crate) fn is_resize_kept(
         (reverse (take place whole.now)) ≡ true }
 {
     let key = call_key(asked.who, asked.q);
-    let at = back_from(&tables.calls, Kind::Calls, key, whole, whole.len(), place);
+    let at = back_from(
+        &tables.calls,
+        KeyKind::Calls,
+        key,
+        whole,
+        whole.len(),
+        place,
+    );
     if at == 0 || !is_resize_by(&whole[at - 1], asked.who, asked.q) {
         return false;
     }

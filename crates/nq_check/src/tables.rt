@@ -7,7 +7,7 @@ ghost use Rattle.nq_check.specs.Tables.{AreLeasesTo, AreTables, AreTablesTo};
 
 use crate::links::{Links, link_at, no_links};
 use nq_base::{Entry, NoMemory};
-use nq_rules::keys::Kind;
+use nq_rules::keys::KeyKind;
 use std::alloc::Global;
 
 /// The links of what tells whether a lease has ended.
@@ -20,7 +20,7 @@ pub(crate) struct Leases {
 
 /// The links of each kind but that of delayed writes.
 #[derive(Drop)]
-pub(crate) struct Tables {
+pub(crate) struct LinkTables {
     pub(crate) calls: Links,
     pub(crate) reads: Links,
     pub(crate) writes: Links,
@@ -32,10 +32,10 @@ pub(crate) struct Tables {
 }
 
 /// No links of any kind.
-fn no_tables(alloc: Global) -> Tables
+fn no_tables(alloc: Global) -> LinkTables
     ensures { (whole : List Entry) → AreTablesTo whole 0 result }
 {
-    Tables {
+    LinkTables {
         calls: no_links(alloc),
         reads: no_links(alloc),
         writes: no_links(alloc),
@@ -61,14 +61,14 @@ fn link_lease(
     requires linked { AreLeasesTo whole.now place leases.old }
     ensures { OnOk result (AreLeasesTo whole.now (place + 1) leases.new) }
 {
-    link_at(&mut leases.grants, Kind::Grants, whole, place, entry)?;
-    link_at(&mut leases.stores, Kind::Stores, whole, place, entry)?;
-    link_at(&mut leases.own, Kind::Own, whole, place, entry)
+    link_at(&mut leases.grants, KeyKind::Grants, whole, place, entry)?;
+    link_at(&mut leases.stores, KeyKind::Stores, whole, place, entry)?;
+    link_at(&mut leases.own, KeyKind::Own, whole, place, entry)
 }
 
 /// Links the entry at a place in each kind.
 fn link_next(
-    tables: &mut Tables,
+    tables: &mut LinkTables,
     whole: &[Entry],
     place: usize,
     entry: &Entry,
@@ -77,11 +77,11 @@ fn link_next(
     requires linked { AreTablesTo whole.now place tables.old }
     ensures { OnOk result (AreTablesTo whole.now (place + 1) tables.new) }
 {
-    link_at(&mut tables.calls, Kind::Calls, whole, place, entry)?;
-    link_at(&mut tables.reads, Kind::Reads, whole, place, entry)?;
-    link_at(&mut tables.writes, Kind::Writes, whole, place, entry)?;
-    link_at(&mut tables.covers, Kind::Covers, whole, place, entry)?;
-    link_at(&mut tables.cuts, Kind::Cuts, whole, place, entry)?;
+    link_at(&mut tables.calls, KeyKind::Calls, whole, place, entry)?;
+    link_at(&mut tables.reads, KeyKind::Reads, whole, place, entry)?;
+    link_at(&mut tables.writes, KeyKind::Writes, whole, place, entry)?;
+    link_at(&mut tables.covers, KeyKind::Covers, whole, place, entry)?;
+    link_at(&mut tables.cuts, KeyKind::Cuts, whole, place, entry)?;
     link_lease(&mut tables.leases, whole, place, entry)
 }
 
@@ -100,7 +100,7 @@ fn keep_later(later: &mut Vec<usize>, place: usize, earlier: usize) -> Result<()
 }
 
 /// Links the entries of a journal in each kind.
-pub(crate) fn make_tables(alloc: Global, whole: &[Entry]) -> Result<Tables, NoMemory>
+pub(crate) fn make_tables(alloc: Global, whole: &[Entry]) -> Result<LinkTables, NoMemory>
     ensures { IfOk result (AreTables whole.now) }
 {
     let mut tables = no_tables(alloc);
@@ -113,7 +113,7 @@ pub(crate) fn make_tables(alloc: Global, whole: &[Entry]) -> Result<Tables, NoMe
 }
 
 /// Where the call of the read at a place is perhaps answered: whoever takes it looks at the entry.
-pub(crate) fn answer_near(tables: &Tables, place: usize) -> usize {
+pub(crate) fn answer_near(tables: &LinkTables, place: usize) -> usize {
     place_in(
         &tables.later,
         place_in(&tables.calls.earlier, place).saturating_sub(1),

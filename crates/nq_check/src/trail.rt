@@ -3,13 +3,13 @@
 ghost use Rattle.std.specs.Prelude.{◌≡◌, ◌<◌, [], OnOk, length};
 ghost use Rattle.nq_check.specs.Links.{IsLinkedNext};
 ghost use Rattle.nq_check.specs.Tables.{AreTables};
-ghost use Rattle.nq_rules.specs.declared.keys.Kind.TheVariants.{Delays};
+ghost use Rattle.nq_rules.specs.declared.keys.KeyKind.TheVariants.{Delays};
 
 use crate::along::call_near;
 use crate::links::{Heads, Links, link_entry, no_links, set_head};
-use crate::tables::Tables;
+use crate::tables::LinkTables;
 use nq_base::{Entry, NoMemory, Said, Told};
-use nq_rules::keys::{Kind, call_key, file_key};
+use nq_rules::keys::{KeyKind, call_key, file_key};
 use std::alloc::Global;
 use std::collections::HashMap;
 
@@ -34,7 +34,7 @@ pub(crate) struct Hints {
 /// Keeps the place of a W, or of an ok.
 fn keep(
     hints: &mut Hints,
-    tables: &Tables,
+    tables: &LinkTables,
     whole: &[Entry],
     place: usize,
     entry: &Entry,
@@ -67,7 +67,7 @@ fn keep(
 /// Takes in the entry at a place.
 pub(crate) fn take_in(
     trail: &mut Trail,
-    tables: &Tables,
+    tables: &LinkTables,
     whole: &[Entry],
     place: usize,
     entry: &Entry,
@@ -77,7 +77,7 @@ pub(crate) fn take_in(
     ensures { OnOk result (IsLinkedNext Delays place entry.now trail.old.delays.heads.entries trail.new.delays.heads.entries
         trail.old.delays.earlier.items trail.new.delays.earlier.items) }
 {
-    link_entry(&mut trail.delays, Kind::Delays, place, entry)?;
+    link_entry(&mut trail.delays, KeyKind::Delays, place, entry)?;
     keep(&mut trail.hints, tables, whole, place, entry)
 }
 

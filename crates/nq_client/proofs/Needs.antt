@@ -6,7 +6,7 @@ use Rattle.std.specs.Bool.{then_some}
 use Rattle.std.specs.List.{find, list_any}
 use Rattle.std.specs.Option.{option_or}
 use Rattle.nq_base.specs.declared.Call.{Call}
-use Rattle.nq_base.specs.declared.Call.TheVariants.{Create, Lookup, Attr, Read, Fetch, Write, WriteSync, Sync, Resize, Remove}
+use Rattle.nq_base.specs.declared.Call.TheVariants.{Create, Lookup, Attr, Read, Fetch, Write, Put, Sync, Resize, Remove}
 use Rattle.nq_base.specs.declared.Mode.{Mode}
 use Rattle.nq_base.specs.declared.Push.{Push}
 use Rattle.nq_base.specs.declared.Request.{Request}
@@ -94,7 +94,7 @@ ordered t false request = idles t
 
 written : (t : ClientStep) (through may_ask : Bool) (file block : ℕ) (body : List ℕ) (request : Request) → called_body t.client.call ≡ body
     → Does t (if may_ask then (if through then sends_write t file block body else sends_request t for_call request) else t)
-    (then_some may_ask (if through then Need.Write file block else Need.Ask request))
+    (then_some may_ask (if through then Need.Through file block else Need.Ask request))
 unfolding sends_request
 written t true true file block body request e = record {
   step = ap (λ (b : List ℕ). sends_write t file block b) (sym e);
@@ -138,8 +138,8 @@ of_call t u may_ask (Fetch file block) e h none = asked t may_ask (Request.Read 
 of_call t u may_ask (Write file block body) e h none =
     written t (u.through || shares_live t.client.now (lease_on file t.client.leases)) may_ask file block body (Request.GetLease t.client.who file
     (want_of t.client Mode.Writing)) (called-body t u (Call.Write file block body) e h)
-of_call t u may_ask (WriteSync file block body) e h none =
-    put t u.written may_ask file block body (called-body t u (Call.WriteSync file block body) e h) none
+of_call t u may_ask (Put file block body) e h none =
+    put t u.written may_ask file block body (called-body t u (Call.Put file block body) e h) none
 of_call t u may_ask (Sync file) e h none = pushed t file none
 of_call t u may_ask (Resize file blocks) e h none =
     changed t may_ask file (Request.Resize t.client.who t.client.seq u.q file blocks) none
@@ -223,14 +223,14 @@ read-spelled : (c : Client) (b : Bool) → IfSome (if b then None else Some (wan
 read-spelled c true = tt
 read-spelled c false = tt
 
-write-spelled : (c : Client) (b : Bool) (file block : ℕ) → IsSpelled (if b then Need.Write file block
+write-spelled : (c : Client) (b : Bool) (file block : ℕ) → IsSpelled (if b then Need.Through file block
     else Need.Ask (Request.GetLease c.who file (want_of c Mode.Writing)))
 write-spelled c true file block = tt
 write-spelled c false file block = tt
 
 put-spelled : (b may_ask : Bool) (file block : ℕ) (dirty : List Push) (push : Option Push) → IfSome (put_need file block dirty push b may_ask) IsSpelled
 put-spelled true may_ask file block dirty push = push-spelled (is_clean_in file dirty push) file
-put-spelled false may_ask file block dirty push = some-spelled may_ask (Need.Write file block) tt
+put-spelled false may_ask file block dirty push = some-spelled may_ask (Need.Through file block) tt
 
 change-spelled : (b may_ask : Bool) (file : ℕ) (request : Request) → IsSpelled (Need.Change file request)
     → IfSome (if b then then_some may_ask (Need.Change file request) else Some (Need.Push file)) IsSpelled
@@ -247,7 +247,7 @@ call-spelled c u may_ask (Read file block) =
 call-spelled c u may_ask (Fetch file block) = some-spelled may_ask (read_need c.who u.q file block None) tt
 call-spelled c u may_ask (Write file block body) =
     some-spelled may_ask (write_need c u.through file block) (write-spelled c (u.through || shares_live c.now (lease_on file c.leases)) file block)
-call-spelled c u may_ask (WriteSync file block body) = put-spelled u.written may_ask file block c.dirty c.push
+call-spelled c u may_ask (Put file block body) = put-spelled u.written may_ask file block c.dirty c.push
 call-spelled c u may_ask (Sync file) = push-spelled (is_clean_in file c.dirty c.push) file
 call-spelled c u may_ask (Resize file blocks) =
     change-spelled (is_clean_in file c.dirty c.push) may_ask file (Request.Resize c.who c.seq u.q file blocks) tt

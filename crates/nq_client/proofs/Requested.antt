@@ -3,7 +3,7 @@ use Rattle.std.proofs.Common.{◌≡◌, ◌≤◌, ◌+◌, ◌==◌, ◌⊎◌
 use Rattle.std.proofs.Common.{if◌then◌else◌, refl, sym, subst, arith}
 use Rattle.std.proofs.lemmas.Bool.Decides.{nat_tests}
 use Rattle.nq_base.specs.declared.Call.{Call}
-use Rattle.nq_base.specs.declared.Call.TheVariants.{Create, Lookup, Attr, Read, Fetch, Write, WriteSync, Sync, Resize, Remove}
+use Rattle.nq_base.specs.declared.Call.TheVariants.{Create, Lookup, Attr, Read, Fetch, Write, Put, Sync, Resize, Remove}
 use Rattle.nq_base.specs.declared.Mode.{Mode}
 use Rattle.nq_base.specs.declared.Push.{Push}
 use Rattle.nq_base.specs.declared.Request.{Request}
@@ -179,7 +179,7 @@ of_call t u may_ask (Read file block) idle =
 of_call t u may_ask (Fetch file block) idle = asked t may_ask (Request.Read t.client.who u.q file block None) idle
 of_call t u may_ask (Write file block body) idle =
     choice (Stage t) may_ask _ _ (written t u file block body idle) (quiet t)
-of_call t u may_ask (WriteSync file block body) idle = put t u.written may_ask file block body idle
+of_call t u may_ask (Put file block body) idle = put t u.written may_ask file block body idle
 of_call t u may_ask (Sync file) idle = pushed t (first_dirty file t.client.dirty) idle
 of_call t u may_ask (Resize file blocks) idle =
     changed t may_ask file (Request.Resize t.client.who t.client.seq u.q file blocks) idle

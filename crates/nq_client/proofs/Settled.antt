@@ -2,7 +2,7 @@
 use Rattle.std.proofs.Common.{◌≡◌, ◌≤◌, ◌+◌, ℕ, Bool, true, false, not, ◌&&◌, List, length, Option, Some, None, nat_le, is_some, if◌then◌else◌, refl, arith}
 use Rattle.nq_base.specs.declared.Answer.{Answer}
 use Rattle.nq_base.specs.declared.Call.{Call}
-use Rattle.nq_base.specs.declared.Call.TheVariants.{Create, Lookup, Attr, Read, Fetch, Write, WriteSync, Sync, Resize, Remove}
+use Rattle.nq_base.specs.declared.Call.TheVariants.{Create, Lookup, Attr, Read, Fetch, Write, Put, Sync, Resize, Remove}
 use Rattle.nq_base.specs.declared.Value.{Value}
 use Rattle.nq_model.specs.protocol.Client.{Lease, UnderWay, ClientStep, lease_on, notice_on, lets_read, lets_write, is_clean}
 use Rattle.nq_model.specs.protocol.Settle.{answers, cached_body, reads_cached, after_read, settle_body, settle_read, after_write, delays, marks_written}
@@ -146,7 +146,7 @@ call-settled : (t : ClientStep) (u : UnderWay) (op : Call) → Settled t (settle
 call-settled t u (Read file block) = read-settled t u file block (lease_on file t.client.leases)
 call-settled t u (Fetch file block) = read-settled t u file block (lease_on file t.client.leases)
 call-settled t u (Write file block body) = write-settled t u false file block body (lease_on file t.client.leases)
-call-settled t u (WriteSync file block body) = put-settled t u u.written file block body
+call-settled t u (Put file block body) = put-settled t u u.written file block body
 call-settled t u (Sync file) = sync-settled t u file
 call-settled t u (Create name blocks) = same t
 call-settled t u (Lookup name) = same t

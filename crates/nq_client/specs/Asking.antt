@@ -3,7 +3,7 @@ use Rattle.std.specs.Prelude.{ℕ, Bool, ◌||◌, ◌&&◌, List, Option, Some,
 use Rattle.std.specs.Bool.{then_some}
 use Rattle.std.specs.Option.{option_or}
 use Rattle.nq_base.specs.declared.Call.{Call}
-use Rattle.nq_base.specs.declared.Call.TheVariants.{Create, Lookup, Attr, Read, Fetch, Write, WriteSync, Sync, Resize, Remove}
+use Rattle.nq_base.specs.declared.Call.TheVariants.{Create, Lookup, Attr, Read, Fetch, Write, Put, Sync, Resize, Remove}
 use Rattle.nq_base.specs.declared.Mode.{Mode}
 use Rattle.nq_base.specs.declared.Push.{Push}
 use Rattle.nq_base.specs.declared.Request.{Request}
@@ -29,13 +29,13 @@ push_due dirty push (Some file) = push_for file dirty push
 abbrev pub write_need : Client → (through : Bool) (file block : ℕ) → Need
 write_need c through file block =
     if through || shares_live c.now (lease_on file c.leases)
-    then Need.Write file block
+    then Need.Through file block
     else Need.Ask (Request.GetLease c.who file (want_of c Mode.Writing))
 
 -- a put: its file is pushed where its write was delayed, else the write goes through
 abbrev pub put_need : (file block : ℕ) → List Push → Option Push → (written may_ask : Bool) → Option Need
 put_need file block dirty push written may_ask =
-    if written then push_for file dirty push else then_some may_ask (Need.Write file block)
+    if written then push_for file dirty push else then_some may_ask (Need.Through file block)
 
 -- a resize or removal: the file is pushed until it is clean; then its lease is given up, and the request is sent
 abbrev pub change_need : (file : ℕ) → List Push → Option Push → (may_ask : Bool) → Request → Option Need
@@ -54,7 +54,7 @@ need_by c u may_ask (Attr file) = then_some may_ask (Need.Ask (Request.GetAttr c
 need_by c u may_ask (Read file block) = then_some may_ask (read_need c.who u.q file block (read_want c file))
 need_by c u may_ask (Fetch file block) = then_some may_ask (read_need c.who u.q file block None)
 need_by c u may_ask (Write file block body) = then_some may_ask (write_need c u.through file block)
-need_by c u may_ask (WriteSync file block body) = put_need file block c.dirty c.push u.written may_ask
+need_by c u may_ask (Put file block body) = put_need file block c.dirty c.push u.written may_ask
 need_by c u may_ask (Sync file) = push_for file c.dirty c.push
 need_by c u may_ask (Resize file blocks) =
     change_need file c.dirty c.push may_ask (Request.Resize c.who c.seq u.q file blocks)
@@ -95,7 +95,7 @@ renews_by t (Some request) = sends_request t renewing request
 -- what is needed is sent
 abbrev pub meets : ClientStep → Need → ClientStep
 meets t (Need.Push file) = pushes t file
-meets t (Need.Write file block) = sends_write t file block (called_body t.client.call)
+meets t (Need.Through file block) = sends_write t file block (called_body t.client.call)
 meets t (Need.Ask request) = sends_request t for_call request
 meets t (Need.Order request) = sends_request (after_seq t) for_call request
 meets t (Need.Change file request) = sends_request (after_seq (gives_up t file)) for_call request
@@ -108,7 +108,7 @@ meets_or_renews in_tick t (Some need) = meets t need
 -- the request that is needed has a spelling
 abbrev pub IsSpelled : Need → Type 0
 IsSpelled (Need.Push file) = Unit {0}
-IsSpelled (Need.Write file block) = Unit {0}
+IsSpelled (Need.Through file block) = Unit {0}
 IsSpelled (Need.Ask request) = HasSpelling request
 IsSpelled (Need.Order request) = HasSpelling request
 IsSpelled (Need.Change file request) = HasSpelling request

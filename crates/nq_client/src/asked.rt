@@ -14,7 +14,7 @@ const PATIENCE: u64 = 2;
 
 /// The request under way. It has to be spent: by its answer, or by giving it up. Its bytes are spelled each time that it
 /// is sent. Clauses see the ticket of the protocol.
-pub(crate) struct Asked {
+pub(crate) struct AskedRequest {
     xid: u32,
     first: Ticks,
     last: Ticks,
@@ -22,7 +22,7 @@ pub(crate) struct Asked {
     job: Job,
 }
 
-impl Model for Asked {
+impl Model for AskedRequest {
     ghost use Rattle.std.specs.Prelude.{◌<◌, ◌^◌};
     ghost use Rattle.nq_client_parts.specs.Jobs.{job_of};
     ghost use Rattle.nq_model.specs.protocol.Client.{Ticket};
@@ -35,14 +35,14 @@ impl Model for Asked {
     ghost invariant = { λ a. HasSpelling a.request × (a.first < 2 ^ 62) × (a.last < 2 ^ 62) };
 }
 
-impl Asked {
+impl AskedRequest {
     /// A request that is sent now for the first time.
-    pub(crate) fn new(xid: u32, now: Ticks, request: Request, job: Job) -> Asked
+    pub(crate) fn new(xid: u32, now: Ticks, request: Request, job: Job) -> AskedRequest
         requires time { now < 2 ^ 62 }
         requires spelled { HasSpelling request }
         ensures { result ≡ record { xid = xid; first = now; last = now; request = request; job = job_of job } }
     {
-        Asked {
+        AskedRequest {
             xid,
             first: now,
             last: now,
@@ -98,7 +98,7 @@ impl Asked {
 
     /// Gives it up, or takes its answer: it is no more under way.
     pub(crate) fn spent(self) {
-        let Asked {
+        let AskedRequest {
             xid: _,
             first: _,
             last: _,
@@ -109,7 +109,7 @@ impl Asked {
 }
 
 /// Puts a request under way, in the place of another.
-pub(crate) fn put_under_way(slot: &mut Option<Asked>, asked: Asked)
+pub(crate) fn put_under_way(slot: &mut Option<AskedRequest>, asked: AskedRequest)
     ensures { slot.new ≡ Some asked }
 {
     match slot.replace(asked) {

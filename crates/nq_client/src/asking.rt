@@ -21,7 +21,7 @@ pub(crate) enum Need {
     /// Delayed writes of a file, which has some.
     Push(FileId),
     /// The WRITE of the call under way, which goes through.
-    Write(FileId, BlockNo),
+    Through(FileId, BlockNo),
     /// A request of the call under way that takes no sequence.
     Ask(Request),
     /// A request of the call under way that takes the next sequence.
@@ -64,7 +64,7 @@ fn put_need(
     if written {
         push_for(dirty, file)
     } else {
-        may_ask.then_some(Need::Write(file, block))
+        may_ask.then_some(Need::Through(file, block))
     }
 }
 
@@ -137,7 +137,7 @@ impl State {
         ensures { result ≡ write_need (client_of self.now) through file block }
     {
         if through || self.is_shared(file) {
-            return Need::Write(file, block);
+            return Need::Through(file, block);
         }
         Need::Ask(self.get_lease(file, Mode::Writing))
     }
@@ -191,7 +191,7 @@ impl State {
             Call::Write { file, block, .. } => {
                 may_ask.then_some(self.write_need(u.through, file, block))
             }
-            Call::WriteSync { file, block, .. } => {
+            Call::Put { file, block, .. } => {
                 put_need(&self.dirty, file, block, u.written, may_ask)
             }
             Call::Sync { file } => push_for(&self.dirty, file),

@@ -8,7 +8,7 @@ ghost use Rattle.nq_client.specs.Finishing.{Finishes, HasLetters, HasRooms, Post
 ghost use Rattle.nq_client.specs.Outcome.{IsHeard, or_pending};
 ghost use Rattle.nq_client.specs.Step.{IsBegun, request_message, vacated_message};
 
-use crate::asked::Asked;
+use crate::asked::AskedRequest;
 use crate::heard::Heard;
 use crate::letters::Letter;
 use crate::rooms::Rooms;
@@ -90,7 +90,7 @@ fn post_request(
     letter: &mut Letter,
     alloc: Global,
     asks: bool,
-    asked: &Option<Asked>,
+    asked: &Option<AskedRequest>,
     out: &mut Outbox,
 )
     requires bytes { longest_call ≤ letter.old }

@@ -13,7 +13,7 @@ ghost use Rattle.nq_client.specs.State.{client_of};
 ghost use Rattle.nq_client.specs.Step.{HasNumbers, HasRoom, IsBegun, step_of};
 ghost use Rattle.nq_client.specs.Tied.{Tied};
 
-use crate::asked::Asked;
+use crate::asked::AskedRequest;
 use crate::rooms::Rooms;
 use crate::step::Step;
 use nq_base::{FileId, NoMemory, Request, Who};
@@ -21,7 +21,7 @@ use nq_client_parts::wants;
 use nq_datagrams::Heard;
 
 /// Whether a request that wants a lease on the file is under way.
-fn is_wanted(asked: &Option<Asked>, file: FileId) -> bool
+fn is_wanted(asked: &Option<AskedRequest>, file: FileId) -> bool
     ensures { result ≡ is_wanted file asked.now }
 {
     match asked {
@@ -31,7 +31,7 @@ fn is_wanted(asked: &Option<Asked>, file: FileId) -> bool
 }
 
 /// Gives the request under way up where it wants a lease on the file.
-fn cancel(asked: &mut Option<Asked>, file: FileId)
+fn cancel(asked: &mut Option<AskedRequest>, file: FileId)
     ensures { asked.new ≡ cancelled file asked.old }
 {
     if is_wanted(asked, file) {

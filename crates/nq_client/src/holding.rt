@@ -20,9 +20,9 @@ fn put_held(leases: &mut Leases, held: Held)
 {
     match held {
         Held::Nothing => {}
-        Held::NonCaching(lease) => leases.put(Mode::NonCaching, lease).unwrap(),
-        Held::Reading(lease) => leases.put(Mode::Reading, lease).unwrap(),
-        Held::Writing(lease) => leases.put(Mode::Writing, lease).unwrap(),
+        Held::NonCaching(lease) => leases.put_lease(Mode::NonCaching, lease).unwrap(),
+        Held::Reading(lease) => leases.put_lease(Mode::Reading, lease).unwrap(),
+        Held::Writing(lease) => leases.put_lease(Mode::Writing, lease).unwrap(),
     }
 }
 

@@ -34,7 +34,7 @@ impl Step {
     {
         match need {
             Need::Push(file) => self.pushes(file, room),
-            Need::Write(file, block) => self.sends_write(file, block, room),
+            Need::Through(file, block) => self.sends_write(file, block, room),
             Need::Ask(request) => self.sends_request(Job::ForCall, request),
             Need::Order(request) => self.sends_in_order(request),
             Need::Change(file, request) => self.sends_change(file, request),

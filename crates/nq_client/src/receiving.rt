@@ -8,7 +8,7 @@ ghost use Rattle.nq_wire.specs.Lent.{lent_reply};
 ghost use Rattle.nq_client.specs.Receiving.{IsHeeded, at_stake, counts, most_entries, on_call, on_heard};
 ghost use Rattle.nq_client.specs.State.{client_of};
 
-use crate::asked::Asked;
+use crate::asked::AskedRequest;
 use crate::hearing::is_same;
 use crate::state::State;
 use nq_base::{FileId, Inc, Reply, Request};
@@ -17,7 +17,7 @@ use nq_datagrams::{Awaited, LentHeard, read_heard_in_place};
 use nq_wire::{LentReply, Procedure};
 
 /// The number and the procedure of the request under way.
-fn awaited(asked: &Option<Asked>) -> Option<Awaited>
+fn awaited(asked: &Option<AskedRequest>) -> Option<Awaited>
     ensures { result ≡ awaited_of asked.now }
 {
     match asked {
@@ -30,7 +30,7 @@ fn awaited(asked: &Option<Asked>) -> Option<Awaited>
 }
 
 /// Whether a reply without a body counts.
-fn plain_counts(reply: &Reply, asked: &Asked) -> bool
+fn plain_counts(reply: &Reply, asked: &AskedRequest) -> bool
     ensures { result ≡ reply_counts reply.now asked.now }
 {
     match reply {
@@ -49,7 +49,7 @@ fn plain_counts(reply: &Reply, asked: &Asked) -> bool
 }
 
 /// Whether a reply counts for the request under way: it is of its procedure, or a refusal that counts for it.
-fn reply_counts(reply: &LentReply<'_>, asked: &Asked) -> bool
+fn reply_counts(reply: &LentReply<'_>, asked: &AskedRequest) -> bool
     ensures { result ≡ reply_counts (lent_reply reply.now) asked.now }
 {
     match reply {
@@ -119,7 +119,7 @@ pub(crate) fn read<'a>(state: &State, datagram: &'a [u8]) -> Option<LentHeard<'a
 }
 
 /// The file whose delayed writes the reply to the request under way may lose, or 0.
-fn at_stake(asked: &Option<Asked>) -> FileId
+fn at_stake(asked: &Option<AskedRequest>) -> FileId
     ensures { result ≡ at_stake asked.now }
 {
     match asked {

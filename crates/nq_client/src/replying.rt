@@ -11,7 +11,7 @@ ghost use Rattle.nq_client.specs.Receiving.{answered, at_stake};
 ghost use Rattle.nq_client.specs.Step.{HasRoom, step_of};
 ghost use Rattle.nq_client.specs.Tied.{Tied, TiedFor};
 
-use crate::asked::{Asked, put_under_way};
+use crate::asked::{AskedRequest, put_under_way};
 use crate::step::Step;
 use nq_base::{NoMemory, Refusal, Reply, Request, Ticks};
 use nq_client_parts::{Job, is_put_off};
@@ -59,7 +59,13 @@ impl Step {
 
     /// A request was done, by what it was for.
     #[tactic(auto, unfolding(nq_model::specs::protocol::Hear::attached))]
-    fn done(&mut self, job: Job, asked: &Asked, packet: u64, reply: &Reply) -> Result<(), NoMemory>
+    fn done(
+        &mut self,
+        job: Job,
+        asked: &AskedRequest,
+        packet: u64,
+        reply: &Reply,
+    ) -> Result<(), NoMemory>
         requires prepared { IsPrepared (file_at_stake asked.now.request) self.old }
         requires tied { TiedFor (job_of job) asked.now.request self.old.state.dirty.push }
         ensures { Comes result (done (step_of self.old) packet asked.now (job_of job) reply.now) self.old self.new }
@@ -76,7 +82,7 @@ impl Step {
     }
 
     /// A request was refused, by what it was for.
-    fn refused(&mut self, status: Refusal, job: Job, asked: &Asked) -> Result<(), NoMemory>
+    fn refused(&mut self, status: Refusal, job: Job, asked: &AskedRequest) -> Result<(), NoMemory>
         requires prepared { IsPrepared (file_at_stake asked.now.request) self.old }
         ensures { Comes result (refused (step_of self.old) status asked.now (job_of job)) self.old self.new }
     {
@@ -104,7 +110,7 @@ impl Step {
     }
 
     /// A request that is no more under way was answered in the packet of this number.
-    fn answered(&mut self, asked: &Asked, packet: u64, reply: &Reply) -> Result<(), NoMemory>
+    fn answered(&mut self, asked: &AskedRequest, packet: u64, reply: &Reply) -> Result<(), NoMemory>
         requires prepared { IsPrepared (file_at_stake asked.now.request) self.old }
         requires tied { TiedFor asked.now.job asked.now.request self.old.state.dirty.push }
         ensures { Comes result (answered (step_of self.old) packet asked.now reply.now) self.old self.new }

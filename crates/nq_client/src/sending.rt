@@ -9,7 +9,7 @@ ghost use Rattle.nq_client_parts.specs.Jobs.{job_of};
 ghost use Rattle.nq_client.specs.Settling.{called_body};
 ghost use Rattle.nq_client.specs.Step.{HasNumbers, step_of};
 
-use crate::asked::{Asked, put_under_way};
+use crate::asked::{AskedRequest, put_under_way};
 use crate::settling::called_body;
 use crate::step::Step;
 use nq_base::{BlockNo, FileId, Number, PushBase, Request, Seq, Spare};
@@ -37,7 +37,7 @@ impl Step {
         ensures { step_of self.new ≡ sends_request (step_of self.old) (job_of job) request }
     {
         let xid = self.state.xid;
-        let asked = Asked::new(xid, self.state.time, request, job);
+        let asked = AskedRequest::new(xid, self.state.time, request, job);
         self.state.xid = xid + 1;
         self.asks = true;
         put_under_way(&mut self.state.asked, asked);

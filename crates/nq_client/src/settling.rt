@@ -12,7 +12,7 @@ ghost use Rattle.nq_client.specs.Settling.{called_body, ended, goes_on_delayed, 
 ghost use Rattle.nq_client.specs.State.{under_way};
 ghost use Rattle.nq_client.specs.Step.{HasNumbers, HasRoom, step_of};
 
-use crate::asked::Asked;
+use crate::asked::AskedRequest;
 use crate::reading::read_held;
 use crate::state::UnderWay;
 use crate::step::Step;
@@ -20,7 +20,7 @@ use nq_base::{Answer, Block, BlockNo, Call, Entry, FileId, Number, Said, Spare, 
 use nq_client_parts::{Job, Leave, body_of_call};
 
 /// Whether the request under way is the call's own.
-fn is_for_call(asked: &Option<Asked>) -> bool
+fn is_for_call(asked: &Option<AskedRequest>) -> bool
     ensures { result ≡ ticket_is_for_call asked.now }
 {
     match asked {
@@ -79,7 +79,7 @@ impl Step {
                     let (q, through, file, block) = (u.q, u.through, *file, *block);
                     self.settle_write(q, through, false, file, block, room);
                 }
-                Call::WriteSync { file, block, .. } => {
+                Call::Put { file, block, .. } => {
                     let (q, through, written) = (u.q, u.through, u.written);
                     let (file, block) = (*file, *block);
                     self.settle_put(q, written, through, file, block, room);
@@ -121,7 +121,8 @@ impl Step {
     fn settle_body(&mut self, q: u64, file: FileId, block: BlockNo, room: &mut Spare)
         requires room { HasRoom self.old }
         requires block { room.old ≡ true }
-        ensures { step_of self.new ≡ settles_body (step_of self.old) q file block (body_in file block self.old.state.dirty.dirty self.old.state.dirty.push self.old.state.cache.clean) }
+        ensures { step_of self.new ≡ settles_body (step_of self.old) q file block
+            (body_in file block self.old.state.dirty.dirty self.old.state.dirty.push self.old.state.cache.clean) }
     {
         let state = &mut self.state;
         let Some(body) = read_held(&state.dirty, &mut state.cache, file, block, room) else {
@@ -177,7 +178,8 @@ impl Step {
         requires room { HasRoom self.old }
         requires block { room.old ≡ true }
         requires numbers { HasNumbers 1 self.old.state }
-        ensures { step_of self.new ≡ settles_write (step_of self.old) q through sync file block (called_body (step_of self.old).client.call) (lease_on file self.old.state.leases.items) }
+        ensures { step_of self.new ≡ settles_write (step_of self.old) q through sync file block (called_body (step_of self.old).client.call)
+            (lease_on file self.old.state.leases.items) }
     {
         if through || self.state.notices.waits(file) {
             return;

@@ -4,7 +4,7 @@ ghost use Rattle.std.specs.Prelude.{◌≡◌, IfOk};
 ghost use Rattle.nq_model.specs.protocol.ClientStep.{fresh_client};
 ghost use Rattle.nq_client.specs.State.{client_of};
 
-use crate::asked::Asked;
+use crate::asked::AskedRequest;
 use nq_base::{Call, NoMemory, Number, Seq, Ticks, Who};
 use nq_cache::Cache;
 use nq_client_parts::dirty::Dirty;
@@ -33,7 +33,7 @@ pub(crate) struct State {
     /// The number of its last call.
     pub(crate) calls: u64,
     pub(crate) call: Option<UnderWay>,
-    pub(crate) asked: Option<Asked>,
+    pub(crate) asked: Option<AskedRequest>,
     /// Until when it makes no request.
     pub(crate) pause: Ticks,
     /// The sequence of its next request that is decided once.

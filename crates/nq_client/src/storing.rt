@@ -21,13 +21,17 @@ fn caches_stored(
     block: BlockNo,
     body: &Block,
 ) -> Result<(), NoMemory>
-    ensures cached { OnOk result (cache.new ≡ record cache.old { clean = (if is_some (dirty_at file block dirty.now.dirty) then cache.old.clean else put_clean file block body.now cache.old.clean) }) }
+    ensures cached { OnOk result (cache.new
+        ≡ record cache.old {
+          clean = (if is_some
+              (dirty_at file block dirty.now.dirty) then cache.old.clean else put_clean file block body.now cache.old.clean);
+        }) }
     ensures refused { OnErr result (cache.new ≡ cache.old) }
 {
     if dirty.holds(file, block) {
         return Ok(());
     }
-    cache.put(file, block, body.copied(alloc)?)
+    cache.put_block(file, block, body.copied(alloc)?)
 }
 
 impl Step {

@@ -12,7 +12,7 @@ use crate::step::Step;
 use nq_base::{Block, BlockNo, FileId, Grant, NoMemory, Ticks};
 use nq_cache::caches_read;
 use nq_client_parts::Losing;
-use nq_client_parts::holding::{Held, Taken};
+use nq_client_parts::holding::{GrantTaken, Held};
 
 /// A grant that is to be taken, and what this needs, made before anything changes.
 #[derive(Drop)]
@@ -36,7 +36,7 @@ fn ready_to_take(
 {
     // Once it is read, the term is known to be within its field.
     let _term = grant.term;
-    let Taken { held, how } = state.leases.on(file).take(file, grant, sent);
+    let GrantTaken { held, how } = state.leases.on(file).take_grant(file, grant, sent);
     if how.is_broken() && !state.dirty.is_clean(file) {
         let losing = ready_to_lose(state, file)?;
         return Ok(Taking {

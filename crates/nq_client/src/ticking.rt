@@ -8,13 +8,13 @@ ghost use Rattle.nq_client.specs.Step.{HasNumbers, HasRoom, step_of};
 ghost use Rattle.nq_client.specs.Ticking.{is_due, sent_at};
 ghost use Rattle.nq_client.specs.Tied.{Tied};
 
-use crate::asked::Asked;
+use crate::asked::AskedRequest;
 use crate::rooms::Rooms;
 use crate::step::Step;
 use nq_base::Ticks;
 
 /// Notes that the request under way is sent again, where it waited for its reply for 2 ticks; whether it is.
-fn asks_again(asked: &mut Option<Asked>, now: Ticks) -> bool
+fn asks_again(asked: &mut Option<AskedRequest>, now: Ticks) -> bool
     requires { now < 2 ^ 62 }
     ensures due { result ≡ is_due now asked.old }
     ensures sent { asked.new ≡ (if result then option_map (sent_at now) asked.old else asked.old) }

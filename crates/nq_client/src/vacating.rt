@@ -42,7 +42,7 @@ impl Step {
         let xid = self.state.xid;
         self.state.xid = xid + 1;
         self.state.leases.remove(file);
-        forget(self.state.notices.take(file));
+        forget(self.state.notices.take_notice(file));
         self.vacated = Some(Vacated { xid, vacancy });
     }
 
@@ -53,7 +53,7 @@ impl Step {
         ensures step { step_of self.new ≡ vacates_noticed (step_of self.old) file (notice_on file self.old.state.notices.items) }
         ensures kept { GivesUp self.old self.new }
     {
-        match self.state.notices.take(file) {
+        match self.state.notices.take_notice(file) {
             Some(notice) => self.vacates_lease(notice),
             None => {}
         }
@@ -82,7 +82,7 @@ impl Step {
         if self.state.dirty.is_clean(file) {
             self.vacates_lease(notice);
         } else {
-            self.state.notices.put(notice);
+            self.state.notices.put_notice(notice);
         }
     }
 }

@@ -52,10 +52,6 @@ module _ {A B : Type 0} (file_of : B → ℕ) (view : A → B) where
       ≡ Some (key row)
   least-first test row rows a e = rw e (with-above (key row) (least_file test rows) (above-all test (key row) rows a.0))
 
-  -- a first row that does not pass counts for nothing
-  pub least-later : (test : B → Bool) (row : A) (rows : List A) → test (view row) ≡ false → least_file test (row ∷ rows) ≡ least_file test rows
-  least-later test row rows e = rw e refl
-
   above-files : (n : ℕ) (rows : List A) → AllByRecursion (λ later. n < key later) rows → IsAbove n (least (map file_of (map view rows)))
   above-files n [] h = tt
   above-files n (row ∷ rows) h = above-with n (key row) (least (map file_of (map view rows))) h.0 (above-files n rows h.1)

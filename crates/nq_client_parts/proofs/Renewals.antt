@@ -3,7 +3,7 @@ use Rattle.std.proofs.Common.{◌≡◌, ℕ, ◌+◌, ◌&&◌, Bool, true, fal
 use Rattle.nq_base.specs.declared.Push.{Push}
 use Rattle.nq_client_parts.specs.ByFile.{Ascends}
 use Rattle.nq_client_parts.specs.Leases.{lease_in, file_of_row}
-use Rattle.nq_client_parts.specs.declared.leases.Row.{Row}
+use Rattle.nq_client_parts.specs.declared.leases.HeldLease.{HeldLease}
 use Rattle.nq_client_parts.proofs.Least.{least-passes, passes}
 use Rattle.nq_model.specs.protocol.Client.{Lease, Notice, file_of_lease, is_clean_in, is_live, lease_on, notice_on}
 use Rattle.nq_model.specs.protocol.Hear.{holds_caching}
@@ -22,7 +22,7 @@ caching now notices dirty push (Some l) h =
     first (caches l.mode) (is_live now l) l.used (nat_le l.expiry (now + renewal)) (is_clean_in l.file dirty push) (not (is_some (notice_on l.file notices))) h
 
 -- the lease to renew is a caching one
-pub renewed-caches : (now : ℕ) (rows : List Row) (notices : List Notice) (dirty : List Push) (push : Option Push) (o : Option ℕ)
+pub renewed-caches : (now : ℕ) (rows : List HeldLease) (notices : List Notice) (dirty : List Push) (push : Option Push) (o : Option ℕ)
     → Ascends file_of_row rows → o ≡ renewed_in now (map lease_in rows) notices dirty push
     → IfSome o (λ file. holds_caching (lease_on file (map lease_in rows)) ≡ true)
 renewed-caches now rows notices dirty push None a h = tt

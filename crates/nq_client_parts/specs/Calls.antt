@@ -7,7 +7,7 @@ use Rattle.nq_base.specs.declared.Request.{Request}
 -- the block that a call writes; no other call is delayed
 abbrev pub body_of_call : Call → List ℕ
 body_of_call (Call.Write file block body) = body
-body_of_call (Call.WriteSync file block body) = body
+body_of_call (Call.Put file block body) = body
 body_of_call other = filled 0
 
 -- the file whose delayed writes the reply to a request may lose, or 0

@@ -13,7 +13,7 @@ pub fn changed_file(call: &Call) -> Option<FileId>
 {
     match call {
         Call::Write { file, .. }
-        | Call::WriteSync { file, .. }
+        | Call::Put { file, .. }
         | Call::Sync { file }
         | Call::Resize { file, .. }
         | Call::Remove { file } => Some(*file),
@@ -33,7 +33,7 @@ pub fn waits_for(call: &Call, written: bool, file: FileId) -> bool
         Call::Sync { file: synced } => *synced == file,
         Call::Resize { file: resized, .. } => *resized == file,
         Call::Remove { file: removed } => *removed == file,
-        Call::WriteSync { file: put, .. } => *put == file && written,
+        Call::Put { file: put, .. } => *put == file && written,
         Call::Create { .. }
         | Call::Lookup { .. }
         | Call::Attr { .. }
@@ -49,7 +49,7 @@ pub fn body_of_call(call: &Call, room: &mut Spare) -> Block
     ensures { result ≡ body_of_call call.now }
 {
     match call {
-        Call::Write { body, .. } | Call::WriteSync { body, .. } => body.copied_in(room),
+        Call::Write { body, .. } | Call::Put { body, .. } => body.copied_in(room),
         Call::Create { .. }
         | Call::Lookup { .. }
         | Call::Attr { .. }

@@ -2,7 +2,8 @@
 
 ghost use Rattle.std.specs.Prelude.{◌≡◌};
 ghost use Rattle.nq_client_parts.specs.HoldingLeases.{lease_of};
-ghost use Rattle.nq_model.specs.protocol.Hear.{counts_for_block, counts_for_call, counts_for_change, counts_for_lease, counts_for_name, holds_later, inc_of, is_of_procedure, is_put_off, refusal_counts, wants_of};
+ghost use Rattle.nq_model.specs.protocol.Hear.{counts_for_block, counts_for_call, counts_for_change, counts_for_lease, counts_for_name, holds_later, inc_of};
+ghost use Rattle.nq_model.specs.protocol.Hear.{is_of_procedure, is_put_off, refusal_counts, wants_of};
 ghost use Rattle.nq_client_parts.specs.Jobs.{job_of};
 
 use crate::holding::Held;

@@ -9,4 +9,4 @@ mod taken;
 pub use held::Held;
 pub use lease::Lease;
 pub use notice::Notice;
-pub use taken::{Take, Taken};
+pub use taken::{GrantTaken, Take};

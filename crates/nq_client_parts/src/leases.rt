@@ -1,6 +1,7 @@
 //! The leases that a client holds, in order of files.
 
-ghost use Rattle.std.specs.Prelude.{◌≡◌, ◌≤◌, ◌<◌, ◌+◌, ◌-◌, [], map, slice_get, slice_set, option_map, vec_len, vec_capacity, Some, IsSome, IsOk, OnOk, OnErr, true};
+ghost use Rattle.std.specs.Prelude.{◌≡◌, ◌≤◌, ◌<◌, ◌+◌, ◌-◌, [], map, slice_get, slice_set, option_map, vec_len, vec_capacity, Some, IsSome, IsOk, OnOk, OnErr};
+ghost use Rattle.std.specs.Prelude.{true};
 ghost use Rattle.std.specs.List.{insert, remove};
 ghost use Rattle.nq_client_parts.specs.HoldingLeases.{lease_of, of_kind};
 ghost use Rattle.nq_model.specs.protocol.Client.{lease_on, drop_lease, put_lease, used_lease};
@@ -14,7 +15,7 @@ use std::marker::Model;
 
 /// A lease with its kind.
 #[derive(Clone, Copy)]
-pub(crate) struct Row {
+pub(crate) struct HeldLease {
     /// Its kind.
     pub(crate) mode: Mode,
     /// The lease.
@@ -25,7 +26,7 @@ pub(crate) struct Row {
 /// is room before memory is wanted.
 #[derive(Drop)]
 pub struct Leases {
-    rows: Vec<Row>,
+    rows: Vec<HeldLease>,
 }
 
 impl Model for Leases {
@@ -58,7 +59,7 @@ impl Leases {
     }
 
     /// The leases with their kinds, in order of files.
-    pub(crate) fn rows(&self) -> &[Row]
+    pub(crate) fn rows(&self) -> &[HeldLease]
         ensures rows { map lease_in result.now ≡ self.now.items }
         ensures ascends { Ascends file_of_row result.now }
     {
@@ -83,7 +84,7 @@ impl Leases {
     ///
     /// Only want of memory, and then nothing changed. A file on which a lease is held wants none, nor does another where
     /// room is reserved.
-    pub fn put(&mut self, mode: Mode, lease: Lease) -> Result<(), NoMemory>
+    pub fn put_lease(&mut self, mode: Mode, lease: Lease) -> Result<(), NoMemory>
         ensures put { OnOk result (self.new.items ≡ put_lease (of_kind mode lease) self.old.items) }
         ensures refused { OnErr result (self.new ≡ self.old) }
         ensures there { IsSome (lease_on lease.file self.old.items) → IsOk result }
@@ -91,7 +92,7 @@ impl Leases {
         ensures succeeds { 1 ≤ self.old.spare → IsOk result }
         ensures spare { self.old.spare ≤ self.new.spare + 1 }
     {
-        put(&mut self.rows, &Row { mode, lease })
+        put_lease(&mut self.rows, &HeldLease { mode, lease })
     }
 
     /// Takes the lease on a file out, if one is held.
@@ -99,7 +100,7 @@ impl Leases {
         ensures items { self.new.items ≡ drop_lease file self.old.items }
         ensures spare { self.old.spare ≤ self.new.spare }
     {
-        take(&mut self.rows, file);
+        take_lease(&mut self.rows, file);
     }
 
     /// Notes that the lease on a file was used, if one is held.
@@ -112,7 +113,7 @@ impl Leases {
 }
 
 /// A row as it is held.
-fn held(row: Option<Row>) -> Held
+fn held(row: Option<HeldLease>) -> Held
     ensures { lease_of result ≡ option_map lease_in row }
 {
     match row {
@@ -122,7 +123,7 @@ fn held(row: Option<Row>) -> Held
 }
 
 /// Where the row of a file stands, or would stand.
-fn place_of(rows: &[Row], file: FileId) -> usize
+fn place_of(rows: &[HeldLease], file: FileId) -> usize
     requires { Ascends file_of_row rows.now }
     ensures { IsPlace file_of_row file rows.now result }
 {
@@ -130,7 +131,7 @@ fn place_of(rows: &[Row], file: FileId) -> usize
 }
 
 /// What stands at the place of a file, if that is of the file.
-fn at(rows: &[Row], place: usize, file: FileId) -> Option<Row>
+fn at(rows: &[HeldLease], place: usize, file: FileId) -> Option<HeldLease>
     ensures { result ≡ of_file file_of_row file (slice_get rows.now place) }
 {
     match rows.get(place) {
@@ -140,7 +141,7 @@ fn at(rows: &[Row], place: usize, file: FileId) -> Option<Row>
 }
 
 /// The row of a file.
-fn find(rows: &[Row], file: FileId) -> Option<Row>
+fn find(rows: &[HeldLease], file: FileId) -> Option<HeldLease>
     requires { Ascends file_of_row rows.now }
     ensures { option_map lease_in result ≡ lease_on file (map lease_in rows.now) }
 {
@@ -148,7 +149,7 @@ fn find(rows: &[Row], file: FileId) -> Option<Row>
 }
 
 /// Puts a row in the place of another.
-fn replace(rows: &mut Vec<Row>, place: usize, row: Row)
+fn replace(rows: &mut Vec<HeldLease>, place: usize, row: HeldLease)
     requires { place < vec_len rows.old }
     ensures items { rows.new.items ≡ slice_set rows.old.items place row }
     ensures len { vec_len rows.new ≡ vec_len rows.old }
@@ -158,7 +159,7 @@ fn replace(rows: &mut Vec<Row>, place: usize, row: Row)
 }
 
 /// Notes that the lease of a file was used.
-fn mark(rows: &mut Vec<Row>, file: FileId)
+fn mark(rows: &mut Vec<HeldLease>, file: FileId)
     requires { Ascends file_of_row rows.old.items }
     ensures marked { map lease_in rows.new.items ≡ used_lease file (map lease_in rows.old.items) }
     ensures ascends { Ascends file_of_row rows.new.items }
@@ -173,10 +174,10 @@ fn mark(rows: &mut Vec<Row>, file: FileId)
 }
 
 /// A row whose lease was used.
-fn used(row: Row) -> Row
+fn used(row: HeldLease) -> HeldLease
     ensures { result ≡ record row { lease = record row.lease { used = true } } }
 {
-    Row {
+    HeldLease {
         mode: row.mode,
         lease: Lease {
             used: true,
@@ -186,7 +187,7 @@ fn used(row: Row) -> Row
 }
 
 /// Puts a row that is not there at a place, without memory.
-fn insert(rows: &mut Vec<Row>, place: usize, row: Row)
+fn insert(rows: &mut Vec<HeldLease>, place: usize, row: HeldLease)
     requires within { place ≤ vec_len rows.old }
     requires room { vec_len rows.old < vec_capacity rows.old }
     ensures items { rows.new.items ≡ insert rows.old.items place row }
@@ -197,13 +198,15 @@ fn insert(rows: &mut Vec<Row>, place: usize, row: Row)
 }
 
 /// Puts a row at the place of its file.
-fn put(rows: &mut Vec<Row>, row: &Row) -> Result<(), NoMemory>
+fn put_lease(rows: &mut Vec<HeldLease>, row: &HeldLease) -> Result<(), NoMemory>
     requires { Ascends file_of_row rows.old.items }
     ensures put { OnOk result (map lease_in rows.new.items ≡ put_lease (lease_in row.now) (map lease_in rows.old.items)) }
     ensures ascends { Ascends file_of_row rows.new.items }
-    ensures refused { OnErr result ((rows.new.items ≡ rows.old.items) × (vec_len rows.new ≡ vec_len rows.old) × (vec_capacity rows.new ≡ vec_capacity rows.old)) }
+    ensures refused { OnErr result ((rows.new.items ≡ rows.old.items) × (vec_len rows.new ≡ vec_len rows.old)
+        × (vec_capacity rows.new ≡ vec_capacity rows.old)) }
     ensures there { IsSome (lease_on row.now.lease.file (map lease_in rows.old.items)) → IsOk result }
-    ensures kept { IsSome (lease_on row.now.lease.file (map lease_in rows.old.items)) → (vec_len rows.new ≡ vec_len rows.old) × (vec_capacity rows.new ≡ vec_capacity rows.old) }
+    ensures kept { IsSome (lease_on row.now.lease.file (map lease_in rows.old.items)) → (vec_len rows.new ≡ vec_len rows.old)
+        × (vec_capacity rows.new ≡ vec_capacity rows.old) }
     ensures room { vec_len rows.old < vec_capacity rows.old → IsOk result }
     ensures len { vec_len rows.new ≤ vec_len rows.old + 1 }
     ensures capacity { vec_capacity rows.old ≤ vec_capacity rows.new }
@@ -224,7 +227,7 @@ fn put(rows: &mut Vec<Row>, row: &Row) -> Result<(), NoMemory>
 }
 
 /// Takes the row at a place out.
-fn take_at(rows: &mut Vec<Row>, place: usize)
+fn take_at(rows: &mut Vec<HeldLease>, place: usize)
     requires { place < vec_len rows.old }
     ensures items { rows.new.items ≡ remove rows.old.items place }
     ensures len { vec_len rows.new ≤ vec_len rows.old }
@@ -234,7 +237,7 @@ fn take_at(rows: &mut Vec<Row>, place: usize)
 }
 
 /// Takes the row of a file out.
-fn take(rows: &mut Vec<Row>, file: FileId)
+fn take_lease(rows: &mut Vec<HeldLease>, file: FileId)
     requires { Ascends file_of_row rows.old.items }
     ensures taken { map lease_in rows.new.items ≡ drop_lease file (map lease_in rows.old.items) }
     ensures ascends { Ascends file_of_row rows.new.items }

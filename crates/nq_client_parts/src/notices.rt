@@ -69,22 +69,22 @@ impl Notices {
     }
 
     /// Keeps a notice in room that is reserved. Of two for a file the later tag stays.
-    pub fn put(&mut self, notice: Notice)
+    pub fn put_notice(&mut self, notice: Notice)
         requires { 1 ≤ self.old.spare }
         ensures items { self.new.items ≡ with_notice notice.file notice.tag self.old.items }
         ensures spare { self.old.spare ≤ self.new.spare + 1 }
     {
-        put(&mut self.notices, notice);
+        put_notice(&mut self.notices, notice);
     }
 
     /// Takes the notice for a file out, if one waits.
-    pub fn take(&mut self, file: FileId) -> Option<Notice>
+    pub fn take_notice(&mut self, file: FileId) -> Option<Notice>
         ensures found { result ≡ notice_on file self.old.items }
         ensures items { self.new.items ≡ drop_notice file self.old.items }
         ensures unchanged { IfNone result (self.new.items ≡ self.old.items) }
         ensures spare { self.old.spare ≤ self.new.spare }
     {
-        take(&mut self.notices, file)
+        take_notice(&mut self.notices, file)
     }
 
     /// Forgets the notices. This is for a client that ends.
@@ -140,7 +140,7 @@ fn take_at(notices: &mut Vec<Notice>, place: usize) -> Notice
 }
 
 /// Takes the notice for a file out.
-fn take(notices: &mut Vec<Notice>, file: FileId) -> Option<Notice>
+fn take_notice(notices: &mut Vec<Notice>, file: FileId) -> Option<Notice>
     requires { Ascends file_of_notice notices.old.items }
     ensures found { result ≡ notice_on file notices.old.items }
     ensures items { notices.new.items ≡ drop_notice file notices.old.items }
@@ -194,7 +194,7 @@ fn joined(waiting: Option<Notice>, notice: Notice) -> Notice
 }
 
 /// Keeps a notice. Of two for a file the later tag stays.
-fn put(notices: &mut Vec<Notice>, notice: Notice)
+fn put_notice(notices: &mut Vec<Notice>, notice: Notice)
     requires ascends { Ascends file_of_notice notices.old.items }
     requires room { vec_len notices.old < vec_capacity notices.old }
     ensures items { notices.new.items ≡ with_notice notice.file notice.tag notices.old.items }
@@ -202,6 +202,6 @@ fn put(notices: &mut Vec<Notice>, notice: Notice)
     ensures len { vec_len notices.new ≤ vec_len notices.old + 1 }
     ensures capacity { vec_capacity notices.old ≤ vec_capacity notices.new }
 {
-    let waiting = take(notices, notice.file());
+    let waiting = take_notice(notices, notice.file());
     add(notices, joined(waiting, notice));
 }

@@ -2,7 +2,7 @@
 use Rattle.std.specs.Prelude.{◌≡◌, ℕ, List, [], ◌∷◌, codes}
 use Rattle.nq_base.specs.Name.{IsName}
 use Rattle.nq_base.specs.declared.Call.{Call}
-use Rattle.nq_command.specs.declared.prompt.lines.Line.{Line}
+use Rattle.nq_command.specs.declared.prompt.lines.PromptLine.{PromptLine}
 use Rattle.nq_script.specs.Calls.{SpellsCall}
 use Rattle.nq_script.specs.WordsReading.{words_of}
 
@@ -29,12 +29,12 @@ pub record SaysNothing (text : List ℕ) : Type 0 where
   pub no_file : NamesNoFile text
 
 -- what a line says
-abbrev pub Says : Line → (text : List ℕ) → Type 0
-Says Line.Empty text = text ≡ []
-Says Line.Help text = text ≡ codes "help"
-Says Line.Quit text = text ≡ codes "quit"
-Says Line.End text = text ≡ codes "end"
-Says (Line.Call call) text = SpellsCall 2 call text
-Says (Line.Store path name) text = TellsToStore path.now name text
-Says (Line.Get name path) text = TellsToGet name path.now text
-Says Line.Unknown text = SaysNothing text
+abbrev pub Says : PromptLine → (text : List ℕ) → Type 0
+Says PromptLine.Empty text = text ≡ []
+Says PromptLine.Help text = text ≡ codes "help"
+Says PromptLine.Quit text = text ≡ codes "quit"
+Says PromptLine.End text = text ≡ codes "end"
+Says (PromptLine.Call call) text = SpellsCall 2 call text
+Says (PromptLine.Store path name) text = TellsToStore path.now name text
+Says (PromptLine.Get name path) text = TellsToGet name path.now text
+Says PromptLine.Unknown text = SaysNothing text

@@ -9,4 +9,4 @@ mod words;
 
 pub use commands::Command;
 pub use nq_base::NoMemory;
-pub use words::Words;
+pub use words::CommandWords;

@@ -6,6 +6,6 @@ mod starts;
 mod wrongs;
 
 pub use answers::answer_text;
-pub use lines::{Line, line_of};
+pub use lines::{PromptLine, line_of};
 pub use starts::{next_start, risen, start_text};
 pub use wrongs::{Wrong, wrong_of};

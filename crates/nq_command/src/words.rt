@@ -10,12 +10,12 @@ use std::marker::Model;
 
 /// Words, each a list of bytes.
 #[derive(Drop)]
-pub struct Words {
+pub struct CommandWords {
     alloc: Global,
     words: Vec<Vec<u8>>,
 }
 
-impl Model for Words {
+impl Model for CommandWords {
     ghost use Rattle.std.specs.Prelude.{List, ℕ, map};
 
     ghost Value = { List (List ℕ) };
@@ -23,13 +23,13 @@ impl Model for Words {
     ghost view = { λ w. map (λ word. word.items) w.words.items };
 }
 
-impl Words {
+impl CommandWords {
     /// No words. It takes no memory.
-    pub fn new(alloc: Global) -> Result<Words, NoMemory>
+    pub fn new(alloc: Global) -> Result<CommandWords, NoMemory>
         ensures made { IsOk result }
         ensures empty { IfOk result (λ words. words ≡ []) }
     {
-        Ok(Words {
+        Ok(CommandWords {
             alloc,
             words: Vec::new(alloc),
         })

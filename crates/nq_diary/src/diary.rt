@@ -67,7 +67,7 @@ impl Diary {
         let mut log = Journal::new(self.rt.alloc()).unwrap();
         match log.push(entry) {
             Ok(()) => self.note(&log),
-            Err(_) => Noted::Failed,
+            Err(_) => Noted::Memory,
         }
     }
 }

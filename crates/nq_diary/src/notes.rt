@@ -1,14 +1,13 @@
 //! Notes of turns.
 
-ghost use Rattle.nq_diary.specs.Diary.{Notes, moment_line, note_text};
-ghost use Rattle.nq_io.specs.Faults.{Rose};
+ghost use Rattle.nq_diary.specs.Diary.{CountsNote, Notes, moment_line, note_text};
 ghost use Rattle.nq_journal.specs.Text.{Has};
-ghost use Rattle.std.specs.Prelude.{◌≡◌, ◌++◌, All, IfOk, OnOk};
+ghost use Rattle.std.specs.Prelude.{◌≡◌, ◌≢◌, ◌++◌, [], All, IfOk, OnOk};
 
 use nq_base::{Journal, NoMemory};
 use nq_io::streams::StdSink;
 use nq_io::{Put, Sink};
-use nq_journal::{Printed, is_in, print};
+use nq_journal::{Printed, print};
 use nq_script::words::{push_bytes, push_digits};
 use std::alloc::Global;
 use std::rt::Clock;
@@ -21,20 +20,21 @@ const VERSION: u32 = 2;
 pub enum Noted {
     /// All entries were noted, or there were none.
     All,
-    /// The sink failed, or memory was wanting. Some of the note, from the first byte on, was appended.
+    /// The sink failed, which it has counted. Some of the note, from the first byte on, was appended.
     Failed,
+    /// Memory was wanting. Nothing was appended.
+    Memory,
 }
 
 /// Notes the entries of a turn, if there are any: a line `at N`, where N are the nanoseconds that the machine's clock shows now, or 0 where it
 /// shows none, and behind it the text of a journal with these entries. A sink gets all of it in one piece.
+#[tactic(auto, using(crate::proofs::Versions::all_second))]
 pub fn note<K: Sink, C: Clock>(alloc: Global, clock: &C, log: &Journal, out: &mut K) -> Noted
-    ensures { Notes result log.now.entries (K.held out.old) (K.held out.new) }
+    ensures notes { Notes result log.now.entries (K.held out.old) (K.held out.new) }
+    ensures cause { CountsNote result (K.faults out.old) (K.faults out.new) }
 {
     if log.entries().is_empty() {
         return Noted::All;
-    }
-    if !is_in(log, VERSION) {
-        return Noted::Failed;
     }
     note_at(alloc, nanos_of(clock), log, out)
 }
@@ -49,15 +49,17 @@ fn nanos_of<C: Clock>(clock: &C) -> u64 {
 
 /// Notes entries, of which there are some, at this moment.
 fn note_at<K: Sink>(alloc: Global, nanos: u64, log: &Journal, out: &mut K) -> Noted
-    requires { All (Has 2) log.now.entries }
-    ensures { Notes result log.now.entries (K.held out.old) (K.held out.new) }
+    requires has { All (Has 2) log.now.entries }
+    requires some { log.now.entries ≢ [] }
+    ensures notes { Notes result log.now.entries (K.held out.old) (K.held out.new) }
+    ensures cause { CountsNote result (K.faults out.old) (K.faults out.new) }
 {
     match text_of(alloc, nanos, log) {
         Ok(text) => match out.put(&text) {
             Put::All => Noted::All,
             Put::Failed => Noted::Failed,
         },
-        Err(_) => Noted::Failed,
+        Err(_) => Noted::Memory,
     }
 }
 

@@ -63,9 +63,6 @@ entry-again e rest fits =
     ap entry_at (append_assoc (word e.file) (opaque e.name) rest)
     ∙ rw (word_again e.file (opaque e.name ++ rest) fits.0, name_again e.name rest fits.1) refl
 
-one-more : (n : ℕ) → n + 1 ≡ suc n
-one-more n = omega arith
-
 entries-again : (done es : List FileName) (rest : List ℕ) → All IsEntry es → entries_at done (length es) (entries_bytes es ++ rest) ≡ Ok (done ++ es, rest)
 entries-again done [] rest fits = ap (λ l. Ok (l, rest)) (sym (append-nil done))
 entries-again done (e ∷ es) rest fits =

@@ -104,7 +104,7 @@ fn insert_front(fronts: &mut Vec<u64>, place: usize, front: u64)
 }
 
 /// Puts an entry in its place, with its front, where there is room.
-fn put(fronts: &mut Vec<u64>, names: &mut Vec<FileName>, skip: usize, entry: &FileName)
+fn put_entry(fronts: &mut Vec<u64>, names: &mut Vec<FileName>, skip: usize, entry: &FileName)
     requires fronted { AreFronted skip fronts.old.items names.old.items }
     requires room { vec_len names.old < vec_capacity names.old }
     requires front_room { vec_len fronts.old < vec_capacity fronts.old }
@@ -130,6 +130,6 @@ fn put_all(fronts: &mut Vec<u64>, names: &mut Vec<FileName>, skip: usize, more: 
     ensures fronted { AreFronted skip fronts.new.items names.new.items }
 {
     for entry in more {
-        put(fronts, names, skip, entry);
+        put_entry(fronts, names, skip, entry);
     }
 }

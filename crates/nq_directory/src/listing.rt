@@ -13,8 +13,8 @@ mod writing;
 
 pub use laws::messages_are_read;
 pub use messages::{
-    DIR_EVICTED_PROCEDURE, DIR_VACATED_PROCEDURE, DirTag, LATER_STATUS, MOST_NAMES, Page,
-    READ_DIR_PROCEDURE, ReadDir, Told,
+    DIR_EVICTED_PROCEDURE, DIR_VACATED_PROCEDURE, DirTag, LATER_STATUS, MOST_NAMES, Page, PageTold,
+    READ_DIR_PROCEDURE, ReadDir,
 };
 pub use reading::{read_dir_evicted, read_dir_vacated, read_read_dir, read_told};
 pub use writing::{BegunPage, dir_evicted_bytes, dir_vacated_bytes, later_bytes, read_dir_bytes};

@@ -87,8 +87,10 @@ pub trait Disk {
     ghost leaves_ends: { (first last : Self) (bytes : List ℕ) → follows first last → may_leave first bytes ⊎ may_leave last bytes → leaves first last bytes };
 
     /// A stop between two moments stands before a third moment between them, or behind it.
-    ghost parts: { (first middle last : Self) (bytes : List ℕ) → follows first middle → follows middle last → leaves first last bytes → leaves first middle bytes ⊎ leaves middle last bytes };
+    ghost parts: { (first middle last : Self) (bytes : List ℕ) → follows first middle → follows middle last → leaves first last bytes
+        → leaves first middle bytes ⊎ leaves middle last bytes };
 
     /// A stop before a moment, or behind it, stands between the two moments around it.
-    ghost joins: { (first middle last : Self) (bytes : List ℕ) → follows first middle → follows middle last → leaves first middle bytes ⊎ leaves middle last bytes → leaves first last bytes };
+    ghost joins: { (first middle last : Self) (bytes : List ℕ) → follows first middle → follows middle last → leaves first middle bytes
+        ⊎ leaves middle last bytes → leaves first last bytes };
 }

@@ -1,12 +1,14 @@
 //! A disk in memory.
 
-ghost use Rattle.std.specs.Prelude.{◌≡◌, ◌+◌, ◌-◌, ◌<◌, ◌≤◌, ◌==◌, ◌||◌, max, [], ◌++◌, length, take, drop, Some, IfOk, OnOk, Ok, is_err, IsFalse, vec_capacity};
+ghost use Rattle.std.specs.Prelude.{◌≡◌, ◌+◌, ◌-◌, ◌<◌, ◌≤◌, ◌==◌, ◌||◌, max, [], ◌++◌, length, take, drop, Some, IfOk, OnOk, Ok, is_err, IsFalse};
+ghost use Rattle.std.specs.Prelude.{vec_capacity};
 ghost use Rattle.std.specs.List.{list_any};
 ghost use Rattle.std.specs.Option.{ForSome};
 ghost use Rattle.nq_io.specs.Faults.{Rose};
 ghost use Rattle.nq_disk.specs.Bytes.{AreBytes, padded, written};
 ghost use Rattle.nq_disk.specs.Calling.{Counts, LeavesNoMore, LeavesTorn, ReadsFront, IsAllThatIsLeft, Writes};
-ghost use Rattle.nq_disk.specs.MemDisk.{GoesOn, Image, Left, after_call, after_fault, after_reading, after_refusal, after_syncing, after_writing, is_refused, is_stopped, passes_room, reads};
+ghost use Rattle.nq_disk.specs.MemDisk.{GoesOn, Image, Left, after_call, after_fault, after_reading, after_refusal, after_syncing, after_writing, is_refused};
+ghost use Rattle.nq_disk.specs.MemDisk.{is_stopped, passes_room, reads};
 ghost use Rattle.nq_disk.specs.MemLaws.{goes-on-itself, goes-on-further, never-silent, reads-may-stay, left-now, left-ends, left-parts, left-joins};
 
 use crate::copying::copy_in;
@@ -46,9 +48,23 @@ impl Model for MemDisk {
 
     ghost Value = { StoredDisk };
 
-    ghost view = { λ d. record { first = d.first.value.items; events = d.history.events; room = d.room; made = d.made; failing = d.failing.items; stop = d.stop; faults = d.faults } };
+    ghost view = { λ d. record {
+      first = d.first.value.items;
+      events = d.history.events;
+      room = d.room;
+      made = d.made;
+      failing = d.failing.items;
+      stop = d.stop;
+      faults = d.faults;
+    } };
 
-    ghost invariant = { λ d. record { reads : d.bytes.items ≡ bytes_of d.first.value.items d.history.events; fits : length d.bytes.items ≤ d.room.size; space : d.room.size ≤ vec_capacity d.bytes; all : d.written ≡ all_written d.history.events; short : d.written ≤ d.room.written } };
+    ghost invariant = { λ d. record {
+      reads : d.bytes.items ≡ bytes_of d.first.value.items d.history.events;
+      fits : length d.bytes.items ≤ d.room.size;
+      space : d.room.size ≤ vec_capacity d.bytes;
+      all : d.written ≡ all_written d.history.events;
+      short : d.written ≤ d.room.written;
+    } };
 }
 
 /// Adds zeros up to a length.
@@ -116,7 +132,8 @@ impl MemDisk {
         stop: Option<u32>,
     ) -> Result<MemDisk, NoMemory>
         requires { length bytes.items ≤ room.size }
-        ensures { IfOk result (λ disk. disk ≡ record { first = bytes.items; events = []; room = room; made = 0; failing = failing.items; stop = stop; faults = 0 }) }
+        ensures { IfOk result (λ disk. disk
+            ≡ record { first = bytes.items; events = []; room = room; made = 0; failing = failing.items; stop = stop; faults = 0 }) }
     {
         let mut held = Vec::with_capacity(alloc, room.size as usize)?;
         held.extend_from_slice(&bytes)?;

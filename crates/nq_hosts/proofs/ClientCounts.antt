@@ -1,5 +1,5 @@
 -- Which counts a turn of a client raises.
-use Rattle.std.proofs.Common.{◌≡◌, ℕ, Option, Some, None, Result, Ok, Err, refl, subst}
+use Rattle.std.proofs.Common.{◌≡◌, ℕ, Option, Result, Ok, Err, refl, subst}
 use Rattle.nq_base.specs.declared.Answer.{Answer}
 use Rattle.nq_base.specs.Entries.{EntryList}
 use Rattle.nq_client.specs.Counted.{Counted}

@@ -9,5 +9,5 @@ mod session;
 mod turning;
 mod using;
 
-pub use plan::Plan;
+pub use plan::UsePlan;
 pub use using::client;

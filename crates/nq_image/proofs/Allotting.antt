@@ -118,10 +118,6 @@ distinct-append [] ys one two apart = two
 distinct-append (x ∷ xs) ys one two apart =
     (All-append (λ o. o ≢ x) xs ys one.0 (All-head (IsNoneOf ys) x xs apart), distinct-append xs ys one.1 two (All-tail (IsNoneOf ys) x xs apart))
 
--- apart one way is apart the other way
-one-apart : (x : ℕ) (ys : List ℕ) → All (IsNoneOf (x ∷ [])) ys → IsNoneOf ys x
-one-apart x ys all = All-weaker (IsNoneOf (x ∷ [])) (λ o. o ≢ x) (λ o none e. All-head (λ other. other ≢ o) x [] none (sym e)) ys all
-
 pub apart-back : (xs ys : List ℕ) → All (IsNoneOf xs) ys → All (IsNoneOf ys) xs
 apart-back [] ys all = All-nil (IsNoneOf ys)
 apart-back (x ∷ xs) ys all =

@@ -201,9 +201,6 @@ module _ (heads : Heads) (tables : ℕ) (hosts : List HostRow) (front rest : Lis
     here : slot < 256
     here = omega (arith, all, length-append front (one ∷ rest))
 
-    count : length (front ++ two ∷ rest) ≡ 256
-    count = omega (arith, all, length-append front (one ∷ rest), length-append front (two ∷ rest))
-
     longer : length old ≤ length new
     longer = let o = b.others_same in o.no_shorter
 

@@ -23,11 +23,14 @@ pub fn heads_are_in_order()
 /// The fields of the rows of hosts and of files stand in the order of their places.
 pub fn rows_are_in_order()
     ensures hosts { (count place : ℕ) (rows : List ℕ) → AreInOrder place (place + 32 * count) (hosts_checks count place rows) }
-    ensures files { (version : Version) (count place : ℕ) (slots : List (Option Slot)) (rows : List ℕ) → AreInOrder place (place + 96 * count) (rows_checks version count place slots rows) }
+    ensures files { (version : Version) (count place : ℕ) (slots : List (Option Slot)) (rows : List ℕ)
+        → AreInOrder place (place + 96 * count) (rows_checks version count place slots rows) }
 {}
 
 /// The entries of the tables and the ids stand in the order of their places.
 pub fn tables_are_in_order()
-    ensures tables { (tables place : ℕ) (slots : List (Option Slot)) (marks : List Bool) (bytes : List ℕ) → All (λ slot. blocks_of slot ≤ 1024) slots → AreInOrder place (place + 4096 * length slots) (tables_checks tables place slots marks bytes) }
-    ensures ids { (next place : ℕ) (ids : List ℕ) (slots : List (Option Slot)) (rest : List ℕ) → AreInOrder place (place + 4 * length slots) (ids_checks next place ids slots rest) }
+    ensures tables { (tables place : ℕ) (slots : List (Option Slot)) (marks : List Bool) (bytes : List ℕ) → All (λ slot. blocks_of slot ≤ 1024) slots
+        → AreInOrder place (place + 4096 * length slots) (tables_checks tables place slots marks bytes) }
+    ensures ids { (next place : ℕ) (ids : List ℕ) (slots : List (Option Slot)) (rest : List ℕ)
+        → AreInOrder place (place + 4 * length slots) (ids_checks next place ids slots rest) }
 {}

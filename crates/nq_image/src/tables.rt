@@ -4,7 +4,8 @@ ghost use Rattle.std.specs.Prelude.{◌≡◌, ◌<◌, ◌≤◌, ◌+◌, ◌^
 ghost use Rattle.nq_image.specs.Check.{tested};
 ghost use Rattle.nq_image.specs.Reading.{Reads};
 ghost use Rattle.nq_image.specs.Rows.{blocks_of as blocks_in};
-ghost use Rattle.nq_image.specs.Tables.{is_entry, is_of_tables, marks_behind, slot_checks, slot_marks, slot_table, table_checks, table_of, tables_blocks, tables_checks, tables_marks};
+ghost use Rattle.nq_image.specs.Tables.{is_entry, is_of_tables, marks_behind, slot_checks, slot_marks, slot_table, table_checks, table_of, tables_blocks};
+ghost use Rattle.nq_image.specs.Tables.{tables_checks, tables_marks};
 
 use crate::fault::ImageFault;
 use crate::fields::{are_zeros, piece, word_in};
@@ -130,7 +131,8 @@ pub fn read_tables(
     requires short { All (λ slot. blocks_in slot ≤ 1024) slots.now }
     requires marks { length marks.old ≡ 16641 }
     requires near { tables ≤ 16384 }
-    ensures told { Reads (λ blocks. blocks.items) result (tested (tables_checks tables place slots.now marks.old bytes.now) (tables_blocks place slots.now bytes.now)) }
+    ensures told { Reads (λ blocks. blocks.items) result
+        (tested (tables_checks tables place slots.now marks.old bytes.now) (tables_blocks place slots.now bytes.now)) }
     ensures marks { OnOk result (marks.new ≡ tables_marks place slots.now marks.old bytes.now) }
 {
     let mut given = Vec::new(alloc);

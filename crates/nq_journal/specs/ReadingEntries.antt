@@ -5,7 +5,7 @@ use Rattle.nq_base.specs.declared.Entry.{Entry}
 use Rattle.nq_base.specs.declared.Mode.{Mode}
 use Rattle.nq_base.specs.Steps.{◌>>=◌}
 use Rattle.nq_journal.specs.Text.{entry_words, Fits}
-use Rattle.nq_journal.specs.declared.read_entries.Kind.{Kind}
+use Rattle.nq_journal.specs.declared.read_entries.EntryKind.{EntryKind}
 use Rattle.nq_script.specs.WordsReading.{only_if, word_at, u64_at, u32_at, who_at, place_at, is_done, tag_at}
 use Rattle.nq_script.specs.ReadingCalls.{told_at, has_told}
 use Rattle.nq_script.specs.ReadingAnswers.{said_at}
@@ -57,36 +57,36 @@ unfoldable pub longest_at : (version : ℕ) → List (List ℕ) → Option (ℕ 
 longest_at version words = if version == 2 then u32_at words else Some (60, words)
 
 -- the kinds of entry, by their letters
-unfoldable pub kind_of : List ℕ → Option Kind
+unfoldable pub kind_of : List ℕ → Option EntryKind
 kind_of word =
-    if bytes_eq word (codes "C") then Some Kind.C
-    else (if bytes_eq word (codes "W") then Some Kind.W
-    else (if bytes_eq word (codes "R") then Some Kind.R
-    else (if bytes_eq word (codes "S") then Some Kind.S
-    else (if bytes_eq word (codes "L") then Some Kind.L
-    else (if bytes_eq word (codes "G") then Some Kind.G
-    else (if bytes_eq word (codes "F") then Some Kind.F
-    else (if bytes_eq word (codes "O") then Some Kind.O
-    else (if bytes_eq word (codes "B") then Some Kind.B
-    else (if bytes_eq word (codes "X") then Some Kind.X
-    else (if bytes_eq word (codes "Z") then Some Kind.Z
-    else (if bytes_eq word (codes "A") then Some Kind.A
+    if bytes_eq word (codes "C") then Some EntryKind.C
+    else (if bytes_eq word (codes "W") then Some EntryKind.W
+    else (if bytes_eq word (codes "R") then Some EntryKind.R
+    else (if bytes_eq word (codes "S") then Some EntryKind.S
+    else (if bytes_eq word (codes "L") then Some EntryKind.L
+    else (if bytes_eq word (codes "G") then Some EntryKind.G
+    else (if bytes_eq word (codes "F") then Some EntryKind.F
+    else (if bytes_eq word (codes "O") then Some EntryKind.O
+    else (if bytes_eq word (codes "B") then Some EntryKind.B
+    else (if bytes_eq word (codes "X") then Some EntryKind.X
+    else (if bytes_eq word (codes "Z") then Some EntryKind.Z
+    else (if bytes_eq word (codes "A") then Some EntryKind.A
     else None)))))))))))
 
 -- the letter of a kind
-abbrev pub kind_word : Kind → List ℕ
-kind_word Kind.C = codes "C"
-kind_word Kind.W = codes "W"
-kind_word Kind.R = codes "R"
-kind_word Kind.S = codes "S"
-kind_word Kind.L = codes "L"
-kind_word Kind.G = codes "G"
-kind_word Kind.F = codes "F"
-kind_word Kind.O = codes "O"
-kind_word Kind.B = codes "B"
-kind_word Kind.X = codes "X"
-kind_word Kind.Z = codes "Z"
-kind_word Kind.A = codes "A"
+abbrev pub kind_word : EntryKind → List ℕ
+kind_word EntryKind.C = codes "C"
+kind_word EntryKind.W = codes "W"
+kind_word EntryKind.R = codes "R"
+kind_word EntryKind.S = codes "S"
+kind_word EntryKind.L = codes "L"
+kind_word EntryKind.G = codes "G"
+kind_word EntryKind.F = codes "F"
+kind_word EntryKind.O = codes "O"
+kind_word EntryKind.B = codes "B"
+kind_word EntryKind.X = codes "X"
+kind_word EntryKind.Z = codes "Z"
+kind_word EntryKind.A = codes "A"
 
 -- what stands behind the letter C: a call
 unfoldable pub c_at : List (List ℕ) → Option (Entry × List (List ℕ))
@@ -198,19 +198,19 @@ a_at words = do
   Some (Entry.A who.0 q.0 said.0, said.1)
 
 -- an entry behind its letter
-abbrev pub entry_by : (version : ℕ) → Kind → List (List ℕ) → Option (Entry × List (List ℕ))
-entry_by version Kind.C words = c_at words
-entry_by version Kind.W words = w_at words
-entry_by version Kind.R words = r_at words
-entry_by version Kind.S words = s_at words
-entry_by version Kind.L words = l_at words
-entry_by version Kind.G words = g_at words
-entry_by version Kind.F words = f_at words
-entry_by version Kind.O words = o_at words
-entry_by version Kind.B words = b_at words
-entry_by version Kind.X words = x_at version words
-entry_by version Kind.Z words = z_at words
-entry_by version Kind.A words = a_at words
+abbrev pub entry_by : (version : ℕ) → EntryKind → List (List ℕ) → Option (Entry × List (List ℕ))
+entry_by version EntryKind.C words = c_at words
+entry_by version EntryKind.W words = w_at words
+entry_by version EntryKind.R words = r_at words
+entry_by version EntryKind.S words = s_at words
+entry_by version EntryKind.L words = l_at words
+entry_by version EntryKind.G words = g_at words
+entry_by version EntryKind.F words = f_at words
+entry_by version EntryKind.O words = o_at words
+entry_by version EntryKind.B words = b_at words
+entry_by version EntryKind.X words = x_at version words
+entry_by version EntryKind.Z words = z_at words
+entry_by version EntryKind.A words = a_at words
 
 -- whether a version has an entry
 abbrev pub has : (version : ℕ) → Entry → Bool

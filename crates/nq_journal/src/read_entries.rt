@@ -3,17 +3,18 @@
 ghost use Rattle.std.specs.Prelude.{◌≡◌, ◌↔◌, ℕ, ◌<◌, ◌^◌, [], ◌∷◌, ◌++◌, codes, option_map, IsTrue, IfSome, IfOk};
 ghost use Rattle.nq_base.specs.Plain.{plain};
 ghost use Rattle.nq_script.specs.WordsReading.{Takes, words_of};
-ghost use Rattle.nq_journal.specs.ReadingEntries.{Spells, kind_of, kind_word, entry_by, entry_of, has, mode_of, mode_at, way_of, way_at, source_at, longest_at, c_at, w_at, r_at, s_at, l_at, g_at, f_at, o_at, b_at, x_at, z_at, a_at};
+ghost use Rattle.nq_journal.specs.ReadingEntries.{Spells, kind_of, kind_word, entry_by, entry_of, has, mode_of, mode_at, way_of, way_at, source_at, longest_at};
+ghost use Rattle.nq_journal.specs.ReadingEntries.{c_at, w_at, r_at, s_at, l_at, g_at, f_at, o_at, b_at, x_at, z_at, a_at};
 ghost use Rattle.nq_journal.specs.Text.{mode_word, way_word, source_words, longest_words, FitsSource, Has};
 ghost use Rattle.nq_script.specs.Forms.{HasTold};
 
 use nq_base::{Entry, FileId, Mode, NoMemory, Number, Ticks};
-use nq_script::words::{Words, has_told, is, take_said, take_told};
+use nq_script::words::{WordCursor, has_told, is, take_said, take_told};
 use std::alloc::Global;
 
 // The kinds of entry, by their letters.
 #[derive(Clone, Copy)]
-pub(crate) enum Kind {
+pub(crate) enum EntryKind {
     C,
     W,
     R,
@@ -30,34 +31,34 @@ pub(crate) enum Kind {
 
 // The kind of entry whose letter a word is.
 #[tactic(auto, unfolding(crate::specs::ReadingEntries::kind_of))]
-fn kind_of(word: &[u8]) -> Option<Kind>
+fn kind_of(word: &[u8]) -> Option<EntryKind>
     ensures step { result ≡ kind_of word.now }
     ensures found { IfSome result (λ kind. word.now ≡ kind_word kind) }
 {
     if is(word, b"C") {
-        Some(Kind::C)
+        Some(EntryKind::C)
     } else if is(word, b"W") {
-        Some(Kind::W)
+        Some(EntryKind::W)
     } else if is(word, b"R") {
-        Some(Kind::R)
+        Some(EntryKind::R)
     } else if is(word, b"S") {
-        Some(Kind::S)
+        Some(EntryKind::S)
     } else if is(word, b"L") {
-        Some(Kind::L)
+        Some(EntryKind::L)
     } else if is(word, b"G") {
-        Some(Kind::G)
+        Some(EntryKind::G)
     } else if is(word, b"F") {
-        Some(Kind::F)
+        Some(EntryKind::F)
     } else if is(word, b"O") {
-        Some(Kind::O)
+        Some(EntryKind::O)
     } else if is(word, b"B") {
-        Some(Kind::B)
+        Some(EntryKind::B)
     } else if is(word, b"X") {
-        Some(Kind::X)
+        Some(EntryKind::X)
     } else if is(word, b"Z") {
-        Some(Kind::Z)
+        Some(EntryKind::Z)
     } else if is(word, b"A") {
-        Some(Kind::A)
+        Some(EntryKind::A)
     } else {
         None
     }
@@ -82,7 +83,7 @@ fn mode_of(word: &[u8]) -> Option<Mode>
 
 // Takes a mode.
 #[tactic(auto, unfolding(crate::specs::ReadingEntries::mode_at))]
-fn take_mode(words: &mut Words<'_>) -> Option<Mode>
+fn take_mode(words: &mut WordCursor<'_>) -> Option<Mode>
     ensures step { Takes (λ mode. mode) result words.new (mode_at words.old) }
     ensures found { IfSome result (λ mode. words.old ≡ mode_word mode ∷ words.new) }
 {
@@ -106,7 +107,7 @@ fn way_of(word: &[u8]) -> Option<bool>
 
 // Takes whether a write went through.
 #[tactic(auto, unfolding(crate::specs::ReadingEntries::way_at))]
-fn take_way(words: &mut Words<'_>) -> Option<bool>
+fn take_way(words: &mut WordCursor<'_>) -> Option<bool>
     ensures step { Takes (λ way. way) result words.new (way_at words.old) }
     ensures found { IfSome result (λ way. words.old ≡ way_word way ∷ words.new) }
 {
@@ -115,7 +116,7 @@ fn take_way(words: &mut Words<'_>) -> Option<bool>
 
 // Takes the reply packet of a read, if the server served it.
 #[tactic(auto, unfolding(crate::specs::ReadingEntries::source_at))]
-fn take_source(words: &mut Words<'_>) -> Option<Option<u64>>
+fn take_source(words: &mut WordCursor<'_>) -> Option<Option<u64>>
     ensures step { Takes (λ source. source) result words.new (source_at words.old) }
     ensures found { IfSome result (λ source. (words.old ≡ source_words source ++ words.new) × FitsSource source) }
 {
@@ -132,7 +133,7 @@ fn take_source(words: &mut Words<'_>) -> Option<Option<u64>>
 
 // Takes the longest term, which version 1 does not tell.
 #[tactic(auto, unfolding(crate::specs::ReadingEntries::longest_at))]
-fn take_longest(words: &mut Words<'_>, version: u32) -> Option<u32>
+fn take_longest(words: &mut WordCursor<'_>, version: u32) -> Option<u32>
     ensures step { Takes (λ longest. longest) result words.new (longest_at version words.old) }
     ensures found { IfSome result (λ longest. (words.old ≡ longest_words version longest ++ words.new) × (longest < 2 ^ 32)) }
 {
@@ -140,7 +141,7 @@ fn take_longest(words: &mut Words<'_>, version: u32) -> Option<u32>
 }
 
 #[tactic(auto, unfolding(crate::specs::ReadingEntries::c_at))]
-fn take_c(words: &mut Words<'_>) -> Option<Entry>
+fn take_c(words: &mut WordCursor<'_>) -> Option<Entry>
     ensures step { Takes plain result words.new (c_at words.old) }
     ensures found { (version : ℕ) → IfSome result (λ entry. Spells version (codes "C" ∷ words.old) entry words.new) }
 {
@@ -151,7 +152,7 @@ fn take_c(words: &mut Words<'_>) -> Option<Entry>
 }
 
 #[tactic(auto, unfolding(crate::specs::ReadingEntries::w_at))]
-fn take_w(words: &mut Words<'_>) -> Option<Entry>
+fn take_w(words: &mut WordCursor<'_>) -> Option<Entry>
     ensures step { Takes plain result words.new (w_at words.old) }
     ensures found { (version : ℕ) → IfSome result (λ entry. Spells version (codes "W" ∷ words.old) entry words.new) }
 {
@@ -171,7 +172,7 @@ fn take_w(words: &mut Words<'_>) -> Option<Entry>
 }
 
 #[tactic(auto, unfolding(crate::specs::ReadingEntries::r_at))]
-fn take_r(words: &mut Words<'_>) -> Option<Entry>
+fn take_r(words: &mut WordCursor<'_>) -> Option<Entry>
     ensures step { Takes plain result words.new (r_at words.old) }
     ensures found { (version : ℕ) → IfSome result (λ entry. Spells version (codes "R" ∷ words.old) entry words.new) }
 {
@@ -191,7 +192,7 @@ fn take_r(words: &mut Words<'_>) -> Option<Entry>
 }
 
 #[tactic(auto, unfolding(crate::specs::ReadingEntries::s_at))]
-fn take_s(words: &mut Words<'_>) -> Option<Entry>
+fn take_s(words: &mut WordCursor<'_>) -> Option<Entry>
     ensures step { Takes plain result words.new (s_at words.old) }
     ensures found { (version : ℕ) → IfSome result (λ entry. Spells version (codes "S" ∷ words.old) entry words.new) }
 {
@@ -211,7 +212,7 @@ fn take_s(words: &mut Words<'_>) -> Option<Entry>
 }
 
 #[tactic(auto, unfolding(crate::specs::ReadingEntries::l_at))]
-fn take_l(words: &mut Words<'_>) -> Option<Entry>
+fn take_l(words: &mut WordCursor<'_>) -> Option<Entry>
     ensures step { Takes plain result words.new (l_at words.old) }
     ensures found { (version : ℕ) → IfSome result (λ entry. Spells version (codes "L" ∷ words.old) entry words.new) }
 {
@@ -229,7 +230,7 @@ fn take_l(words: &mut Words<'_>) -> Option<Entry>
 }
 
 #[tactic(auto, unfolding(crate::specs::ReadingEntries::g_at))]
-fn take_g(words: &mut Words<'_>) -> Option<Entry>
+fn take_g(words: &mut WordCursor<'_>) -> Option<Entry>
     ensures step { Takes plain result words.new (g_at words.old) }
     ensures found { (version : ℕ) → IfSome result (λ entry. Spells version (codes "G" ∷ words.old) entry words.new) }
 {
@@ -250,7 +251,7 @@ fn take_g(words: &mut Words<'_>) -> Option<Entry>
 }
 
 #[tactic(auto, unfolding(crate::specs::ReadingEntries::f_at))]
-fn take_f(words: &mut Words<'_>) -> Option<Entry>
+fn take_f(words: &mut WordCursor<'_>) -> Option<Entry>
     ensures step { Takes plain result words.new (f_at words.old) }
     ensures found { (version : ℕ) → IfSome result (λ entry. Spells version (codes "F" ∷ words.old) entry words.new) }
 {
@@ -269,7 +270,7 @@ fn take_f(words: &mut Words<'_>) -> Option<Entry>
 }
 
 #[tactic(auto, unfolding(crate::specs::ReadingEntries::o_at))]
-fn take_o(words: &mut Words<'_>) -> Option<Entry>
+fn take_o(words: &mut WordCursor<'_>) -> Option<Entry>
     ensures step { Takes plain result words.new (o_at words.old) }
     ensures found { (version : ℕ) → IfSome result (λ entry. Spells version (codes "O" ∷ words.old) entry words.new) }
 {
@@ -286,7 +287,7 @@ fn take_o(words: &mut Words<'_>) -> Option<Entry>
 }
 
 #[tactic(auto, unfolding(crate::specs::ReadingEntries::b_at))]
-fn take_b(words: &mut Words<'_>) -> Option<Entry>
+fn take_b(words: &mut WordCursor<'_>) -> Option<Entry>
     ensures step { Takes plain result words.new (b_at words.old) }
     ensures found { (version : ℕ) → IfSome result (λ entry. Spells version (codes "B" ∷ words.old) entry words.new) }
 {
@@ -295,7 +296,7 @@ fn take_b(words: &mut Words<'_>) -> Option<Entry>
 }
 
 #[tactic(auto, unfolding(crate::specs::ReadingEntries::x_at))]
-fn take_x(words: &mut Words<'_>, version: u32) -> Option<Entry>
+fn take_x(words: &mut WordCursor<'_>, version: u32) -> Option<Entry>
     ensures step { Takes plain result words.new (x_at version words.old) }
     ensures found { IfSome result (λ entry. Spells version (codes "X" ∷ words.old) entry words.new) }
 {
@@ -306,7 +307,7 @@ fn take_x(words: &mut Words<'_>, version: u32) -> Option<Entry>
 }
 
 #[tactic(auto, unfolding(crate::specs::ReadingEntries::z_at))]
-fn take_z(words: &mut Words<'_>) -> Option<Entry>
+fn take_z(words: &mut WordCursor<'_>) -> Option<Entry>
     ensures step { Takes plain result words.new (z_at words.old) }
     ensures found { (version : ℕ) → IfSome result (λ entry. Spells version (codes "Z" ∷ words.old) entry words.new) }
 {
@@ -325,7 +326,7 @@ fn take_z(words: &mut Words<'_>) -> Option<Entry>
 }
 
 #[tactic(auto, unfolding(crate::specs::ReadingEntries::a_at))]
-fn take_a(alloc: Global, words: &mut Words<'_>) -> Result<Option<Entry>, NoMemory>
+fn take_a(alloc: Global, words: &mut WordCursor<'_>) -> Result<Option<Entry>, NoMemory>
     ensures step { IfOk result (λ entry. Takes plain entry words.new (a_at words.old)) }
     ensures found { (version : ℕ) → IfOk result (λ entry. IfSome entry (λ e. Spells version (codes "A" ∷ words.old) e words.new)) }
 {
@@ -344,26 +345,26 @@ fn take_a(alloc: Global, words: &mut Words<'_>) -> Result<Option<Entry>, NoMemor
 // Takes the words of an entry behind its letter.
 fn take_entry(
     alloc: Global,
-    words: &mut Words<'_>,
+    words: &mut WordCursor<'_>,
     version: u32,
-    kind: Kind,
+    kind: EntryKind,
 ) -> Result<Option<Entry>, NoMemory>
     ensures step { IfOk result (λ entry. Takes plain entry words.new (entry_by version kind words.old)) }
     ensures found { IfOk result (λ entry. IfSome entry (λ e. Spells version (kind_word kind ∷ words.old) e words.new)) }
 {
     match kind {
-        Kind::C => Ok(take_c(words)),
-        Kind::W => Ok(take_w(words)),
-        Kind::R => Ok(take_r(words)),
-        Kind::S => Ok(take_s(words)),
-        Kind::L => Ok(take_l(words)),
-        Kind::G => Ok(take_g(words)),
-        Kind::F => Ok(take_f(words)),
-        Kind::O => Ok(take_o(words)),
-        Kind::B => Ok(take_b(words)),
-        Kind::X => Ok(take_x(words, version)),
-        Kind::Z => Ok(take_z(words)),
-        Kind::A => take_a(alloc, words),
+        EntryKind::C => Ok(take_c(words)),
+        EntryKind::W => Ok(take_w(words)),
+        EntryKind::R => Ok(take_r(words)),
+        EntryKind::S => Ok(take_s(words)),
+        EntryKind::L => Ok(take_l(words)),
+        EntryKind::G => Ok(take_g(words)),
+        EntryKind::F => Ok(take_f(words)),
+        EntryKind::O => Ok(take_o(words)),
+        EntryKind::B => Ok(take_b(words)),
+        EntryKind::X => Ok(take_x(words, version)),
+        EntryKind::Z => Ok(take_z(words)),
+        EntryKind::A => take_a(alloc, words),
     }
 }
 
@@ -386,7 +387,7 @@ pub(crate) fn entry_of(alloc: Global, version: u32, line: &[u8]) -> Result<Optio
     ensures step { IfOk result (λ entry. option_map plain entry ≡ entry_of version (words_of line.now)) }
     ensures found { IfOk result (λ entry. IfSome entry (λ e. Spells version (words_of line.now) e [] × Has version e)) }
 {
-    let mut words = Words::new(line);
+    let mut words = WordCursor::new(line);
     let Some(letter) = words.next() else {
         return Ok(None);
     };

@@ -13,7 +13,8 @@ use nq_script::words::{push_bytes, push_command, push_numbers, push_said, push_t
 
 // Appends the letter of a line, the incarnation of which it tells, and numbers with a blank before each.
 fn push_of_who(out: &mut Vec<u8>, letter: &[u8], who: &Who, numbers: &[u64]) -> Result<(), NoMemory>
-    ensures written { OnOk result (out.new.items ≡ out.old.items ++ (letter.now ++ (spaced (decimal who.now.host) ++ (spaced (decimal who.now.inc) ++ flat_map (λ n. spaced (decimal n)) numbers.now)))) }
+    ensures written { OnOk result (out.new.items ≡ out.old.items
+        ++ (letter.now ++ (spaced (decimal who.now.host) ++ (spaced (decimal who.now.inc) ++ flat_map (λ n. spaced (decimal n)) numbers.now)))) }
     ensures fits { FitsWho who.now }
     ensures fit { AllByRecursion (λ n. n < 2 ^ 64) numbers.now }
 {

@@ -1,5 +1,5 @@
 -- The change that an effect makes.
-use Rattle.std.proofs.Common.{◌≡◌, ◌⊎◌, ◌<◌, ◌/◌, ◌%◌, ◌^◌, ℕ, true, false, if◌then◌else◌, List, [], ◌∷◌, zero, suc, get_or, refl, Option, Some, None}
+use Rattle.std.proofs.Common.{◌≡◌, ◌⊎◌, ◌<◌, ◌/◌, ◌%◌, ◌^◌, ℕ, true, if◌then◌else◌, List, [], ◌∷◌, zero, suc, get_or, Option, Some, None}
 use Rattle.std.proofs.Common.{Result, Ok, Err, sym, ap, ◌∙◌, subst, inl, inr, arith}
 use Rattle.std.specs.List.{All}
 use Rattle.std.specs.Option.{ForSome}
@@ -19,7 +19,7 @@ use Rattle.nq_base.specs.declared.Who.{Who}
 use Rattle.nq_io.specs.Faults.{Rose}
 use Rattle.nq_keeper.specs.declared.keeper.KeepFault.{KeepFault}
 use Rattle.nq_keeper.specs.declared.keeper.KeepFault.TheVariants.{Failed, Memory}
-use Rattle.nq_keeper.specs.Keeping.{Commits, LeavesTwo, StaysOrEnds, told_after}
+use Rattle.nq_keeper.specs.Keeping.{LeavesTwo, StaysOrEnds}
 use Rattle.nq_model.specs.protocol.Change.{Fits, IsChangeWithin, IsWithinBounds, applied, applied_if}
 use Rattle.nq_model.specs.protocol.Decided.{HasText, attach_decided, change_with, decided, decided_before, effect_of, fresh_change, fresh_decided, if_fresh}
 use Rattle.nq_model.specs.protocol.Decided.{no_effect, or_fresh, row_with}
@@ -68,24 +68,8 @@ module _ (who : Who) (seq : ℕ) (effect : Effect) where
   pub is-fresh : can_be_kept (row_with who seq effect) ≡ true → fresh_decided who seq effect ≡ Fresh effect.verdict effect.value
   is-fresh can = ap (λ b. if b then Fresh effect.verdict effect.value else OutOfBounds) can
 
-  pub is-out : can_be_kept (row_with who seq effect) ≡ false → fresh_decided who seq effect ≡ OutOfBounds
-  is-out can = ap (λ b. if b then Fresh effect.verdict effect.value else OutOfBounds) can
-
   abbrev given : Option Change
   given = if_fresh (fresh_decided who seq effect) (change_with who seq effect)
-
-  -- what a call gives that keeps the effect
-  pub gives-kept : (change : Change) (told tells : Option Kept) (before now : ℕ) (done : Unit {0}) → change ≡ change_with who seq effect
-      → can_be_kept (row_with who seq effect) ≡ true → Commits (Ok done) change told tells before now → Gives (λ kept. fresh_decided who seq effect)
-      (λ kept. given) (Ok (Fresh effect.verdict effect.value)) told tells before now
-  gives-kept change told tells before now done is can h = (
-    λ kept e. (
-      sym (is-fresh can),
-      h.0 ∙ ap (told_after change) e ∙ ap (λ c. Some (applied kept c)) is ∙ ap (λ d. Some (applied_if kept (if_fresh d (change_with who seq effect))))
-          (sym (is-fresh can)),
-    ),
-    h.1,
-  )
 
   -- and what a stop leaves in it
   pub leaves-kept : (change : Change) (told : Option Kept) (leaves : Option Kept → Type 0) → change ≡ change_with who seq effect
@@ -97,14 +81,6 @@ module _ (who : Who) (seq : ℕ) (effect : Effect) where
       by kept found (inl s) = inl s
       by kept found (inr s) = inr (s ∙ ap (λ c. Some (applied kept c)) is ∙ ap (λ d. Some (applied_if kept (if_fresh d (change_with who seq effect))))
           (sym (is-fresh can)))
-
-  -- where the row can not be kept nothing changes
-  pub gives-out : (told : Option Kept) (now : ℕ) → can_be_kept (row_with who seq effect) ≡ false → Gives (λ kept. fresh_decided who seq effect)
-      (λ kept. given) (Ok OutOfBounds) told told now now
-  gives-out told now can = (
-    λ kept e. (sym (is-out can), e ∙ ap (λ d. Some (applied_if kept (if_fresh d (change_with who seq effect)))) (sym (is-out can))),
-    refl,
-  )
 
 -- ---- what is told of an effect
 

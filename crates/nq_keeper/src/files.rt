@@ -1,12 +1,14 @@
 //! The files of a keeper in memory, in order of their ids.
 
-ghost use Rattle.std.specs.Prelude.{◌≡◌, ◌+◌, ◌≤◌, ◌<◌, [], ◌∷◌, ◌++◌, length, slice_get, slice_set, vec_len, None, Some, is_some, IfSome, IfNone, IfOk, OnOk, OnErr};
+ghost use Rattle.std.specs.Prelude.{◌≡◌, ◌+◌, ◌≤◌, ◌<◌, [], ◌∷◌, ◌++◌, length, slice_get, slice_set, vec_len, None, Some, is_some, IfSome, IfNone, IfOk, OnOk};
+ghost use Rattle.std.specs.Prelude.{OnErr};
 ghost use Rattle.std.specs.List.{prefix_len};
 ghost use Rattle.std.specs.Option.{ForSome};
 ghost use Rattle.nq_keeper.specs.InOrder.{is_below, is_upto, of_id, IsRowAmong, FitsAmong};
 ghost use Rattle.nq_keeper.specs.Keeping.{body_at};
 ghost use Rattle.nq_keeper.specs.Named.{AreNamed, StandsAt};
-ghost use Rattle.nq_model.specs.protocol.Change.{AreApart, HasBlock, blocks_with, file_after, file_of, files_with, files_without, row_of_found, with_block, with_body, with_file};
+ghost use Rattle.nq_model.specs.protocol.Change.{AreApart, HasBlock, blocks_with, file_after, file_of, files_with, files_without, row_of_found, with_block};
+ghost use Rattle.nq_model.specs.protocol.Change.{with_body, with_file};
 ghost use Rattle.nq_model.specs.protocol.Kept.{blocks_of, blocks_in_all, find_file, find_name, drop_file};
 ghost use Rattle.nq_model.specs.protocol.Profile.{most_blocks_of_file};
 
@@ -127,13 +129,13 @@ fn add(
 {
     let file = StoredFile::new(alloc, row)?;
     files.reserve(1)?;
-    names::put(names, alloc, &row.name, row.id)?;
+    names::put_name(names, alloc, &row.name, row.id)?;
     files.push(file).unwrap();
     Ok(())
 }
 
 /// Puts the file of a row there, and gives the number of blocks that it had before.
-fn put(
+fn put_file(
     files: &mut Vec<StoredFile>,
     names: &mut Names,
     alloc: Global,
@@ -170,7 +172,7 @@ fn write(files: &mut Vec<StoredFile>, change: BlockChange)
 }
 
 /// Takes a file away with its name, and gives the number of blocks that it had.
-fn take(files: &mut Vec<StoredFile>, names: &mut Names, id: FileId) -> u32
+fn take_file(files: &mut Vec<StoredFile>, names: &mut Names, id: FileId) -> u32
     requires apart { AreApart files.old.items }
     requires named { AreNamed names.old.entries files.old.items }
     ensures files { files.new.items ≡ drop_file id files.old.items }
@@ -180,7 +182,7 @@ fn take(files: &mut Vec<StoredFile>, names: &mut Names, id: FileId) -> u32
     match find(files.as_slice(), id) {
         Some(place) => {
             let row = files.remove(place).row();
-            names::take(names, &row.name);
+            names::take_name(names, &row.name);
             row.blocks
         }
         None => 0,
@@ -194,7 +196,7 @@ fn put_if(files: &mut Files, alloc: Global, row: &Option<FileRow>) -> Result<(),
     ensures err { OnErr result (files.new ≡ files.old) }
 {
     match row {
-        Some(row) => files.put(alloc, row),
+        Some(row) => files.put_file(alloc, row),
         None => Ok(()),
     }
 }
@@ -268,12 +270,12 @@ impl Files {
     }
 
     /// Puts the file of a row there: with the blocks that it had, or a new one of zeros.
-    pub(crate) fn put(&mut self, alloc: Global, row: &FileRow) -> Result<(), NoMemory>
+    pub(crate) fn put_file(&mut self, alloc: Global, row: &FileRow) -> Result<(), NoMemory>
         requires { FitsAmong row.now self.old }
         ensures ok { OnOk result (self.new ≡ with_file row.now self.old) }
         ensures err { OnErr result (self.new ≡ self.old) }
     {
-        let had = put(&mut self.stored, &mut self.names, alloc, row)?;
+        let had = put_file(&mut self.stored, &mut self.names, alloc, row)?;
         self.blocks = self.blocks + row.blocks - had;
         Ok(())
     }
@@ -290,7 +292,7 @@ impl Files {
     pub(crate) fn remove(&mut self, id: FileId)
         ensures { self.new ≡ drop_file id self.old }
     {
-        let had = take(&mut self.stored, &mut self.names, id);
+        let had = take_file(&mut self.stored, &mut self.names, id);
         self.blocks -= had;
     }
 

@@ -110,8 +110,10 @@ pub trait Keeper {
     ghost faults_rise: { (first last : Self) → follows first last → faults first ≤ faults last };
 
     /// What is kept at the beginning may be left, and what is kept at the end.
-    ghost may_leave: { (first last : Self) (kept : Kept) → follows first last → (content first ≡ Some kept) ⊎ (content last ≡ Some kept) → leaves first last (Some kept) };
+    ghost may_leave: { (first last : Self) (kept : Kept) → follows first last → (content first ≡ Some kept) ⊎ (content last ≡ Some kept)
+        → leaves first last (Some kept) };
 
     /// A stop between two moments stands before a third moment between them, or behind it.
-    ghost parts: { (first middle last : Self) (found : Option Kept) → follows first middle → follows middle last → leaves first last found → leaves first middle found ⊎ leaves middle last found };
+    ghost parts: { (first middle last : Self) (found : Option Kept) → follows first middle → follows middle last → leaves first last found
+        → leaves first middle found ⊎ leaves middle last found };
 }

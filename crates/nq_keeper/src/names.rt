@@ -18,7 +18,12 @@ pub(crate) fn id_of(names: &Names, name: &Name) -> Option<FileId>
 }
 
 /// Puts an id at a name.
-pub(crate) fn put(names: &mut Names, alloc: Global, name: &Name, id: FileId) -> Result<(), NoMemory>
+pub(crate) fn put_name(
+    names: &mut Names,
+    alloc: Global,
+    name: &Name,
+    id: FileId,
+) -> Result<(), NoMemory>
     ensures ok { OnOk result (StandsAt name.now (Some id) names.old.entries names.new.entries) }
     ensures err { OnErr result (names.new.entries ≡ names.old.entries) }
 {
@@ -28,7 +33,7 @@ pub(crate) fn put(names: &mut Names, alloc: Global, name: &Name, id: FileId) -> 
 }
 
 /// Takes a name out.
-pub(crate) fn take(names: &mut Names, name: &Name)
+pub(crate) fn take_name(names: &mut Names, name: &Name)
     ensures { StandsAt name.now None names.old.entries names.new.entries }
 {
     names.remove(name.as_bytes());

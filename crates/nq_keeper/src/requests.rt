@@ -7,6 +7,7 @@ mod asking;
 pub mod boot;
 mod deciding;
 mod effects;
+mod for_proofs;
 mod laws;
 mod reading;
 

@@ -65,7 +65,7 @@ later-says head event earlier who q Said.Range (Some (Told.Resize file blocks)) 
 later-says head event earlier who q Said.Range (Some (Told.Read file block)) so = inr so
 later-says head event earlier who q Said.Range (Some (Told.Fetch file block)) so = inr so
 later-says head event earlier who q Said.Range (Some (Told.Write file block value)) so = inr so
-later-says head event earlier who q Said.Range (Some (Told.WriteSync file block value)) so = inr so
+later-says head event earlier who q Said.Range (Some (Told.Put file block value)) so = inr so
 later-says head event earlier who q Said.Range other so = absurd so
 later-says head event earlier who q answer o so = tt
 
@@ -81,7 +81,7 @@ pub range-of-block : (head : Head) (events : List Event) (who : Who) (q file blo
 range-of-block head events who q file block (Call.Read f b) of_block had = same-block head events who q file block f b of_block had
 range-of-block head events who q file block (Call.Fetch f b) of_block had = same-block head events who q file block f b of_block had
 range-of-block head events who q file block (Call.Write f b body) of_block had = same-block head events who q file block f b of_block had
-range-of-block head events who q file block (Call.WriteSync f b body) of_block had = same-block head events who q file block f b of_block had
+range-of-block head events who q file block (Call.Put f b body) of_block had = same-block head events who q file block f b of_block had
 range-of-block head events who q file block other of_block had = absurd of_block
 
 -- ---- the refusal that is answered with
@@ -164,7 +164,7 @@ module _ (head : Head) (events : List Event) (by : Who) (n : ℕ) (host xid inc 
   out-of-range (Request.Write who seq file block first last base body) (inl is) had =
       of-block (Request.Write who seq file block first last base body) file block (Call.Write file block body) is (refl, refl) (λ w so. so.1.1) had
   out-of-range (Request.Write who seq file block first last base body) (inr is) had =
-      of-block (Request.Write who seq file block first last base body) file block (Call.WriteSync file block body) is (refl, refl) (λ w so. so.1.1) had
+      of-block (Request.Write who seq file block first last base body) file block (Call.Put file block body) is (refl, refl) (λ w so. so.1.1) had
   out-of-range r is had = absurd (causeless Refusal.Inval r (λ w so. so.1.1) had)
 
   -- ---- what a reply names
@@ -201,10 +201,10 @@ module _ (head : Head) (events : List Event) (by : Who) (n : ℕ) (host xid inc 
   of-read file block (inl is) = of-call file (Call.Read file block) is refl
   of-read file block (inr is) = of-call file (Call.Fetch file block) is refl
 
-  of-write : (file block : ℕ) (body : List ℕ) → (u.call ≡ Call.Write file block body) ⊎ (u.call ≡ Call.WriteSync file block body)
+  of-write : (file block : ℕ) (body : List ℕ) → (u.call ≡ Call.Write file block body) ⊎ (u.call ≡ Call.Put file block body)
       → SpeaksOf file (Some (told u.call))
   of-write file block body (inl is) = of-call file (Call.Write file block body) is refl
-  of-write file block body (inr is) = of-call file (Call.WriteSync file block body) is refl
+  of-write file block body (inr is) = of-call file (Call.Put file block body) is refl
 
   stale-on : (r : Request) (file : ℕ) → SpeaksOf file (Some (told u.call))
       → ((w : World) → HadSo host xid (Reply.Refused inc Refusal.Stale) r w → LacksFile w.server.kept.files file) → Had Refusal.Stale r

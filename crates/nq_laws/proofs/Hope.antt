@@ -26,7 +26,7 @@ abbrev pub file_of_call : Call → Option ℕ
 file_of_call (Call.Read file block) = Some file
 file_of_call (Call.Fetch file block) = Some file
 file_of_call (Call.Write file block body) = Some file
-file_of_call (Call.WriteSync file block body) = Some file
+file_of_call (Call.Put file block body) = Some file
 file_of_call (Call.Resize file blocks) = Some file
 file_of_call (Call.Remove file) = Some file
 file_of_call other = None

@@ -350,7 +350,7 @@ forms-of head events who q Said.Range (Some (Told.Resize file blocks)) so = inl 
 forms-of head events who q Said.Range (Some (Told.Read file block)) so = inr (inl tt)
 forms-of head events who q Said.Range (Some (Told.Fetch file block)) so = inr (inl tt)
 forms-of head events who q Said.Range (Some (Told.Write file block value)) so = inr (inr tt)
-forms-of head events who q Said.Range (Some (Told.WriteSync file block value)) so = inr (inr tt)
+forms-of head events who q Said.Range (Some (Told.Put file block value)) so = inr (inr tt)
 forms-of head events who q Said.Range other so = absurd so
 forms-of head events who q answer o so = tt
 

@@ -29,7 +29,7 @@ use Rattle.nq_laws.proofs.SoonRounds.{soon_rounds, soon_ends, all-soon}
 -- none of its events is a crash but one, with a longest term of 6
 late-boots : All (BootsWithin 6) late_events
 late-boots =
-    one-first 6 (Event.Call 2 (Call.WriteSync 1 0 (filled 7))) (Event.Call 0 (Call.Read 1 0) ∷ Event.ClientTick 1 ∷ Event.Call 1 (Call.Read 1 0)
+    one-first 6 (Event.Call 2 (Call.Put 1 0 (filled 7))) (Event.Call 0 (Call.Read 1 0) ∷ Event.ClientTick 1 ∷ Event.Call 1 (Call.Read 1 0)
     ∷ Event.Crash 6 ∷ []) tt
     (one-first 6 (Event.Call 0 (Call.Read 1 0)) (Event.ClientTick 1 ∷ Event.Call 1 (Call.Read 1 0) ∷ Event.Crash 6 ∷ []) tt
     (one-first 6 (Event.ClientTick 1) (Event.Call 1 (Call.Read 1 0) ∷ Event.Crash 6 ∷ []) tt

@@ -57,7 +57,7 @@ all-turns (order ∷ orders) p e =
 -- ---- a read and a put
 
 pair-boots : All (BootsWithin 6) pair_events
-pair-boots = one-first 6 (Event.Call 1 (Call.WriteSync 1 0 (filled 7))) (Event.Call 0 (Call.Read 1 0) ∷ []) tt
+pair-boots = one-first 6 (Event.Call 1 (Call.Put 1 0 (filled 7))) (Event.Call 0 (Call.Read 1 0) ∷ []) tt
     (one-first 6 (Event.Call 0 (Call.Read 1 0)) [] tt (λ k d below. absurd (omega arith)))
 
 pair-bounds : KeepsBounds 6 pair_head pair_events

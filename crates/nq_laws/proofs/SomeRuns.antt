@@ -81,7 +81,7 @@ resized =
     ∷ Event.Call 0 (Call.Resize 1 1)
     ∷ Event.Deliver 1
     ∷ Event.Deliver 0
-    ∷ Event.Call 0 (Call.WriteSync 1 1 body)
+    ∷ Event.Call 0 (Call.Put 1 1 body)
     ∷ []
 
 bounded : (events : List Event) → All (BootsWithin 60) events → KeepsBounds 60 one-host events

@@ -25,11 +25,11 @@ abbrev pub run_02 : Example
 run_02 = record {
   head = record { hosts = 3; term = 10; longest = 60; files = ((97 ∷ []), 2) ∷ ((126 ∷ 46 ∷ 126 ∷ []), 7) ∷ [] };
   lines =
-      times 2 (Event.ClientTick 2) ∷ times 3 Event.ServerTick ∷ round 8 ∷
-      one (Event.Call 2 (Call.WriteSync 2 1 (filled 1))) ∷ one (Event.Call 0 (Call.Attr 1)) ∷ [];
+      times 2 (Event.ClientTick 2) ∷ times 3 Event.ServerTick ∷ round 8 ∷ one (Event.Call 2 (Call.Put 2 1 (filled 1))) ∷
+      one (Event.Call 0 (Call.Attr 1)) ∷ [];
   journal =
-      Entry.C (record { host = 0; inc = 1 }) 1 (Told.Attr 1) ∷
-      Entry.C (record { host = 2; inc = 1 }) 1 (Told.WriteSync 2 1 1) ∷ [];
+      Entry.C (record { host = 0; inc = 1 }) 1 (Told.Attr 1) ∷ Entry.C (record { host = 2; inc = 1 }) 1 (Told.Put 2 1 1) ∷
+      [];
 }
 
 -- run 03
@@ -38,11 +38,10 @@ run_03 = record {
   head = record { hosts = 5; term = 5; longest = 60; files = ((120 ∷ 120 ∷ 120 ∷ 120 ∷ 120 ∷ 120 ∷ 120 ∷ 120 ∷ 120 ∷ 120 ∷ 120 ∷ 120 ∷ 120 ∷ 120 ∷ 120 ∷ 120 ∷ 120 ∷ 120 ∷ 120 ∷ 120 ∷ 120 ∷ 120 ∷ 120 ∷ 120 ∷ 120 ∷ 120 ∷ 120 ∷ 120 ∷ 120 ∷ 120 ∷ 120 ∷ 120 ∷ 120 ∷ 120 ∷ 120 ∷ 120 ∷ 120 ∷ 120 ∷ 120 ∷ 120 ∷ 120 ∷ 120 ∷ 120 ∷ 120 ∷ 120 ∷ 120 ∷ 120 ∷ 120 ∷ 120 ∷ 120 ∷ 120 ∷ 120 ∷ 120 ∷ 120 ∷ 120 ∷ 120 ∷ 120 ∷ 120 ∷ 120 ∷ 120 ∷ 120 ∷ 120 ∷ 120 ∷ 120 ∷ []), 2) ∷ [] };
   lines =
       one (Event.Call 1 (Call.Write 1 0 (filled 1))) ∷ one (Event.Deliver 0) ∷
-      one (Event.Call 3 (Call.Write 1 0 (filled 2))) ∷ one (Event.Call 4 (Call.WriteSync 1 1 (filled 3))) ∷
+      one (Event.Call 3 (Call.Write 1 0 (filled 2))) ∷ one (Event.Call 4 (Call.Put 1 1 (filled 3))) ∷
       one (Event.Call 0 (Call.Attr 1)) ∷ [];
   journal =
-      Entry.C (record { host = 0; inc = 1 }) 1 (Told.Attr 1) ∷
-      Entry.C (record { host = 4; inc = 1 }) 1 (Told.WriteSync 1 1 3) ∷
+      Entry.C (record { host = 0; inc = 1 }) 1 (Told.Attr 1) ∷ Entry.C (record { host = 4; inc = 1 }) 1 (Told.Put 1 1 3) ∷
       Entry.C (record { host = 3; inc = 1 }) 1 (Told.Write 1 0 2) ∷
       Entry.G (record { host = 1; inc = 1 }) 1 Mode.Writing (record { boot = 1; number = 1 }) 5 0 ∷
       Entry.C (record { host = 1; inc = 1 }) 1 (Told.Write 1 0 1) ∷ [];
@@ -86,9 +85,9 @@ run_06 = record {
       round 5 ∷ round 2 ∷ one (Event.Call 1 (Call.Read 1 4294967295)) ∷ one (Event.Deliver 0) ∷ one (Event.Deliver 1) ∷
       one (Event.Call 0 (Call.Write 1 0 (filled 1))) ∷ flow ∷ round 2 ∷ one (Event.Deliver 4) ∷ one (Event.Deliver 5) ∷
       one (Event.Call 0 (Call.Write 4294967295 0 (filled 2))) ∷ one (Event.Deliver 6) ∷ one (Event.Deliver 7) ∷ round 68 ∷
-      one (Event.Call 2 (Call.WriteSync 1 0 (filled 3))) ∷ [];
+      one (Event.Call 2 (Call.Put 1 0 (filled 3))) ∷ [];
   journal =
-      Entry.C (record { host = 2; inc = 1 }) 1 (Told.WriteSync 1 0 3) ∷ Entry.F (record { host = 0; inc = 1 }) 1 15 9 20 ∷
+      Entry.C (record { host = 2; inc = 1 }) 1 (Told.Put 1 0 3) ∷ Entry.F (record { host = 0; inc = 1 }) 1 15 9 20 ∷
       Entry.A (record { host = 0; inc = 1 }) 2 Said.Stale ∷
       Entry.C (record { host = 0; inc = 1 }) 2 (Told.Write 4294967295 0 2) ∷
       Entry.S (record { host = 0; inc = 1 }) 1 0 1 1 9 ∷ Entry.A (record { host = 0; inc = 1 }) 1 Said.Ok ∷
@@ -127,12 +126,11 @@ run_08 = record {
       one (Event.Call 0 (Call.Read 0 0)) ∷ one (Event.Deliver 0) ∷ one (Event.Deliver 1) ∷ times 3 (Event.ClientTick 0) ∷
       one (Event.Call 0 (Call.Write 1 0 (filled 1))) ∷ one (Event.Deliver 2) ∷ one (Event.Deliver 3) ∷
       one (Event.Call 0 (Call.Read 2 3)) ∷ one (Event.Deliver 4) ∷ one (Event.Deliver 5) ∷
-      one (Event.Call 0 (Call.WriteSync 1 0 (filled 2))) ∷ one (Event.Deliver 4) ∷ one (Event.Deliver 7) ∷ round 6 ∷ [];
+      one (Event.Call 0 (Call.Put 1 0 (filled 2))) ∷ one (Event.Deliver 4) ∷ one (Event.Deliver 7) ∷ round 6 ∷ [];
   journal =
       Entry.R (record { host = 0; inc = 1 }) 3 2 3 0 (Some 7) ∷
       Entry.G (record { host = 0; inc = 1 }) 2 Mode.Reading (record { boot = 1; number = 3 }) 10 0 ∷
-      Entry.W (record { host = 0; inc = 1 }) 1 0 2 2 false ∷
-      Entry.C (record { host = 0; inc = 1 }) 4 (Told.WriteSync 1 0 2) ∷
+      Entry.W (record { host = 0; inc = 1 }) 1 0 2 2 false ∷ Entry.C (record { host = 0; inc = 1 }) 4 (Told.Put 1 0 2) ∷
       Entry.A (record { host = 0; inc = 1 }) 3 (Said.OkBy 0 5) ∷ Entry.R (record { host = 0; inc = 1 }) 3 2 3 0 (Some 5) ∷
       Entry.G (record { host = 0; inc = 1 }) 2 Mode.Reading (record { boot = 1; number = 2 }) 10 0 ∷
       Entry.C (record { host = 0; inc = 1 }) 3 (Told.Read 2 3) ∷ Entry.A (record { host = 0; inc = 1 }) 2 Said.Ok ∷
@@ -147,7 +145,7 @@ abbrev pub run_09 : Example
 run_09 = record {
   head = record { hosts = 3; term = 5; longest = 60; files = ((33 ∷ []), 7) ∷ [] };
   lines =
-      one (Event.Call 2 (Call.WriteSync 1 6 (filled 1))) ∷ one (Event.Deliver 0) ∷
+      one (Event.Call 2 (Call.Put 1 6 (filled 1))) ∷ one (Event.Deliver 0) ∷
       one (Event.Call 1 (Call.Write 1 2 (filled 2))) ∷ one (Event.Call 0 (Call.Sync 1)) ∷ one (Event.Deliver 1) ∷
       one (Event.Deliver 2) ∷ one (Event.Restart 0) ∷ round 2 ∷ one (Event.Call 2 (Call.Read 1 1)) ∷
       one (Event.Deliver 3) ∷ one (Event.Deliver 4) ∷ one (Event.Call 1 (Call.Fetch 1 2)) ∷ one (Event.Deliver 5) ∷
@@ -162,7 +160,7 @@ run_09 = record {
       Entry.A (record { host = 2; inc = 1 }) 1 Said.Ok ∷ Entry.A (record { host = 0; inc = 1 }) 1 Said.Ok ∷
       Entry.C (record { host = 0; inc = 1 }) 1 (Told.Sync 1) ∷
       Entry.C (record { host = 1; inc = 1 }) 1 (Told.Write 1 2 2) ∷ Entry.W (record { host = 2; inc = 1 }) 1 6 1 1 true ∷
-      Entry.C (record { host = 2; inc = 1 }) 1 (Told.WriteSync 1 6 1) ∷ [];
+      Entry.C (record { host = 2; inc = 1 }) 1 (Told.Put 1 6 1) ∷ [];
 }
 
 -- run 10
@@ -170,7 +168,7 @@ abbrev pub run_10 : Example
 run_10 = record {
   head = record { hosts = 3; term = 10; longest = 60; files = ((126 ∷ 46 ∷ 126 ∷ []), 3) ∷ ((97 ∷ []), 4) ∷ [] };
   lines =
-      one (Event.Call 2 (Call.WriteSync 1 0 (filled 1))) ∷ one (Event.Deliver 0) ∷ one (Event.Deliver 1) ∷
+      one (Event.Call 2 (Call.Put 1 0 (filled 1))) ∷ one (Event.Deliver 0) ∷ one (Event.Deliver 1) ∷
       one (Event.Call 2 (Call.Write 1 1 (filled 2))) ∷ round 3 ∷ one (Event.Call 0 (Call.Write 1 0 (filled 5))) ∷
       one (Event.Deliver 4) ∷ one (Event.Deliver 5) ∷ one (Event.Crash 60) ∷ one (Event.Deliver 2) ∷
       one (Event.Deliver 3) ∷ one (Event.Deliver 6) ∷ one (Event.Deliver 7) ∷
@@ -184,8 +182,7 @@ run_10 = record {
       Entry.G (record { host = 0; inc = 1 }) 1 Mode.Writing (record { boot = 1; number = 1 }) 10 3 ∷
       Entry.C (record { host = 0; inc = 1 }) 1 (Told.Write 1 0 5) ∷
       Entry.C (record { host = 2; inc = 1 }) 2 (Told.Write 1 1 2) ∷ Entry.A (record { host = 2; inc = 1 }) 1 Said.Ok ∷
-      Entry.W (record { host = 2; inc = 1 }) 1 0 1 1 true ∷
-      Entry.C (record { host = 2; inc = 1 }) 1 (Told.WriteSync 1 0 1) ∷ [];
+      Entry.W (record { host = 2; inc = 1 }) 1 0 1 1 true ∷ Entry.C (record { host = 2; inc = 1 }) 1 (Told.Put 1 0 1) ∷ [];
 }
 
 -- run 11
@@ -193,8 +190,8 @@ abbrev pub run_11 : Example
 run_11 = record {
   head = record { hosts = 2; term = 5; longest = 60; files = ((120 ∷ 120 ∷ 120 ∷ 120 ∷ 120 ∷ 120 ∷ 120 ∷ 120 ∷ 120 ∷ 120 ∷ 120 ∷ 120 ∷ 120 ∷ 120 ∷ 120 ∷ 120 ∷ 120 ∷ 120 ∷ 120 ∷ 120 ∷ 120 ∷ 120 ∷ 120 ∷ 120 ∷ 120 ∷ 120 ∷ 120 ∷ 120 ∷ 120 ∷ 120 ∷ 120 ∷ 120 ∷ 120 ∷ 120 ∷ 120 ∷ 120 ∷ 120 ∷ 120 ∷ 120 ∷ 120 ∷ 120 ∷ 120 ∷ 120 ∷ 120 ∷ 120 ∷ 120 ∷ 120 ∷ 120 ∷ 120 ∷ 120 ∷ 120 ∷ 120 ∷ 120 ∷ 120 ∷ 120 ∷ 120 ∷ 120 ∷ 120 ∷ 120 ∷ 120 ∷ 120 ∷ 120 ∷ 120 ∷ 120 ∷ []), 7) ∷ [] };
   lines =
-      round 2 ∷ round 4 ∷ one (Event.Crash 60) ∷ one (Event.Call 0 (Call.WriteSync 1 0 (filled 1))) ∷
-      one (Event.Deliver 0) ∷ round 1 ∷ one (Event.Call 1 (Call.Write 1 0 (filled 2))) ∷ one (Event.Deliver 1) ∷ flow ∷
+      round 2 ∷ round 4 ∷ one (Event.Crash 60) ∷ one (Event.Call 0 (Call.Put 1 0 (filled 1))) ∷ one (Event.Deliver 0) ∷
+      round 1 ∷ one (Event.Call 1 (Call.Write 1 0 (filled 2))) ∷ one (Event.Deliver 1) ∷ flow ∷
       times 1 (Event.ClientTick 1) ∷ one (Event.Call 0 (Call.Read 1 0)) ∷ round 3 ∷ one (Event.Deliver 4) ∷
       one (Event.Deliver 5) ∷ one (Event.Deliver 6) ∷ round 2 ∷ one (Event.Deliver 7) ∷ one (Event.Deliver 8) ∷
       one (Event.Deliver 9) ∷ one (Event.Deliver 10) ∷ one (Event.Deliver 11) ∷ one (Event.Deliver 12) ∷
@@ -202,7 +199,7 @@ run_11 = record {
   journal =
       Entry.A (record { host = 0; inc = 1 }) 2 Said.Busy ∷ Entry.C (record { host = 0; inc = 1 }) 2 (Told.Read 1 0) ∷
       Entry.C (record { host = 1; inc = 1 }) 1 (Told.Write 1 0 2) ∷
-      Entry.C (record { host = 0; inc = 1 }) 1 (Told.WriteSync 1 0 1) ∷ Entry.X 2 6 60 ∷ [];
+      Entry.C (record { host = 0; inc = 1 }) 1 (Told.Put 1 0 1) ∷ Entry.X 2 6 60 ∷ [];
 }
 
 -- run 12
@@ -210,21 +207,21 @@ abbrev pub run_12 : Example
 run_12 = record {
   head = record { hosts = 2; term = 15; longest = 60; files = ((98 ∷ []), 4) ∷ ((120 ∷ 120 ∷ 120 ∷ 120 ∷ 120 ∷ 120 ∷ 120 ∷ 120 ∷ 120 ∷ 120 ∷ 120 ∷ 120 ∷ 120 ∷ 120 ∷ 120 ∷ 120 ∷ 120 ∷ 120 ∷ 120 ∷ 120 ∷ 120 ∷ 120 ∷ 120 ∷ 120 ∷ 120 ∷ 120 ∷ 120 ∷ 120 ∷ 120 ∷ 120 ∷ 120 ∷ 120 ∷ 120 ∷ 120 ∷ 120 ∷ 120 ∷ 120 ∷ 120 ∷ 120 ∷ 120 ∷ 120 ∷ 120 ∷ 120 ∷ 120 ∷ 120 ∷ 120 ∷ 120 ∷ 120 ∷ 120 ∷ 120 ∷ 120 ∷ 120 ∷ 120 ∷ 120 ∷ 120 ∷ 120 ∷ 120 ∷ 120 ∷ 120 ∷ 120 ∷ 120 ∷ 120 ∷ 120 ∷ 120 ∷ []), 7) ∷ ((126 ∷ 46 ∷ 126 ∷ []), 1) ∷ [] };
   lines =
-      one (Event.Call 1 (Call.Read 1 0)) ∷ one (Event.Deliver 0) ∷ one (Event.Call 0 (Call.WriteSync 1 4 (filled 1))) ∷
+      one (Event.Call 1 (Call.Read 1 0)) ∷ one (Event.Deliver 0) ∷ one (Event.Call 0 (Call.Put 1 4 (filled 1))) ∷
       one (Event.Deliver 1) ∷ round 2 ∷ one (Event.Deliver 2) ∷ one (Event.Deliver 3) ∷ one (Event.Deliver 4) ∷
       one (Event.Deliver 5) ∷ flow ∷ one (Event.Call 1 (Call.Sync 1)) ∷ round 5 ∷
       one (Event.Call 1 (Call.Write 1 1 (filled 2))) ∷ one (Event.Deliver 6) ∷ one (Event.Call 0 (Call.Read 1 2)) ∷
-      one (Event.Deliver 7) ∷ one (Event.Deliver 8) ∷ one (Event.Call 1 (Call.WriteSync 1 3 (filled 3))) ∷
+      one (Event.Deliver 7) ∷ one (Event.Deliver 8) ∷ one (Event.Call 1 (Call.Put 1 3 (filled 3))) ∷
       one (Event.Deliver 9) ∷ [];
   journal =
-      Entry.W (record { host = 1; inc = 1 }) 1 3 2 3 false ∷
-      Entry.C (record { host = 1; inc = 1 }) 4 (Told.WriteSync 1 3 3) ∷ Entry.A (record { host = 1; inc = 1 }) 3 Said.Ok ∷
-      Entry.W (record { host = 1; inc = 1 }) 1 1 1 2 false ∷ Entry.C (record { host = 0; inc = 1 }) 2 (Told.Read 1 2) ∷
+      Entry.W (record { host = 1; inc = 1 }) 1 3 2 3 false ∷ Entry.C (record { host = 1; inc = 1 }) 4 (Told.Put 1 3 3) ∷
+      Entry.A (record { host = 1; inc = 1 }) 3 Said.Ok ∷ Entry.W (record { host = 1; inc = 1 }) 1 1 1 2 false ∷
+      Entry.C (record { host = 0; inc = 1 }) 2 (Told.Read 1 2) ∷
       Entry.G (record { host = 1; inc = 1 }) 1 Mode.Writing (record { boot = 1; number = 2 }) 15 7 ∷
       Entry.C (record { host = 1; inc = 1 }) 3 (Told.Write 1 1 2) ∷ Entry.A (record { host = 1; inc = 1 }) 2 Said.Ok ∷
       Entry.C (record { host = 1; inc = 1 }) 2 (Told.Sync 1) ∷ Entry.A (record { host = 0; inc = 1 }) 1 Said.Range ∷
       Entry.A (record { host = 1; inc = 1 }) 1 (Said.OkBy 0 1) ∷
-      Entry.C (record { host = 0; inc = 1 }) 1 (Told.WriteSync 1 4 1) ∷
+      Entry.C (record { host = 0; inc = 1 }) 1 (Told.Put 1 4 1) ∷
       Entry.R (record { host = 1; inc = 1 }) 1 1 0 0 (Some 1) ∷
       Entry.G (record { host = 1; inc = 1 }) 1 Mode.Reading (record { boot = 1; number = 1 }) 15 0 ∷
       Entry.C (record { host = 1; inc = 1 }) 1 (Told.Read 1 0) ∷ [];
@@ -235,7 +232,7 @@ abbrev pub run_13 : Example
 run_13 = record {
   head = record { hosts = 3; term = 15; longest = 60; files = ((120 ∷ 120 ∷ 120 ∷ 120 ∷ 120 ∷ 120 ∷ 120 ∷ 120 ∷ 120 ∷ 120 ∷ 120 ∷ 120 ∷ 120 ∷ 120 ∷ 120 ∷ 120 ∷ 120 ∷ 120 ∷ 120 ∷ 120 ∷ 120 ∷ 120 ∷ 120 ∷ 120 ∷ 120 ∷ 120 ∷ 120 ∷ 120 ∷ 120 ∷ 120 ∷ 120 ∷ 120 ∷ 120 ∷ 120 ∷ 120 ∷ 120 ∷ 120 ∷ 120 ∷ 120 ∷ 120 ∷ 120 ∷ 120 ∷ 120 ∷ 120 ∷ 120 ∷ 120 ∷ 120 ∷ 120 ∷ 120 ∷ 120 ∷ 120 ∷ 120 ∷ 120 ∷ 120 ∷ 120 ∷ 120 ∷ 120 ∷ 120 ∷ 120 ∷ 120 ∷ 120 ∷ 120 ∷ 120 ∷ 120 ∷ []), 2) ∷ [] };
   lines =
-      one (Event.Call 0 (Call.WriteSync 1 1 (filled 1))) ∷ one (Event.Deliver 0) ∷ one (Event.Deliver 1) ∷
+      one (Event.Call 0 (Call.Put 1 1 (filled 1))) ∷ one (Event.Deliver 0) ∷ one (Event.Deliver 1) ∷
       one (Event.Call 2 (Call.Create (108 ∷ 111 ∷ 110 ∷ 103 ∷ 45 ∷ 110 ∷ 97 ∷ 109 ∷ 101 ∷ 95 ∷ 119 ∷ 105 ∷ 116 ∷ 104 ∷ 46 ∷ 100 ∷ 111 ∷ 116 ∷ 115 ∷ []) 3)) ∷
       one (Event.Call 0 (Call.Read 1 0)) ∷ one (Event.Deliver 3) ∷ round 1 ∷ one (Event.Call 1 (Call.Sync 1)) ∷ round 4 ∷
       round 8 ∷ one (Event.Deliver 4) ∷ one (Event.Crash 60) ∷ one (Event.Call 0 (Call.Write 1 0 (filled 2))) ∷
@@ -254,7 +251,7 @@ run_13 = record {
       Entry.C (record { host = 0; inc = 1 }) 2 (Told.Read 1 0) ∷
       Entry.C (record { host = 2; inc = 1 }) 1 (Told.Create (108 ∷ 111 ∷ 110 ∷ 103 ∷ 45 ∷ 110 ∷ 97 ∷ 109 ∷ 101 ∷ 95 ∷ 119 ∷ 105 ∷ 116 ∷ 104 ∷ 46 ∷ 100 ∷ 111 ∷ 116 ∷ 115 ∷ []) 3) ∷
       Entry.A (record { host = 0; inc = 1 }) 1 Said.Ok ∷ Entry.W (record { host = 0; inc = 1 }) 1 1 1 1 true ∷
-      Entry.C (record { host = 0; inc = 1 }) 1 (Told.WriteSync 1 1 1) ∷ [];
+      Entry.C (record { host = 0; inc = 1 }) 1 (Told.Put 1 1 1) ∷ [];
 }
 
 -- run 14
@@ -264,7 +261,7 @@ run_14 = record {
   lines =
       one (Event.Call 1 (Call.Write 1 0 (filled 1))) ∷ one (Event.Deliver 0) ∷ one (Event.Deliver 1) ∷
       one (Event.Call 1 (Call.Sync 1)) ∷ one (Event.Deliver 2) ∷ one (Event.Deliver 3) ∷ round 3 ∷
-      one (Event.Call 1 (Call.WriteSync 1 0 (filled 2))) ∷ one (Event.Crash 60) ∷ one (Event.Deliver 4) ∷
+      one (Event.Call 1 (Call.Put 1 0 (filled 2))) ∷ one (Event.Crash 60) ∷ one (Event.Deliver 4) ∷
       one (Event.Deliver 5) ∷ one (Event.Deliver 6) ∷ one (Event.Deliver 7) ∷ round 3 ∷ round 3 ∷ one (Event.Deliver 8) ∷
       round 2 ∷ one (Event.Deliver 9) ∷ one (Event.Deliver 10) ∷ one (Event.Deliver 11) ∷ one (Event.Deliver 12) ∷
       one (Event.Deliver 13) ∷ one (Event.Deliver 14) ∷ one (Event.Deliver 15) ∷ round 1 ∷ round 13 ∷
@@ -277,7 +274,7 @@ run_14 = record {
       Entry.C (record { host = 0; inc = 1 }) 1 (Told.Lookup (108 ∷ 111 ∷ 110 ∷ 103 ∷ 45 ∷ 110 ∷ 97 ∷ 109 ∷ 101 ∷ 95 ∷ 119 ∷ 105 ∷ 116 ∷ 104 ∷ 46 ∷ 100 ∷ 111 ∷ 116 ∷ 115 ∷ [])) ∷
       Entry.A (record { host = 1; inc = 1 }) 3 Said.Ok ∷ Entry.S (record { host = 1; inc = 1 }) 1 0 2 2 3 ∷
       Entry.X 2 3 60 ∷ Entry.W (record { host = 1; inc = 1 }) 1 0 2 2 false ∷
-      Entry.C (record { host = 1; inc = 1 }) 3 (Told.WriteSync 1 0 2) ∷ Entry.A (record { host = 1; inc = 1 }) 2 Said.Ok ∷
+      Entry.C (record { host = 1; inc = 1 }) 3 (Told.Put 1 0 2) ∷ Entry.A (record { host = 1; inc = 1 }) 2 Said.Ok ∷
       Entry.S (record { host = 1; inc = 1 }) 1 0 1 1 0 ∷ Entry.C (record { host = 1; inc = 1 }) 2 (Told.Sync 1) ∷
       Entry.A (record { host = 1; inc = 1 }) 1 Said.Ok ∷ Entry.W (record { host = 1; inc = 1 }) 1 0 1 1 false ∷
       Entry.G (record { host = 1; inc = 1 }) 1 Mode.Writing (record { boot = 1; number = 1 }) 6 0 ∷
@@ -361,14 +358,14 @@ abbrev pub run_17 : Example
 run_17 = record {
   head = record { hosts = 2; term = 6; longest = 60; files = ((98 ∷ []), 1) ∷ [] };
   lines =
-      flow ∷ one (Event.Call 1 (Call.WriteSync 1 0 (filled 1))) ∷ round 2 ∷ one (Event.Deliver 1) ∷
-      one (Event.Deliver 2) ∷ one (Event.Call 0 (Call.Read 1 0)) ∷ one (Event.Deliver 3) ∷ one (Event.Deliver 4) ∷
-      round 5 ∷ flow ∷ one (Event.Crash 60) ∷ one (Event.Call 1 (Call.Read 1 0)) ∷ one (Event.Deliver 6) ∷
-      one (Event.Deliver 7) ∷ flow ∷ times 7 (Event.ClientTick 1) ∷ flow ∷ one (Event.Call 0 (Call.Fetch 1 0)) ∷ flow ∷
-      flow ∷ flow ∷ round 1 ∷ one (Event.Call 0 (Call.Read 1 0)) ∷ flow ∷ flow ∷ round 3 ∷ one (Event.Deliver 16) ∷
-      one (Event.Deliver 17) ∷ flow ∷ flow ∷ flow ∷ flow ∷ flow ∷ round 3 ∷ flow ∷ round 2 ∷ one (Event.Deliver 26) ∷
-      one (Event.Deliver 27) ∷ flow ∷ round 1 ∷ round 2 ∷ one (Event.Deliver 30) ∷ one (Event.Deliver 31) ∷
-      one (Event.Deliver 32) ∷ one (Event.Deliver 33) ∷ round 14 ∷ flow ∷ flow ∷ flow ∷ flow ∷ flow ∷ round 3 ∷ flow ∷ [];
+      flow ∷ one (Event.Call 1 (Call.Put 1 0 (filled 1))) ∷ round 2 ∷ one (Event.Deliver 1) ∷ one (Event.Deliver 2) ∷
+      one (Event.Call 0 (Call.Read 1 0)) ∷ one (Event.Deliver 3) ∷ one (Event.Deliver 4) ∷ round 5 ∷ flow ∷
+      one (Event.Crash 60) ∷ one (Event.Call 1 (Call.Read 1 0)) ∷ one (Event.Deliver 6) ∷ one (Event.Deliver 7) ∷ flow ∷
+      times 7 (Event.ClientTick 1) ∷ flow ∷ one (Event.Call 0 (Call.Fetch 1 0)) ∷ flow ∷ flow ∷ flow ∷ round 1 ∷
+      one (Event.Call 0 (Call.Read 1 0)) ∷ flow ∷ flow ∷ round 3 ∷ one (Event.Deliver 16) ∷ one (Event.Deliver 17) ∷
+      flow ∷ flow ∷ flow ∷ flow ∷ flow ∷ round 3 ∷ flow ∷ round 2 ∷ one (Event.Deliver 26) ∷ one (Event.Deliver 27) ∷
+      flow ∷ round 1 ∷ round 2 ∷ one (Event.Deliver 30) ∷ one (Event.Deliver 31) ∷ one (Event.Deliver 32) ∷
+      one (Event.Deliver 33) ∷ round 14 ∷ flow ∷ flow ∷ flow ∷ flow ∷ flow ∷ round 3 ∷ flow ∷ [];
   journal =
       Entry.C (record { host = 0; inc = 1 }) 3 (Told.Read 1 0) ∷
       Entry.A (record { host = 0; inc = 1 }) 2 (Said.OkValue 1) ∷ Entry.R (record { host = 0; inc = 1 }) 2 1 0 1 None ∷
@@ -377,8 +374,7 @@ run_17 = record {
       Entry.A (record { host = 0; inc = 1 }) 1 (Said.OkBy 1 4) ∷ Entry.R (record { host = 0; inc = 1 }) 1 1 0 1 (Some 4) ∷
       Entry.G (record { host = 0; inc = 1 }) 1 Mode.Reading (record { boot = 1; number = 1 }) 6 2 ∷
       Entry.C (record { host = 0; inc = 1 }) 1 (Told.Read 1 0) ∷ Entry.A (record { host = 1; inc = 1 }) 1 Said.Ok ∷
-      Entry.W (record { host = 1; inc = 1 }) 1 0 1 1 true ∷
-      Entry.C (record { host = 1; inc = 1 }) 1 (Told.WriteSync 1 0 1) ∷ [];
+      Entry.W (record { host = 1; inc = 1 }) 1 0 1 1 true ∷ Entry.C (record { host = 1; inc = 1 }) 1 (Told.Put 1 0 1) ∷ [];
 }
 
 -- run 18
@@ -386,7 +382,7 @@ abbrev pub run_18 : Example
 run_18 = record {
   head = record { hosts = 2; term = 6; longest = 60; files = ((33 ∷ []), 4) ∷ [] };
   lines =
-      round 2 ∷ one (Event.Call 1 (Call.WriteSync 1 3 (filled 1))) ∷ one (Event.Deliver 0) ∷ one (Event.Deliver 1) ∷
+      round 2 ∷ one (Event.Call 1 (Call.Put 1 3 (filled 1))) ∷ one (Event.Deliver 0) ∷ one (Event.Deliver 1) ∷
       one (Event.Call 0 (Call.Fetch 1 4)) ∷ one (Event.Call 1 (Call.Fetch 1 1)) ∷ one (Event.Deliver 2) ∷
       one (Event.Deliver 3) ∷ flow ∷ one (Event.Call 0 (Call.Lookup (99 ∷ []))) ∷ round 6 ∷ one (Event.Deliver 8) ∷
       one (Event.Deliver 1) ∷ one (Event.Call 1 (Call.Read 1 2)) ∷ one (Event.Deliver 6) ∷ round 2 ∷
@@ -415,8 +411,7 @@ run_18 = record {
       Entry.R (record { host = 1; inc = 1 }) 2 1 1 0 (Some 5) ∷
       Entry.C (record { host = 1; inc = 1 }) 2 (Told.Fetch 1 1) ∷
       Entry.C (record { host = 0; inc = 1 }) 1 (Told.Fetch 1 4) ∷ Entry.A (record { host = 1; inc = 1 }) 1 Said.Ok ∷
-      Entry.W (record { host = 1; inc = 1 }) 1 3 1 1 true ∷
-      Entry.C (record { host = 1; inc = 1 }) 1 (Told.WriteSync 1 3 1) ∷ [];
+      Entry.W (record { host = 1; inc = 1 }) 1 3 1 1 true ∷ Entry.C (record { host = 1; inc = 1 }) 1 (Told.Put 1 3 1) ∷ [];
 }
 
 -- run 19
@@ -425,9 +420,9 @@ run_19 = record {
   head = record { hosts = 1; term = 10; longest = 60; files = ((99 ∷ []), 2) ∷ ((108 ∷ 111 ∷ 110 ∷ 103 ∷ 45 ∷ 110 ∷ 97 ∷ 109 ∷ 101 ∷ 95 ∷ 119 ∷ 105 ∷ 116 ∷ 104 ∷ 46 ∷ 100 ∷ 111 ∷ 116 ∷ 115 ∷ []), 3) ∷ [] };
   lines =
       one (Event.Call 0 (Call.Write 1 0 (filled 1))) ∷ one (Event.Deliver 0) ∷ one (Event.Deliver 1) ∷
-      one (Event.Call 0 (Call.Fetch 1 0)) ∷ one (Event.Call 0 (Call.WriteSync 1 0 (filled 3))) ∷ round 2 ∷
+      one (Event.Call 0 (Call.Fetch 1 0)) ∷ one (Event.Call 0 (Call.Put 1 0 (filled 3))) ∷ round 2 ∷
       one (Event.Deliver 2) ∷ one (Event.Deliver 3) ∷ one (Event.Deliver 4) ∷ one (Event.Deliver 5) ∷
-      one (Event.Call 0 (Call.Read 1 0)) ∷ round 5 ∷ one (Event.Call 0 (Call.WriteSync 2 0 (filled 4))) ∷ round 2 ∷
+      one (Event.Call 0 (Call.Read 1 0)) ∷ round 5 ∷ one (Event.Call 0 (Call.Put 2 0 (filled 4))) ∷ round 2 ∷
       one (Event.Deliver 7) ∷ one (Event.Deliver 8) ∷ one (Event.Deliver 9) ∷ one (Event.Deliver 10) ∷
       one (Event.Call 0 (Call.Write 1 0 (filled 5))) ∷ round 2 ∷ round 14 ∷ flow ∷ one (Event.Call 0 (Call.Sync 1)) ∷
       flow ∷ one (Event.Call 0 (Call.Read 1 0)) ∷ flow ∷ one (Event.Call 0 (Call.Sync 2)) ∷ flow ∷
@@ -447,11 +442,11 @@ run_19 = record {
       Entry.C (record { host = 0; inc = 1 }) 6 (Told.Write 1 0 5) ∷ Entry.A (record { host = 0; inc = 1 }) 5 Said.Ok ∷
       Entry.W (record { host = 0; inc = 1 }) 2 0 3 4 true ∷
       Entry.G (record { host = 0; inc = 1 }) 1 Mode.Writing (record { boot = 1; number = 2 }) 10 9 ∷
-      Entry.C (record { host = 0; inc = 1 }) 5 (Told.WriteSync 2 0 4) ∷
+      Entry.C (record { host = 0; inc = 1 }) 5 (Told.Put 2 0 4) ∷
       Entry.A (record { host = 0; inc = 1 }) 4 (Said.OkValue 3) ∷ Entry.R (record { host = 0; inc = 1 }) 4 1 0 3 None ∷
       Entry.C (record { host = 0; inc = 1 }) 4 (Told.Read 1 0) ∷ Entry.A (record { host = 0; inc = 1 }) 3 Said.Ok ∷
       Entry.S (record { host = 0; inc = 1 }) 1 0 1 2 2 ∷ Entry.W (record { host = 0; inc = 1 }) 1 0 2 3 false ∷
-      Entry.C (record { host = 0; inc = 1 }) 3 (Told.WriteSync 1 0 3) ∷
+      Entry.C (record { host = 0; inc = 1 }) 3 (Told.Put 1 0 3) ∷
       Entry.A (record { host = 0; inc = 1 }) 2 (Said.OkValue 1) ∷ Entry.R (record { host = 0; inc = 1 }) 2 1 0 1 None ∷
       Entry.C (record { host = 0; inc = 1 }) 2 (Told.Fetch 1 0) ∷ Entry.A (record { host = 0; inc = 1 }) 1 Said.Ok ∷
       Entry.W (record { host = 0; inc = 1 }) 1 0 1 1 false ∷
@@ -464,7 +459,7 @@ abbrev pub run_20 : Example
 run_20 = record {
   head = record { hosts = 1; term = 7; longest = 60; files = ((99 ∷ []), 7) ∷ [] };
   lines =
-      times 1 Event.ServerTick ∷ one (Event.Call 0 (Call.WriteSync 1 6 (filled 1))) ∷ one (Event.Deliver 0) ∷
+      times 1 Event.ServerTick ∷ one (Event.Call 0 (Call.Put 1 6 (filled 1))) ∷ one (Event.Deliver 0) ∷
       one (Event.Deliver 1) ∷ round 4 ∷ one (Event.Deliver 0) ∷ one (Event.Deliver 2) ∷ times 2 (Event.ClientTick 0) ∷
       round 13 ∷ one (Event.Call 0 (Call.Read 1 0)) ∷ times 1 (Event.ClientTick 0) ∷ one (Event.Deliver 3) ∷
       one (Event.Deliver 4) ∷ one (Event.Call 0 (Call.Sync 1)) ∷ one (Event.Deliver 4) ∷
@@ -473,11 +468,10 @@ run_20 = record {
       one (Event.Call 0 (Call.Write 1 4294967295 (filled 3))) ∷ round 2 ∷ one (Event.Deliver 9) ∷ one (Event.Deliver 10) ∷
       one (Event.Crash 60) ∷ one (Event.Deliver 4) ∷ one (Event.Call 0 (Call.Write 1 0 (filled 4))) ∷
       one (Event.Deliver 8) ∷ one (Event.Deliver 11) ∷ one (Event.Deliver 12) ∷ one (Event.Call 0 (Call.Sync 1)) ∷
-      round 4 ∷ one (Event.Call 0 (Call.WriteSync 1 3 (filled 5))) ∷ round 1 ∷ one (Event.Deliver 13) ∷
-      one (Event.Deliver 14) ∷ times 2 Event.ServerTick ∷ one (Event.Deliver 15) ∷ one (Event.Deliver 16) ∷
-      one (Event.Deliver 17) ∷ [];
+      round 4 ∷ one (Event.Call 0 (Call.Put 1 3 (filled 5))) ∷ round 1 ∷ one (Event.Deliver 13) ∷ one (Event.Deliver 14) ∷
+      times 2 Event.ServerTick ∷ one (Event.Deliver 15) ∷ one (Event.Deliver 16) ∷ one (Event.Deliver 17) ∷ [];
   journal =
-      Entry.C (record { host = 0; inc = 1 }) 9 (Told.WriteSync 1 3 5) ∷ Entry.A (record { host = 0; inc = 1 }) 8 Said.Ok ∷
+      Entry.C (record { host = 0; inc = 1 }) 9 (Told.Put 1 3 5) ∷ Entry.A (record { host = 0; inc = 1 }) 8 Said.Ok ∷
       Entry.C (record { host = 0; inc = 1 }) 8 (Told.Sync 1) ∷ Entry.S (record { host = 0; inc = 1 }) 1 0 3 3 22 ∷
       Entry.A (record { host = 0; inc = 1 }) 7 Said.Ok ∷ Entry.W (record { host = 0; inc = 1 }) 1 0 3 4 false ∷
       Entry.C (record { host = 0; inc = 1 }) 7 (Told.Write 1 0 4) ∷ Entry.X 2 22 60 ∷
@@ -493,8 +487,7 @@ run_20 = record {
       Entry.R (record { host = 0; inc = 1 }) 2 1 0 0 (Some 4) ∷
       Entry.G (record { host = 0; inc = 1 }) 1 Mode.Reading (record { boot = 1; number = 1 }) 7 18 ∷
       Entry.C (record { host = 0; inc = 1 }) 2 (Told.Read 1 0) ∷ Entry.A (record { host = 0; inc = 1 }) 1 Said.Ok ∷
-      Entry.W (record { host = 0; inc = 1 }) 1 6 1 1 true ∷
-      Entry.C (record { host = 0; inc = 1 }) 1 (Told.WriteSync 1 6 1) ∷ [];
+      Entry.W (record { host = 0; inc = 1 }) 1 6 1 1 true ∷ Entry.C (record { host = 0; inc = 1 }) 1 (Told.Put 1 6 1) ∷ [];
 }
 
 -- all of these

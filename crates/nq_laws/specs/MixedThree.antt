@@ -31,7 +31,7 @@ abbrev pub run_42 : Example
 run_42 = record {
   head = record { hosts = 3; term = 60; longest = 5; files = ((120 ∷ 120 ∷ 120 ∷ 120 ∷ 120 ∷ 120 ∷ 120 ∷ 120 ∷ 120 ∷ 120 ∷ 120 ∷ 120 ∷ 120 ∷ 120 ∷ 120 ∷ 120 ∷ 120 ∷ 120 ∷ 120 ∷ 120 ∷ 120 ∷ 120 ∷ 120 ∷ 120 ∷ 120 ∷ 120 ∷ 120 ∷ 120 ∷ 120 ∷ 120 ∷ 120 ∷ 120 ∷ 120 ∷ 120 ∷ 120 ∷ 120 ∷ 120 ∷ 120 ∷ 120 ∷ 120 ∷ 120 ∷ 120 ∷ 120 ∷ 120 ∷ 120 ∷ 120 ∷ 120 ∷ 120 ∷ 120 ∷ 120 ∷ 120 ∷ 120 ∷ 120 ∷ 120 ∷ 120 ∷ 120 ∷ 120 ∷ 120 ∷ 120 ∷ 120 ∷ 120 ∷ 120 ∷ 120 ∷ 120 ∷ []), 1) ∷ [] };
   lines =
-      times 3 Event.ServerTick ∷ round 4 ∷ one (Event.Call 2 (Call.WriteSync 1 0 (filled 1))) ∷ round 2 ∷
+      times 3 Event.ServerTick ∷ round 4 ∷ one (Event.Call 2 (Call.Put 1 0 (filled 1))) ∷ round 2 ∷
       one (Event.Deliver 0) ∷ one (Event.Deliver 1) ∷ one (Event.Deliver 2) ∷ one (Event.Deliver 3) ∷
       one (Event.Call 2 (Call.Write 1 0 (filled 2))) ∷ round 3 ∷ one (Event.Call 1 (Call.Resize 1 1)) ∷
       one (Event.Deliver 6) ∷ one (Event.Deliver 7) ∷ one (Event.Deliver 4) ∷ one (Event.Deliver 5) ∷
@@ -49,8 +49,7 @@ run_42 = record {
       Entry.A (record { host = 1; inc = 1 }) 1 Said.Ok ∷ Entry.Z (record { host = 1; inc = 1 }) 1 1 1 1 ∷
       Entry.C (record { host = 1; inc = 1 }) 1 (Told.Resize 1 1) ∷
       Entry.C (record { host = 2; inc = 1 }) 2 (Told.Write 1 0 2) ∷ Entry.A (record { host = 2; inc = 1 }) 1 Said.Ok ∷
-      Entry.W (record { host = 2; inc = 1 }) 1 0 1 1 true ∷
-      Entry.C (record { host = 2; inc = 1 }) 1 (Told.WriteSync 1 0 1) ∷ [];
+      Entry.W (record { host = 2; inc = 1 }) 1 0 1 1 true ∷ Entry.C (record { host = 2; inc = 1 }) 1 (Told.Put 1 0 1) ∷ [];
 }
 
 -- run 43
@@ -58,12 +57,12 @@ abbrev pub run_43 : Example
 run_43 = record {
   head = record { hosts = 2; term = 6; longest = 5; files = ((108 ∷ 111 ∷ 110 ∷ 103 ∷ 45 ∷ 110 ∷ 97 ∷ 109 ∷ 101 ∷ 95 ∷ 119 ∷ 105 ∷ 116 ∷ 104 ∷ 46 ∷ 100 ∷ 111 ∷ 116 ∷ 115 ∷ []), 1) ∷ [] };
   lines =
-      one (Event.Crash 5) ∷ round 1 ∷ one (Event.Call 0 (Call.Sync 1)) ∷
-      one (Event.Call 1 (Call.WriteSync 1 0 (filled 1))) ∷ one (Event.Call 0 (Call.WriteSync 1 0 (filled 2))) ∷ round 2 ∷
-      one (Event.Deliver 0) ∷ one (Event.Deliver 1) ∷ one (Event.Deliver 2) ∷ one (Event.Deliver 3) ∷
-      one (Event.Deliver 4) ∷ one (Event.Deliver 5) ∷ one (Event.Deliver 6) ∷ one (Event.Deliver 7) ∷ round 14 ∷ flow ∷
-      one (Event.Call 0 (Call.Sync 1)) ∷ flow ∷ one (Event.Call 0 (Call.Read 1 0)) ∷ flow ∷
-      one (Event.Call 1 (Call.Sync 1)) ∷ flow ∷ one (Event.Call 1 (Call.Read 1 0)) ∷ flow ∷ round 3 ∷ flow ∷ [];
+      one (Event.Crash 5) ∷ round 1 ∷ one (Event.Call 0 (Call.Sync 1)) ∷ one (Event.Call 1 (Call.Put 1 0 (filled 1))) ∷
+      one (Event.Call 0 (Call.Put 1 0 (filled 2))) ∷ round 2 ∷ one (Event.Deliver 0) ∷ one (Event.Deliver 1) ∷
+      one (Event.Deliver 2) ∷ one (Event.Deliver 3) ∷ one (Event.Deliver 4) ∷ one (Event.Deliver 5) ∷
+      one (Event.Deliver 6) ∷ one (Event.Deliver 7) ∷ round 14 ∷ flow ∷ one (Event.Call 0 (Call.Sync 1)) ∷ flow ∷
+      one (Event.Call 0 (Call.Read 1 0)) ∷ flow ∷ one (Event.Call 1 (Call.Sync 1)) ∷ flow ∷
+      one (Event.Call 1 (Call.Read 1 0)) ∷ flow ∷ round 3 ∷ flow ∷ [];
   journal =
       Entry.A (record { host = 1; inc = 1 }) 3 (Said.OkBy 1 39) ∷
       Entry.R (record { host = 1; inc = 1 }) 3 1 0 1 (Some 39) ∷
@@ -76,8 +75,8 @@ run_43 = record {
       Entry.C (record { host = 0; inc = 1 }) 3 (Told.Sync 1) ∷ Entry.A (record { host = 1; inc = 1 }) 1 Said.Ok ∷
       Entry.A (record { host = 0; inc = 1 }) 2 Said.Ok ∷ Entry.W (record { host = 1; inc = 1 }) 1 0 2 1 true ∷
       Entry.W (record { host = 0; inc = 1 }) 1 0 2 2 true ∷ Entry.O 2 13 0 13 ∷
-      Entry.C (record { host = 0; inc = 1 }) 2 (Told.WriteSync 1 0 2) ∷
-      Entry.C (record { host = 1; inc = 1 }) 1 (Told.WriteSync 1 0 1) ∷ Entry.A (record { host = 0; inc = 1 }) 1 Said.Ok ∷
+      Entry.C (record { host = 0; inc = 1 }) 2 (Told.Put 1 0 2) ∷
+      Entry.C (record { host = 1; inc = 1 }) 1 (Told.Put 1 0 1) ∷ Entry.A (record { host = 0; inc = 1 }) 1 Said.Ok ∷
       Entry.C (record { host = 0; inc = 1 }) 1 (Told.Sync 1) ∷ Entry.X 2 0 5 ∷ [];
 }
 
@@ -124,7 +123,7 @@ run_45 = record {
       one (Event.Call 2 (Call.Write 1 0 (filled 3))) ∷ one (Event.Call 0 (Call.Write 1 0 (filled 4))) ∷
       one (Event.Deliver 0) ∷ one (Event.Deliver 2) ∷ one (Event.Deliver 3) ∷ one (Event.Deliver 4) ∷
       one (Event.Deliver 5) ∷ one (Event.Deliver 3) ∷ one (Event.Deliver 6) ∷
-      one (Event.Call 3 (Call.WriteSync 1 0 (filled 5))) ∷ one (Event.Deliver 7) ∷ one (Event.Deliver 8) ∷ round 1 ∷
+      one (Event.Call 3 (Call.Put 1 0 (filled 5))) ∷ one (Event.Deliver 7) ∷ one (Event.Deliver 8) ∷ round 1 ∷
       one (Event.Deliver 13) ∷ one (Event.Deliver 12) ∷ one (Event.Deliver 9) ∷ one (Event.Deliver 10) ∷
       one (Event.Restart 3) ∷ one (Event.Deliver 11) ∷ one (Event.Deliver 6) ∷ one (Event.Deliver 14) ∷
       one (Event.Deliver 15) ∷ one (Event.Deliver 3) ∷ one (Event.Deliver 7) ∷ one (Event.Deliver 16) ∷
@@ -135,8 +134,8 @@ run_45 = record {
       Entry.G (record { host = 1; inc = 1 }) 1 Mode.NonCaching (record { boot = 1; number = 6 }) 2 5 ∷
       Entry.G (record { host = 2; inc = 1 }) 1 Mode.NonCaching (record { boot = 1; number = 5 }) 4 3 ∷
       Entry.W (record { host = 3; inc = 1 }) 1 0 1 5 true ∷ Entry.B (record { host = 3; inc = 2 }) ∷
-      Entry.C (record { host = 3; inc = 1 }) 3 (Told.WriteSync 1 0 5) ∷
-      Entry.A (record { host = 3; inc = 1 }) 2 Said.Range ∷ Entry.C (record { host = 0; inc = 1 }) 1 (Told.Write 1 0 4) ∷
+      Entry.C (record { host = 3; inc = 1 }) 3 (Told.Put 1 0 5) ∷ Entry.A (record { host = 3; inc = 1 }) 2 Said.Range ∷
+      Entry.C (record { host = 0; inc = 1 }) 1 (Told.Write 1 0 4) ∷
       Entry.C (record { host = 2; inc = 1 }) 1 (Told.Write 1 0 3) ∷
       Entry.G (record { host = 3; inc = 1 }) 1 Mode.Writing (record { boot = 1; number = 1 }) 5 2 ∷
       Entry.C (record { host = 3; inc = 1 }) 2 (Told.Write 1 2 2) ∷
@@ -149,7 +148,7 @@ abbrev pub run_46 : Example
 run_46 = record {
   head = record { hosts = 2; term = 5; longest = 60; files = ((98 ∷ []), 1) ∷ ((33 ∷ []), 7) ∷ ((108 ∷ 111 ∷ 110 ∷ 103 ∷ 45 ∷ 110 ∷ 97 ∷ 109 ∷ 101 ∷ 95 ∷ 119 ∷ 105 ∷ 116 ∷ 104 ∷ 46 ∷ 100 ∷ 111 ∷ 116 ∷ 115 ∷ []), 1) ∷ [] };
   lines =
-      round 1 ∷ round 2 ∷ times 1 Event.ServerTick ∷ flow ∷ one (Event.Call 0 (Call.WriteSync 1 0 (filled 1))) ∷
+      round 1 ∷ round 2 ∷ times 1 Event.ServerTick ∷ flow ∷ one (Event.Call 0 (Call.Put 1 0 (filled 1))) ∷
       one (Event.Deliver 0) ∷ one (Event.Deliver 1) ∷ one (Event.Call 0 (Call.Write 3 0 (filled 3))) ∷ round 3 ∷
       one (Event.Call 1 (Call.Resize 3 1)) ∷ one (Event.Deliver 4) ∷ one (Event.Deliver 5) ∷ one (Event.Crash 37) ∷
       one (Event.Deliver 2) ∷ one (Event.Deliver 3) ∷ one (Event.Deliver 6) ∷ one (Event.Deliver 7) ∷
@@ -163,8 +162,7 @@ run_46 = record {
       Entry.A (record { host = 1; inc = 1 }) 1 Said.Ok ∷ Entry.Z (record { host = 1; inc = 1 }) 1 3 1 1 ∷
       Entry.C (record { host = 1; inc = 1 }) 1 (Told.Resize 3 1) ∷
       Entry.C (record { host = 0; inc = 1 }) 2 (Told.Write 3 0 3) ∷ Entry.A (record { host = 0; inc = 1 }) 1 Said.Ok ∷
-      Entry.W (record { host = 0; inc = 1 }) 1 0 1 1 true ∷
-      Entry.C (record { host = 0; inc = 1 }) 1 (Told.WriteSync 1 0 1) ∷ [];
+      Entry.W (record { host = 0; inc = 1 }) 1 0 1 1 true ∷ Entry.C (record { host = 0; inc = 1 }) 1 (Told.Put 1 0 1) ∷ [];
 }
 
 -- run 47
@@ -173,7 +171,7 @@ run_47 = record {
   head = record { hosts = 3; term = 60; longest = 8; files = ((108 ∷ 111 ∷ 110 ∷ 103 ∷ 45 ∷ 110 ∷ 97 ∷ 109 ∷ 101 ∷ 95 ∷ 119 ∷ 105 ∷ 116 ∷ 104 ∷ 46 ∷ 100 ∷ 111 ∷ 116 ∷ 115 ∷ []), 4) ∷ [] };
   lines =
       one (Event.Call 0 (Call.Write 1 0 (filled 1))) ∷ one (Event.Deliver 0) ∷ one (Event.Deliver 1) ∷
-      one (Event.Call 0 (Call.Write 1 0 (filled 2))) ∷ one (Event.Call 0 (Call.WriteSync 1 1 (filled 3))) ∷ round 16 ∷
+      one (Event.Call 0 (Call.Write 1 0 (filled 2))) ∷ one (Event.Call 0 (Call.Put 1 1 (filled 3))) ∷ round 16 ∷
       one (Event.Call 1 (Call.Resize 1 1)) ∷ one (Event.Deliver 11) ∷ one (Event.Deliver 12) ∷ one (Event.Crash 8) ∷
       one (Event.Deliver 2) ∷ one (Event.Deliver 3) ∷ one (Event.Deliver 4) ∷ one (Event.Deliver 5) ∷
       one (Event.Deliver 6) ∷ one (Event.Deliver 7) ∷ one (Event.Deliver 8) ∷ one (Event.Deliver 9) ∷
@@ -191,10 +189,10 @@ run_47 = record {
       Entry.L (record { host = 0; inc = 1 }) 1 1 3 3 ∷ Entry.L (record { host = 0; inc = 1 }) 1 0 1 2 ∷ Entry.X 2 16 8 ∷
       Entry.A (record { host = 1; inc = 1 }) 1 Said.Ok ∷ Entry.Z (record { host = 1; inc = 1 }) 1 1 4 1 ∷
       Entry.C (record { host = 1; inc = 1 }) 1 (Told.Resize 1 1) ∷ Entry.F (record { host = 0; inc = 1 }) 1 11 0 16 ∷
-      Entry.W (record { host = 0; inc = 1 }) 1 1 3 3 false ∷
-      Entry.C (record { host = 0; inc = 1 }) 3 (Told.WriteSync 1 1 3) ∷ Entry.A (record { host = 0; inc = 1 }) 2 Said.Ok ∷
-      Entry.W (record { host = 0; inc = 1 }) 1 0 2 2 false ∷ Entry.C (record { host = 0; inc = 1 }) 2 (Told.Write 1 0 2) ∷
-      Entry.A (record { host = 0; inc = 1 }) 1 Said.Ok ∷ Entry.W (record { host = 0; inc = 1 }) 1 0 1 1 false ∷
+      Entry.W (record { host = 0; inc = 1 }) 1 1 3 3 false ∷ Entry.C (record { host = 0; inc = 1 }) 3 (Told.Put 1 1 3) ∷
+      Entry.A (record { host = 0; inc = 1 }) 2 Said.Ok ∷ Entry.W (record { host = 0; inc = 1 }) 1 0 2 2 false ∷
+      Entry.C (record { host = 0; inc = 1 }) 2 (Told.Write 1 0 2) ∷ Entry.A (record { host = 0; inc = 1 }) 1 Said.Ok ∷
+      Entry.W (record { host = 0; inc = 1 }) 1 0 1 1 false ∷
       Entry.G (record { host = 0; inc = 1 }) 1 Mode.Writing (record { boot = 1; number = 1 }) 8 0 ∷
       Entry.C (record { host = 0; inc = 1 }) 1 (Told.Write 1 0 1) ∷ [];
 }
@@ -206,7 +204,7 @@ run_48 = record {
   lines =
       one (Event.Call 1 (Call.Write 1 0 (filled 1))) ∷ one (Event.Deliver 0) ∷ one (Event.Deliver 1) ∷
       one (Event.Call 1 (Call.Write 1 0 (filled 2))) ∷ one (Event.Call 1 (Call.Write 1 0 (filled 3))) ∷
-      one (Event.Call 1 (Call.WriteSync 1 0 (filled 4))) ∷ round 13 ∷ one (Event.Call 3 (Call.Write 1 0 (filled 5))) ∷
+      one (Event.Call 1 (Call.Put 1 0 (filled 4))) ∷ round 13 ∷ one (Event.Call 3 (Call.Write 1 0 (filled 5))) ∷
       one (Event.Deliver 9) ∷ one (Event.Deliver 10) ∷ one (Event.Deliver 2) ∷ one (Event.Deliver 3) ∷
       one (Event.Deliver 4) ∷ one (Event.Deliver 5) ∷ one (Event.Deliver 6) ∷ one (Event.Deliver 7) ∷
       one (Event.Deliver 8) ∷ one (Event.Deliver 11) ∷ one (Event.Deliver 12) ∷ one (Event.Deliver 13) ∷
@@ -223,12 +221,11 @@ run_48 = record {
       Entry.W (record { host = 3; inc = 1 }) 1 0 1 5 false ∷
       Entry.G (record { host = 3; inc = 1 }) 1 Mode.Writing (record { boot = 1; number = 2 }) 5 13 ∷
       Entry.C (record { host = 3; inc = 1 }) 1 (Told.Write 1 0 5) ∷ Entry.F (record { host = 1; inc = 1 }) 1 8 0 13 ∷
-      Entry.W (record { host = 1; inc = 1 }) 1 0 4 4 false ∷
-      Entry.C (record { host = 1; inc = 1 }) 4 (Told.WriteSync 1 0 4) ∷ Entry.A (record { host = 1; inc = 1 }) 3 Said.Ok ∷
-      Entry.W (record { host = 1; inc = 1 }) 1 0 3 3 false ∷ Entry.C (record { host = 1; inc = 1 }) 3 (Told.Write 1 0 3) ∷
-      Entry.A (record { host = 1; inc = 1 }) 2 Said.Ok ∷ Entry.W (record { host = 1; inc = 1 }) 1 0 2 2 false ∷
-      Entry.C (record { host = 1; inc = 1 }) 2 (Told.Write 1 0 2) ∷ Entry.A (record { host = 1; inc = 1 }) 1 Said.Ok ∷
-      Entry.W (record { host = 1; inc = 1 }) 1 0 1 1 false ∷
+      Entry.W (record { host = 1; inc = 1 }) 1 0 4 4 false ∷ Entry.C (record { host = 1; inc = 1 }) 4 (Told.Put 1 0 4) ∷
+      Entry.A (record { host = 1; inc = 1 }) 3 Said.Ok ∷ Entry.W (record { host = 1; inc = 1 }) 1 0 3 3 false ∷
+      Entry.C (record { host = 1; inc = 1 }) 3 (Told.Write 1 0 3) ∷ Entry.A (record { host = 1; inc = 1 }) 2 Said.Ok ∷
+      Entry.W (record { host = 1; inc = 1 }) 1 0 2 2 false ∷ Entry.C (record { host = 1; inc = 1 }) 2 (Told.Write 1 0 2) ∷
+      Entry.A (record { host = 1; inc = 1 }) 1 Said.Ok ∷ Entry.W (record { host = 1; inc = 1 }) 1 0 1 1 false ∷
       Entry.G (record { host = 1; inc = 1 }) 1 Mode.Writing (record { boot = 1; number = 1 }) 5 0 ∷
       Entry.C (record { host = 1; inc = 1 }) 1 (Told.Write 1 0 1) ∷ [];
 }
@@ -279,7 +276,7 @@ run_50 = record {
   head = record { hosts = 2; term = 61; longest = 5; files = ((98 ∷ []), 4) ∷ ((99 ∷ []), 2) ∷ [] };
   lines =
       one (Event.Call 0 (Call.Write 1 0 (filled 1))) ∷ one (Event.Deliver 0) ∷ one (Event.Deliver 1) ∷
-      one (Event.Call 0 (Call.WriteSync 1 2 (filled 2))) ∷ round 13 ∷ one (Event.Call 1 (Call.Write 1 1 (filled 4))) ∷
+      one (Event.Call 0 (Call.Put 1 2 (filled 2))) ∷ round 13 ∷ one (Event.Call 1 (Call.Write 1 1 (filled 4))) ∷
       one (Event.Deliver 9) ∷ one (Event.Deliver 10) ∷ one (Event.Crash 5) ∷ round 13 ∷ one (Event.Deliver 2) ∷
       one (Event.Deliver 3) ∷ one (Event.Deliver 4) ∷ one (Event.Deliver 5) ∷ one (Event.Deliver 6) ∷
       one (Event.Deliver 7) ∷ one (Event.Deliver 8) ∷ one (Event.Deliver 11) ∷ one (Event.Deliver 12) ∷
@@ -299,9 +296,8 @@ run_50 = record {
       Entry.W (record { host = 1; inc = 1 }) 1 1 1 4 false ∷
       Entry.G (record { host = 1; inc = 1 }) 1 Mode.Writing (record { boot = 1; number = 2 }) 5 13 ∷
       Entry.C (record { host = 1; inc = 1 }) 1 (Told.Write 1 1 4) ∷ Entry.F (record { host = 0; inc = 1 }) 1 8 0 13 ∷
-      Entry.W (record { host = 0; inc = 1 }) 1 2 2 2 false ∷
-      Entry.C (record { host = 0; inc = 1 }) 2 (Told.WriteSync 1 2 2) ∷ Entry.A (record { host = 0; inc = 1 }) 1 Said.Ok ∷
-      Entry.W (record { host = 0; inc = 1 }) 1 0 1 1 false ∷
+      Entry.W (record { host = 0; inc = 1 }) 1 2 2 2 false ∷ Entry.C (record { host = 0; inc = 1 }) 2 (Told.Put 1 2 2) ∷
+      Entry.A (record { host = 0; inc = 1 }) 1 Said.Ok ∷ Entry.W (record { host = 0; inc = 1 }) 1 0 1 1 false ∷
       Entry.G (record { host = 0; inc = 1 }) 1 Mode.Writing (record { boot = 1; number = 1 }) 5 0 ∷
       Entry.C (record { host = 0; inc = 1 }) 1 (Told.Write 1 0 1) ∷ [];
 }
@@ -317,7 +313,7 @@ run_51 = record {
       one (Event.Deliver 4) ∷ one (Event.Deliver 5) ∷ flow ∷ one (Event.Call 0 (Call.Read 1 0)) ∷ one (Event.Deliver 12) ∷
       one (Event.Call 1 (Call.Read 9 0)) ∷ one (Event.Call 2 (Call.Read 1 0)) ∷ one (Event.Deliver 13) ∷
       one (Event.Deliver 14) ∷ one (Event.Deliver 15) ∷ round 5 ∷ one (Event.Deliver 16) ∷
-      one (Event.Call 1 (Call.WriteSync 9 0 (filled 3))) ∷ one (Event.Deliver 17) ∷ flow ∷ times 2 Event.ServerTick ∷
+      one (Event.Call 1 (Call.Put 9 0 (filled 3))) ∷ one (Event.Deliver 17) ∷ flow ∷ times 2 Event.ServerTick ∷
       one (Event.Deliver 1) ∷ round 1 ∷ one (Event.Call 1 (Call.Remove 1)) ∷ one (Event.Deliver 28) ∷
       one (Event.Deliver 29) ∷ one (Event.Call 2 (Call.Resize 1 4)) ∷ one (Event.Deliver 30) ∷ round 2 ∷
       one (Event.Deliver 31) ∷ one (Event.Call 0 (Call.Read 1 0)) ∷ one (Event.Deliver 32) ∷
@@ -327,9 +323,8 @@ run_51 = record {
       Entry.A (record { host = 2; inc = 1 }) 4 Said.Stale ∷ Entry.C (record { host = 2; inc = 1 }) 4 (Told.Resize 1 4) ∷
       Entry.A (record { host = 1; inc = 2 }) 3 Said.Stale ∷ Entry.C (record { host = 1; inc = 2 }) 3 (Told.Remove 1) ∷
       Entry.A (record { host = 1; inc = 2 }) 2 Said.Stale ∷ Entry.A (record { host = 2; inc = 1 }) 3 Said.Stale ∷
-      Entry.C (record { host = 1; inc = 2 }) 2 (Told.WriteSync 9 0 3) ∷
-      Entry.A (record { host = 1; inc = 2 }) 1 Said.Stale ∷ Entry.A (record { host = 0; inc = 1 }) 3 Said.Stale ∷
-      Entry.C (record { host = 2; inc = 1 }) 3 (Told.Read 1 0) ∷
+      Entry.C (record { host = 1; inc = 2 }) 2 (Told.Put 9 0 3) ∷ Entry.A (record { host = 1; inc = 2 }) 1 Said.Stale ∷
+      Entry.A (record { host = 0; inc = 1 }) 3 Said.Stale ∷ Entry.C (record { host = 2; inc = 1 }) 3 (Told.Read 1 0) ∷
       Entry.C (record { host = 1; inc = 2 }) 1 (Told.Read 9 0) ∷
       Entry.C (record { host = 0; inc = 1 }) 3 (Told.Read 1 0) ∷ Entry.A (record { host = 2; inc = 1 }) 2 Said.Stale ∷
       Entry.A (record { host = 0; inc = 1 }) 2 Said.Ok ∷ Entry.Z (record { host = 0; inc = 1 }) 2 1 4 0 ∷
@@ -391,15 +386,15 @@ run_53 = record {
       one (Event.Deliver 1) ∷ one (Event.Deliver 2) ∷ one (Event.Call 0 (Call.Fetch 1 0)) ∷
       one (Event.Call 1 (Call.Read 1 0)) ∷ one (Event.Deliver 3) ∷ one (Event.Deliver 4) ∷ flow ∷
       one (Event.Call 0 (Call.Read 1 0)) ∷ one (Event.Call 1 (Call.Read 1 0)) ∷ flow ∷
-      one (Event.Call 0 (Call.WriteSync 1 1 (filled 1))) ∷ one (Event.Deliver 10) ∷ one (Event.Deliver 11) ∷
+      one (Event.Call 0 (Call.Put 1 1 (filled 1))) ∷ one (Event.Deliver 10) ∷ one (Event.Deliver 11) ∷
       one (Event.Deliver 12) ∷ one (Event.Deliver 13) ∷ one (Event.Call 1 (Call.Sync 1)) ∷
       one (Event.Call 1 (Call.Write 1 2 (filled 2))) ∷ one (Event.Deliver 14) ∷ one (Event.Deliver 15) ∷
       one (Event.Deliver 16) ∷ one (Event.Deliver 17) ∷ round 3 ∷ one (Event.Deliver 18) ∷ one (Event.Deliver 19) ∷
       one (Event.Deliver 20) ∷ one (Event.Deliver 21) ∷ one (Event.Call 0 (Call.Resize 1 3)) ∷ one (Event.Deliver 22) ∷
       one (Event.Deliver 23) ∷ one (Event.Deliver 24) ∷ times 1 Event.ServerTick ∷ one (Event.Call 1 (Call.Sync 1)) ∷
-      flow ∷ round 6 ∷ one (Event.Call 0 (Call.WriteSync 1 0 (filled 3))) ∷ [];
+      flow ∷ round 6 ∷ one (Event.Call 0 (Call.Put 1 0 (filled 3))) ∷ [];
   journal =
-      Entry.C (record { host = 0; inc = 1 }) 7 (Told.WriteSync 1 0 3) ∷ Entry.A (record { host = 0; inc = 1 }) 6 Said.Ok ∷
+      Entry.C (record { host = 0; inc = 1 }) 7 (Told.Put 1 0 3) ∷ Entry.A (record { host = 0; inc = 1 }) 6 Said.Ok ∷
       Entry.A (record { host = 1; inc = 1 }) 5 Said.Ok ∷ Entry.C (record { host = 1; inc = 1 }) 5 (Told.Sync 1) ∷
       Entry.A (record { host = 1; inc = 1 }) 4 Said.Ok ∷ Entry.Z (record { host = 0; inc = 1 }) 6 1 3 3 ∷
       Entry.W (record { host = 1; inc = 1 }) 1 2 1 2 true ∷ Entry.C (record { host = 0; inc = 1 }) 6 (Told.Resize 1 3) ∷
@@ -407,7 +402,7 @@ run_53 = record {
       Entry.G (record { host = 1; inc = 1 }) 1 Mode.NonCaching (record { boot = 1; number = 6 }) 2 5 ∷
       Entry.W (record { host = 0; inc = 1 }) 1 1 2 1 true ∷ Entry.C (record { host = 1; inc = 1 }) 4 (Told.Write 1 2 2) ∷
       Entry.A (record { host = 1; inc = 1 }) 3 Said.Ok ∷ Entry.C (record { host = 1; inc = 1 }) 3 (Told.Sync 1) ∷
-      Entry.C (record { host = 0; inc = 1 }) 5 (Told.WriteSync 1 1 1) ∷
+      Entry.C (record { host = 0; inc = 1 }) 5 (Told.Put 1 1 1) ∷
       Entry.A (record { host = 0; inc = 1 }) 4 (Said.OkBy 0 9) ∷ Entry.R (record { host = 0; inc = 1 }) 4 1 0 0 (Some 9) ∷
       Entry.G (record { host = 0; inc = 1 }) 1 Mode.Reading (record { boot = 1; number = 4 }) 5 2 ∷
       Entry.A (record { host = 1; inc = 1 }) 2 (Said.OkValue 0) ∷ Entry.R (record { host = 1; inc = 1 }) 2 1 0 0 None ∷
@@ -432,17 +427,16 @@ run_54 = record {
   head = record { hosts = 4; term = 600; longest = 5; files = ((108 ∷ 111 ∷ 110 ∷ 103 ∷ 45 ∷ 110 ∷ 97 ∷ 109 ∷ 101 ∷ 95 ∷ 119 ∷ 105 ∷ 116 ∷ 104 ∷ 46 ∷ 100 ∷ 111 ∷ 116 ∷ 115 ∷ []), 1) ∷ ((99 ∷ []), 7) ∷ [] };
   lines =
       one (Event.Call 1 (Call.Write 1 0 (filled 1))) ∷ one (Event.Deliver 0) ∷ one (Event.Deliver 1) ∷
-      one (Event.Call 1 (Call.WriteSync 1 0 (filled 2))) ∷ one (Event.Call 3 (Call.Write 1 0 (filled 4))) ∷
+      one (Event.Call 1 (Call.Put 1 0 (filled 2))) ∷ one (Event.Call 3 (Call.Write 1 0 (filled 4))) ∷
       one (Event.Deliver 2) ∷ one (Event.Deliver 3) ∷ one (Event.Deliver 4) ∷ one (Event.Deliver 5) ∷
-      one (Event.Deliver 6) ∷ one (Event.Deliver 7) ∷ one (Event.Call 1 (Call.WriteSync 1 0 (filled 5))) ∷ round 2 ∷
+      one (Event.Deliver 6) ∷ one (Event.Deliver 7) ∷ one (Event.Call 1 (Call.Put 1 0 (filled 5))) ∷ round 2 ∷
       one (Event.Deliver 8) ∷ one (Event.Deliver 9) ∷ one (Event.Deliver 10) ∷ one (Event.Deliver 11) ∷
       one (Event.Deliver 12) ∷ one (Event.Deliver 13) ∷ one (Event.Deliver 14) ∷ one (Event.Deliver 15) ∷
       one (Event.Call 3 (Call.Read 1 0)) ∷ one (Event.Deliver 16) ∷ one (Event.Deliver 17) ∷
       one (Event.Call 1 (Call.Write 1 0 (filled 6))) ∷ one (Event.Deliver 18) ∷
       one (Event.Call 3 (Call.Create (97 ∷ []) 1)) ∷ one (Event.Call 2 (Call.Write 2 5 (filled 7))) ∷
-      one (Event.Call 0 (Call.WriteSync 2 6 (filled 8))) ∷ one (Event.Deliver 19) ∷ flow ∷
-      one (Event.Call 3 (Call.Read 1 0)) ∷ one (Event.Deliver 32) ∷ one (Event.Deliver 33) ∷
-      one (Event.Call 3 (Call.Fetch 3 0)) ∷ one (Event.Deliver 34) ∷
+      one (Event.Call 0 (Call.Put 2 6 (filled 8))) ∷ one (Event.Deliver 19) ∷ flow ∷ one (Event.Call 3 (Call.Read 1 0)) ∷
+      one (Event.Deliver 32) ∷ one (Event.Deliver 33) ∷ one (Event.Call 3 (Call.Fetch 3 0)) ∷ one (Event.Deliver 34) ∷
       one (Event.Call 2 (Call.Write 3 0 (filled 4294967295))) ∷ one (Event.Deliver 35) ∷
       one (Event.Call 1 (Call.Write 2 0 (filled 10))) ∷ [];
   journal =
@@ -458,7 +452,7 @@ run_54 = record {
       Entry.W (record { host = 2; inc = 1 }) 2 5 1 7 false ∷ Entry.A (record { host = 3; inc = 1 }) 3 (Said.OkValue 3) ∷
       Entry.W (record { host = 1; inc = 1 }) 1 0 4 6 true ∷
       Entry.G (record { host = 2; inc = 1 }) 2 Mode.Writing (record { boot = 1; number = 5 }) 5 2 ∷
-      Entry.C (record { host = 0; inc = 1 }) 1 (Told.WriteSync 2 6 8) ∷
+      Entry.C (record { host = 0; inc = 1 }) 1 (Told.Put 2 6 8) ∷
       Entry.C (record { host = 2; inc = 1 }) 1 (Told.Write 2 5 7) ∷
       Entry.C (record { host = 3; inc = 1 }) 3 (Told.Create (97 ∷ []) 1) ∷
       Entry.G (record { host = 1; inc = 1 }) 1 Mode.NonCaching (record { boot = 1; number = 4 }) 5 2 ∷
@@ -468,11 +462,10 @@ run_54 = record {
       Entry.C (record { host = 3; inc = 1 }) 2 (Told.Read 1 0) ∷ Entry.A (record { host = 3; inc = 1 }) 1 Said.Ok ∷
       Entry.W (record { host = 3; inc = 1 }) 1 0 1 4 true ∷ Entry.A (record { host = 1; inc = 1 }) 3 Said.Ok ∷
       Entry.G (record { host = 3; inc = 1 }) 1 Mode.NonCaching (record { boot = 1; number = 3 }) 3 2 ∷
-      Entry.W (record { host = 1; inc = 1 }) 1 0 3 5 true ∷
-      Entry.C (record { host = 1; inc = 1 }) 3 (Told.WriteSync 1 0 5) ∷ Entry.A (record { host = 1; inc = 1 }) 2 Said.Ok ∷
-      Entry.S (record { host = 1; inc = 1 }) 1 0 1 2 0 ∷ Entry.C (record { host = 3; inc = 1 }) 1 (Told.Write 1 0 4) ∷
-      Entry.W (record { host = 1; inc = 1 }) 1 0 2 2 false ∷
-      Entry.C (record { host = 1; inc = 1 }) 2 (Told.WriteSync 1 0 2) ∷ Entry.A (record { host = 1; inc = 1 }) 1 Said.Ok ∷
+      Entry.W (record { host = 1; inc = 1 }) 1 0 3 5 true ∷ Entry.C (record { host = 1; inc = 1 }) 3 (Told.Put 1 0 5) ∷
+      Entry.A (record { host = 1; inc = 1 }) 2 Said.Ok ∷ Entry.S (record { host = 1; inc = 1 }) 1 0 1 2 0 ∷
+      Entry.C (record { host = 3; inc = 1 }) 1 (Told.Write 1 0 4) ∷ Entry.W (record { host = 1; inc = 1 }) 1 0 2 2 false ∷
+      Entry.C (record { host = 1; inc = 1 }) 2 (Told.Put 1 0 2) ∷ Entry.A (record { host = 1; inc = 1 }) 1 Said.Ok ∷
       Entry.W (record { host = 1; inc = 1 }) 1 0 1 1 false ∷
       Entry.G (record { host = 1; inc = 1 }) 1 Mode.Writing (record { boot = 1; number = 1 }) 5 0 ∷
       Entry.C (record { host = 1; inc = 1 }) 1 (Told.Write 1 0 1) ∷ [];
@@ -486,14 +479,13 @@ run_55 = record {
       round 1 ∷ one (Event.Call 0 (Call.Read 2 1)) ∷ one (Event.Deliver 0) ∷ round 5 ∷ one (Event.Deliver 1) ∷
       one (Event.Call 0 (Call.Write 1 0 (filled 0))) ∷ one (Event.Call 1 (Call.Fetch 1 0)) ∷ one (Event.Deliver 2) ∷
       one (Event.Deliver 3) ∷ flow ∷ one (Event.Call 1 (Call.Write 1 0 (filled 2))) ∷ round 1 ∷ times 1 Event.ServerTick ∷
-      flow ∷ one (Event.Call 1 (Call.WriteSync 1 4294967295 (filled 3))) ∷
-      one (Event.Call 0 (Call.Write 1 0 (filled 4))) ∷ one (Event.Deliver 14) ∷ one (Event.Deliver 15) ∷ flow ∷
-      one (Event.Call 0 (Call.Read 1 0)) ∷ one (Event.Call 0 (Call.Write 1 0 (filled 5))) ∷ round 2 ∷
-      one (Event.Deliver 9) ∷ one (Event.Call 0 (Call.Resize 2 3)) ∷ one (Event.Deliver 16) ∷ one (Event.Deliver 17) ∷
-      one (Event.Deliver 18) ∷ one (Event.Deliver 19) ∷ one (Event.Deliver 20) ∷ one (Event.Deliver 21) ∷
-      one (Event.Deliver 22) ∷ times 1 Event.ServerTick ∷ one (Event.Deliver 23) ∷ one (Event.Call 0 (Call.Read 1 0)) ∷
-      one (Event.Deliver 24) ∷ one (Event.Deliver 25) ∷ one (Event.Call 0 (Call.Fetch 2 0)) ∷ one (Event.Deliver 26) ∷
-      flow ∷ round 1 ∷ [];
+      flow ∷ one (Event.Call 1 (Call.Put 1 4294967295 (filled 3))) ∷ one (Event.Call 0 (Call.Write 1 0 (filled 4))) ∷
+      one (Event.Deliver 14) ∷ one (Event.Deliver 15) ∷ flow ∷ one (Event.Call 0 (Call.Read 1 0)) ∷
+      one (Event.Call 0 (Call.Write 1 0 (filled 5))) ∷ round 2 ∷ one (Event.Deliver 9) ∷
+      one (Event.Call 0 (Call.Resize 2 3)) ∷ one (Event.Deliver 16) ∷ one (Event.Deliver 17) ∷ one (Event.Deliver 18) ∷
+      one (Event.Deliver 19) ∷ one (Event.Deliver 20) ∷ one (Event.Deliver 21) ∷ one (Event.Deliver 22) ∷
+      times 1 Event.ServerTick ∷ one (Event.Deliver 23) ∷ one (Event.Call 0 (Call.Read 1 0)) ∷ one (Event.Deliver 24) ∷
+      one (Event.Deliver 25) ∷ one (Event.Call 0 (Call.Fetch 2 0)) ∷ one (Event.Deliver 26) ∷ flow ∷ round 1 ∷ [];
   journal =
       Entry.A (record { host = 0; inc = 1 }) 8 (Said.OkBy 0 27) ∷
       Entry.R (record { host = 0; inc = 1 }) 8 2 0 0 (Some 27) ∷
@@ -510,7 +502,7 @@ run_55 = record {
       Entry.W (record { host = 0; inc = 1 }) 1 0 2 4 false ∷
       Entry.G (record { host = 0; inc = 1 }) 1 Mode.Writing (record { boot = 1; number = 5 }) 5 8 ∷
       Entry.C (record { host = 0; inc = 1 }) 3 (Told.Write 1 0 4) ∷ Entry.A (record { host = 1; inc = 1 }) 3 Said.Busy ∷
-      Entry.C (record { host = 1; inc = 1 }) 3 (Told.WriteSync 1 4294967295 3) ∷
+      Entry.C (record { host = 1; inc = 1 }) 3 (Told.Put 1 4294967295 3) ∷
       Entry.A (record { host = 1; inc = 1 }) 2 Said.Busy ∷ Entry.C (record { host = 1; inc = 1 }) 2 (Told.Write 1 0 2) ∷
       Entry.S (record { host = 0; inc = 1 }) 1 0 1 1 6 ∷ Entry.A (record { host = 0; inc = 1 }) 2 Said.Ok ∷
       Entry.W (record { host = 0; inc = 1 }) 1 0 1 0 false ∷
@@ -532,7 +524,7 @@ run_56 = record {
   head = record { hosts = 3; term = 600; longest = 5; files = ((120 ∷ 120 ∷ 120 ∷ 120 ∷ 120 ∷ 120 ∷ 120 ∷ 120 ∷ 120 ∷ 120 ∷ 120 ∷ 120 ∷ 120 ∷ 120 ∷ 120 ∷ 120 ∷ 120 ∷ 120 ∷ 120 ∷ 120 ∷ 120 ∷ 120 ∷ 120 ∷ 120 ∷ 120 ∷ 120 ∷ 120 ∷ 120 ∷ 120 ∷ 120 ∷ 120 ∷ 120 ∷ 120 ∷ 120 ∷ 120 ∷ 120 ∷ 120 ∷ 120 ∷ 120 ∷ 120 ∷ 120 ∷ 120 ∷ 120 ∷ 120 ∷ 120 ∷ 120 ∷ 120 ∷ 120 ∷ 120 ∷ 120 ∷ 120 ∷ 120 ∷ 120 ∷ 120 ∷ 120 ∷ 120 ∷ 120 ∷ 120 ∷ 120 ∷ 120 ∷ 120 ∷ 120 ∷ 120 ∷ 120 ∷ []), 3) ∷ [] };
   lines =
       one (Event.Call 1 (Call.Write 1 0 (filled 1))) ∷ one (Event.Deliver 0) ∷ one (Event.Deliver 1) ∷
-      one (Event.Call 1 (Call.WriteSync 1 0 (filled 2))) ∷ round 13 ∷ one (Event.Call 2 (Call.Remove 1)) ∷
+      one (Event.Call 1 (Call.Put 1 0 (filled 2))) ∷ round 13 ∷ one (Event.Call 2 (Call.Remove 1)) ∷
       one (Event.Deliver 9) ∷ one (Event.Deliver 10) ∷ one (Event.Deliver 2) ∷ one (Event.Deliver 3) ∷
       one (Event.Deliver 4) ∷ one (Event.Deliver 5) ∷ one (Event.Deliver 6) ∷ one (Event.Deliver 7) ∷
       one (Event.Deliver 8) ∷ one (Event.Deliver 11) ∷ one (Event.Deliver 12) ∷ one (Event.Deliver 13) ∷
@@ -541,20 +533,19 @@ run_56 = record {
       one (Event.Call 1 (Call.Write 1 0 (filled 4))) ∷ one (Event.Deliver 20) ∷ one (Event.Deliver 21) ∷
       one (Event.Call 1 (Call.Write 9 0 (filled 5))) ∷ one (Event.Call 2 (Call.Read 0 1)) ∷ one (Event.Deliver 23) ∷
       round 2 ∷ one (Event.Deliver 24) ∷ one (Event.Deliver 26) ∷ one (Event.Deliver 27) ∷
-      one (Event.Call 2 (Call.WriteSync 9 0 (filled 6))) ∷ one (Event.Deliver 28) ∷ one (Event.Deliver 29) ∷
-      times 2 Event.ServerTick ∷ one (Event.Call 0 (Call.WriteSync 9 0 (filled 7))) ∷
-      one (Event.Call 2 (Call.WriteSync 4294967295 0 (filled 8))) ∷ one (Event.Deliver 31) ∷ one (Event.Deliver 32) ∷
-      round 2 ∷ one (Event.Deliver 22) ∷ one (Event.Deliver 25) ∷ one (Event.Deliver 33) ∷ one (Event.Deliver 34) ∷
+      one (Event.Call 2 (Call.Put 9 0 (filled 6))) ∷ one (Event.Deliver 28) ∷ one (Event.Deliver 29) ∷
+      times 2 Event.ServerTick ∷ one (Event.Call 0 (Call.Put 9 0 (filled 7))) ∷
+      one (Event.Call 2 (Call.Put 4294967295 0 (filled 8))) ∷ one (Event.Deliver 31) ∷ one (Event.Deliver 32) ∷ round 2 ∷
+      one (Event.Deliver 22) ∷ one (Event.Deliver 25) ∷ one (Event.Deliver 33) ∷ one (Event.Deliver 34) ∷
       one (Event.Deliver 35) ∷ one (Event.Deliver 36) ∷ one (Event.Deliver 37) ∷ one (Event.Deliver 38) ∷ round 14 ∷
       flow ∷ round 3 ∷ flow ∷ [];
   journal =
       Entry.A (record { host = 0; inc = 1 }) 1 Said.Stale ∷ Entry.A (record { host = 1; inc = 1 }) 5 Said.Stale ∷
       Entry.A (record { host = 2; inc = 1 }) 4 Said.Stale ∷
-      Entry.C (record { host = 2; inc = 1 }) 4 (Told.WriteSync 4294967295 0 8) ∷
-      Entry.C (record { host = 0; inc = 1 }) 1 (Told.WriteSync 9 0 7) ∷
-      Entry.A (record { host = 2; inc = 1 }) 3 Said.Stale ∷
-      Entry.C (record { host = 2; inc = 1 }) 3 (Told.WriteSync 9 0 6) ∷
-      Entry.A (record { host = 2; inc = 1 }) 2 Said.Stale ∷ Entry.C (record { host = 2; inc = 1 }) 2 (Told.Read 0 1) ∷
+      Entry.C (record { host = 2; inc = 1 }) 4 (Told.Put 4294967295 0 8) ∷
+      Entry.C (record { host = 0; inc = 1 }) 1 (Told.Put 9 0 7) ∷ Entry.A (record { host = 2; inc = 1 }) 3 Said.Stale ∷
+      Entry.C (record { host = 2; inc = 1 }) 3 (Told.Put 9 0 6) ∷ Entry.A (record { host = 2; inc = 1 }) 2 Said.Stale ∷
+      Entry.C (record { host = 2; inc = 1 }) 2 (Told.Read 0 1) ∷
       Entry.C (record { host = 1; inc = 1 }) 5 (Told.Write 9 0 5) ∷ Entry.A (record { host = 1; inc = 1 }) 4 Said.Stale ∷
       Entry.C (record { host = 1; inc = 1 }) 4 (Told.Write 1 0 4) ∷ Entry.A (record { host = 1; inc = 1 }) 3 Said.Stale ∷
       Entry.C (record { host = 1; inc = 1 }) 3 (Told.Remove 1) ∷
@@ -562,7 +553,7 @@ run_56 = record {
       Entry.L (record { host = 1; inc = 1 }) 1 0 1 2 ∷ Entry.A (record { host = 2; inc = 1 }) 1 Said.Ok ∷
       Entry.Z (record { host = 2; inc = 1 }) 1 1 3 0 ∷ Entry.C (record { host = 2; inc = 1 }) 1 (Told.Remove 1) ∷
       Entry.F (record { host = 1; inc = 1 }) 1 8 0 13 ∷ Entry.W (record { host = 1; inc = 1 }) 1 0 2 2 false ∷
-      Entry.C (record { host = 1; inc = 1 }) 2 (Told.WriteSync 1 0 2) ∷ Entry.A (record { host = 1; inc = 1 }) 1 Said.Ok ∷
+      Entry.C (record { host = 1; inc = 1 }) 2 (Told.Put 1 0 2) ∷ Entry.A (record { host = 1; inc = 1 }) 1 Said.Ok ∷
       Entry.W (record { host = 1; inc = 1 }) 1 0 1 1 false ∷
       Entry.G (record { host = 1; inc = 1 }) 1 Mode.Writing (record { boot = 1; number = 1 }) 5 0 ∷
       Entry.C (record { host = 1; inc = 1 }) 1 (Told.Write 1 0 1) ∷ [];
@@ -665,10 +656,10 @@ run_59 = record {
       round 1 ∷ one (Event.Deliver 18) ∷ one (Event.Deliver 19) ∷ one (Event.Restart 0) ∷ one (Event.Deliver 20) ∷
       round 3 ∷ round 1 ∷ one (Event.Deliver 21) ∷ one (Event.Call 0 (Call.Sync 1)) ∷
       one (Event.Call 2 (Call.Write 1 0 (filled 2))) ∷ one (Event.Deliver 22) ∷ one (Event.Deliver 12) ∷
-      one (Event.Deliver 23) ∷ one (Event.Call 1 (Call.WriteSync 2 4294967295 (filled 3))) ∷ one (Event.Deliver 24) ∷
-      round 1 ∷ round 6 ∷ one (Event.Call 0 (Call.Sync 2)) ∷ one (Event.Deliver 25) ∷
-      one (Event.Call 4 (Call.Fetch 2 0)) ∷ one (Event.Call 0 (Call.Read 2 2)) ∷ one (Event.Deliver 26) ∷
-      one (Event.Deliver 27) ∷ flow ∷ round 3 ∷ one (Event.Call 1 (Call.Read 2 0)) ∷ [];
+      one (Event.Deliver 23) ∷ one (Event.Call 1 (Call.Put 2 4294967295 (filled 3))) ∷ one (Event.Deliver 24) ∷ round 1 ∷
+      round 6 ∷ one (Event.Call 0 (Call.Sync 2)) ∷ one (Event.Deliver 25) ∷ one (Event.Call 4 (Call.Fetch 2 0)) ∷
+      one (Event.Call 0 (Call.Read 2 2)) ∷ one (Event.Deliver 26) ∷ one (Event.Deliver 27) ∷ flow ∷ round 3 ∷
+      one (Event.Call 1 (Call.Read 2 0)) ∷ [];
   journal =
       Entry.C (record { host = 1; inc = 1 }) 2 (Told.Read 2 0) ∷
       Entry.A (record { host = 0; inc = 3 }) 3 (Said.OkBy 0 57) ∷
@@ -679,7 +670,7 @@ run_59 = record {
       Entry.C (record { host = 0; inc = 3 }) 3 (Told.Read 2 2) ∷
       Entry.C (record { host = 4; inc = 1 }) 1 (Told.Fetch 2 0) ∷ Entry.A (record { host = 0; inc = 3 }) 2 Said.Ok ∷
       Entry.C (record { host = 0; inc = 3 }) 2 (Told.Sync 2) ∷
-      Entry.C (record { host = 1; inc = 1 }) 1 (Told.WriteSync 2 4294967295 3) ∷
+      Entry.C (record { host = 1; inc = 1 }) 1 (Told.Put 2 4294967295 3) ∷
       Entry.Z (record { host = 3; inc = 1 }) 1 1 2 0 ∷ Entry.C (record { host = 2; inc = 1 }) 3 (Told.Write 1 0 2) ∷
       Entry.A (record { host = 0; inc = 3 }) 1 Said.Ok ∷ Entry.C (record { host = 0; inc = 3 }) 1 (Told.Sync 1) ∷
       Entry.B (record { host = 0; inc = 3 }) ∷ Entry.A (record { host = 0; inc = 2 }) 1 (Said.OkBy 1 19) ∷
@@ -700,7 +691,7 @@ run_60 = record {
   head = record { hosts = 2; term = 12; longest = 5; files = ((120 ∷ 120 ∷ 120 ∷ 120 ∷ 120 ∷ 120 ∷ 120 ∷ 120 ∷ 120 ∷ 120 ∷ 120 ∷ 120 ∷ 120 ∷ 120 ∷ 120 ∷ 120 ∷ 120 ∷ 120 ∷ 120 ∷ 120 ∷ 120 ∷ 120 ∷ 120 ∷ 120 ∷ 120 ∷ 120 ∷ 120 ∷ 120 ∷ 120 ∷ 120 ∷ 120 ∷ 120 ∷ 120 ∷ 120 ∷ 120 ∷ 120 ∷ 120 ∷ 120 ∷ 120 ∷ 120 ∷ 120 ∷ 120 ∷ 120 ∷ 120 ∷ 120 ∷ 120 ∷ 120 ∷ 120 ∷ 120 ∷ 120 ∷ 120 ∷ 120 ∷ 120 ∷ 120 ∷ 120 ∷ 120 ∷ 120 ∷ 120 ∷ 120 ∷ 120 ∷ 120 ∷ 120 ∷ 120 ∷ 120 ∷ []), 1) ∷ ((97 ∷ []), 4) ∷ [] };
   lines =
       one (Event.Call 0 (Call.Write 2 0 (filled 1))) ∷ one (Event.Deliver 0) ∷ one (Event.Deliver 1) ∷
-      one (Event.Call 0 (Call.WriteSync 2 1 (filled 2))) ∷ round 13 ∷ one (Event.Call 1 (Call.Remove 2)) ∷
+      one (Event.Call 0 (Call.Put 2 1 (filled 2))) ∷ round 13 ∷ one (Event.Call 1 (Call.Remove 2)) ∷
       one (Event.Deliver 9) ∷ one (Event.Deliver 10) ∷ one (Event.Deliver 2) ∷ one (Event.Deliver 3) ∷
       one (Event.Deliver 4) ∷ one (Event.Deliver 5) ∷ one (Event.Deliver 6) ∷ one (Event.Deliver 7) ∷
       one (Event.Deliver 8) ∷ one (Event.Deliver 11) ∷ one (Event.Deliver 12) ∷ one (Event.Deliver 13) ∷
@@ -739,9 +730,8 @@ run_60 = record {
       Entry.L (record { host = 0; inc = 1 }) 2 1 2 2 ∷ Entry.L (record { host = 0; inc = 1 }) 2 0 1 1 ∷
       Entry.A (record { host = 1; inc = 1 }) 1 Said.Ok ∷ Entry.Z (record { host = 1; inc = 1 }) 1 2 4 0 ∷
       Entry.C (record { host = 1; inc = 1 }) 1 (Told.Remove 2) ∷ Entry.F (record { host = 0; inc = 1 }) 2 8 0 13 ∷
-      Entry.W (record { host = 0; inc = 1 }) 2 1 2 2 false ∷
-      Entry.C (record { host = 0; inc = 1 }) 2 (Told.WriteSync 2 1 2) ∷ Entry.A (record { host = 0; inc = 1 }) 1 Said.Ok ∷
-      Entry.W (record { host = 0; inc = 1 }) 2 0 1 1 false ∷
+      Entry.W (record { host = 0; inc = 1 }) 2 1 2 2 false ∷ Entry.C (record { host = 0; inc = 1 }) 2 (Told.Put 2 1 2) ∷
+      Entry.A (record { host = 0; inc = 1 }) 1 Said.Ok ∷ Entry.W (record { host = 0; inc = 1 }) 2 0 1 1 false ∷
       Entry.G (record { host = 0; inc = 1 }) 2 Mode.Writing (record { boot = 1; number = 1 }) 5 0 ∷
       Entry.C (record { host = 0; inc = 1 }) 1 (Told.Write 2 0 1) ∷ [];
 }
@@ -752,17 +742,17 @@ run_61 = record {
   head = record { hosts = 4; term = 100; longest = 20; files = ((98 ∷ []), 2) ∷ ((126 ∷ 46 ∷ 126 ∷ []), 4) ∷ [] };
   lines =
       round 6 ∷ flow ∷ one (Event.Call 1 (Call.Write 1 0 (filled 1))) ∷ flow ∷
-      one (Event.Call 1 (Call.WriteSync 1 0 (filled 2))) ∷ one (Event.Deliver 2) ∷ flow ∷
-      one (Event.Call 1 (Call.Sync 1)) ∷ one (Event.Call 0 (Call.Write 1 0 (filled 3))) ∷ one (Event.Deliver 4) ∷
-      one (Event.Deliver 6) ∷ one (Event.Deliver 2) ∷ times 1 Event.ServerTick ∷ round 1 ∷ round 1 ∷ round 2 ∷
-      one (Event.Deliver 7) ∷ one (Event.Deliver 8) ∷ one (Event.Deliver 9) ∷ one (Event.Deliver 10) ∷
-      one (Event.Deliver 11) ∷ one (Event.Deliver 12) ∷ one (Event.Deliver 13) ∷ one (Event.Deliver 14) ∷
-      one (Event.Deliver 15) ∷ one (Event.Call 2 (Call.Write 1 0 (filled 4))) ∷ one (Event.Deliver 16) ∷ round 2 ∷
-      one (Event.Deliver 17) ∷ one (Event.Deliver 18) ∷ one (Event.Deliver 19) ∷ one (Event.Deliver 20) ∷
-      one (Event.Deliver 21) ∷ one (Event.Deliver 22) ∷ one (Event.Deliver 23) ∷ one (Event.Deliver 24) ∷
-      one (Event.Deliver 25) ∷ times 1 Event.ServerTick ∷ one (Event.Call 3 (Call.Attr 1)) ∷ round 1 ∷ round 2 ∷
-      one (Event.Deliver 26) ∷ one (Event.Deliver 27) ∷ one (Event.Deliver 28) ∷ one (Event.Deliver 29) ∷
-      one (Event.Deliver 20) ∷ one (Event.Deliver 30) ∷
+      one (Event.Call 1 (Call.Put 1 0 (filled 2))) ∷ one (Event.Deliver 2) ∷ flow ∷ one (Event.Call 1 (Call.Sync 1)) ∷
+      one (Event.Call 0 (Call.Write 1 0 (filled 3))) ∷ one (Event.Deliver 4) ∷ one (Event.Deliver 6) ∷
+      one (Event.Deliver 2) ∷ times 1 Event.ServerTick ∷ round 1 ∷ round 1 ∷ round 2 ∷ one (Event.Deliver 7) ∷
+      one (Event.Deliver 8) ∷ one (Event.Deliver 9) ∷ one (Event.Deliver 10) ∷ one (Event.Deliver 11) ∷
+      one (Event.Deliver 12) ∷ one (Event.Deliver 13) ∷ one (Event.Deliver 14) ∷ one (Event.Deliver 15) ∷
+      one (Event.Call 2 (Call.Write 1 0 (filled 4))) ∷ one (Event.Deliver 16) ∷ round 2 ∷ one (Event.Deliver 17) ∷
+      one (Event.Deliver 18) ∷ one (Event.Deliver 19) ∷ one (Event.Deliver 20) ∷ one (Event.Deliver 21) ∷
+      one (Event.Deliver 22) ∷ one (Event.Deliver 23) ∷ one (Event.Deliver 24) ∷ one (Event.Deliver 25) ∷
+      times 1 Event.ServerTick ∷ one (Event.Call 3 (Call.Attr 1)) ∷ round 1 ∷ round 2 ∷ one (Event.Deliver 26) ∷
+      one (Event.Deliver 27) ∷ one (Event.Deliver 28) ∷ one (Event.Deliver 29) ∷ one (Event.Deliver 20) ∷
+      one (Event.Deliver 30) ∷
       one (Event.Call 1 (Call.Create (120 ∷ 120 ∷ 120 ∷ 120 ∷ 120 ∷ 120 ∷ 120 ∷ 120 ∷ 120 ∷ 120 ∷ 120 ∷ 120 ∷ 120 ∷ 120 ∷ 120 ∷ 120 ∷ 120 ∷ 120 ∷ 120 ∷ 120 ∷ 120 ∷ 120 ∷ 120 ∷ 120 ∷ 120 ∷ 120 ∷ 120 ∷ 120 ∷ 120 ∷ 120 ∷ 120 ∷ 120 ∷ 120 ∷ 120 ∷ 120 ∷ 120 ∷ 120 ∷ 120 ∷ 120 ∷ 120 ∷ 120 ∷ 120 ∷ 120 ∷ 120 ∷ 120 ∷ 120 ∷ 120 ∷ 120 ∷ 120 ∷ 120 ∷ 120 ∷ 120 ∷ 120 ∷ 120 ∷ 120 ∷ 120 ∷ 120 ∷ 120 ∷ 120 ∷ 120 ∷ 120 ∷ 120 ∷ 120 ∷ 120 ∷ []) 3)) ∷
       one (Event.Call 0 (Call.Read 1 0)) ∷ one (Event.Deliver 31) ∷ flow ∷
       one (Event.Call 1 (Call.Write 3 1 (filled 5))) ∷ one (Event.Deliver 36) ∷ one (Event.Deliver 37) ∷ flow ∷
@@ -789,7 +779,7 @@ run_61 = record {
       Entry.C (record { host = 0; inc = 1 }) 1 (Told.Write 1 0 3) ∷ Entry.A (record { host = 1; inc = 1 }) 3 Said.Ok ∷
       Entry.C (record { host = 1; inc = 1 }) 3 (Told.Sync 1) ∷ Entry.A (record { host = 1; inc = 1 }) 2 Said.Ok ∷
       Entry.S (record { host = 1; inc = 1 }) 1 0 1 2 6 ∷ Entry.W (record { host = 1; inc = 1 }) 1 0 2 2 false ∷
-      Entry.C (record { host = 1; inc = 1 }) 2 (Told.WriteSync 1 0 2) ∷ Entry.A (record { host = 1; inc = 1 }) 1 Said.Ok ∷
+      Entry.C (record { host = 1; inc = 1 }) 2 (Told.Put 1 0 2) ∷ Entry.A (record { host = 1; inc = 1 }) 1 Said.Ok ∷
       Entry.W (record { host = 1; inc = 1 }) 1 0 1 1 false ∷
       Entry.G (record { host = 1; inc = 1 }) 1 Mode.Writing (record { boot = 1; number = 1 }) 20 6 ∷
       Entry.C (record { host = 1; inc = 1 }) 1 (Told.Write 1 0 1) ∷ [];
@@ -802,7 +792,7 @@ run_62 = record {
   lines =
       one (Event.Call 0 (Call.Resize 1 2)) ∷ round 2 ∷ one (Event.Deliver 0) ∷ one (Event.Deliver 1) ∷
       one (Event.Deliver 2) ∷ one (Event.Deliver 3) ∷ times 1 (Event.ClientTick 1) ∷
-      one (Event.Call 0 (Call.Write 1 1 (filled 1))) ∷ one (Event.Call 1 (Call.WriteSync 1 0 (filled 2))) ∷
+      one (Event.Call 0 (Call.Write 1 1 (filled 1))) ∷ one (Event.Call 1 (Call.Put 1 0 (filled 2))) ∷
       one (Event.Deliver 4) ∷ one (Event.Deliver 5) ∷ one (Event.Crash 5) ∷ one (Event.Deliver 6) ∷
       one (Event.Deliver 7) ∷ one (Event.Deliver 8) ∷ one (Event.Deliver 9) ∷ one (Event.Deliver 10) ∷
       one (Event.Deliver 11) ∷ round 13 ∷ one (Event.Call 0 (Call.Sync 1)) ∷ one (Event.Deliver 12) ∷
@@ -843,7 +833,7 @@ run_62 = record {
       Entry.O 2 15 2 15 ∷ Entry.S (record { host = 0; inc = 1 }) 1 1 1 1 2 ∷
       Entry.A (record { host = 0; inc = 1 }) 2 Said.Ok ∷ Entry.W (record { host = 0; inc = 1 }) 1 1 1 1 false ∷
       Entry.X 2 2 5 ∷ Entry.G (record { host = 0; inc = 1 }) 1 Mode.Writing (record { boot = 1; number = 1 }) 5 2 ∷
-      Entry.C (record { host = 1; inc = 1 }) 1 (Told.WriteSync 1 0 2) ∷
+      Entry.C (record { host = 1; inc = 1 }) 1 (Told.Put 1 0 2) ∷
       Entry.C (record { host = 0; inc = 1 }) 2 (Told.Write 1 1 1) ∷ Entry.A (record { host = 0; inc = 1 }) 1 Said.Ok ∷
       Entry.Z (record { host = 0; inc = 1 }) 1 1 7 2 ∷ Entry.C (record { host = 0; inc = 1 }) 1 (Told.Resize 1 2) ∷ [];
 }
@@ -853,7 +843,7 @@ abbrev pub run_63 : Example
 run_63 = record {
   head = record { hosts = 3; term = 8; longest = 60; files = ((33 ∷ []), 2) ∷ ((126 ∷ 46 ∷ 126 ∷ []), 3) ∷ [] };
   lines =
-      one (Event.Call 1 (Call.Resize 1 1)) ∷ one (Event.Call 0 (Call.WriteSync 1 1 (filled 1))) ∷
+      one (Event.Call 1 (Call.Resize 1 1)) ∷ one (Event.Call 0 (Call.Put 1 1 (filled 1))) ∷
       one (Event.Call 2 (Call.Read 1 0)) ∷ one (Event.Deliver 0) ∷ round 5 ∷ one (Event.Deliver 1) ∷
       one (Event.Deliver 8) ∷ one (Event.Deliver 2) ∷ one (Event.Deliver 3) ∷ one (Event.Deliver 0) ∷ flow ∷
       times 2 Event.ServerTick ∷ one (Event.Call 0 (Call.Write 1 0 (filled 2))) ∷ one (Event.Deliver 19) ∷
@@ -904,7 +894,7 @@ run_63 = record {
       Entry.A (record { host = 1; inc = 1 }) 1 Said.Ok ∷ Entry.R (record { host = 2; inc = 1 }) 1 1 0 0 (Some 12) ∷
       Entry.G (record { host = 2; inc = 1 }) 1 Mode.Reading (record { boot = 1; number = 1 }) 8 5 ∷
       Entry.Z (record { host = 1; inc = 1 }) 1 1 2 1 ∷ Entry.C (record { host = 2; inc = 1 }) 1 (Told.Read 1 0) ∷
-      Entry.C (record { host = 0; inc = 1 }) 1 (Told.WriteSync 1 1 1) ∷
+      Entry.C (record { host = 0; inc = 1 }) 1 (Told.Put 1 1 1) ∷
       Entry.C (record { host = 1; inc = 1 }) 1 (Told.Resize 1 1) ∷ [];
 }
 
@@ -916,26 +906,25 @@ run_64 = record {
       one (Event.Call 1 (Call.Read 1 0)) ∷ one (Event.Deliver 0) ∷ one (Event.Deliver 1) ∷
       one (Event.Call 1 (Call.Read 1 0)) ∷ one (Event.Call 1 (Call.Read 1 0)) ∷ one (Event.Call 1 (Call.Read 1 0)) ∷
       one (Event.Call 1 (Call.Read 1 0)) ∷ one (Event.Call 1 (Call.Write 1 0 (filled 4))) ∷ one (Event.Deliver 2) ∷
-      one (Event.Deliver 3) ∷ one (Event.Call 1 (Call.WriteSync 1 0 (filled 5))) ∷ one (Event.Deliver 4) ∷
+      one (Event.Deliver 3) ∷ one (Event.Call 1 (Call.Put 1 0 (filled 5))) ∷ one (Event.Deliver 4) ∷
       one (Event.Deliver 5) ∷ one (Event.Call 1 (Call.Read 1 0)) ∷ one (Event.Call 1 (Call.Read 1 0)) ∷ round 8 ∷
       one (Event.Call 1 (Call.Read 1 0)) ∷ one (Event.Deliver 6) ∷ one (Event.Deliver 7) ∷ one (Event.Deliver 8) ∷
       one (Event.Deliver 9) ∷ one (Event.Deliver 10) ∷ one (Event.Deliver 11) ∷ one (Event.Deliver 12) ∷
       one (Event.Deliver 13) ∷ one (Event.Deliver 14) ∷ one (Event.Deliver 15) ∷ one (Event.Call 1 (Call.Read 1 0)) ∷
       one (Event.Call 1 (Call.Read 1 0)) ∷ one (Event.Call 1 (Call.Fetch 1 0)) ∷ one (Event.Call 1 (Call.Fetch 1 0)) ∷
-      one (Event.Call 1 (Call.Fetch 1 0)) ∷ one (Event.Call 0 (Call.WriteSync 1 0 (filled 6))) ∷ one (Event.Deliver 16) ∷
+      one (Event.Call 1 (Call.Fetch 1 0)) ∷ one (Event.Call 0 (Call.Put 1 0 (filled 6))) ∷ one (Event.Deliver 16) ∷
       one (Event.Deliver 17) ∷ round 8 ∷ one (Event.Deliver 18) ∷ times 7 (Event.ClientTick 1) ∷ one (Event.Deliver 19) ∷
       one (Event.Call 1 (Call.Read 1 0)) ∷ one (Event.Deliver 20) ∷ flow ∷ flow ∷
-      one (Event.Call 1 (Call.Lookup (99 ∷ []))) ∷ one (Event.Call 0 (Call.WriteSync 1 0 (filled 7))) ∷
-      one (Event.Deliver 30) ∷ one (Event.Deliver 15) ∷ [];
+      one (Event.Call 1 (Call.Lookup (99 ∷ []))) ∷ one (Event.Call 0 (Call.Put 1 0 (filled 7))) ∷ one (Event.Deliver 30) ∷
+      one (Event.Deliver 15) ∷ [];
   journal =
-      Entry.A (record { host = 0; inc = 1 }) 2 Said.Busy ∷
-      Entry.C (record { host = 0; inc = 1 }) 2 (Told.WriteSync 1 0 7) ∷
+      Entry.A (record { host = 0; inc = 1 }) 2 Said.Busy ∷ Entry.C (record { host = 0; inc = 1 }) 2 (Told.Put 1 0 7) ∷
       Entry.C (record { host = 1; inc = 1 }) 17 (Told.Lookup (99 ∷ [])) ∷
       Entry.A (record { host = 1; inc = 1 }) 16 (Said.OkBy 5 29) ∷
       Entry.R (record { host = 1; inc = 1 }) 16 1 0 5 (Some 29) ∷
       Entry.G (record { host = 1; inc = 1 }) 1 Mode.Reading (record { boot = 1; number = 8 }) 5 16 ∷
       Entry.C (record { host = 1; inc = 1 }) 16 (Told.Read 1 0) ∷
-      Entry.C (record { host = 0; inc = 1 }) 1 (Told.WriteSync 1 0 6) ∷
+      Entry.C (record { host = 0; inc = 1 }) 1 (Told.Put 1 0 6) ∷
       Entry.A (record { host = 1; inc = 1 }) 15 (Said.OkValue 5) ∷ Entry.R (record { host = 1; inc = 1 }) 15 1 0 5 None ∷
       Entry.C (record { host = 1; inc = 1 }) 15 (Told.Fetch 1 0) ∷
       Entry.A (record { host = 1; inc = 1 }) 14 (Said.OkValue 5) ∷ Entry.R (record { host = 1; inc = 1 }) 14 1 0 5 None ∷
@@ -959,7 +948,7 @@ run_64 = record {
       Entry.A (record { host = 1; inc = 1 }) 8 (Said.OkValue 5) ∷ Entry.R (record { host = 1; inc = 1 }) 8 1 0 5 None ∷
       Entry.C (record { host = 1; inc = 1 }) 8 (Told.Read 1 0) ∷ Entry.A (record { host = 1; inc = 1 }) 7 Said.Ok ∷
       Entry.S (record { host = 1; inc = 1 }) 1 0 1 2 0 ∷ Entry.W (record { host = 1; inc = 1 }) 1 0 2 5 false ∷
-      Entry.C (record { host = 1; inc = 1 }) 7 (Told.WriteSync 1 0 5) ∷ Entry.A (record { host = 1; inc = 1 }) 6 Said.Ok ∷
+      Entry.C (record { host = 1; inc = 1 }) 7 (Told.Put 1 0 5) ∷ Entry.A (record { host = 1; inc = 1 }) 6 Said.Ok ∷
       Entry.W (record { host = 1; inc = 1 }) 1 0 1 4 false ∷
       Entry.G (record { host = 1; inc = 1 }) 1 Mode.Writing (record { boot = 1; number = 2 }) 5 0 ∷
       Entry.C (record { host = 1; inc = 1 }) 6 (Told.Write 1 0 4) ∷

@@ -17,7 +17,7 @@ run_21 = record {
       one (Event.Call 0 (Call.Sync 1)) ∷ round 3 ∷ one (Event.Restart 1) ∷ round 1 ∷ round 1 ∷ one (Event.Deliver 0) ∷
       one (Event.Call 0 (Call.Read 1 4)) ∷ one (Event.Deliver 1) ∷ times 7 (Event.ClientTick 1) ∷ one (Event.Deliver 2) ∷
       round 2 ∷ round 2 ∷ flow ∷ round 3 ∷ one (Event.Crash 60) ∷ times 7 (Event.ClientTick 1) ∷
-      one (Event.Call 1 (Call.WriteSync 1 0 (filled 1))) ∷ one (Event.Call 0 (Call.Sync 1)) ∷
+      one (Event.Call 1 (Call.Put 1 0 (filled 1))) ∷ one (Event.Call 0 (Call.Sync 1)) ∷
       one (Event.Call 0 (Call.Write 1 0 (filled 2))) ∷ one (Event.Deliver 16) ∷ one (Event.Deliver 17) ∷
       one (Event.Deliver 18) ∷ one (Event.Deliver 19) ∷ round 2 ∷ one (Event.Deliver 20) ∷ one (Event.Deliver 21) ∷
       one (Event.Deliver 22) ∷ one (Event.Deliver 23) ∷ round 2 ∷ one (Event.Deliver 24) ∷ one (Event.Deliver 25) ∷
@@ -28,9 +28,8 @@ run_21 = record {
       one (Event.Deliver 49) ∷ flow ∷ [];
   journal =
       Entry.C (record { host = 0; inc = 1 }) 4 (Told.Write 1 0 2) ∷ Entry.A (record { host = 0; inc = 1 }) 3 Said.Ok ∷
-      Entry.C (record { host = 0; inc = 1 }) 3 (Told.Sync 1) ∷
-      Entry.C (record { host = 1; inc = 2 }) 1 (Told.WriteSync 1 0 1) ∷ Entry.X 2 12 60 ∷
-      Entry.A (record { host = 0; inc = 1 }) 2 (Said.OkBy 0 10) ∷
+      Entry.C (record { host = 0; inc = 1 }) 3 (Told.Sync 1) ∷ Entry.C (record { host = 1; inc = 2 }) 1 (Told.Put 1 0 1) ∷
+      Entry.X 2 12 60 ∷ Entry.A (record { host = 0; inc = 1 }) 2 (Said.OkBy 0 10) ∷
       Entry.R (record { host = 0; inc = 1 }) 2 1 4 0 (Some 15) ∷
       Entry.G (record { host = 0; inc = 1 }) 1 Mode.Reading (record { boot = 1; number = 3 }) 5 9 ∷
       Entry.R (record { host = 0; inc = 1 }) 2 1 4 0 (Some 14) ∷
@@ -92,14 +91,14 @@ run_23 = record {
   lines =
       one (Event.Call 1 (Call.Write 2 0 (filled 1))) ∷ round 2 ∷ one (Event.Deliver 0) ∷ one (Event.Deliver 1) ∷
       one (Event.Deliver 2) ∷ one (Event.Deliver 3) ∷ one (Event.Deliver 4) ∷ one (Event.Deliver 5) ∷
-      one (Event.Call 1 (Call.WriteSync 1 0 (filled 2))) ∷ round 2 ∷ one (Event.Deliver 6) ∷ one (Event.Deliver 7) ∷
+      one (Event.Call 1 (Call.Put 1 0 (filled 2))) ∷ round 2 ∷ one (Event.Deliver 6) ∷ one (Event.Deliver 7) ∷
       one (Event.Deliver 8) ∷ one (Event.Deliver 9) ∷ one (Event.Call 1 (Call.Write 2 0 (filled 3))) ∷
-      one (Event.Call 1 (Call.WriteSync 1 0 (filled 4))) ∷ one (Event.Call 0 (Call.Read 2 0)) ∷ one (Event.Deliver 11) ∷
+      one (Event.Call 1 (Call.Put 1 0 (filled 4))) ∷ one (Event.Call 0 (Call.Read 2 0)) ∷ one (Event.Deliver 11) ∷
       one (Event.Restart 0) ∷ one (Event.Deliver 14) ∷ one (Event.Deliver 15) ∷ one (Event.Call 0 (Call.Read 1 0)) ∷
       one (Event.Restart 0) ∷ one (Event.Deliver 17) ∷ one (Event.Deliver 18) ∷ one (Event.Deliver 10) ∷
       one (Event.Deliver 12) ∷ one (Event.Deliver 13) ∷ one (Event.Deliver 16) ∷ one (Event.Deliver 19) ∷
       one (Event.Deliver 20) ∷ one (Event.Deliver 21) ∷ one (Event.Deliver 22) ∷ times 1 (Event.ClientTick 1) ∷
-      one (Event.Deliver 4) ∷ one (Event.Call 1 (Call.WriteSync 1 0 (filled 7))) ∷
+      one (Event.Deliver 4) ∷ one (Event.Call 1 (Call.Put 1 0 (filled 7))) ∷
       one (Event.Call 0 (Call.Write 1 1 (filled 8))) ∷ one (Event.Deliver 23) ∷ round 2 ∷ one (Event.Deliver 24) ∷
       one (Event.Deliver 25) ∷ one (Event.Deliver 26) ∷ times 2 Event.ServerTick ∷ one (Event.Deliver 27) ∷
       one (Event.Deliver 28) ∷ one (Event.Call 1 (Call.Write 1 0 (filled 9))) ∷ one (Event.Deliver 29) ∷
@@ -110,14 +109,14 @@ run_23 = record {
       Entry.G (record { host = 0; inc = 3 }) 1 Mode.Writing (record { boot = 1; number = 5 }) 5 6 ∷
       Entry.G (record { host = 0; inc = 3 }) 1 Mode.Writing (record { boot = 1; number = 4 }) 5 6 ∷
       Entry.W (record { host = 1; inc = 1 }) 1 0 5 7 true ∷ Entry.C (record { host = 0; inc = 3 }) 1 (Told.Write 1 1 8) ∷
-      Entry.C (record { host = 1; inc = 1 }) 5 (Told.WriteSync 1 0 7) ∷ Entry.A (record { host = 1; inc = 1 }) 4 Said.Ok ∷
+      Entry.C (record { host = 1; inc = 1 }) 5 (Told.Put 1 0 7) ∷ Entry.A (record { host = 1; inc = 1 }) 4 Said.Ok ∷
       Entry.W (record { host = 1; inc = 1 }) 1 0 4 4 true ∷ Entry.S (record { host = 1; inc = 1 }) 2 0 3 3 4 ∷
       Entry.B (record { host = 0; inc = 3 }) ∷ Entry.C (record { host = 0; inc = 2 }) 1 (Told.Read 1 0) ∷
       Entry.B (record { host = 0; inc = 2 }) ∷ Entry.C (record { host = 0; inc = 1 }) 1 (Told.Read 2 0) ∷
-      Entry.C (record { host = 1; inc = 1 }) 4 (Told.WriteSync 1 0 4) ∷ Entry.A (record { host = 1; inc = 1 }) 3 Said.Ok ∷
+      Entry.C (record { host = 1; inc = 1 }) 4 (Told.Put 1 0 4) ∷ Entry.A (record { host = 1; inc = 1 }) 3 Said.Ok ∷
       Entry.W (record { host = 1; inc = 1 }) 2 0 3 3 false ∷ Entry.C (record { host = 1; inc = 1 }) 3 (Told.Write 2 0 3) ∷
       Entry.A (record { host = 1; inc = 1 }) 2 Said.Ok ∷ Entry.W (record { host = 1; inc = 1 }) 1 0 2 2 true ∷
-      Entry.C (record { host = 1; inc = 1 }) 2 (Told.WriteSync 1 0 2) ∷ Entry.S (record { host = 1; inc = 1 }) 2 0 1 1 2 ∷
+      Entry.C (record { host = 1; inc = 1 }) 2 (Told.Put 1 0 2) ∷ Entry.S (record { host = 1; inc = 1 }) 2 0 1 1 2 ∷
       Entry.A (record { host = 1; inc = 1 }) 1 Said.Ok ∷ Entry.W (record { host = 1; inc = 1 }) 2 0 1 1 false ∷
       Entry.G (record { host = 1; inc = 1 }) 2 Mode.Writing (record { boot = 1; number = 2 }) 5 2 ∷
       Entry.G (record { host = 1; inc = 1 }) 2 Mode.Writing (record { boot = 1; number = 1 }) 5 2 ∷
@@ -132,7 +131,7 @@ run_24 = record {
       one (Event.Call 0 (Call.Write 1 0 (filled 1))) ∷ one (Event.Deliver 0) ∷ one (Event.Deliver 1) ∷
       one (Event.Call 0 (Call.Sync 1)) ∷ one (Event.Deliver 2) ∷ one (Event.Deliver 3) ∷ round 3 ∷
       one (Event.Call 0 (Call.Write 1 0 (filled 2))) ∷ one (Event.Call 0 (Call.Write 1 0 (filled 3))) ∷
-      one (Event.Call 0 (Call.Write 1 0 (filled 4))) ∷ one (Event.Call 0 (Call.WriteSync 1 0 (filled 5))) ∷
+      one (Event.Call 0 (Call.Write 1 0 (filled 4))) ∷ one (Event.Call 0 (Call.Put 1 0 (filled 5))) ∷
       times 12 (Event.ClientTick 1) ∷ times 12 (Event.ClientTick 2) ∷ times 10 (Event.ClientTick 0) ∷
       times 3 Event.ServerTick ∷ one (Event.Call 1 (Call.Write 1 0 (filled 6))) ∷ one (Event.Deliver 4) ∷
       one (Event.Deliver 5) ∷ one (Event.Deliver 6) ∷ one (Event.Deliver 7) ∷ one (Event.Deliver 8) ∷
@@ -156,7 +155,7 @@ run_24 = record {
       Entry.G (record { host = 0; inc = 1 }) 1 Mode.Writing (record { boot = 1; number = 3 }) 6 6 ∷
       Entry.G (record { host = 0; inc = 1 }) 1 Mode.Writing (record { boot = 1; number = 2 }) 6 6 ∷
       Entry.C (record { host = 1; inc = 1 }) 1 (Told.Write 1 0 6) ∷ Entry.W (record { host = 0; inc = 1 }) 1 0 5 5 false ∷
-      Entry.C (record { host = 0; inc = 1 }) 6 (Told.WriteSync 1 0 5) ∷ Entry.A (record { host = 0; inc = 1 }) 5 Said.Ok ∷
+      Entry.C (record { host = 0; inc = 1 }) 6 (Told.Put 1 0 5) ∷ Entry.A (record { host = 0; inc = 1 }) 5 Said.Ok ∷
       Entry.W (record { host = 0; inc = 1 }) 1 0 4 4 false ∷ Entry.C (record { host = 0; inc = 1 }) 5 (Told.Write 1 0 4) ∷
       Entry.A (record { host = 0; inc = 1 }) 4 Said.Ok ∷ Entry.W (record { host = 0; inc = 1 }) 1 0 3 3 false ∷
       Entry.C (record { host = 0; inc = 1 }) 4 (Told.Write 1 0 3) ∷ Entry.A (record { host = 0; inc = 1 }) 3 Said.Ok ∷
@@ -178,7 +177,7 @@ run_25 = record {
       one (Event.Deliver 2) ∷ one (Event.Deliver 3) ∷ one (Event.Deliver 4) ∷ one (Event.Deliver 5) ∷
       one (Event.Deliver 6) ∷ one (Event.Deliver 7) ∷ one (Event.Deliver 10) ∷ one (Event.Deliver 11) ∷
       one (Event.Deliver 12) ∷ one (Event.Deliver 13) ∷ one (Event.Deliver 14) ∷ one (Event.Deliver 15) ∷
-      one (Event.Call 0 (Call.Sync 1)) ∷ one (Event.Call 0 (Call.WriteSync 1 0 (filled 5))) ∷ one (Event.Deliver 16) ∷
+      one (Event.Call 0 (Call.Sync 1)) ∷ one (Event.Call 0 (Call.Put 1 0 (filled 5))) ∷ one (Event.Deliver 16) ∷
       one (Event.Deliver 17) ∷ one (Event.Deliver 18) ∷ one (Event.Deliver 19) ∷ one (Event.Deliver 20) ∷
       one (Event.Deliver 21) ∷ one (Event.Call 1 (Call.Write 1 0 (filled 5))) ∷ round 2 ∷ one (Event.Deliver 22) ∷
       one (Event.Deliver 23) ∷ one (Event.Deliver 0) ∷ round 2 ∷ one (Event.Deliver 24) ∷ one (Event.Deliver 25) ∷
@@ -196,7 +195,7 @@ run_25 = record {
       Entry.W (record { host = 1; inc = 1 }) 1 0 2 5 false ∷
       Entry.G (record { host = 1; inc = 1 }) 1 Mode.Writing (record { boot = 1; number = 3 }) 5 15 ∷
       Entry.C (record { host = 1; inc = 1 }) 2 (Told.Write 1 0 5) ∷ Entry.S (record { host = 1; inc = 1 }) 1 0 1 1 13 ∷
-      Entry.C (record { host = 0; inc = 1 }) 3 (Told.WriteSync 1 0 5) ∷
+      Entry.C (record { host = 0; inc = 1 }) 3 (Told.Put 1 0 5) ∷
       Entry.A (record { host = 0; inc = 1 }) 2 (Said.Lost (record { items = record { block = 0; first = 1; last = 1 } ∷ []; spare = 0 })) ∷
       Entry.C (record { host = 0; inc = 1 }) 2 (Told.Sync 1) ∷ Entry.L (record { host = 0; inc = 1 }) 1 0 1 1 ∷
       Entry.A (record { host = 1; inc = 1 }) 1 Said.Ok ∷ Entry.W (record { host = 1; inc = 1 }) 1 0 1 2 false ∷
@@ -262,7 +261,7 @@ run_27 = record {
   lines =
       one (Event.Call 1 (Call.Write 2 0 (filled 1))) ∷ one (Event.Deliver 0) ∷ one (Event.Deliver 1) ∷
       one (Event.Call 1 (Call.Sync 2)) ∷ one (Event.Deliver 2) ∷ one (Event.Deliver 3) ∷ round 4 ∷
-      one (Event.Call 1 (Call.Write 2 5 (filled 2))) ∷ one (Event.Call 1 (Call.WriteSync 2 0 (filled 3))) ∷ round 13 ∷
+      one (Event.Call 1 (Call.Write 2 5 (filled 2))) ∷ one (Event.Call 1 (Call.Put 2 0 (filled 3))) ∷ round 13 ∷
       one (Event.Call 2 (Call.Write 2 0 (filled 4))) ∷ one (Event.Deliver 11) ∷ one (Event.Deliver 12) ∷
       one (Event.Deliver 4) ∷ one (Event.Deliver 5) ∷ one (Event.Deliver 6) ∷ one (Event.Deliver 7) ∷
       one (Event.Deliver 8) ∷ one (Event.Deliver 9) ∷ one (Event.Deliver 10) ∷ one (Event.Deliver 13) ∷
@@ -289,12 +288,11 @@ run_27 = record {
       Entry.W (record { host = 2; inc = 1 }) 2 0 1 4 false ∷
       Entry.G (record { host = 2; inc = 1 }) 2 Mode.Writing (record { boot = 1; number = 2 }) 7 17 ∷
       Entry.C (record { host = 2; inc = 1 }) 1 (Told.Write 2 0 4) ∷ Entry.F (record { host = 1; inc = 1 }) 2 10 0 15 ∷
-      Entry.W (record { host = 1; inc = 1 }) 2 0 3 3 false ∷
-      Entry.C (record { host = 1; inc = 1 }) 4 (Told.WriteSync 2 0 3) ∷ Entry.A (record { host = 1; inc = 1 }) 3 Said.Ok ∷
-      Entry.W (record { host = 1; inc = 1 }) 2 5 2 2 false ∷ Entry.C (record { host = 1; inc = 1 }) 3 (Told.Write 2 5 2) ∷
-      Entry.A (record { host = 1; inc = 1 }) 2 Said.Ok ∷ Entry.S (record { host = 1; inc = 1 }) 2 0 1 1 0 ∷
-      Entry.C (record { host = 1; inc = 1 }) 2 (Told.Sync 2) ∷ Entry.A (record { host = 1; inc = 1 }) 1 Said.Ok ∷
-      Entry.W (record { host = 1; inc = 1 }) 2 0 1 1 false ∷
+      Entry.W (record { host = 1; inc = 1 }) 2 0 3 3 false ∷ Entry.C (record { host = 1; inc = 1 }) 4 (Told.Put 2 0 3) ∷
+      Entry.A (record { host = 1; inc = 1 }) 3 Said.Ok ∷ Entry.W (record { host = 1; inc = 1 }) 2 5 2 2 false ∷
+      Entry.C (record { host = 1; inc = 1 }) 3 (Told.Write 2 5 2) ∷ Entry.A (record { host = 1; inc = 1 }) 2 Said.Ok ∷
+      Entry.S (record { host = 1; inc = 1 }) 2 0 1 1 0 ∷ Entry.C (record { host = 1; inc = 1 }) 2 (Told.Sync 2) ∷
+      Entry.A (record { host = 1; inc = 1 }) 1 Said.Ok ∷ Entry.W (record { host = 1; inc = 1 }) 2 0 1 1 false ∷
       Entry.G (record { host = 1; inc = 1 }) 2 Mode.Writing (record { boot = 1; number = 1 }) 7 0 ∷
       Entry.C (record { host = 1; inc = 1 }) 1 (Told.Write 2 0 1) ∷ [];
 }
@@ -410,7 +408,7 @@ run_30 = record {
       one (Event.Call 1 (Call.Write 3 0 (filled 2))) ∷ one (Event.Deliver 2) ∷ one (Event.Deliver 3) ∷
       one (Event.Call 1 (Call.Write 2 0 (filled 3))) ∷ one (Event.Deliver 4) ∷ one (Event.Deliver 5) ∷
       one (Event.Call 1 (Call.Write 1 0 (filled 4))) ∷ one (Event.Call 1 (Call.Write 3 0 (filled 5))) ∷
-      one (Event.Call 1 (Call.Write 2 0 (filled 6))) ∷ one (Event.Call 1 (Call.WriteSync 1 0 (filled 7))) ∷
+      one (Event.Call 1 (Call.Write 2 0 (filled 6))) ∷ one (Event.Call 1 (Call.Put 1 0 (filled 7))) ∷
       one (Event.Call 0 (Call.Fetch 1 0)) ∷ one (Event.Deliver 7) ∷ one (Event.Restart 0) ∷ one (Event.Deliver 10) ∷
       one (Event.Deliver 11) ∷ one (Event.Call 0 (Call.Read 3 0)) ∷ one (Event.Restart 0) ∷ one (Event.Deliver 13) ∷
       one (Event.Deliver 14) ∷ one (Event.Call 0 (Call.Read 2 0)) ∷ one (Event.Restart 0) ∷ one (Event.Deliver 16) ∷
@@ -435,7 +433,7 @@ run_30 = record {
       Entry.C (record { host = 0; inc = 3 }) 1 (Told.Read 2 0) ∷ Entry.B (record { host = 0; inc = 3 }) ∷
       Entry.C (record { host = 0; inc = 2 }) 1 (Told.Read 3 0) ∷ Entry.B (record { host = 0; inc = 2 }) ∷
       Entry.C (record { host = 0; inc = 1 }) 1 (Told.Fetch 1 0) ∷ Entry.W (record { host = 1; inc = 1 }) 1 0 7 7 false ∷
-      Entry.C (record { host = 1; inc = 1 }) 7 (Told.WriteSync 1 0 7) ∷ Entry.A (record { host = 1; inc = 1 }) 6 Said.Ok ∷
+      Entry.C (record { host = 1; inc = 1 }) 7 (Told.Put 1 0 7) ∷ Entry.A (record { host = 1; inc = 1 }) 6 Said.Ok ∷
       Entry.W (record { host = 1; inc = 1 }) 2 0 6 6 false ∷ Entry.C (record { host = 1; inc = 1 }) 6 (Told.Write 2 0 6) ∷
       Entry.A (record { host = 1; inc = 1 }) 5 Said.Ok ∷ Entry.W (record { host = 1; inc = 1 }) 3 0 5 5 false ∷
       Entry.C (record { host = 1; inc = 1 }) 5 (Told.Write 3 0 5) ∷ Entry.A (record { host = 1; inc = 1 }) 4 Said.Ok ∷
@@ -512,7 +510,7 @@ run_32 = record {
       one (Event.Call 0 (Call.Write 1 0 (filled 2))) ∷ one (Event.Deliver 2) ∷ one (Event.Deliver 3) ∷
       one (Event.Call 3 (Call.Read 1 0)) ∷ one (Event.Deliver 4) ∷ one (Event.Deliver 5) ∷ one (Event.Deliver 6) ∷
       one (Event.Deliver 7) ∷ one (Event.Deliver 8) ∷ one (Event.Deliver 9) ∷ round 2 ∷ one (Event.Deliver 10) ∷
-      one (Event.Deliver 11) ∷ one (Event.Call 3 (Call.WriteSync 1 0 (filled 5))) ∷ one (Event.Deliver 12) ∷
+      one (Event.Deliver 11) ∷ one (Event.Call 3 (Call.Put 1 0 (filled 5))) ∷ one (Event.Deliver 12) ∷
       one (Event.Deliver 13) ∷ one (Event.Call 0 (Call.Read 1 0)) ∷ one (Event.Deliver 14) ∷ one (Event.Deliver 15) ∷
       one (Event.Call 0 (Call.Read 1 0)) ∷ one (Event.Deliver 16) ∷ one (Event.Deliver 17) ∷ round 8 ∷
       one (Event.Call 0 (Call.Fetch 1 0)) ∷ one (Event.Deliver 18) ∷ one (Event.Deliver 19) ∷
@@ -545,8 +543,7 @@ run_32 = record {
       Entry.R (record { host = 0; inc = 1 }) 6 1 0 5 (Some 15) ∷
       Entry.G (record { host = 0; inc = 1 }) 1 Mode.NonCaching (record { boot = 1; number = 5 }) 5 2 ∷
       Entry.C (record { host = 0; inc = 1 }) 6 (Told.Read 1 0) ∷ Entry.A (record { host = 3; inc = 1 }) 2 Said.Ok ∷
-      Entry.W (record { host = 3; inc = 1 }) 1 0 1 5 true ∷
-      Entry.C (record { host = 3; inc = 1 }) 2 (Told.WriteSync 1 0 5) ∷
+      Entry.W (record { host = 3; inc = 1 }) 1 0 1 5 true ∷ Entry.C (record { host = 3; inc = 1 }) 2 (Told.Put 1 0 5) ∷
       Entry.A (record { host = 3; inc = 1 }) 1 (Said.OkBy 2 11) ∷
       Entry.R (record { host = 3; inc = 1 }) 1 1 0 2 (Some 11) ∷
       Entry.G (record { host = 3; inc = 1 }) 1 Mode.NonCaching (record { boot = 1; number = 4 }) 3 2 ∷
@@ -686,9 +683,9 @@ run_35 = record {
       one (Event.Deliver 15) ∷ one (Event.Deliver 16) ∷ one (Event.Call 1 (Call.Read 1 2)) ∷ one (Event.Deliver 17) ∷
       one (Event.Deliver 18) ∷ one (Event.Call 1 (Call.Read 1 1)) ∷ one (Event.Deliver 19) ∷ one (Event.Deliver 20) ∷
       one (Event.Call 1 (Call.Read 1 0)) ∷ one (Event.Deliver 21) ∷ one (Event.Deliver 22) ∷ round 9 ∷
-      one (Event.Call 1 (Call.WriteSync 1 1 (filled 3))) ∷ one (Event.Deliver 23) ∷ one (Event.Deliver 24) ∷
-      one (Event.Call 2 (Call.WriteSync 1 0 (filled 5))) ∷ one (Event.Deliver 25) ∷ one (Event.Deliver 26) ∷
-      one (Event.Call 1 (Call.WriteSync 1 2 (filled 7))) ∷ one (Event.Deliver 27) ∷ one (Event.Deliver 28) ∷
+      one (Event.Call 1 (Call.Put 1 1 (filled 3))) ∷ one (Event.Deliver 23) ∷ one (Event.Deliver 24) ∷
+      one (Event.Call 2 (Call.Put 1 0 (filled 5))) ∷ one (Event.Deliver 25) ∷ one (Event.Deliver 26) ∷
+      one (Event.Call 1 (Call.Put 1 2 (filled 7))) ∷ one (Event.Deliver 27) ∷ one (Event.Deliver 28) ∷
       one (Event.Call 1 (Call.Read 1 2)) ∷ one (Event.Deliver 29) ∷ one (Event.Deliver 30) ∷
       one (Event.Call 1 (Call.Read 1 1)) ∷ one (Event.Deliver 31) ∷ one (Event.Deliver 32) ∷ round 13 ∷
       one (Event.Call 1 (Call.Fetch 1 1)) ∷ one (Event.Deliver 33) ∷ one (Event.Deliver 34) ∷
@@ -721,12 +718,10 @@ run_35 = record {
       Entry.R (record { host = 1; inc = 1 }) 7 1 2 7 (Some 30) ∷
       Entry.G (record { host = 1; inc = 1 }) 1 Mode.Reading (record { boot = 1; number = 6 }) 10 11 ∷
       Entry.C (record { host = 1; inc = 1 }) 7 (Told.Read 1 2) ∷ Entry.A (record { host = 1; inc = 1 }) 6 Said.Ok ∷
-      Entry.W (record { host = 1; inc = 1 }) 1 2 2 7 true ∷
-      Entry.C (record { host = 1; inc = 1 }) 6 (Told.WriteSync 1 2 7) ∷ Entry.A (record { host = 2; inc = 1 }) 2 Said.Ok ∷
-      Entry.W (record { host = 2; inc = 1 }) 1 0 2 5 true ∷
-      Entry.C (record { host = 2; inc = 1 }) 2 (Told.WriteSync 1 0 5) ∷ Entry.A (record { host = 1; inc = 1 }) 5 Said.Ok ∷
-      Entry.W (record { host = 1; inc = 1 }) 1 1 1 3 true ∷
-      Entry.C (record { host = 1; inc = 1 }) 5 (Told.WriteSync 1 1 3) ∷
+      Entry.W (record { host = 1; inc = 1 }) 1 2 2 7 true ∷ Entry.C (record { host = 1; inc = 1 }) 6 (Told.Put 1 2 7) ∷
+      Entry.A (record { host = 2; inc = 1 }) 2 Said.Ok ∷ Entry.W (record { host = 2; inc = 1 }) 1 0 2 5 true ∷
+      Entry.C (record { host = 2; inc = 1 }) 2 (Told.Put 1 0 5) ∷ Entry.A (record { host = 1; inc = 1 }) 5 Said.Ok ∷
+      Entry.W (record { host = 1; inc = 1 }) 1 1 1 3 true ∷ Entry.C (record { host = 1; inc = 1 }) 5 (Told.Put 1 1 3) ∷
       Entry.A (record { host = 1; inc = 1 }) 4 (Said.OkBy 2 22) ∷
       Entry.R (record { host = 1; inc = 1 }) 4 1 0 2 (Some 22) ∷
       Entry.C (record { host = 1; inc = 1 }) 4 (Told.Read 1 0) ∷
@@ -760,7 +755,7 @@ run_36 = record {
       one (Event.Deliver 8) ∷ one (Event.Deliver 9) ∷ one (Event.Deliver 10) ∷ one (Event.Deliver 11) ∷
       one (Event.Deliver 12) ∷ one (Event.Deliver 13) ∷ one (Event.Deliver 14) ∷ one (Event.Deliver 15) ∷ round 2 ∷
       one (Event.Deliver 16) ∷ one (Event.Deliver 17) ∷ one (Event.Call 0 (Call.Write 1 0 (filled 4))) ∷
-      one (Event.Call 1 (Call.WriteSync 1 0 (filled 5))) ∷ one (Event.Deliver 18) ∷ one (Event.Deliver 19) ∷
+      one (Event.Call 1 (Call.Put 1 0 (filled 5))) ∷ one (Event.Deliver 18) ∷ one (Event.Deliver 19) ∷
       one (Event.Deliver 20) ∷ one (Event.Deliver 21) ∷ one (Event.Deliver 22) ∷ one (Event.Deliver 23) ∷ round 2 ∷
       one (Event.Deliver 24) ∷ one (Event.Deliver 25) ∷ one (Event.Call 1 (Call.Read 1 0)) ∷ one (Event.Deliver 26) ∷
       one (Event.Deliver 27) ∷ one (Event.Call 1 (Call.Read 1 0)) ∷ one (Event.Call 1 (Call.Read 1 0)) ∷
@@ -793,7 +788,7 @@ run_36 = record {
       Entry.G (record { host = 1; inc = 1 }) 1 Mode.Reading (record { boot = 1; number = 7 }) 5 13 ∷
       Entry.C (record { host = 1; inc = 1 }) 6 (Told.Read 1 0) ∷ Entry.A (record { host = 1; inc = 1 }) 5 Said.Ok ∷
       Entry.W (record { host = 1; inc = 1 }) 1 0 2 5 true ∷ Entry.S (record { host = 0; inc = 1 }) 1 0 1 2 11 ∷
-      Entry.C (record { host = 1; inc = 1 }) 5 (Told.WriteSync 1 0 5) ∷ Entry.A (record { host = 0; inc = 1 }) 3 Said.Ok ∷
+      Entry.C (record { host = 1; inc = 1 }) 5 (Told.Put 1 0 5) ∷ Entry.A (record { host = 0; inc = 1 }) 3 Said.Ok ∷
       Entry.W (record { host = 0; inc = 1 }) 1 0 2 4 false ∷ Entry.C (record { host = 0; inc = 1 }) 3 (Told.Write 1 0 4) ∷
       Entry.A (record { host = 0; inc = 1 }) 2 Said.Ok ∷ Entry.W (record { host = 0; inc = 1 }) 1 0 1 2 false ∷
       Entry.G (record { host = 0; inc = 1 }) 1 Mode.Writing (record { boot = 1; number = 6 }) 5 11 ∷
@@ -821,8 +816,8 @@ abbrev pub run_37 : Example
 run_37 = record {
   head = record { hosts = 2; term = 5; longest = 60; files = ((126 ∷ 46 ∷ 126 ∷ []), 1) ∷ ((120 ∷ 120 ∷ 120 ∷ 120 ∷ 120 ∷ 120 ∷ 120 ∷ 120 ∷ 120 ∷ 120 ∷ 120 ∷ 120 ∷ 120 ∷ 120 ∷ 120 ∷ 120 ∷ 120 ∷ 120 ∷ 120 ∷ 120 ∷ 120 ∷ 120 ∷ 120 ∷ 120 ∷ 120 ∷ 120 ∷ 120 ∷ 120 ∷ 120 ∷ 120 ∷ 120 ∷ 120 ∷ 120 ∷ 120 ∷ 120 ∷ 120 ∷ 120 ∷ 120 ∷ 120 ∷ 120 ∷ 120 ∷ 120 ∷ 120 ∷ 120 ∷ 120 ∷ 120 ∷ 120 ∷ 120 ∷ 120 ∷ 120 ∷ 120 ∷ 120 ∷ 120 ∷ 120 ∷ 120 ∷ 120 ∷ 120 ∷ 120 ∷ 120 ∷ 120 ∷ 120 ∷ 120 ∷ 120 ∷ 120 ∷ []), 1) ∷ [] };
   lines =
-      one (Event.Call 0 (Call.Read 2 4294967295)) ∷ one (Event.Call 1 (Call.WriteSync 1 0 (filled 4294967295))) ∷
-      round 2 ∷ round 6 ∷ one (Event.Deliver 0) ∷ one (Event.Deliver 1) ∷ one (Event.Deliver 2) ∷ flow ∷
+      one (Event.Call 0 (Call.Read 2 4294967295)) ∷ one (Event.Call 1 (Call.Put 1 0 (filled 4294967295))) ∷ round 2 ∷
+      round 6 ∷ one (Event.Deliver 0) ∷ one (Event.Deliver 1) ∷ one (Event.Deliver 2) ∷ flow ∷
       one (Event.Call 1 (Call.Write 1 0 (filled 2))) ∷ flow ∷ one (Event.Call 1 (Call.Sync 1)) ∷
       times 3 (Event.ClientTick 0) ∷ flow ∷ round 2 ∷ flow ∷ round 2 ∷ one (Event.Call 1 (Call.Write 1 0 (filled 3))) ∷
       flow ∷ flow ∷ flow ∷ flow ∷ flow ∷ flow ∷ times 2 Event.ServerTick ∷ flow ∷ one (Event.Call 1 (Call.Read 2 0)) ∷
@@ -875,7 +870,7 @@ run_37 = record {
       Entry.G (record { host = 1; inc = 1 }) 1 Mode.Writing (record { boot = 1; number = 1 }) 5 8 ∷
       Entry.C (record { host = 1; inc = 1 }) 2 (Told.Write 1 0 2) ∷ Entry.A (record { host = 1; inc = 1 }) 1 Said.Ok ∷
       Entry.A (record { host = 0; inc = 1 }) 1 Said.Range ∷ Entry.W (record { host = 1; inc = 1 }) 1 0 1 4294967295 true ∷
-      Entry.C (record { host = 1; inc = 1 }) 1 (Told.WriteSync 1 0 4294967295) ∷
+      Entry.C (record { host = 1; inc = 1 }) 1 (Told.Put 1 0 4294967295) ∷
       Entry.C (record { host = 0; inc = 1 }) 1 (Told.Read 2 4294967295) ∷ [];
 }
 
@@ -884,17 +879,17 @@ abbrev pub run_38 : Example
 run_38 = record {
   head = record { hosts = 1; term = 7; longest = 60; files = ((98 ∷ []), 1) ∷ ((126 ∷ 46 ∷ 126 ∷ []), 1) ∷ ((108 ∷ 111 ∷ 110 ∷ 103 ∷ 45 ∷ 110 ∷ 97 ∷ 109 ∷ 101 ∷ 95 ∷ 119 ∷ 105 ∷ 116 ∷ 104 ∷ 46 ∷ 100 ∷ 111 ∷ 116 ∷ 115 ∷ []), 1) ∷ [] };
   lines =
-      one (Event.Call 0 (Call.WriteSync 1 0 (filled 1))) ∷ one (Event.Deliver 0) ∷ one (Event.Deliver 1) ∷
+      one (Event.Call 0 (Call.Put 1 0 (filled 1))) ∷ one (Event.Deliver 0) ∷ one (Event.Deliver 1) ∷
       times 1 Event.ServerTick ∷ times 2 Event.ServerTick ∷ one (Event.Call 0 (Call.Sync 1)) ∷
-      times 2 (Event.ClientTick 0) ∷ one (Event.Call 0 (Call.WriteSync 3 0 (filled 2))) ∷ one (Event.Deliver 2) ∷
+      times 2 (Event.ClientTick 0) ∷ one (Event.Call 0 (Call.Put 3 0 (filled 2))) ∷ one (Event.Deliver 2) ∷
       one (Event.Deliver 3) ∷ one (Event.Call 0 (Call.Sync 1)) ∷ one (Event.Call 0 (Call.Write 3 0 (filled 4))) ∷
-      one (Event.Deliver 4) ∷ one (Event.Deliver 5) ∷ one (Event.Call 0 (Call.WriteSync 1 0 (filled 5))) ∷
-      one (Event.Deliver 6) ∷ one (Event.Call 0 (Call.WriteSync 1 0 (filled 6))) ∷ one (Event.Call 0 (Call.Sync 1)) ∷
+      one (Event.Deliver 4) ∷ one (Event.Deliver 5) ∷ one (Event.Call 0 (Call.Put 1 0 (filled 5))) ∷
+      one (Event.Deliver 6) ∷ one (Event.Call 0 (Call.Put 1 0 (filled 6))) ∷ one (Event.Call 0 (Call.Sync 1)) ∷
       one (Event.Deliver 7) ∷ one (Event.Call 0 (Call.Write 1 0 (filled 7))) ∷ one (Event.Call 0 (Call.Read 2 0)) ∷
       one (Event.Deliver 8) ∷ one (Event.Deliver 9) ∷ one (Event.Call 0 (Call.Write 1 0 (filled 8))) ∷
       one (Event.Call 0 (Call.Read 1 0)) ∷ one (Event.Call 0 (Call.Write 1 0 (filled 9))) ∷
       one (Event.Call 0 (Call.Write 2 0 (filled 10))) ∷ one (Event.Deliver 10) ∷ one (Event.Deliver 11) ∷ round 4 ∷
-      one (Event.Deliver 12) ∷ one (Event.Call 0 (Call.WriteSync 1 0 (filled 11))) ∷ one (Event.Deliver 13) ∷
+      one (Event.Deliver 12) ∷ one (Event.Call 0 (Call.Put 1 0 (filled 11))) ∷ one (Event.Deliver 13) ∷
       one (Event.Deliver 14) ∷ times 2 (Event.ClientTick 0) ∷ one (Event.Deliver 15) ∷ times 1 Event.ServerTick ∷
       one (Event.Deliver 16) ∷ one (Event.Deliver 17) ∷ one (Event.Deliver 18) ∷ one (Event.Deliver 19) ∷
       one (Event.Deliver 20) ∷ round 2 ∷ one (Event.Deliver 21) ∷ one (Event.Deliver 22) ∷ one (Event.Deliver 23) ∷
@@ -915,9 +910,8 @@ run_38 = record {
       Entry.S (record { host = 0; inc = 1 }) 3 0 3 3 8 ∷ Entry.S (record { host = 0; inc = 1 }) 2 0 8 8 8 ∷
       Entry.A (record { host = 0; inc = 1 }) 15 Said.Ok ∷ Entry.S (record { host = 0; inc = 1 }) 1 0 9 9 7 ∷
       Entry.W (record { host = 0; inc = 1 }) 1 0 9 11 false ∷
-      Entry.C (record { host = 0; inc = 1 }) 15 (Told.WriteSync 1 0 11) ∷
-      Entry.S (record { host = 0; inc = 1 }) 1 0 5 7 7 ∷ Entry.A (record { host = 0; inc = 1 }) 14 Said.Ok ∷
-      Entry.W (record { host = 0; inc = 1 }) 2 0 8 10 false ∷
+      Entry.C (record { host = 0; inc = 1 }) 15 (Told.Put 1 0 11) ∷ Entry.S (record { host = 0; inc = 1 }) 1 0 5 7 7 ∷
+      Entry.A (record { host = 0; inc = 1 }) 14 Said.Ok ∷ Entry.W (record { host = 0; inc = 1 }) 2 0 8 10 false ∷
       Entry.G (record { host = 0; inc = 1 }) 2 Mode.Writing (record { boot = 1; number = 3 }) 7 3 ∷
       Entry.C (record { host = 0; inc = 1 }) 14 (Told.Write 2 0 10) ∷ Entry.A (record { host = 0; inc = 1 }) 13 Said.Ok ∷
       Entry.W (record { host = 0; inc = 1 }) 1 0 7 9 false ∷
@@ -931,19 +925,16 @@ run_38 = record {
       Entry.A (record { host = 0; inc = 1 }) 10 Said.Busy ∷ Entry.C (record { host = 0; inc = 1 }) 10 (Told.Read 2 0) ∷
       Entry.C (record { host = 0; inc = 1 }) 9 (Told.Write 1 0 7) ∷ Entry.A (record { host = 0; inc = 1 }) 6 Said.Ok ∷
       Entry.A (record { host = 0; inc = 1 }) 8 Said.Busy ∷ Entry.C (record { host = 0; inc = 1 }) 8 (Told.Sync 1) ∷
-      Entry.A (record { host = 0; inc = 1 }) 7 Said.Busy ∷
-      Entry.C (record { host = 0; inc = 1 }) 7 (Told.WriteSync 1 0 6) ∷
-      Entry.W (record { host = 0; inc = 1 }) 1 0 4 5 true ∷
-      Entry.C (record { host = 0; inc = 1 }) 6 (Told.WriteSync 1 0 5) ∷ Entry.A (record { host = 0; inc = 1 }) 5 Said.Ok ∷
-      Entry.W (record { host = 0; inc = 1 }) 3 0 3 4 false ∷
+      Entry.A (record { host = 0; inc = 1 }) 7 Said.Busy ∷ Entry.C (record { host = 0; inc = 1 }) 7 (Told.Put 1 0 6) ∷
+      Entry.W (record { host = 0; inc = 1 }) 1 0 4 5 true ∷ Entry.C (record { host = 0; inc = 1 }) 6 (Told.Put 1 0 5) ∷
+      Entry.A (record { host = 0; inc = 1 }) 5 Said.Ok ∷ Entry.W (record { host = 0; inc = 1 }) 3 0 3 4 false ∷
       Entry.G (record { host = 0; inc = 1 }) 3 Mode.Writing (record { boot = 1; number = 1 }) 7 3 ∷
       Entry.C (record { host = 0; inc = 1 }) 5 (Told.Write 3 0 4) ∷ Entry.A (record { host = 0; inc = 1 }) 4 Said.Ok ∷
       Entry.C (record { host = 0; inc = 1 }) 4 (Told.Sync 1) ∷ Entry.A (record { host = 0; inc = 1 }) 3 Said.Ok ∷
-      Entry.W (record { host = 0; inc = 1 }) 3 0 2 2 true ∷
-      Entry.C (record { host = 0; inc = 1 }) 3 (Told.WriteSync 3 0 2) ∷ Entry.A (record { host = 0; inc = 1 }) 2 Said.Ok ∷
-      Entry.C (record { host = 0; inc = 1 }) 2 (Told.Sync 1) ∷ Entry.A (record { host = 0; inc = 1 }) 1 Said.Ok ∷
-      Entry.W (record { host = 0; inc = 1 }) 1 0 1 1 true ∷
-      Entry.C (record { host = 0; inc = 1 }) 1 (Told.WriteSync 1 0 1) ∷ [];
+      Entry.W (record { host = 0; inc = 1 }) 3 0 2 2 true ∷ Entry.C (record { host = 0; inc = 1 }) 3 (Told.Put 3 0 2) ∷
+      Entry.A (record { host = 0; inc = 1 }) 2 Said.Ok ∷ Entry.C (record { host = 0; inc = 1 }) 2 (Told.Sync 1) ∷
+      Entry.A (record { host = 0; inc = 1 }) 1 Said.Ok ∷ Entry.W (record { host = 0; inc = 1 }) 1 0 1 1 true ∷
+      Entry.C (record { host = 0; inc = 1 }) 1 (Told.Put 1 0 1) ∷ [];
 }
 
 -- run 39
@@ -1029,16 +1020,16 @@ run_40 = record {
       one (Event.Call 0 (Call.Sync 2)) ∷ round 1 ∷ one (Event.Call 0 (Call.Read 1 0)) ∷ one (Event.Deliver 0) ∷ round 1 ∷
       one (Event.Deliver 1) ∷ one (Event.Call 0 (Call.Read 1 0)) ∷ round 2 ∷ one (Event.Call 0 (Call.Read 1 0)) ∷
       one (Event.Call 0 (Call.Read 1 0)) ∷ one (Event.Call 0 (Call.Read 1 0)) ∷ one (Event.Call 0 (Call.Read 1 0)) ∷
-      one (Event.Call 0 (Call.WriteSync 1 0 (filled 1))) ∷ one (Event.Deliver 2) ∷ one (Event.Deliver 3) ∷
+      one (Event.Call 0 (Call.Put 1 0 (filled 1))) ∷ one (Event.Deliver 2) ∷ one (Event.Deliver 3) ∷
       one (Event.Call 0 (Call.Write 1 0 (filled 4))) ∷ one (Event.Deliver 4) ∷ one (Event.Deliver 5) ∷
-      one (Event.Call 0 (Call.WriteSync 1 0 (filled 5))) ∷ one (Event.Deliver 6) ∷ one (Event.Deliver 7) ∷
-      one (Event.Call 0 (Call.WriteSync 1 0 (filled 7))) ∷ one (Event.Deliver 8) ∷ one (Event.Deliver 9) ∷
+      one (Event.Call 0 (Call.Put 1 0 (filled 5))) ∷ one (Event.Deliver 6) ∷ one (Event.Deliver 7) ∷
+      one (Event.Call 0 (Call.Put 1 0 (filled 7))) ∷ one (Event.Deliver 8) ∷ one (Event.Deliver 9) ∷
       one (Event.Call 0 (Call.Read 1 0)) ∷ one (Event.Call 0 (Call.Read 1 0)) ∷ one (Event.Call 0 (Call.Fetch 1 0)) ∷
       one (Event.Call 0 (Call.Read 1 0)) ∷ one (Event.Call 0 (Call.Read 1 0)) ∷ one (Event.Call 0 (Call.Read 1 0)) ∷
       one (Event.Call 0 (Call.Fetch 1 0)) ∷ one (Event.Call 0 (Call.Fetch 1 0)) ∷ times 7 (Event.ClientTick 0) ∷
       one (Event.Call 0 (Call.Write 1 0 (filled 8))) ∷ times 2 Event.ServerTick ∷
       one (Event.Call 0 (Call.Write 1 0 (filled 9))) ∷ one (Event.Deliver 8) ∷ one (Event.Deliver 10) ∷
-      one (Event.Call 0 (Call.WriteSync 2 0 (filled 10))) ∷ one (Event.Deliver 11) ∷ one (Event.Deliver 12) ∷
+      one (Event.Call 0 (Call.Put 2 0 (filled 10))) ∷ one (Event.Deliver 11) ∷ one (Event.Deliver 12) ∷
       one (Event.Call 0 (Call.Fetch 3 0)) ∷ one (Event.Deliver 13) ∷ one (Event.Deliver 14) ∷
       one (Event.Call 0 (Call.Write 1 0 (filled 11))) ∷ round 30 ∷ one (Event.Crash 60) ∷
       one (Event.Call 0 (Call.Write 2 0 (filled 12))) ∷ one (Event.Deliver 15) ∷ one (Event.Deliver 16) ∷
@@ -1051,8 +1042,8 @@ run_40 = record {
       Entry.C (record { host = 0; inc = 1 }) 24 (Told.Write 1 0 11) ∷
       Entry.A (record { host = 0; inc = 1 }) 23 Said.Stale ∷ Entry.C (record { host = 0; inc = 1 }) 23 (Told.Fetch 3 0) ∷
       Entry.A (record { host = 0; inc = 1 }) 22 Said.Ok ∷ Entry.W (record { host = 0; inc = 1 }) 2 0 7 10 true ∷
-      Entry.C (record { host = 0; inc = 1 }) 22 (Told.WriteSync 2 0 10) ∷
-      Entry.A (record { host = 0; inc = 1 }) 21 Said.Ok ∷ Entry.W (record { host = 0; inc = 1 }) 1 0 6 9 false ∷
+      Entry.C (record { host = 0; inc = 1 }) 22 (Told.Put 2 0 10) ∷ Entry.A (record { host = 0; inc = 1 }) 21 Said.Ok ∷
+      Entry.W (record { host = 0; inc = 1 }) 1 0 6 9 false ∷
       Entry.C (record { host = 0; inc = 1 }) 21 (Told.Write 1 0 9) ∷ Entry.A (record { host = 0; inc = 1 }) 20 Said.Ok ∷
       Entry.W (record { host = 0; inc = 1 }) 1 0 5 8 false ∷
       Entry.C (record { host = 0; inc = 1 }) 20 (Told.Write 1 0 8) ∷
@@ -1073,15 +1064,13 @@ run_40 = record {
       Entry.A (record { host = 0; inc = 1 }) 12 (Said.OkValue 7) ∷ Entry.R (record { host = 0; inc = 1 }) 12 1 0 7 None ∷
       Entry.C (record { host = 0; inc = 1 }) 12 (Told.Read 1 0) ∷ Entry.A (record { host = 0; inc = 1 }) 11 Said.Ok ∷
       Entry.S (record { host = 0; inc = 1 }) 1 0 4 4 4 ∷ Entry.W (record { host = 0; inc = 1 }) 1 0 4 7 false ∷
-      Entry.C (record { host = 0; inc = 1 }) 11 (Told.WriteSync 1 0 7) ∷
-      Entry.A (record { host = 0; inc = 1 }) 10 Said.Ok ∷ Entry.S (record { host = 0; inc = 1 }) 1 0 2 3 4 ∷
-      Entry.W (record { host = 0; inc = 1 }) 1 0 3 5 false ∷
-      Entry.C (record { host = 0; inc = 1 }) 10 (Told.WriteSync 1 0 5) ∷
-      Entry.A (record { host = 0; inc = 1 }) 9 Said.Ok ∷ Entry.W (record { host = 0; inc = 1 }) 1 0 2 4 false ∷
+      Entry.C (record { host = 0; inc = 1 }) 11 (Told.Put 1 0 7) ∷ Entry.A (record { host = 0; inc = 1 }) 10 Said.Ok ∷
+      Entry.S (record { host = 0; inc = 1 }) 1 0 2 3 4 ∷ Entry.W (record { host = 0; inc = 1 }) 1 0 3 5 false ∷
+      Entry.C (record { host = 0; inc = 1 }) 10 (Told.Put 1 0 5) ∷ Entry.A (record { host = 0; inc = 1 }) 9 Said.Ok ∷
+      Entry.W (record { host = 0; inc = 1 }) 1 0 2 4 false ∷
       Entry.G (record { host = 0; inc = 1 }) 1 Mode.Writing (record { boot = 1; number = 2 }) 15 4 ∷
       Entry.C (record { host = 0; inc = 1 }) 9 (Told.Write 1 0 4) ∷ Entry.A (record { host = 0; inc = 1 }) 8 Said.Ok ∷
-      Entry.W (record { host = 0; inc = 1 }) 1 0 1 1 true ∷
-      Entry.C (record { host = 0; inc = 1 }) 8 (Told.WriteSync 1 0 1) ∷
+      Entry.W (record { host = 0; inc = 1 }) 1 0 1 1 true ∷ Entry.C (record { host = 0; inc = 1 }) 8 (Told.Put 1 0 1) ∷
       Entry.A (record { host = 0; inc = 1 }) 7 (Said.OkValue 0) ∷ Entry.R (record { host = 0; inc = 1 }) 7 1 0 0 None ∷
       Entry.C (record { host = 0; inc = 1 }) 7 (Told.Read 1 0) ∷
       Entry.A (record { host = 0; inc = 1 }) 6 (Said.OkValue 0) ∷ Entry.R (record { host = 0; inc = 1 }) 6 1 0 0 None ∷

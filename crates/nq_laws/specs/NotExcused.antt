@@ -24,7 +24,7 @@ a_lease_that_ended_within_write_slack =
     Entry.A (record { host = 0; inc = 1 }) 2 (Said.Lost (record { items = record { block = 0; first = 1; last = 1 } ∷ []; spare = 0 })) ∷
     Entry.C (record { host = 0; inc = 1 }) 2 (Told.Sync 1) ∷ Entry.L (record { host = 0; inc = 1 }) 1 0 1 1 ∷
     Entry.A (record { host = 1; inc = 1 }) 1 Said.Ok ∷ Entry.W (record { host = 1; inc = 1 }) 1 0 1 8 true ∷
-    Entry.C (record { host = 1; inc = 1 }) 1 (Told.WriteSync 1 0 8) ∷ Entry.F (record { host = 0; inc = 1 }) 1 8 0 12 ∷
+    Entry.C (record { host = 1; inc = 1 }) 1 (Told.Put 1 0 8) ∷ Entry.F (record { host = 0; inc = 1 }) 1 8 0 12 ∷
     Entry.A (record { host = 0; inc = 1 }) 1 Said.Ok ∷ Entry.W (record { host = 0; inc = 1 }) 1 0 1 5 false ∷
     Entry.G (record { host = 0; inc = 1 }) 1 Mode.Writing (record { boot = 1; number = 1 }) 5 0 ∷
     Entry.C (record { host = 0; inc = 1 }) 1 (Told.Write 1 0 5) ∷ []
@@ -39,7 +39,7 @@ a_loss_with_no_end_of_the_lease =
     Entry.A (record { host = 0; inc = 1 }) 2 (Said.Lost (record { items = record { block = 0; first = 1; last = 1 } ∷ []; spare = 0 })) ∷
     Entry.C (record { host = 0; inc = 1 }) 2 (Told.Sync 1) ∷ Entry.L (record { host = 0; inc = 1 }) 1 0 1 1 ∷
     Entry.A (record { host = 1; inc = 1 }) 1 Said.Ok ∷ Entry.W (record { host = 1; inc = 1 }) 1 0 1 8 true ∷
-    Entry.C (record { host = 1; inc = 1 }) 1 (Told.WriteSync 1 0 8) ∷ Entry.A (record { host = 0; inc = 1 }) 1 Said.Ok ∷
+    Entry.C (record { host = 1; inc = 1 }) 1 (Told.Put 1 0 8) ∷ Entry.A (record { host = 0; inc = 1 }) 1 Said.Ok ∷
     Entry.W (record { host = 0; inc = 1 }) 1 0 1 5 false ∷
     Entry.G (record { host = 0; inc = 1 }) 1 Mode.Writing (record { boot = 1; number = 1 }) 5 0 ∷
     Entry.C (record { host = 0; inc = 1 }) 1 (Told.Write 1 0 5) ∷ []

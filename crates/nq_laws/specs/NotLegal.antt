@@ -50,22 +50,20 @@ abbrev pub a_wrong_value_in_a_served_read : List Entry
 a_wrong_value_in_a_served_read =
     Entry.A (record { host = 1; inc = 1 }) 1 (Said.OkBy 8 3) ∷ Entry.R (record { host = 1; inc = 1 }) 1 1 0 8 (Some 3) ∷
     Entry.C (record { host = 1; inc = 1 }) 1 (Told.Fetch 1 0) ∷ Entry.A (record { host = 0; inc = 1 }) 1 Said.Ok ∷
-    Entry.W (record { host = 0; inc = 1 }) 1 0 1 7 true ∷
-    Entry.C (record { host = 0; inc = 1 }) 1 (Told.WriteSync 1 0 7) ∷ []
+    Entry.W (record { host = 0; inc = 1 }) 1 0 1 7 true ∷ Entry.C (record { host = 0; inc = 1 }) 1 (Told.Put 1 0 7) ∷ []
 
 -- an answer of another value
 abbrev pub an_answer_of_another_value : List Entry
 an_answer_of_another_value =
     Entry.A (record { host = 1; inc = 1 }) 1 (Said.OkBy 6 3) ∷ Entry.R (record { host = 1; inc = 1 }) 1 1 0 7 (Some 3) ∷
     Entry.C (record { host = 1; inc = 1 }) 1 (Told.Fetch 1 0) ∷ Entry.A (record { host = 0; inc = 1 }) 1 Said.Ok ∷
-    Entry.W (record { host = 0; inc = 1 }) 1 0 1 7 true ∷
-    Entry.C (record { host = 0; inc = 1 }) 1 (Told.WriteSync 1 0 7) ∷ []
+    Entry.W (record { host = 0; inc = 1 }) 1 0 1 7 true ∷ Entry.C (record { host = 0; inc = 1 }) 1 (Told.Put 1 0 7) ∷ []
 
 -- an answer of no read
 abbrev pub an_answer_of_no_read : List Entry
 an_answer_of_no_read =
     Entry.A (record { host = 1; inc = 1 }) 1 (Said.OkBy 7 4) ∷ Entry.W (record { host = 0; inc = 1 }) 1 0 1 7 true ∷
-    Entry.C (record { host = 0; inc = 1 }) 1 (Told.WriteSync 1 0 7) ∷
+    Entry.C (record { host = 0; inc = 1 }) 1 (Told.Put 1 0 7) ∷
     Entry.R (record { host = 1; inc = 1 }) 1 1 0 0 (Some 1) ∷
     Entry.C (record { host = 1; inc = 1 }) 1 (Told.Fetch 1 0) ∷ []
 

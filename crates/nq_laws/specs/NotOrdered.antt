@@ -66,8 +66,7 @@ calls_out_of_order =
     Entry.C (record { host = 0; inc = 1 }) 1 (Told.Lookup (97 ∷ [])) ∷
     Entry.A (record { host = 1; inc = 1 }) 1 (Said.OkBy 7 3) ∷ Entry.R (record { host = 1; inc = 1 }) 1 1 0 7 (Some 3) ∷
     Entry.C (record { host = 1; inc = 1 }) 1 (Told.Fetch 1 0) ∷ Entry.A (record { host = 0; inc = 1 }) 1 Said.Ok ∷
-    Entry.W (record { host = 0; inc = 1 }) 1 0 1 7 true ∷
-    Entry.C (record { host = 0; inc = 1 }) 1 (Told.WriteSync 1 0 7) ∷ []
+    Entry.W (record { host = 0; inc = 1 }) 1 0 1 7 true ∷ Entry.C (record { host = 0; inc = 1 }) 1 (Told.Put 1 0 7) ∷ []
 
 -- two answers to one call
 abbrev pub two_answers_to_one_call : List Entry

@@ -14,9 +14,9 @@ a_loss_named_late =
     Entry.A (record { host = 0; inc = 1 }) 2 (Said.Lost (record { items = record { block = 0; first = 1; last = 1 } ∷ []; spare = 0 })) ∷
     Entry.B (record { host = 1; inc = 2 }) ∷ Entry.C (record { host = 0; inc = 1 }) 2 (Told.Sync 1) ∷
     Entry.L (record { host = 0; inc = 1 }) 1 0 1 1 ∷ Entry.A (record { host = 1; inc = 1 }) 1 Said.Ok ∷
-    Entry.W (record { host = 1; inc = 1 }) 1 0 1 8 true ∷
-    Entry.C (record { host = 1; inc = 1 }) 1 (Told.WriteSync 1 0 8) ∷ Entry.F (record { host = 0; inc = 1 }) 1 8 0 13 ∷
-    Entry.A (record { host = 0; inc = 1 }) 1 Said.Ok ∷ Entry.W (record { host = 0; inc = 1 }) 1 0 1 5 false ∷
+    Entry.W (record { host = 1; inc = 1 }) 1 0 1 8 true ∷ Entry.C (record { host = 1; inc = 1 }) 1 (Told.Put 1 0 8) ∷
+    Entry.F (record { host = 0; inc = 1 }) 1 8 0 13 ∷ Entry.A (record { host = 0; inc = 1 }) 1 Said.Ok ∷
+    Entry.W (record { host = 0; inc = 1 }) 1 0 1 5 false ∷
     Entry.G (record { host = 0; inc = 1 }) 1 Mode.Writing (record { boot = 1; number = 1 }) 5 0 ∷
     Entry.C (record { host = 0; inc = 1 }) 1 (Told.Write 1 0 5) ∷ []
 
@@ -31,7 +31,7 @@ a_loss_named_twice =
     Entry.A (record { host = 0; inc = 1 }) 2 (Said.Lost (record { items = record { block = 0; first = 1; last = 1 } ∷ []; spare = 0 })) ∷
     Entry.C (record { host = 0; inc = 1 }) 2 (Told.Sync 1) ∷ Entry.L (record { host = 0; inc = 1 }) 1 0 1 1 ∷
     Entry.A (record { host = 1; inc = 1 }) 1 Said.Ok ∷ Entry.W (record { host = 1; inc = 1 }) 1 0 1 8 true ∷
-    Entry.C (record { host = 1; inc = 1 }) 1 (Told.WriteSync 1 0 8) ∷ Entry.F (record { host = 0; inc = 1 }) 1 8 0 13 ∷
+    Entry.C (record { host = 1; inc = 1 }) 1 (Told.Put 1 0 8) ∷ Entry.F (record { host = 0; inc = 1 }) 1 8 0 13 ∷
     Entry.A (record { host = 0; inc = 1 }) 1 Said.Ok ∷ Entry.W (record { host = 0; inc = 1 }) 1 0 1 5 false ∷
     Entry.G (record { host = 0; inc = 1 }) 1 Mode.Writing (record { boot = 1; number = 1 }) 5 0 ∷
     Entry.C (record { host = 0; inc = 1 }) 1 (Told.Write 1 0 5) ∷ []
@@ -45,7 +45,7 @@ a_loss_that_nobody_names =
     Entry.C (record { host = 0; inc = 1 }) 3 (Told.Read 1 0) ∷ Entry.A (record { host = 0; inc = 1 }) 2 Said.DirtyFull ∷
     Entry.C (record { host = 0; inc = 1 }) 2 (Told.Write 1 0 6) ∷ Entry.L (record { host = 0; inc = 1 }) 1 0 1 1 ∷
     Entry.A (record { host = 1; inc = 1 }) 1 Said.Ok ∷ Entry.W (record { host = 1; inc = 1 }) 1 0 1 8 true ∷
-    Entry.C (record { host = 1; inc = 1 }) 1 (Told.WriteSync 1 0 8) ∷ Entry.F (record { host = 0; inc = 1 }) 1 8 0 13 ∷
+    Entry.C (record { host = 1; inc = 1 }) 1 (Told.Put 1 0 8) ∷ Entry.F (record { host = 0; inc = 1 }) 1 8 0 13 ∷
     Entry.A (record { host = 0; inc = 1 }) 1 Said.Ok ∷ Entry.W (record { host = 0; inc = 1 }) 1 0 1 5 false ∷
     Entry.G (record { host = 0; inc = 1 }) 1 Mode.Writing (record { boot = 1; number = 1 }) 5 0 ∷
     Entry.C (record { host = 0; inc = 1 }) 1 (Told.Write 1 0 5) ∷ []
@@ -60,7 +60,7 @@ a_name_of_no_loss =
     Entry.A (record { host = 0; inc = 1 }) 2 (Said.Lost (record { items = record { block = 0; first = 1; last = 1 } ∷ record { block = 0; first = 2; last = 2 } ∷ []; spare = 0 })) ∷
     Entry.C (record { host = 0; inc = 1 }) 2 (Told.Sync 1) ∷ Entry.L (record { host = 0; inc = 1 }) 1 0 1 1 ∷
     Entry.A (record { host = 1; inc = 1 }) 1 Said.Ok ∷ Entry.W (record { host = 1; inc = 1 }) 1 0 1 8 true ∷
-    Entry.C (record { host = 1; inc = 1 }) 1 (Told.WriteSync 1 0 8) ∷ Entry.F (record { host = 0; inc = 1 }) 1 8 0 13 ∷
+    Entry.C (record { host = 1; inc = 1 }) 1 (Told.Put 1 0 8) ∷ Entry.F (record { host = 0; inc = 1 }) 1 8 0 13 ∷
     Entry.A (record { host = 0; inc = 1 }) 1 Said.Ok ∷ Entry.W (record { host = 0; inc = 1 }) 1 0 1 5 false ∷
     Entry.G (record { host = 0; inc = 1 }) 1 Mode.Writing (record { boot = 1; number = 1 }) 5 0 ∷
     Entry.C (record { host = 0; inc = 1 }) 1 (Told.Write 1 0 5) ∷ []

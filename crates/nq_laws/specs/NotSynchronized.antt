@@ -12,7 +12,7 @@ a_put_answered_before_its_store =
     Entry.A (record { host = 0; inc = 1 }) 4 Said.Ok ∷ Entry.W (record { host = 0; inc = 1 }) 1 0 3 7 false ∷
     Entry.L (record { host = 0; inc = 1 }) 1 0 2 2 ∷
     Entry.G (record { host = 0; inc = 1 }) 1 Mode.Writing (record { boot = 1; number = 2 }) 30 38 ∷
-    Entry.C (record { host = 0; inc = 1 }) 4 (Told.WriteSync 1 0 7) ∷ Entry.F (record { host = 0; inc = 1 }) 1 33 0 38 ∷
+    Entry.C (record { host = 0; inc = 1 }) 4 (Told.Put 1 0 7) ∷ Entry.F (record { host = 0; inc = 1 }) 1 33 0 38 ∷
     Entry.A (record { host = 0; inc = 1 }) 3 Said.Ok ∷ Entry.W (record { host = 0; inc = 1 }) 1 0 2 6 false ∷
     Entry.C (record { host = 0; inc = 1 }) 3 (Told.Write 1 0 6) ∷ Entry.A (record { host = 0; inc = 1 }) 2 Said.Ok ∷
     Entry.S (record { host = 0; inc = 1 }) 1 0 1 1 0 ∷ Entry.C (record { host = 0; inc = 1 }) 2 (Told.Sync 1) ∷
@@ -25,7 +25,7 @@ abbrev pub a_put_answered_with_no_write : List Entry
 a_put_answered_with_no_write =
     Entry.A (record { host = 1; inc = 1 }) 1 (Said.OkBy 0 3) ∷ Entry.R (record { host = 1; inc = 1 }) 1 1 0 0 (Some 3) ∷
     Entry.C (record { host = 1; inc = 1 }) 1 (Told.Fetch 1 0) ∷ Entry.A (record { host = 0; inc = 1 }) 1 Said.Ok ∷
-    Entry.C (record { host = 0; inc = 1 }) 1 (Told.WriteSync 1 0 7) ∷ []
+    Entry.C (record { host = 0; inc = 1 }) 1 (Told.Put 1 0 7) ∷ []
 
 -- a removal that was not made
 abbrev pub a_removal_that_was_not_made : List Entry

@@ -25,7 +25,7 @@ late_head = record { hosts = 3; term = 6; longest = 6; files = ((97 ∷ []), 1) 
 -- a crash, and then, while the server recovers, two reads at odds by a tick, and a put; the newest event first
 abbrev pub late_events : List Event
 late_events =
-    Event.Call 2 (Call.WriteSync 1 0 (filled 7)) ∷ Event.Call 0 (Call.Read 1 0) ∷ Event.ClientTick 1 ∷
+    Event.Call 2 (Call.Put 1 0 (filled 7)) ∷ Event.Call 0 (Call.Read 1 0) ∷ Event.ClientTick 1 ∷
     Event.Call 1 (Call.Read 1 0) ∷ Event.Crash 6 ∷ []
 
 -- the law of whole rounds speaks of a schedule with a recovery: whole rounds answer all three calls. The put is open after more than half as many
@@ -45,7 +45,7 @@ pair_head = record { hosts = 2; term = 6; longest = 6; files = ((97 ∷ []), 1) 
 
 -- a read and a put; the newest event first
 abbrev pub pair_events : List Event
-pair_events = Event.Call 1 (Call.WriteSync 1 0 (filled 7)) ∷ Event.Call 0 (Call.Read 1 0) ∷ []
+pair_events = Event.Call 1 (Call.Put 1 0 (filled 7)) ∷ Event.Call 0 (Call.Read 1 0) ∷ []
 
 -- both requests are under way
 abbrev pub both : List ℕ

@@ -31,7 +31,7 @@ a_fenced_write_in_recovery = record {
   head = record { hosts = 2; term = 5; longest = 60; files = ((97 ∷ []), 1) ∷ [] };
   lines =
       one (Event.Call 0 (Call.Write 1 0 (filled 5))) ∷ one (Event.Deliver 0) ∷ one (Event.Deliver 1) ∷ round 13 ∷
-      one (Event.Call 1 (Call.WriteSync 1 0 (filled 8))) ∷ one (Event.Deliver 8) ∷ one (Event.Deliver 9) ∷
+      one (Event.Call 1 (Call.Put 1 0 (filled 8))) ∷ one (Event.Deliver 8) ∷ one (Event.Deliver 9) ∷
       one (Event.Crash 60) ∷ one (Event.Deliver 2) ∷ one (Event.Deliver 10) ∷ round 68 ∷
       one (Event.Call 0 (Call.Fetch 1 0)) ∷ one (Event.Deliver 11) ∷ one (Event.Deliver 12) ∷ [];
   journal =
@@ -40,7 +40,7 @@ a_fenced_write_in_recovery = record {
       Entry.C (record { host = 0; inc = 1 }) 2 (Told.Fetch 1 0) ∷ Entry.O 2 81 13 81 ∷
       Entry.L (record { host = 0; inc = 1 }) 1 0 1 1 ∷ Entry.X 2 13 60 ∷
       Entry.A (record { host = 1; inc = 1 }) 1 Said.Ok ∷ Entry.W (record { host = 1; inc = 1 }) 1 0 1 8 true ∷
-      Entry.C (record { host = 1; inc = 1 }) 1 (Told.WriteSync 1 0 8) ∷ Entry.F (record { host = 0; inc = 1 }) 1 8 0 13 ∷
+      Entry.C (record { host = 1; inc = 1 }) 1 (Told.Put 1 0 8) ∷ Entry.F (record { host = 0; inc = 1 }) 1 8 0 13 ∷
       Entry.A (record { host = 0; inc = 1 }) 1 Said.Ok ∷ Entry.W (record { host = 0; inc = 1 }) 1 0 1 5 false ∷
       Entry.G (record { host = 0; inc = 1 }) 1 Mode.Writing (record { boot = 1; number = 1 }) 5 0 ∷
       Entry.C (record { host = 0; inc = 1 }) 1 (Told.Write 1 0 5) ∷ [];
@@ -51,7 +51,7 @@ abbrev pub a_grant_after_its_ticket_was_cancelled : Example
 a_grant_after_its_ticket_was_cancelled = record {
   head = record { hosts = 2; term = 30; longest = 60; files = ((97 ∷ []), 1) ∷ [] };
   lines =
-      one (Event.Call 0 (Call.Read 1 0)) ∷ one (Event.Deliver 0) ∷ one (Event.Call 1 (Call.WriteSync 1 0 (filled 9))) ∷
+      one (Event.Call 0 (Call.Read 1 0)) ∷ one (Event.Deliver 0) ∷ one (Event.Call 1 (Call.Put 1 0 (filled 9))) ∷
       one (Event.Deliver 2) ∷ one (Event.Deliver 3) ∷ one (Event.Deliver 1) ∷ one (Event.Deliver 5) ∷
       one (Event.Deliver 4) ∷ round 2 ∷ one (Event.Deliver 8) ∷ one (Event.Deliver 9) ∷ one (Event.Deliver 6) ∷
       one (Event.Deliver 10) ∷ [];
@@ -60,7 +60,7 @@ a_grant_after_its_ticket_was_cancelled = record {
       Entry.R (record { host = 0; inc = 1 }) 1 1 0 9 (Some 10) ∷
       Entry.G (record { host = 0; inc = 1 }) 1 Mode.Reading (record { boot = 1; number = 2 }) 30 2 ∷
       Entry.A (record { host = 1; inc = 1 }) 1 Said.Ok ∷ Entry.W (record { host = 1; inc = 1 }) 1 0 2 9 true ∷
-      Entry.C (record { host = 1; inc = 1 }) 1 (Told.WriteSync 1 0 9) ∷
+      Entry.C (record { host = 1; inc = 1 }) 1 (Told.Put 1 0 9) ∷
       Entry.R (record { host = 0; inc = 1 }) 1 1 0 0 (Some 1) ∷
       Entry.G (record { host = 0; inc = 1 }) 1 Mode.Reading (record { boot = 1; number = 1 }) 30 0 ∷
       Entry.C (record { host = 0; inc = 1 }) 1 (Told.Read 1 0) ∷ [];
@@ -72,14 +72,14 @@ a_late_vacated_message = record {
   head = record { hosts = 2; term = 30; longest = 60; files = ((97 ∷ []), 1) ∷ [] };
   lines =
       one (Event.Call 0 (Call.Read 1 0)) ∷ one (Event.Deliver 0) ∷ one (Event.Deliver 1) ∷
-      one (Event.Call 1 (Call.WriteSync 1 0 (filled 9))) ∷ one (Event.Deliver 2) ∷ one (Event.Deliver 3) ∷
+      one (Event.Call 1 (Call.Put 1 0 (filled 9))) ∷ one (Event.Deliver 2) ∷ one (Event.Deliver 3) ∷
       one (Event.Deliver 5) ∷ one (Event.Call 0 (Call.Read 1 0)) ∷ one (Event.Deliver 6) ∷ one (Event.Deliver 7) ∷
       one (Event.Deliver 5) ∷ one (Event.Deliver 4) ∷ round 2 ∷ one (Event.Deliver 8) ∷ [];
   journal =
       Entry.A (record { host = 0; inc = 1 }) 2 (Said.OkBy 0 7) ∷ Entry.R (record { host = 0; inc = 1 }) 2 1 0 0 (Some 7) ∷
       Entry.G (record { host = 0; inc = 1 }) 1 Mode.Reading (record { boot = 1; number = 2 }) 30 0 ∷
       Entry.C (record { host = 0; inc = 1 }) 2 (Told.Read 1 0) ∷
-      Entry.C (record { host = 1; inc = 1 }) 1 (Told.WriteSync 1 0 9) ∷
+      Entry.C (record { host = 1; inc = 1 }) 1 (Told.Put 1 0 9) ∷
       Entry.A (record { host = 0; inc = 1 }) 1 (Said.OkBy 0 1) ∷ Entry.R (record { host = 0; inc = 1 }) 1 1 0 0 (Some 1) ∷
       Entry.G (record { host = 0; inc = 1 }) 1 Mode.Reading (record { boot = 1; number = 1 }) 30 0 ∷
       Entry.C (record { host = 0; inc = 1 }) 1 (Told.Read 1 0) ∷ [];
@@ -92,7 +92,7 @@ a_loss_found_while_a_put_waits = record {
   lines =
       one (Event.Call 0 (Call.Write 1 0 (filled 5))) ∷ one (Event.Deliver 0) ∷ one (Event.Deliver 1) ∷
       one (Event.Call 0 (Call.Sync 1)) ∷ one (Event.Deliver 2) ∷ one (Event.Deliver 3) ∷ round 27 ∷
-      one (Event.Call 0 (Call.Write 1 0 (filled 6))) ∷ round 11 ∷ one (Event.Call 0 (Call.WriteSync 1 0 (filled 7))) ∷
+      one (Event.Call 0 (Call.Write 1 0 (filled 6))) ∷ round 11 ∷ one (Event.Call 0 (Call.Put 1 0 (filled 7))) ∷
       one (Event.Deliver 4) ∷ one (Event.Deliver 10) ∷ one (Event.Deliver 11) ∷ one (Event.Deliver 12) ∷
       one (Event.Call 0 (Call.Sync 1)) ∷ [];
   journal =
@@ -101,7 +101,7 @@ a_loss_found_while_a_put_waits = record {
       Entry.S (record { host = 0; inc = 1 }) 1 0 3 3 38 ∷ Entry.W (record { host = 0; inc = 1 }) 1 0 3 7 false ∷
       Entry.L (record { host = 0; inc = 1 }) 1 0 2 2 ∷
       Entry.G (record { host = 0; inc = 1 }) 1 Mode.Writing (record { boot = 1; number = 2 }) 30 38 ∷
-      Entry.C (record { host = 0; inc = 1 }) 4 (Told.WriteSync 1 0 7) ∷ Entry.F (record { host = 0; inc = 1 }) 1 33 0 38 ∷
+      Entry.C (record { host = 0; inc = 1 }) 4 (Told.Put 1 0 7) ∷ Entry.F (record { host = 0; inc = 1 }) 1 33 0 38 ∷
       Entry.A (record { host = 0; inc = 1 }) 3 Said.Ok ∷ Entry.W (record { host = 0; inc = 1 }) 1 0 2 6 false ∷
       Entry.C (record { host = 0; inc = 1 }) 3 (Told.Write 1 0 6) ∷ Entry.A (record { host = 0; inc = 1 }) 2 Said.Ok ∷
       Entry.S (record { host = 0; inc = 1 }) 1 0 1 1 0 ∷ Entry.C (record { host = 0; inc = 1 }) 2 (Told.Sync 1) ∷
@@ -184,12 +184,11 @@ abbrev pub a_read_executed_twice : Example
 a_read_executed_twice = record {
   head = record { hosts = 2; term = 30; longest = 60; files = ((97 ∷ []), 1) ∷ [] };
   lines =
-      one (Event.Call 1 (Call.Fetch 1 0)) ∷ one (Event.Deliver 0) ∷ one (Event.Call 0 (Call.WriteSync 1 0 (filled 7))) ∷
+      one (Event.Call 1 (Call.Fetch 1 0)) ∷ one (Event.Deliver 0) ∷ one (Event.Call 0 (Call.Put 1 0 (filled 7))) ∷
       one (Event.Deliver 2) ∷ one (Event.Deliver 0) ∷ one (Event.Deliver 4) ∷ one (Event.Deliver 1) ∷ [];
   journal =
       Entry.A (record { host = 1; inc = 1 }) 1 (Said.OkBy 7 4) ∷ Entry.R (record { host = 1; inc = 1 }) 1 1 0 7 (Some 4) ∷
-      Entry.W (record { host = 0; inc = 1 }) 1 0 1 7 true ∷
-      Entry.C (record { host = 0; inc = 1 }) 1 (Told.WriteSync 1 0 7) ∷
+      Entry.W (record { host = 0; inc = 1 }) 1 0 1 7 true ∷ Entry.C (record { host = 0; inc = 1 }) 1 (Told.Put 1 0 7) ∷
       Entry.R (record { host = 1; inc = 1 }) 1 1 0 0 (Some 1) ∷
       Entry.C (record { host = 1; inc = 1 }) 1 (Told.Fetch 1 0) ∷ [];
 }
@@ -218,11 +217,11 @@ abbrev pub a_request_sent_again : Example
 a_request_sent_again = record {
   head = record { hosts = 1; term = 30; longest = 60; files = ((97 ∷ []), 1) ∷ [] };
   lines =
-      one (Event.Call 0 (Call.WriteSync 1 0 (filled 7))) ∷ round 2 ∷ one (Event.Deliver 1) ∷ one (Event.Deliver 0) ∷
+      one (Event.Call 0 (Call.Put 1 0 (filled 7))) ∷ round 2 ∷ one (Event.Deliver 1) ∷ one (Event.Deliver 0) ∷
       one (Event.Deliver 2) ∷ [];
   journal =
       Entry.A (record { host = 0; inc = 1 }) 1 Said.Ok ∷ Entry.W (record { host = 0; inc = 1 }) 1 0 1 7 true ∷
-      Entry.C (record { host = 0; inc = 1 }) 1 (Told.WriteSync 1 0 7) ∷ [];
+      Entry.C (record { host = 0; inc = 1 }) 1 (Told.Put 1 0 7) ∷ [];
 }
 
 -- a resize under a reading lease
@@ -248,13 +247,13 @@ abbrev pub a_restart_before_the_request_arrives : Example
 a_restart_before_the_request_arrives = record {
   head = record { hosts = 1; term = 30; longest = 60; files = ((97 ∷ []), 1) ∷ [] };
   lines =
-      one (Event.Call 0 (Call.WriteSync 1 0 (filled 7))) ∷ one (Event.Restart 0) ∷ one (Event.Deliver 1) ∷
+      one (Event.Call 0 (Call.Put 1 0 (filled 7))) ∷ one (Event.Restart 0) ∷ one (Event.Deliver 1) ∷
       one (Event.Deliver 2) ∷ one (Event.Deliver 0) ∷ one (Event.Call 0 (Call.Fetch 1 0)) ∷ one (Event.Deliver 3) ∷
       one (Event.Deliver 4) ∷ [];
   journal =
       Entry.A (record { host = 0; inc = 2 }) 1 (Said.OkBy 0 4) ∷ Entry.R (record { host = 0; inc = 2 }) 1 1 0 0 (Some 4) ∷
       Entry.C (record { host = 0; inc = 2 }) 1 (Told.Fetch 1 0) ∷ Entry.B (record { host = 0; inc = 2 }) ∷
-      Entry.C (record { host = 0; inc = 1 }) 1 (Told.WriteSync 1 0 7) ∷ [];
+      Entry.C (record { host = 0; inc = 1 }) 1 (Told.Put 1 0 7) ∷ [];
 }
 
 -- a write at the last slack tick
@@ -429,7 +428,7 @@ cut_off_beyond_write_slack = record {
   head = record { hosts = 2; term = 5; longest = 60; files = ((97 ∷ []), 1) ∷ [] };
   lines =
       one (Event.Call 0 (Call.Write 1 0 (filled 5))) ∷ one (Event.Deliver 0) ∷ one (Event.Deliver 1) ∷ round 13 ∷
-      one (Event.Call 1 (Call.WriteSync 1 0 (filled 8))) ∷ one (Event.Deliver 8) ∷ one (Event.Deliver 9) ∷
+      one (Event.Call 1 (Call.Put 1 0 (filled 8))) ∷ one (Event.Deliver 8) ∷ one (Event.Deliver 9) ∷
       one (Event.Deliver 2) ∷ one (Event.Deliver 10) ∷ one (Event.Call 0 (Call.Sync 1)) ∷
       one (Event.Call 0 (Call.Read 1 0)) ∷ one (Event.Deliver 11) ∷ one (Event.Deliver 12) ∷ [];
   journal =
@@ -440,7 +439,7 @@ cut_off_beyond_write_slack = record {
       Entry.A (record { host = 0; inc = 1 }) 2 (Said.Lost (record { items = record { block = 0; first = 1; last = 1 } ∷ []; spare = 0 })) ∷
       Entry.C (record { host = 0; inc = 1 }) 2 (Told.Sync 1) ∷ Entry.L (record { host = 0; inc = 1 }) 1 0 1 1 ∷
       Entry.A (record { host = 1; inc = 1 }) 1 Said.Ok ∷ Entry.W (record { host = 1; inc = 1 }) 1 0 1 8 true ∷
-      Entry.C (record { host = 1; inc = 1 }) 1 (Told.WriteSync 1 0 8) ∷ Entry.F (record { host = 0; inc = 1 }) 1 8 0 13 ∷
+      Entry.C (record { host = 1; inc = 1 }) 1 (Told.Put 1 0 8) ∷ Entry.F (record { host = 0; inc = 1 }) 1 8 0 13 ∷
       Entry.A (record { host = 0; inc = 1 }) 1 Said.Ok ∷ Entry.W (record { host = 0; inc = 1 }) 1 0 1 5 false ∷
       Entry.G (record { host = 0; inc = 1 }) 1 Mode.Writing (record { boot = 1; number = 1 }) 5 0 ∷
       Entry.C (record { host = 0; inc = 1 }) 1 (Told.Write 1 0 5) ∷ [];
@@ -491,17 +490,16 @@ abbrev pub one_request_three_times : Example
 one_request_three_times = record {
   head = record { hosts = 2; term = 30; longest = 60; files = ((97 ∷ []), 1) ∷ [] };
   lines =
-      one (Event.Call 0 (Call.WriteSync 1 0 (filled 7))) ∷ one (Event.Deliver 0) ∷
-      one (Event.Call 1 (Call.WriteSync 1 0 (filled 8))) ∷ one (Event.Deliver 2) ∷ one (Event.Deliver 0) ∷
+      one (Event.Call 0 (Call.Put 1 0 (filled 7))) ∷ one (Event.Deliver 0) ∷
+      one (Event.Call 1 (Call.Put 1 0 (filled 8))) ∷ one (Event.Deliver 2) ∷ one (Event.Deliver 0) ∷
       one (Event.Deliver 0) ∷ one (Event.Deliver 4) ∷ one (Event.Deliver 3) ∷ one (Event.Call 0 (Call.Fetch 1 0)) ∷
       one (Event.Deliver 6) ∷ one (Event.Deliver 7) ∷ one (Event.Deliver 5) ∷ [];
   journal =
       Entry.A (record { host = 0; inc = 1 }) 2 (Said.OkBy 8 7) ∷ Entry.R (record { host = 0; inc = 1 }) 2 1 0 8 (Some 7) ∷
       Entry.C (record { host = 0; inc = 1 }) 2 (Told.Fetch 1 0) ∷ Entry.A (record { host = 1; inc = 1 }) 1 Said.Ok ∷
       Entry.A (record { host = 0; inc = 1 }) 1 Said.Ok ∷ Entry.W (record { host = 1; inc = 1 }) 1 0 1 8 true ∷
-      Entry.C (record { host = 1; inc = 1 }) 1 (Told.WriteSync 1 0 8) ∷
-      Entry.W (record { host = 0; inc = 1 }) 1 0 1 7 true ∷
-      Entry.C (record { host = 0; inc = 1 }) 1 (Told.WriteSync 1 0 7) ∷ [];
+      Entry.C (record { host = 1; inc = 1 }) 1 (Told.Put 1 0 8) ∷ Entry.W (record { host = 0; inc = 1 }) 1 0 1 7 true ∷
+      Entry.C (record { host = 0; inc = 1 }) 1 (Told.Put 1 0 7) ∷ [];
 }
 
 -- put then fetch
@@ -509,13 +507,12 @@ abbrev pub put_then_fetch : Example
 put_then_fetch = record {
   head = record { hosts = 2; term = 30; longest = 60; files = ((97 ∷ []), 1) ∷ [] };
   lines =
-      one (Event.Call 0 (Call.WriteSync 1 0 (filled 7))) ∷ one (Event.Deliver 0) ∷ one (Event.Deliver 1) ∷
+      one (Event.Call 0 (Call.Put 1 0 (filled 7))) ∷ one (Event.Deliver 0) ∷ one (Event.Deliver 1) ∷
       one (Event.Call 1 (Call.Fetch 1 0)) ∷ one (Event.Deliver 2) ∷ one (Event.Deliver 3) ∷ [];
   journal =
       Entry.A (record { host = 1; inc = 1 }) 1 (Said.OkBy 7 3) ∷ Entry.R (record { host = 1; inc = 1 }) 1 1 0 7 (Some 3) ∷
       Entry.C (record { host = 1; inc = 1 }) 1 (Told.Fetch 1 0) ∷ Entry.A (record { host = 0; inc = 1 }) 1 Said.Ok ∷
-      Entry.W (record { host = 0; inc = 1 }) 1 0 1 7 true ∷
-      Entry.C (record { host = 0; inc = 1 }) 1 (Told.WriteSync 1 0 7) ∷ [];
+      Entry.W (record { host = 0; inc = 1 }) 1 0 1 7 true ∷ Entry.C (record { host = 0; inc = 1 }) 1 (Told.Put 1 0 7) ∷ [];
 }
 
 -- refusals

@@ -39,7 +39,7 @@ fn add(rows: &mut Vec<Row>, place: usize, row: &Row)
 }
 
 /// Puts a row in, in place of the one of its file and host.
-pub(crate) fn put(rows: &mut Vec<Row>, ends: &mut Vec<End>, row: &Row) -> Result<(), Full>
+pub(crate) fn put_row(rows: &mut Vec<Row>, ends: &mut Vec<End>, row: &Row) -> Result<(), Full>
     requires { IsKept rows.old.items (vec_capacity rows.old) ends.old.items (vec_capacity ends.old) }
     ensures ok { OnOk result (rows.new.items ≡ put_row row.now rows.old.items) }
     ensures err { OnErr result (rows.new.items ≡ rows.old.items) }
@@ -49,7 +49,7 @@ pub(crate) fn put(rows: &mut Vec<Row>, ends: &mut Vec<End>, row: &Row) -> Result
     let place = rows::place_of(rows.as_slice(), row.file, row.who.host);
     match rows::at_place(rows.as_slice(), place, row.file, row.who.host) {
         Some(old) => {
-            ends::take(ends, ends::end_of(&old));
+            ends::take_end(ends, ends::end_of(&old));
             ends::add(ends, ends::end_of(row));
             write(rows, place, row);
             Ok(())
@@ -66,7 +66,7 @@ pub(crate) fn put(rows: &mut Vec<Row>, ends: &mut Vec<End>, row: &Row) -> Result
 }
 
 /// Takes the row of a file and a host out, if there is one.
-pub(crate) fn take(rows: &mut Vec<Row>, ends: &mut Vec<End>, file: FileId, host: Host)
+pub(crate) fn take_row(rows: &mut Vec<Row>, ends: &mut Vec<End>, file: FileId, host: Host)
     requires { IsKept rows.old.items (vec_capacity rows.old) ends.old.items (vec_capacity ends.old) }
     ensures rows { rows.new.items ≡ drop_row file host rows.old.items }
     ensures kept { IsKept rows.new.items (vec_capacity rows.new) ends.new.items (vec_capacity ends.new) }
@@ -74,7 +74,7 @@ pub(crate) fn take(rows: &mut Vec<Row>, ends: &mut Vec<End>, file: FileId, host:
     let place = rows::place_of(rows.as_slice(), file, host);
     match rows::at_place(rows.as_slice(), place, file, host) {
         Some(old) => {
-            ends::take(ends, ends::end_of(&old));
+            ends::take_end(ends, ends::end_of(&old));
             rows.remove(place);
         }
         None => {}

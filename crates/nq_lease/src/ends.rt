@@ -60,7 +60,7 @@ pub(crate) fn add(ends: &mut Vec<End>, time: Ticks)
 }
 
 /// Takes the end of one row out, which is there.
-pub(crate) fn take(ends: &mut Vec<End>, time: Ticks)
+pub(crate) fn take_end(ends: &mut Vec<End>, time: Ticks)
     requires ends { AreEnds ends.old.items }
     requires there { 1 ≤ rows_ending_at time ends.old.items }
     ensures ends { AreEnds ends.new.items }

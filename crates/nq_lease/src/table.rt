@@ -149,14 +149,14 @@ impl Table {
         ensures kept { OnErr result (self.new ≡ self.old) }
         ensures full { IsErr result ↔ ((find_row row.file row.who.host self.old.rows ≡ None) × (length self.old.rows ≡ most_rows)) }
     {
-        changes::put(&mut self.rows, &mut self.ends, &row)
+        changes::put_row(&mut self.rows, &mut self.ends, &row)
     }
 
     /// Drops the row of a file and a host, if there is one.
     pub fn drop_row(&mut self, key: RowKey)
         ensures { self.new ≡ with_rows self.old (drop_row key.file key.host self.old.rows) }
     {
-        changes::take(&mut self.rows, &mut self.ends, key.file, key.host);
+        changes::take_row(&mut self.rows, &mut self.ends, key.file, key.host);
     }
 
     /// Drops the rows of a host.

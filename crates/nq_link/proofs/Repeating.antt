@@ -1,6 +1,7 @@
 -- Words that are repeated.
-use Rattle.std.proofs.Common.{◌≡◌, ℕ, ◌+◌, ◌-◌, ◌*◌, ◌≤◌, List, [], ◌∷◌, ◌++◌, length, take, drop, get_or, zero, suc, refl, ap, sym, ◌∙◌, arith}
-use Rattle.std.proofs.lemmas.List.{take-take, take-append-drop, drop-drop, drop_more, length-take-le, length-drop}
+use Rattle.std.proofs.Common.{◌≡◌, ℕ, Bool, true, false, ◌==◌, ◌&&◌, ◌+◌, ◌-◌, ◌*◌, ◌<◌, ◌≤◌, List, [], ◌∷◌, ◌++◌, length, take, drop, get_or, zero, suc, refl, ap, sym, ◌∙◌, arith}
+use Rattle.std.proofs.lemmas.Bool.{eqb-true}
+use Rattle.std.proofs.lemmas.List.{take-take, take-append-drop, drop-drop, drop_more, length-take-le, length-drop, get_or-drop, take_more_same}
 use Rattle.std.proofs.Math.Seq.{take-add}
 use Rattle.nq_xdr.specs.Words.{repeats}
 use Rattle.nq_link.specs.Runs.{IsRepeated}
@@ -91,3 +92,23 @@ repeated-on bytes place middle m n all there sum first rest =
 pub repeated-fewer : (bytes : List ℕ) (place m n : ℕ) → n ≤ m → IsRepeated bytes place m → IsRepeated bytes place n
 repeated-fewer bytes place m n fewer all =
     sym (take-take n m (drop place bytes) fewer) ∙ ap (take n) all ∙ take-take n m (drop (place + 4) bytes) fewer
+
+-- one byte more that stands four places behind too
+pub repeated-step : (bytes : List ℕ) (place at : ℕ) (same : Bool) → place ≤ at → at + 4 < length bytes
+    → (same ≡ true → IsRepeated bytes place (at - place))
+    → (same && (get_or bytes at 0 == get_or bytes (at + 4) 0)) ≡ true → IsRepeated bytes place (at + 1 - place)
+repeated-step bytes place at false behind within before is = absurd (cc)
+repeated-step bytes place at true behind within before is =
+    let here : place + (at - place) ≡ at = omega (arith, behind) in
+    let there : place + 4 + (at - place) ≡ at + 4 = omega (arith, behind) in
+    let next : at - place + 1 ≡ at + 1 - place = omega (arith, behind) in
+    let byte : get_or bytes at 0 ≡ get_or bytes (at + 4) 0 = eqb-true (get_or bytes at 0) (get_or bytes (at + 4) 0) is in
+    let front : get_or (drop place bytes) (at - place) 0 ≡ get_or bytes at 0 =
+    get_or-drop place bytes (at - place) 0 ∙ ap (λ k. get_or bytes k 0) here in
+    let back : get_or (drop (place + 4) bytes) (at - place) 0 ≡ get_or bytes (at + 4) 0 =
+    get_or-drop (place + 4) bytes (at - place) 0 ∙ ap (λ k. get_or bytes k 0) there in
+    let more =
+    take_more_same (drop place bytes) (drop (place + 4) bytes) (at - place) 0 (omega (arith, behind, within, length-drop place bytes))
+    (omega (arith, behind, within, length-drop (place + 4) bytes)) (before refl) (front ∙ byte ∙ sym back)
+    in
+    rw (sym next) more

@@ -75,7 +75,15 @@ impl MemLink {
         bytes: usize,
         failing: Vec<u32>,
     ) -> Result<MemLink, NoMemory>
-        ensures { IfOk result (λ l. l ≡ record { me = me; sent = []; room = packets; room_bytes = bytes; waiting = []; calls = fresh failing.items; receives = 0 }) }
+        ensures { IfOk result (λ l. l ≡ record {
+          me = me;
+          sent = [];
+          room = packets;
+          room_bytes = bytes;
+          waiting = [];
+          calls = fresh failing.items;
+          receives = 0;
+        }) }
     {
         let mut sent = Packets::new(alloc)?;
         sent.reserve(packets, bytes)?;

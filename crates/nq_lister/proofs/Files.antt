@@ -1,5 +1,5 @@
 -- Files in order of their ids, read one behind the other, and those of them whose names begin with a prefix.
-use Rattle.std.proofs.Common.{◌≡◌, ◌≢◌, ◌<◌, ◌≤◌, ℕ, zero, suc, ◌+◌, ◌-◌, ◌==◌, Bool, true, false, List, [], ◌∷◌, ◌++◌, Option, Some, None}
+use Rattle.std.proofs.Common.{◌≡◌, ◌<◌, ◌≤◌, ℕ, zero, suc, ◌+◌, ◌-◌, Bool, true, false, List, [], ◌∷◌, ◌++◌, Option, Some, None}
 use Rattle.std.proofs.Common.{if◌then◌else◌, take, length, refl, sym, subst, ap, ◌∙◌, arith, inl, inr, length-append, append_assoc, append-nil}
 use Rattle.std.specs.Prelude.{All, nat_lt}
 use Rattle.std.proofs.lemmas.List.Elements.{All-head, All-tail}

@@ -1,17 +1,17 @@
 -- Each page of names goes on where the one before it ended.
-use Rattle.std.proofs.Common.{◌≡◌, ◌∙◌, ◌<◌, ◌≤◌, ℕ, zero, suc, Bool, true, false, List, [], ◌∷◌, ◌++◌, take, drop, length, refl, sym, subst, ap, arith}
+use Rattle.std.proofs.Common.{◌≡◌, ◌∙◌, ◌<◌, ◌≤◌, ℕ, zero, suc, true, false, List, [], ◌∷◌, ◌++◌, take, drop, length, refl, sym, subst, ap, arith}
 use Rattle.std.proofs.Common.{inl, inr}
-use Rattle.std.specs.Prelude.{All, nat_lt, ◌&&◌}
+use Rattle.std.specs.Prelude.{All, nat_lt}
 use Rattle.std.proofs.lemmas.List.Elements.{All-head, All-tail}
 use Rattle.std.proofs.lemmas.Bool.Decides.{nat_tests}
 use Rattle.nq_directory.specs.Asking.{last_id}
 use Rattle.nq_directory.specs.Messages.{most_names}
 use Rattle.nq_directory.specs.declared.FileName.{FileName}
 use Rattle.nq_lister.proofs.Files.{same-behind}
-use Rattle.nq_lister.specs.Listing.{PagesGoOn, is_behind, name_of, names_behind, names_beyond, page_of}
+use Rattle.nq_lister.specs.Listing.{PagesGoOn, is_behind, name_of, names_behind, names_beyond}
 use Rattle.nq_model.proofs.Finding.{decided}
 use Rattle.nq_model.specs.protocol.Change.{AreApart}
-use Rattle.nq_model.specs.protocol.Kept.{File, Kept}
+use Rattle.nq_model.specs.protocol.Kept.{File}
 
 heads : (e f : FileName) (es fs : List FileName) → e ∷ es ≡ f ∷ fs → (e ≡ f) × (es ≡ fs)
 heads e f es fs is = (let one : e ≡ f = cc in one, let rest : es ≡ fs = cc in rest)

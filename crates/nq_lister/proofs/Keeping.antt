@@ -1,11 +1,11 @@
 -- Reading what a server keeps, call by call.
-use Rattle.std.proofs.Common.{◌≡◌, ◌∙◌, ◌⊎◌, ℕ, Option, Some, Result, Ok, Err, inl, inr, refl, subst, sym}
+use Rattle.std.proofs.Common.{◌≡◌, ◌∙◌, ◌⊎◌, ℕ, Option, Some, Result, Ok, Err, inl, inr, subst}
 use Rattle.nq_io.specs.Faults.{Rose}
-use Rattle.nq_keeper.specs.Keeping.{LeavesOne, Reads, StaysOrEnds}
+use Rattle.nq_keeper.specs.Keeping.{Reads, StaysOrEnds}
 use Rattle.nq_keeper.specs.declared.KeepFault.{KeepFault}
 use Rattle.nq_keeper.specs.declared.KeepFault.TheVariants as keep
 use Rattle.nq_model.specs.protocol.Kept.{Kept}
-use Rattle.nq_server.specs.Holding.{Holding, IsUntouched}
+use Rattle.nq_server.specs.Holding.{Holding}
 use Rattle.nq_serving.specs.Extending.{ReadsOnly}
 
 -- reading on behind a call that did not fail
@@ -23,28 +23,10 @@ reads-as A B keep.Memory told tells before now r = r
 reads-as A B keep.Failed told tells before now r = r
 
 module _ {K : Type 0} (content : K → Option Kept) (faults : K → ℕ) (follows : K → K → Type 0) (leaves : K → K → Option Kept → Type 0) where
-  -- nothing was read
-  pub reads_nothing : {A : Type 0} (a : A) (server : Holding K) → follows server.keeper server.keeper
-      → LeavesOne (content server.keeper) (leaves server.keeper server.keeper) → ReadsOnly content faults follows leaves (Ok a) server server
-  reads_nothing a server itself settled =
-      record { untouched = record { beside = refl; taken = refl }; reads = (refl, refl); same = itself; left = settled }
-
-  -- nothing was read, and memory was wanting
-  pub lacks_memory : {A : Type 0} (server : Holding K) → follows server.keeper server.keeper
-      → LeavesOne (content server.keeper) (leaves server.keeper server.keeper)
-      → ReadsOnly {A = A} content faults follows leaves (Err keep.Memory) server server
-  lacks_memory server itself settled =
-      record { untouched = record { beside = refl; taken = refl }; reads = (refl, refl); same = itself; left = settled }
-
   -- the same calls, for another value
   pub read_as : {A B : Type 0} (a : A) (b : B) (old new : Holding K) → ReadsOnly content faults follows leaves (Ok a) old new
       → ReadsOnly content faults follows leaves (Ok b) old new
   read_as a b old new r = record { untouched = r.untouched; reads = r.reads; same = r.same; left = r.left }
-
-  -- the same calls, where memory was wanting behind them
-  pub read_then_lacks : {A B : Type 0} (a : A) (old new : Holding K) → ReadsOnly content faults follows leaves (Ok a) old new
-      → ReadsOnly {A = B} content faults follows leaves (Err keep.Memory) old new
-  read_then_lacks a old new r = record { untouched = r.untouched; reads = r.reads; same = r.same; left = r.left }
 
   -- the same calls, which failed
   pub failed_as : (A B : Type 0) (why : KeepFault) (old new : Holding K) → ReadsOnly {A = A} content faults follows leaves (Err why) old new

@@ -21,13 +21,6 @@ use Rattle.nq_link.proofs.Letters.{there}
 
 -- ---- counting
 
--- an event that begins no call
-pub counts-on : (begun : List ℕ) (event : Event) (events : List Event) → ((host : ℕ) → begins host event ≡ 0) → Counts begun events
-    → Counts begun (event ∷ events)
-counts-on begun event events none counts host =
-    let sum : begun_in host events + begins host event ≡ begun_in host events = let nothing = none host in omega arith in
-    counts host ∙ ap (λ n. min n 3) (sym sum)
-
 begins-here : (host other : ℕ) (call : Call) → host ≡ other → begins other (Event.Call host call) ≡ 1
 begins-here host other call same = let test : (host == other) ≡ true = eq-eqb host other same in rw test refl
 

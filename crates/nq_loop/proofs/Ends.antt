@@ -15,7 +15,6 @@ use Rattle.nq_loop.specs.Printed.{PrintsRan, PrintsSpelled, loop_text}
 use Rattle.nq_loop.specs.Turning.{Between, Ran, Stops, TakesTurns}
 use Rattle.nq_loop.specs.Whole.{loop_head}
 use Rattle.nq_loop.specs.declared.turns.Halt.{Halt}
-use Rattle.nq_model.specs.protocol.Kept.{Kept}
 use Rattle.nq_model.specs.protocol.World.{Head as Beginning}
 use Rattle.nq_link.specs.Links.{LinkTold}
 use Rattle.nq_replay.proofs.Lawfully.{played-runs-are-lawful}
@@ -27,7 +26,7 @@ use Rattle.nq_replay.specs.Schedules.{TellsStop}
 use Rattle.nq_script.specs.Lines.{once}
 use Rattle.nq_script.specs.Schedule.{SpellsSchedule}
 use Rattle.nq_script.specs.declared.heads.Head.{Head}
-use Rattle.nq_world.specs.Playing.{Plays, WorldOver}
+use Rattle.nq_world.specs.Playing.{Plays}
 use Rattle.nq_world.specs.declared.Limit.{Limit}
 use Rattle.nq_world.specs.declared.Stepped.{Stepped}
 

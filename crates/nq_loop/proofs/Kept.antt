@@ -8,7 +8,7 @@ use Rattle.nq_script.specs.Lines.{IsFilledEvent}
 
 filled_call : (call : Call) → IsLoopCall call → IsFilledCall call
 filled_call (Call.Write file block body) writes = writes
-filled_call (Call.WriteSync file block body) writes = absurd writes
+filled_call (Call.Put file block body) writes = absurd writes
 filled_call other writes = tt
 
 -- what an event of a loop writes is filled with a number

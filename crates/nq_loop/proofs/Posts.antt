@@ -64,11 +64,6 @@ sent-behind front d links = sent-append front (d ∷ []) links
 abbrev pub SentUpTo : (ds : List Datagram) → (first number : ℕ) → (at now : List LinkTold) → Type 0
 SentUpTo ds first number at now = now ≡ sent_all (take (number - first) (drop first ds)) at
 
-pub none-sent : (ds : List Datagram) (first : ℕ) (at : List LinkTold) → SentUpTo ds first first at at
-none-sent ds first at =
-    let zeroth : first - first ≡ 0 = omega arith in
-    rw zeroth refl
-
 here : (ds : List Datagram) (first number : ℕ) (d : Datagram) → first ≤ number → slice_get ds number ≡ Some d → slice_get (drop first ds)
     (number - first) ≡ Some d
 here ds first number d low there =

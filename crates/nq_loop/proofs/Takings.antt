@@ -1,5 +1,5 @@
 -- Turns of a loop, one after another.
-use Rattle.std.proofs.Common.{◌≡◌, ℕ, ◌+◌, ◌<◌, Bool, true, false, List, Result, Ok, Err, zero, suc, inl, inr, refl, ap, subst, ◌∙◌, arith, add-one}
+use Rattle.std.proofs.Common.{◌≡◌, ℕ, ◌+◌, ◌<◌, Bool, true, false, List, Ok, Err, zero, suc, refl, ap, subst, ◌∙◌, arith, add-one}
 use Rattle.std.proofs.lemmas.Bool.Decides.{nat_tests}
 use Rattle.std.specs.Prelude.{◌&&◌, not, min, nat_le, slice_get}
 use Rattle.nq_clock.specs.Clocks.{ClockTold}
@@ -8,7 +8,7 @@ use Rattle.nq_io.specs.Faults.{Rose}
 use Rattle.nq_loop.specs.Counting.{begun_in}
 use Rattle.nq_loop.specs.Holding.{CountsKeep, IsLooping, Loop, Stands, Turns, moment_of}
 use Rattle.nq_loop.specs.Looping.{is_busy}
-use Rattle.nq_loop.specs.Turning.{Between, Goes, Stops, TakesTurns, all_answered, all_below, is_over, is_through}
+use Rattle.nq_loop.specs.Turning.{Between, Goes, TakesTurns, all_answered, all_below, is_over, is_through}
 use Rattle.nq_loop.specs.declared.turns.Halt.{Halt}
 use Rattle.nq_model.specs.protocol.World.{Head, run}
 

@@ -59,7 +59,8 @@ pub(crate) fn receive<K: Keeper, L: Link>(
 fn bring<L: Link>(links: &mut [L], place: usize, buffer: &mut [u8]) -> Came
     requires there { place < length links.old }
     requires buffer { length buffer.old ≡ most_bytes }
-    ensures { Brings result place (map (told_of L.sent L.waiting L.faults L.receives) links.old) (map (told_of L.sent L.waiting L.faults L.receives) links.new) buffer.new }
+    ensures { Brings result place (map (told_of L.sent L.waiting L.faults L.receives) links.old)
+        (map (told_of L.sent L.waiting L.faults L.receives) links.new) buffer.new }
 {
     links[place].receive(buffer)
 }

@@ -35,8 +35,14 @@ pub(crate) fn take_turns<P: Keeper, L: Link, C: Clock>(
     ensures turns { (head : Head) → head.hosts ≡ length state.old.begun
         → IsLooping head (loop_of P.content L.sent L.waiting L.faults L.receives world.old state.old ran.old links.old)
         → TakesTurns head turns result
-        (record { moment = moment_of (loop_of P.content L.sent L.waiting L.faults L.receives world.old state.old ran.old links.old); clock = clock_told C.floor C.readings C.reads clock.old })
-        (record { moment = moment_of (loop_of P.content L.sent L.waiting L.faults L.receives world.new state.new ran.new links.new); clock = clock_told C.floor C.readings C.reads clock.new })
+        (record {
+          moment = moment_of (loop_of P.content L.sent L.waiting L.faults L.receives world.old state.old ran.old links.old);
+          clock = clock_told C.floor C.readings C.reads clock.old;
+        })
+        (record {
+          moment = moment_of (loop_of P.content L.sent L.waiting L.faults L.receives world.new state.new ran.new links.new);
+          clock = clock_told C.floor C.readings C.reads clock.new;
+        })
         × Stands head result (loop_of P.content L.sent L.waiting L.faults L.receives world.new state.new ran.new links.new) }
     ensures faults { CountsKeep result (P.faults world.old.server.keeper) (P.faults world.new.server.keeper) }
     ensures follows { P.follows world.old.server.keeper world.new.server.keeper }

@@ -42,7 +42,8 @@ pub fn loop_turn<K: Keeper, L: Link, C: Clock>(
     requires { AreThere (length world.old.clients) (length state.old.begun) (length links.old) }
     ensures turn { (head : Head) → head.hosts ≡ length state.old.begun
         → IsLooping head (loop_of K.content L.sent L.waiting L.faults L.receives world.old state.old ran.old links.old)
-        → Turns head result (clock_told C.floor C.readings C.reads clock.old) (clock_told C.floor C.readings C.reads clock.new) (loop_of K.content L.sent L.waiting L.faults L.receives world.old state.old ran.old links.old)
+        → Turns head result (clock_told C.floor C.readings C.reads clock.old) (clock_told C.floor C.readings C.reads clock.new)
+        (loop_of K.content L.sent L.waiting L.faults L.receives world.old state.old ran.old links.old)
         (loop_of K.content L.sent L.waiting L.faults L.receives world.new state.new ran.new links.new) }
     ensures keeps { Keeps result (K.faults world.old.server.keeper) (K.faults world.new.server.keeper)
         (length world.old.clients) (length world.new.clients) (length state.old.begun) (length state.new.begun) }

@@ -63,11 +63,6 @@ resized-same bodies = take-append_seam bodies (replicate (length bodies) zeros)
 pub resized-none : (blocks : ℕ) → resized blocks [] ≡ replicate blocks zeros
 resized-none blocks = take-replicate blocks blocks zeros (omega arith)
 
--- the row that is told of a file tells whether it is kept, and which one it is
-pub none-told : (o : Option File) → row_of_found o ≡ None → o ≡ None
-none-told None e = refl
-none-told (Some f) e = absurd (cc)
-
 pub some-told : (o : Option File) (row : FileRow) → row_of_found o ≡ Some row → (f : File) × (o ≡ Some f) × (row ≡ row_of f)
 some-told None row e = absurd (cc)
 some-told (Some f) row e = (f, refl, cc)

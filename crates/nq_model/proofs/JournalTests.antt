@@ -6,7 +6,7 @@ use Rattle.nq_base.specs.declared.Entry.{Entry}
 use Rattle.nq_base.specs.declared.Entry.TheVariants.{C, W, R, S, L, A}
 use Rattle.nq_base.specs.declared.Said.TheVariants.{OkBy}
 use Rattle.nq_base.specs.declared.Told.{Told}
-use Rattle.nq_base.specs.declared.Told.TheVariants.{Read, Fetch, Write, WriteSync, Attr, Sync, Resize, Remove}
+use Rattle.nq_base.specs.declared.Told.TheVariants.{Read, Fetch, Write, Put, Attr, Sync, Resize, Remove}
 use Rattle.nq_base.specs.declared.Who.{Who}
 use Rattle.nq_model.specs.laws.Journal.{Each, Exists, AtMostOne, Throughout, Somewhere, AtEachPlace, IsCall, IsAnswer, IsOpen, SpeaksOf, IsReadBy}
 use Rattle.nq_model.specs.laws.Journal.{IsAnswerBy, IsCounted, IsWriteOn, IsWriteBy, IsThrough, value_written, IsWithin, Covers, Stores, Loses, IsStored}
@@ -71,7 +71,7 @@ tells_speaks_of file (Some (Attr f)) = tells_same
 tells_speaks_of file (Some (Read f block)) = tells_same
 tells_speaks_of file (Some (Fetch f block)) = tells_same
 tells_speaks_of file (Some (Write f block value)) = tells_same
-tells_speaks_of file (Some (WriteSync f block value)) = tells_same
+tells_speaks_of file (Some (Put f block value)) = tells_same
 tells_speaks_of file (Some (Sync f)) = tells_same
 tells_speaks_of file (Some (Resize f blocks)) = tells_same
 tells_speaks_of file (Some (Remove f)) = tells_same

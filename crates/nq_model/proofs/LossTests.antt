@@ -7,7 +7,7 @@ use Rattle.nq_base.specs.declared.Loss.{Loss}
 use Rattle.nq_base.specs.declared.Said.TheVariants.{Lost, Busy}
 use Rattle.nq_base.specs.declared.Span.{Span}
 use Rattle.nq_base.specs.declared.Told.{Told}
-use Rattle.nq_base.specs.declared.Told.TheVariants.{Write, WriteSync, Sync, Resize, Remove}
+use Rattle.nq_base.specs.declared.Told.TheVariants.{Write, Put, Sync, Resize, Remove}
 use Rattle.nq_base.specs.declared.Who.{Who}
 use Rattle.nq_model.specs.protocol.Profile.{skew, write_slack}
 use Rattle.nq_model.specs.laws.Journal.{call_of}
@@ -103,7 +103,7 @@ tells_names whole who loss other = no
 
 tells_reporting : (file : ℕ) (told : Told) → Tells (is_reporting file told) (IsReporting file told)
 tells_reporting file (Write f block value) = tells_same
-tells_reporting file (WriteSync f block value) = tells_same
+tells_reporting file (Put f block value) = tells_same
 tells_reporting file (Sync f) = tells_same
 tells_reporting file (Resize f blocks) = tells_same
 tells_reporting file (Remove f) = tells_same

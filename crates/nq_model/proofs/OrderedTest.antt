@@ -5,7 +5,7 @@ use Rattle.nq_base.specs.declared.Entry.{Entry}
 use Rattle.nq_base.specs.declared.Entry.TheVariants.{C, W, R, Z, A}
 use Rattle.nq_base.specs.declared.Said.TheVariants.{Busy}
 use Rattle.nq_base.specs.declared.Told.{Told}
-use Rattle.nq_base.specs.declared.Told.TheVariants.{Write, WriteSync, Resize, Remove}
+use Rattle.nq_base.specs.declared.Told.TheVariants.{Write, Put, Resize, Remove}
 use Rattle.nq_base.specs.declared.Who.{Who}
 use mathlib.Core.Logic.{inl, inr}
 use Rattle.nq_model.specs.laws.Journal.{Each, Exists, Throughout, IsCall, IsOpen, call_of}
@@ -57,7 +57,7 @@ tells_call_in_order after before who q =
 
 tells_writes : (file block value : ℕ) (call : Option Told) → Tells (writes file block value call) (Writes file block value call)
 tells_writes file block value (Some (Write f b v)) = tells_3 tells_same tells_same tells_same
-tells_writes file block value (Some (WriteSync f b v)) = tells_3 tells_same tells_same tells_same
+tells_writes file block value (Some (Put f b v)) = tells_3 tells_same tells_same tells_same
 tells_writes file block value other = no
 
 tells_before_call : (who : Who) (q : ℕ) (entry : Entry) (before : List Entry) → Tells (is_before_call who q entry before) (IsBeforeCall who q entry before)

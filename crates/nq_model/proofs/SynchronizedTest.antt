@@ -5,7 +5,7 @@ use Rattle.nq_base.specs.declared.Entry.{Entry}
 use Rattle.nq_base.specs.declared.Entry.TheVariants.{W, R, L, Z, A}
 use Rattle.nq_base.specs.declared.Said.TheVariants.{Ok, OkValue, OkBy}
 use Rattle.nq_base.specs.declared.Told.{Told}
-use Rattle.nq_base.specs.declared.Told.TheVariants.{Read, Fetch, WriteSync, Sync, Resize, Remove}
+use Rattle.nq_base.specs.declared.Told.TheVariants.{Read, Fetch, Put, Sync, Resize, Remove}
 use Rattle.nq_base.specs.declared.Who.{Who}
 use Rattle.nq_model.specs.laws.Journal.{call_of}
 use Rattle.nq_model.specs.laws.OfTheirCall.{Reads, IsOfItsCall, AreOfTheirCall}
@@ -49,7 +49,7 @@ tells_settled_resize whole answered who q file (Z by n f from to) before = tells
 tells_settled_resize whole answered who q file other before = no
 
 tells_kept : (whole before : List Entry) (who : Who) (q : ℕ) (call : Option Told) → Tells (is_kept whole before who q call) (IsKept whole before who q call)
-tells_kept whole before who q (Some (WriteSync file block value)) = tells_somewhere (tells_put_kept before who q) before
+tells_kept whole before who q (Some (Put file block value)) = tells_somewhere (tells_put_kept before who q) before
 tells_kept whole before who q (Some (Sync file)) = tells_each (tells_stored_or_told whole whole before who file) before
 tells_kept whole before who q (Some (Resize file blocks)) = tells_somewhere (tells_settled_resize whole before who q file) before
 tells_kept whole before who q (Some (Remove file)) = tells_somewhere (tells_settled_resize whole before who q file) before

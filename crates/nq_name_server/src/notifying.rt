@@ -131,7 +131,8 @@ impl NameServer {
         out: &mut Outbox,
     ) -> Result<u32, NoMemory>
         ensures first { out.new.first ≡ out.old.first }
-        ensures told { OnOk result (out.new.datagrams ≡ out.old.datagrams ++ all_sent (notices prefix.now self.now.notice (readers number host self.now.table.rows))) }
+        ensures told { OnOk result (out.new.datagrams ≡ out.old.datagrams
+            ++ all_sent (notices prefix.now self.now.notice (readers number host self.now.table.rows))) }
         ensures counted { IfOk result (λ n. n ≡ notice_after self.now.notice (length (readers number host self.now.table.rows))) }
         ensures refused { OnErr result (out.new.datagrams ≡ out.old.datagrams) }
     {
@@ -156,7 +157,8 @@ impl NameServer {
     ) -> Result<u32, NoMemory>
         ensures first { out.new.first ≡ out.old.first }
         ensures grows { Grows out.old.datagrams out.new.datagrams }
-        ensures told { OnOk result (out.new.datagrams ≡ out.old.datagrams ++ all_sent (notices prefix.now self.now.notice (readers number host self.now.table.rows))) }
+        ensures told { OnOk result (out.new.datagrams ≡ out.old.datagrams
+            ++ all_sent (notices prefix.now self.now.notice (readers number host self.now.table.rows))) }
         ensures counted { IfOk result (λ n. n ≡ notice_after self.now.notice (length (readers number host self.now.table.rows))) }
     {
         let rows = self.table.rows_of(number);

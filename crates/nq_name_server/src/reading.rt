@@ -8,7 +8,8 @@ ghost use Rattle.nq_model.specs.protocol.Ask.{ask};
 ghost use Rattle.nq_model.specs.protocol.Table.{drop_row, find_row};
 ghost use Rattle.nq_wire.specs.Parts.{grant_bytes, optional};
 ghost use Rattle.nq_name_server.specs.Served.{Leaf, most_directories};
-ghost use Rattle.nq_name_server.specs.Serving.{AreReady, entered, for_asker, lists_for, notice_after, notices, number_for, own_again, own_told, reads_dir, replied, warnings};
+ghost use Rattle.nq_name_server.specs.Serving.{AreReady, entered, for_asker, lists_for, notice_after, notices, number_for, own_again, own_told, reads_dir};
+ghost use Rattle.nq_name_server.specs.Serving.{replied, warnings};
 ghost use Rattle.nq_lease.specs.Telling.{own_rows};
 
 use crate::notifying::notice_bytes;
@@ -94,7 +95,8 @@ impl NameServer {
         requires drawn { self.old.table.drawn < 2 ^ 62 }
         requires room { 2 ≤ out.old.spare }
         requires spare { 48 ≤ replies.page.spare }
-        ensures read { OnOk result ((leaf : Leaf) → AreReady request.now leaf replies.page.bytes replies.later.items → IsServed (reads_dir self.old request.now leaf) self.new out.old out.new) }
+        ensures read { OnOk result ((leaf : Leaf) → AreReady request.now leaf replies.page.bytes replies.later.items
+            → IsServed (reads_dir self.old request.now leaf) self.new out.old out.new) }
         ensures drawn { self.new.table.drawn ≤ self.old.table.drawn + 1 }
         ensures first { out.new.first ≡ out.old.first }
         ensures refused { OnErr result (IsUntouched self.old self.new out.old out.new) }
@@ -119,7 +121,8 @@ impl NameServer {
     )
         requires room { 2 ≤ out.old.spare }
         requires spare { 48 ≤ replies.page.spare }
-        ensures replied { (leaf : Leaf) → AreReady request.now leaf replies.page.bytes replies.later.items → IsServed (replied self.old request.now leaf (warnings request.now (option_map (λ v. v.items) warning)) asked) self.new out.old out.new }
+        ensures replied { (leaf : Leaf) → AreReady request.now leaf replies.page.bytes replies.later.items
+            → IsServed (replied self.old request.now leaf (warnings request.now (option_map (λ v. v.items) warning)) asked) self.new out.old out.new }
         ensures table { self.new.table ≡ self.old.table }
         ensures first { out.new.first ≡ out.old.first }
     {
@@ -140,8 +143,12 @@ impl NameServer {
         out: &mut Outbox,
     )
         requires { 2 ≤ out.old.spare }
-        ensures served { self.new ≡ record self.old { notice = notice_after self.old.notice (length (warnings request.now (option_map (λ v. v.items) warning))) } }
-        ensures sends { out.new.datagrams ≡ out.old.datagrams ++ all_sent (warnings request.now (option_map (λ v. v.items) warning)) ++ (Party.Client request.now.who.host, later.items) ∷ [] }
+        ensures served { self.new ≡ record self.old {
+          notice = notice_after self.old.notice
+              (length (warnings request.now (option_map (λ v. v.items) warning)));
+        } }
+        ensures sends { out.new.datagrams ≡ out.old.datagrams ++ all_sent (warnings request.now (option_map (λ v. v.items) warning))
+            ++ (Party.Client request.now.who.host, later.items) ∷ [] }
         ensures first { out.new.first ≡ out.old.first }
     {
         self.warn(request, warning, out);
@@ -151,7 +158,10 @@ impl NameServer {
     /// Tells the asker about its own row, if there is a DIREVICTED for it.
     fn warn(&mut self, request: &ReadDir, warning: Option<Vec<u8>>, out: &mut Outbox)
         requires { 1 ≤ out.old.spare }
-        ensures served { self.new ≡ record self.old { notice = notice_after self.old.notice (length (warnings request.now (option_map (λ v. v.items) warning))) } }
+        ensures served { self.new ≡ record self.old {
+          notice = notice_after self.old.notice
+              (length (warnings request.now (option_map (λ v. v.items) warning)));
+        } }
         ensures sends { out.new.datagrams ≡ out.old.datagrams ++ all_sent (warnings request.now (option_map (λ v. v.items) warning)) }
         ensures first { out.new.first ≡ out.old.first }
         ensures spare { out.old.spare ≤ out.new.spare + 1 }
@@ -193,7 +203,8 @@ impl NameServer {
         request: &ReadDir,
         number: FileId,
     ) -> Result<Option<Vec<u8>>, NoMemory>
-        ensures { IfOk result (λ o. warnings request.now (option_map (λ v. v.items) o) ≡ notices request.now.prefix self.now.notice (own_told request.now.who (find_row number request.now.who.host self.now.table.rows))) }
+        ensures { IfOk result (λ o. warnings request.now (option_map (λ v. v.items) o)
+            ≡ notices request.now.prefix self.now.notice (own_told request.now.who (find_row number request.now.who.host self.now.table.rows))) }
     {
         match self.own_row(request, number) {
             Some(row) => {

@@ -53,7 +53,8 @@ impl Model for NameServer {
 
     ghost view = { λ s. record { table = s.table; directories = s.directories.items; notice = s.notice; longest = s.longest; time = s.time } };
 
-    ghost invariant = { λ s. IsSound (record { table = s.table; directories = s.directories.items; notice = s.notice; longest = s.longest; time = s.time }) × (most_directories ≤ vec_capacity s.directories) };
+    ghost invariant = { λ s. IsSound (record { table = s.table; directories = s.directories.items; notice = s.notice; longest = s.longest; time = s.time })
+        × (most_directories ≤ vec_capacity s.directories) };
 }
 
 impl NameServer {

@@ -128,7 +128,8 @@ impl<K: Keeper> NameWorld<K> {
         requires { self.old.around.due ≡ [] }
         ensures leads { (head : Head) (events : List NameEvent) → IsReady self.old → Reaches head events self.old (K.content self.old.inner.server.keeper)
             → IsLeft (stepped_outside head events (NameEvent.Plain (Event.Deliver number)))
-            → Leads head events (NameEvent.Plain (Event.Deliver number)) result (K.content self.old.inner.server.keeper) (K.content self.new.inner.server.keeper) (λ es kept. Reaches head es self.new kept) }
+            → Leads head events (NameEvent.Plain (Event.Deliver number)) result (K.content self.old.inner.server.keeper)
+            (K.content self.new.inner.server.keeper) (λ es kept. Reaches head es self.new kept) }
         ensures goes { GoesOn K.faults K.follows result self.old.inner self.new.inner }
         ensures count { self.new.events ≡ self.old.events }
     {
@@ -224,7 +225,8 @@ impl<K: Keeper> NameWorld<K> {
     fn hear(&mut self, host: Host, datagram: &[u8]) -> Result<(), NoMemory>
         requires { self.old.around.due ≡ [] }
         ensures hears { OnOk result ((w : Model) (ran : List Event) → w.clients ≡ clients_in self.old.inner.clients
-            → once_sent w ran self.new.around ≡ heard_by (over w ran self.old.around) host datagram.now (slice_get self.old.around.sides host) (slice_get w.clients host)) }
+            → once_sent w ran self.new.around
+            ≡ heard_by (over w ran self.old.around) host datagram.now (slice_get self.old.around.sides host) (slice_get w.clients host)) }
         ensures gone { self.new.around.gone ≡ self.old.around.gone }
         ensures refused { OnErr result (self.new.around ≡ self.old.around) }
         ensures inner { self.new.inner ≡ self.old.inner }
@@ -243,7 +245,8 @@ impl<K: Keeper> NameWorld<K> {
         requires settled { self.old.around.due ≡ [] }
         requires there { host < length self.old.inner.clients }
         ensures hears { OnOk result ((w : Model) (ran : List Event) (c : Counted) → slice_get self.old.inner.clients host ≡ Some c
-            → once_sent w ran self.new.around ≡ heard_by (over w ran self.old.around) host datagram.now (slice_get self.old.around.sides host) (Some c.client)) }
+            → once_sent w ran self.new.around
+            ≡ heard_by (over w ran self.old.around) host datagram.now (slice_get self.old.around.sides host) (Some c.client)) }
         ensures gone { self.new.around.gone ≡ self.old.around.gone }
         ensures refused { OnErr result (self.new.around ≡ self.old.around) }
         ensures inner { self.new.inner ≡ self.old.inner }

@@ -136,7 +136,8 @@ impl<K: Keeper> NameWorld<K> {
     fn run_crash(&mut self, longest: u32) -> Stepped
         requires { CanCome (length self.old.inner.clients) self.old.inner.skew.window (Event.Crash longest) }
         ensures ran { (head : Head) → Plays head (reverse self.old.ran) self.old.inner (K.content self.old.inner.server.keeper)
-            → RunsTo head (Event.Crash longest) result self.old self.new (K.content self.old.inner.server.keeper) (K.content self.new.inner.server.keeper) self.old.around }
+            → RunsTo head (Event.Crash longest) result self.old self.new (K.content self.old.inner.server.keeper)
+            (K.content self.new.inner.server.keeper) self.old.around }
         ensures goes { GoesOn K.faults K.follows result self.old.inner self.new.inner }
         ensures around { self.new.around ≡ self.old.around }
         ensures count { self.new.events ≡ self.old.events }

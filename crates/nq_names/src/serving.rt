@@ -39,7 +39,8 @@ impl<K: Keeper> NameWorld<K> {
     /// A DIRVACATED, where it is of the host that sent it: any other packet is dropped.
     fn give_up(&mut self, host: Host, datagram: &[u8])
         requires { self.old.around.due ≡ [] }
-        ensures gives { (w : Model) (ran : List Event) → once_sent w ran self.new.around ≡ served_vacated (over w ran self.old.around) host (dir_vacated_in datagram.now) }
+        ensures gives { (w : Model) (ran : List Event)
+            → once_sent w ran self.new.around ≡ served_vacated (over w ran self.old.around) host (dir_vacated_in datagram.now) }
         ensures gone { self.new.around.gone ≡ self.old.around.gone }
         ensures inner { self.new.inner ≡ self.old.inner }
         ensures ran { self.new.ran ≡ self.old.ran }
@@ -90,7 +91,8 @@ impl<K: Keeper> NameWorld<K> {
     /// Gives a page, with a lease on the directory, if one is granted.
     fn give_page(&mut self, request: &ReadDir, leaf: &BegunLeaf) -> Result<(), NoMemory>
         requires { self.old.around.due ≡ [] }
-        ensures gives { OnOk result (self.new ≡ record self.old { around = served_by self.old.around (reads_dir self.old.around.served request.now leaf.now.leaf) }) }
+        ensures gives { OnOk result (self.new
+            ≡ record self.old { around = served_by self.old.around (reads_dir self.old.around.served request.now leaf.now.leaf) }) }
         ensures refused { OnErr result (self.new ≡ self.old) }
     {
         self.around.read_dir(request, leaf)
@@ -101,7 +103,8 @@ impl<K: Keeper> NameWorld<K> {
     pub(crate) fn hold_up(&mut self, host: Host, datagram: &[u8]) -> Result<bool, KeepFault>
         requires { self.old.around.due ≡ [] }
         ensures held { (head : Head) → Plays head (reverse self.old.ran) self.old.inner (K.content self.old.inner.server.keeper)
-            → HoldsUp head result (changes_as (run head (reverse self.old.ran)).server.kept host (datagram_in datagram.now)) self.old self.new (K.content self.old.inner.server.keeper) (K.content self.new.inner.server.keeper) }
+            → HoldsUp head result (changes_as (run head (reverse self.old.ran)).server.kept host (datagram_in datagram.now)) self.old self.new
+            (K.content self.old.inner.server.keeper) (K.content self.new.inner.server.keeper) }
         ensures goes { GoesOn K.faults K.follows (stepped_of result) self.old.inner self.new.inner }
         ensures count { self.new.events ≡ self.old.events }
     {

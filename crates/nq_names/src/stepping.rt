@@ -6,7 +6,8 @@ ghost use Rattle.nq_model.specs.protocol.Kept.{Kept};
 ghost use Rattle.nq_model.specs.protocol.SkewBroken.{skew_broken};
 ghost use Rattle.nq_model.specs.protocol.Stepped.{most_events, no_packet, tested_room, tested_skew};
 ghost use Rattle.nq_model.specs.protocol.World.{Head};
-ghost use Rattle.nq_names.specs.Playing.{CanComeOutside, IsLeft, IsReady, IsTested, Leads, PlaysOutside, Reaches, StepsOutside, stepped_outside, tested_outside};
+ghost use Rattle.nq_names.specs.Playing.{CanComeOutside, IsLeft, IsReady, IsTested, Leads, PlaysOutside, Reaches, StepsOutside, stepped_outside};
+ghost use Rattle.nq_names.specs.Playing.{tested_outside};
 ghost use Rattle.nq_name_server.specs.declared.run.event.NameEvent.{NameEvent};
 ghost use Rattle.nq_name_server.specs.Outside.{outside_run};
 ghost use Rattle.nq_world.specs.Answering.{IsOfTests, told};
@@ -29,7 +30,7 @@ impl<K: Keeper> NameWorld<K> {
         ensures goes { GoesOn K.faults K.follows result self.old.inner self.new.inner }
     {
         match self.test(event) {
-            Stepped::Done => self.take(event),
+            Stepped::Done => self.take_event(event),
             refused => refused,
         }
     }
@@ -114,7 +115,7 @@ impl<K: Keeper> NameWorld<K> {
     }
 
     /// Takes in an event that passed the tests, and counts it.
-    fn take(&mut self, event: &NameEvent) -> Stepped
+    fn take_event(&mut self, event: &NameEvent) -> Stepped
         requires settled { self.old.around.due ≡ [] }
         requires few { self.old.events < most_events }
         requires can { CanComeOutside (length self.old.inner.clients) self.old.inner.skew.window event.now }
@@ -138,7 +139,8 @@ impl<K: Keeper> NameWorld<K> {
         requires settled { self.old.around.due ≡ [] }
         ensures leads { (head : Head) (events : List NameEvent) → IsReady self.old → Reaches head events self.old (K.content self.old.inner.server.keeper)
             → IsLeft (stepped_outside head events event.now)
-            → Leads head events event.now result (K.content self.old.inner.server.keeper) (K.content self.new.inner.server.keeper) (λ es kept. Reaches head es self.new kept) }
+            → Leads head events event.now result (K.content self.old.inner.server.keeper) (K.content self.new.inner.server.keeper)
+            (λ es kept. Reaches head es self.new kept) }
         ensures goes { GoesOn K.faults K.follows result self.old.inner self.new.inner }
         ensures count { self.new.events ≡ self.old.events }
     {
@@ -154,7 +156,8 @@ impl<K: Keeper> NameWorld<K> {
         requires settled { self.old.around.due ≡ [] }
         ensures leads { (head : Head) (events : List NameEvent) → IsReady self.old → Reaches head events self.old (K.content self.old.inner.server.keeper)
             → IsLeft (stepped_outside head events (NameEvent.Plain event.now))
-            → Leads head events (NameEvent.Plain event.now) result (K.content self.old.inner.server.keeper) (K.content self.new.inner.server.keeper) (λ es kept. Reaches head es self.new kept) }
+            → Leads head events (NameEvent.Plain event.now) result (K.content self.old.inner.server.keeper) (K.content self.new.inner.server.keeper)
+            (λ es kept. Reaches head es self.new kept) }
         ensures goes { GoesOn K.faults K.follows result self.old.inner self.new.inner }
         ensures count { self.new.events ≡ self.old.events }
     {

@@ -86,7 +86,8 @@ fn no_events(alloc: Global) -> Schedule
 /// What stands around a world of so many hosts at first.
 fn around<K: Keeper>(alloc: Global, world: &World<K>, hosts: u32) -> Result<Around, NoMemory>
     requires { length world.now.clients ≡ hosts }
-    ensures { IfOk result (λ a. a ≡ new_around (new_served world.now.server.beside.table.boot world.now.server.beside.longest world.now.server.beside.time) (map (λ c. new_names c.client.who) world.now.clients)) }
+    ensures { IfOk result (λ a. a ≡ new_around (new_served world.now.server.beside.table.boot world.now.server.beside.longest world.now.server.beside.time)
+        (map (λ c. new_names c.client.who) world.now.clients)) }
 {
     let sides = sides_of(alloc, world, hosts)?;
     let time = world.server_time();
@@ -163,8 +164,10 @@ impl<K: Keeper> NameWorld<K> {
     ///
     /// `NoMemory` where memory is wanting; the world plays the same run then.
     pub fn sent(&mut self) -> Result<u64, NoMemory>
-        ensures same { (head : Head) (events : List NameEvent) (told : Option Kept) → PlaysOutside head events self.old told → PlaysOutside head events self.new told }
-        ensures packets { IfOk result (λ packets. (head : Head) (events : List NameEvent) (told : Option Kept) → PlaysOutside head events self.old told → packets ≡ length (outside_run head events).sent) }
+        ensures same { (head : Head) (events : List NameEvent) (told : Option Kept) → PlaysOutside head events self.old told
+            → PlaysOutside head events self.new told }
+        ensures packets { IfOk result (λ packets. (head : Head) (events : List NameEvent) (told : Option Kept) → PlaysOutside head events self.old told
+            → packets ≡ length (outside_run head events).sent) }
         ensures ready { (head : Head) (events : List NameEvent) (told : Option Kept) → PlaysOutside head events self.old told → OnOk result (IsReady self.new) }
         ensures inner { self.new.inner ≡ self.old.inner }
     {

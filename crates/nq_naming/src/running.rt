@@ -141,7 +141,8 @@ fn tell<L: Keeper, K: Sink>(
     requires fits { FitsHead head.now }
     requires reason { HasReason played }
     requires told { played ≡ Played.All → IsTold head.now world.now (L.content world.now.inner.server.keeper) }
-    ensures ends { (due : Ended Moment) → Comes played due (λ m. IsAtMoment (beginning head.now) m world.now (L.content world.now.inner.server.keeper) found.now)
+    ensures ends { (due : Ended Moment)
+        → Comes played due (λ m. IsAtMoment (beginning head.now) m world.now (L.content world.now.inner.server.keeper) found.now)
         → EndsNamesPlayed result head.now due (K.held out.old) (K.held out.new) (K.faults out.old) (K.faults out.new) }
     ensures sink { CountsSink result (K.faults out.old) (K.faults out.new) }
 {

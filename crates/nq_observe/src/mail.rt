@@ -2,7 +2,7 @@
 
 use crate::decoding::{Read, read_packet};
 use crate::memory::Memory;
-use crate::seeing::Known;
+use crate::seeing::KnownHost;
 use nq_base::{Event, Party};
 use nq_datagrams::Awaited;
 use nq_link::net::Packets;
@@ -111,7 +111,7 @@ impl Mail {
     pub(crate) fn first_sending(
         &self,
         moments: &[Moment],
-        known: &[Known],
+        known: &[KnownHost],
         reply: usize,
     ) -> Option<usize> {
         let answer = self.packets.get(reply)?;
@@ -148,7 +148,7 @@ fn note_arrival(memory: &mut Memory, sent: &mut Sent, place: usize) {
 }
 
 /// The event in which a host started last; 0 where there is none.
-fn began(known: &[Known], party: Party) -> usize {
+fn began(known: &[KnownHost], party: Party) -> usize {
     let Party::Client(host) = party else {
         return 0;
     };

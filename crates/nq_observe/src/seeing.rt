@@ -20,12 +20,12 @@ pub(crate) struct Seer {
     mail: Mail,
     entries: Vec<Noted>,
     spans: Spans,
-    known: Vec<Known>,
+    known: Vec<KnownHost>,
 }
 
 /// What is known of a host: in which event it started last, and how many blocks with delayed writes it has.
 #[derive(Clone, Copy)]
-pub(crate) struct Known {
+pub(crate) struct KnownHost {
     pub(crate) started: usize,
     delayed: usize,
 }
@@ -33,7 +33,7 @@ pub(crate) struct Known {
 impl Seer {
     /// Nothing was seen.
     pub(crate) fn new(alloc: Global, hosts: u32) -> Result<Seer, NoMemory> {
-        let nothing = Known {
+        let nothing = KnownHost {
             started: 0,
             delayed: 0,
         };
@@ -192,7 +192,7 @@ fn see_entries(memory: &mut Memory, entries: &mut Vec<Noted>, journal: &Journal)
 }
 
 /// Notes how many blocks with delayed writes a host has; the number, if it is another than before.
-fn changed(before: &mut Known, blocks: usize) -> Option<usize> {
+fn changed(before: &mut KnownHost, blocks: usize) -> Option<usize> {
     if before.delayed == blocks {
         None
     } else {

@@ -3,7 +3,7 @@
 use crate::memory::Memory;
 use nq_base::{FileId, Host, Party, Row};
 use nq_client::Client;
-use nq_record::{Change, Kind, Moment, Span};
+use nq_record::{Change, Moment, Span, SpanKind};
 use std::alloc::Global;
 
 /// What lasts, and what of it began or ended, in the order of the events.
@@ -43,7 +43,7 @@ impl Spans {
     pub(crate) fn date_leases(&mut self, older: usize, asked: usize) {
         for place in older..self.spans.len() {
             if let Some(span) = self.spans.get_mut(place) {
-                if let Kind::Lease { .. } = span.kind {
+                if let SpanKind::Lease { .. } = span.kind {
                     span.first = asked;
                 }
             }
@@ -60,7 +60,7 @@ impl Spans {
     ) {
         for row in rows {
             self.files = self.files.max(row.file.0);
-            let kind = Kind::Row {
+            let kind = SpanKind::Row {
                 file: row.file,
                 host: row.who.host,
                 mode: row.mode,
@@ -68,7 +68,7 @@ impl Spans {
             self.touch(memory, &Party::Server, &kind, place);
         }
         if recovers {
-            self.touch(memory, &Party::Server, &Kind::Recovery, place);
+            self.touch(memory, &Party::Server, &SpanKind::Recovery, place);
         }
     }
 
@@ -93,7 +93,7 @@ impl Spans {
             let held = client.held(FileId(file));
             if held.live(now) {
                 if let Some(mode) = held.mode() {
-                    let kind = Kind::Lease {
+                    let kind = SpanKind::Lease {
                         file: FileId(file),
                         mode,
                     };
@@ -105,14 +105,14 @@ impl Spans {
     }
 
     /// Notes that something is there at a place. Where it was not there before, it begins there.
-    fn touch(&mut self, memory: &mut Memory, party: &Party, kind: &Kind, place: usize) {
+    fn touch(&mut self, memory: &mut Memory, party: &Party, kind: &SpanKind, place: usize) {
         if !goes_on(&mut self.spans, &self.open, party, kind, place) {
             self.begin(memory, party, kind, place);
         }
     }
 
     /// Notes that something begins at a place.
-    fn begin(&mut self, memory: &mut Memory, party: &Party, kind: &Kind, place: usize) {
+    fn begin(&mut self, memory: &mut Memory, party: &Party, kind: &SpanKind, place: usize) {
         let newest = self.spans.len();
         let change = Change {
             kind: *kind,
@@ -154,7 +154,7 @@ fn goes_on(
     spans: &mut Vec<Span>,
     open: &[usize],
     party: &Party,
-    kind: &Kind,
+    kind: &SpanKind,
     place: usize,
 ) -> bool {
     for index in open {
@@ -169,7 +169,7 @@ fn goes_on(
 }
 
 /// Ends a span that was not there at a place; what it was, if it ends.
-fn ended(spans: &mut Vec<Span>, index: usize, place: usize) -> Option<Kind> {
+fn ended(spans: &mut Vec<Span>, index: usize, place: usize) -> Option<SpanKind> {
     match spans.get_mut(index) {
         Some(span) => end_span(span, place),
         None => None,
@@ -177,7 +177,7 @@ fn ended(spans: &mut Vec<Span>, index: usize, place: usize) -> Option<Kind> {
 }
 
 /// Ends a span if it was not there at a place; what it was, if it ends.
-fn end_span(span: &mut Span, place: usize) -> Option<Kind> {
+fn end_span(span: &mut Span, place: usize) -> Option<SpanKind> {
     if span.last < place {
         span.open = false;
         span.last = place;

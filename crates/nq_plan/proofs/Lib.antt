@@ -6,3 +6,4 @@ pub mod Joining
 pub mod Shifting
 pub mod Sizes
 pub mod Walking
+pub mod Words

@@ -1,15 +1,13 @@
--- Steps of the loops over ids, marks, words and free blocks.
+-- Steps of the loops over ids and free blocks.
 use Rattle.std.proofs.Common.{◌≡◌, ◌≤◌, ◌<◌, ◌+◌, ◌-◌, ◌++◌, ℕ, zero, suc, Bool, true, false, List, [], ◌∷◌, Option, length, get_or, take, drop}
 use Rattle.std.proofs.Common.{if◌then◌else◌, refl, sym, ap, ◌∙◌, arith, length-append}
 use Rattle.std.specs.Prelude.{filter}
 use Rattle.std.proofs.lemmas.List.{append_assoc, append-nil, at_drop_more, at_drop_all}
-use Rattle.nq_base.specs.Block.{repeated, word}
 use Rattle.nq_image.specs.Kept.{numbers_from}
 use Rattle.nq_image.specs.Standing.{PlacedFile, row_id}
 use Rattle.nq_plan.specs.Finding.{nearer, nearest}
 use Rattle.nq_plan.specs.Held.{HeldTables}
 use Rattle.nq_plan.specs.Placing.{free_blocks, is_free}
-use Rattle.nq_plan.specs.Settling.{marked_all}
 
 -- ---- the least id above another
 
@@ -25,23 +23,6 @@ pub no-id-left : (after i : ℕ) (best : Option ℕ) (rows : List (Option Placed
 no-id-left after i best rows whole le so =
     let step : nearest after best (drop i rows) ≡ best = at_drop_all (nearest after best) rows i le in
     sym step ∙ so
-
--- ---- marks
-
-pub no-block-left : (given : Bool) (i : ℕ) (blocks : List ℕ) (marks whole : List Bool) → length blocks ≤ i → marked_all given (drop i blocks) marks
-    ≡ whole → marks ≡ whole
-no-block-left given i blocks marks whole le so =
-    let F : List ℕ → List Bool = λ bs. marked_all given bs marks in
-    let step : F (drop i blocks) ≡ marks = at_drop_all F blocks i le in
-    sym step ∙ so
-
--- ---- words
-
-pub word-passes : (count i value : ℕ) (bytes whole : List ℕ) → i < count → bytes ++ repeated (count - i) value ≡ whole → (bytes ++ word value)
-    ++ repeated (count - (i + 1)) value ≡ whole
-word-passes count i value bytes whole lt so =
-    let next : count - i ≡ suc (count - (i + 1)) = omega arith in
-    append_assoc bytes (word value) (repeated (count - (i + 1)) value) ∙ sym (ap (λ (n : ℕ). bytes ++ repeated n value) next) ∙ so
 
 -- ---- free blocks
 

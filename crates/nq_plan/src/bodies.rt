@@ -1,10 +1,11 @@
 //! The bytes of a block's body.
 
-ghost use Rattle.std.specs.Prelude.{◌≡◌, ◌++◌, IfOk, OnOk};
-ghost use Rattle.nq_base.specs.Block.{filled, repeated, word};
+ghost use Rattle.std.specs.Prelude.{◌≡◌, ◌+◌, ◌≤◌, ◌++◌, vec_len, vec_capacity, IfOk};
+ghost use Rattle.nq_base.specs.Block.{filled, word};
 
 use nq_base::{Block, Seen};
 use nq_memory::NoMemory;
+use nq_xdr::push_words;
 use std::alloc::Global;
 
 /// How many words of four bytes a block has.
@@ -22,23 +23,20 @@ fn word_of(value: u32) -> [u8; 4]
     ]
 }
 
-/// Adds a word so many times.
-fn push_words(bytes: &mut Vec<u8>, value: u32, count: usize) -> Result<(), NoMemory>
-    ensures { OnOk result (bytes.new.items ≡ bytes.old.items ++ repeated count value) }
+/// Adds the bytes of a block that repeats a word. There is room for them.
+fn push_filled(bytes: &mut Vec<u8>, value: u32)
+    requires { vec_len bytes.old + 4096 ≤ vec_capacity bytes.old }
+    ensures { bytes.new.items ≡ bytes.old.items ++ filled value }
 {
-    'words: for _ in 0..count {
-        bytes.extend_from_slice(&word_of(value))?;
-    }
-    Ok(())
+    push_words(bytes, word_of(value), WORDS);
 }
 
 /// The bytes of a block that repeats a word.
-#[tactic(auto, unfolding(nq_base::specs::Block::filled))]
 fn spell_filled(alloc: Global, value: u32) -> Result<Vec<u8>, NoMemory>
     ensures { IfOk result (λ bytes. bytes.items ≡ filled value) }
 {
     let mut bytes = Vec::with_capacity(alloc, Block::SIZE)?;
-    push_words(&mut bytes, value, WORDS)?;
+    push_filled(&mut bytes, value);
     Ok(bytes)
 }
 

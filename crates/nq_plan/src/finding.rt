@@ -1,6 +1,7 @@
 //! What the tables say.
 
-ghost use Rattle.std.specs.Prelude.{◌≡◌, ◌+◌, ◌*◌, ◌<◌, ◌≤◌, ◌&&◌, IfSome, None, count_by, is_some, length, nat_lt, position, slice_get, slice_index_or, sum_by};
+ghost use Rattle.std.specs.Prelude.{◌≡◌, ◌+◌, ◌*◌, ◌<◌, ◌≤◌, ◌&&◌, IfSome, None, count_by, is_some, length, nat_lt, position, slice_get, slice_index_or};
+ghost use Rattle.std.specs.Prelude.{sum_by};
 ghost use Rattle.nq_model.specs.protocol.Kept.{fresh_row};
 ghost use Rattle.nq_image.specs.Standing.{row_blocks, row_id};
 ghost use Rattle.nq_plan.specs.Finding.{

@@ -2,7 +2,8 @@
 
 ghost use Rattle.std.specs.Prelude.{◌≡◌, ◌<◌, ◌≤◌, ◌+◌, [], ◌∷◌, ◌++◌, OnOk, length};
 ghost use Rattle.std.specs.Option.{ForSome};
-ghost use Rattle.nq_plan.specs.Ranges.{body_range, file_ranges as ranges_of_file, heads_ranges, host_ranges, id_range, removal_ranges, row_range, table_range, whole_ranges};
+ghost use Rattle.nq_plan.specs.Ranges.{body_range, file_ranges as ranges_of_file, heads_ranges, host_ranges, id_range, removal_ranges, row_range, table_range};
+ghost use Rattle.nq_plan.specs.Ranges.{whole_ranges};
 
 use crate::bodies::spell_block;
 use crate::stored_file::StoredFile;

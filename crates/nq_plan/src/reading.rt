@@ -50,7 +50,8 @@ fn read_all_blocks(
     requires marks { length marks.old ≡ 16641 }
     requires near { tables ≤ 16384 }
     ensures told { (bytes : List ℕ) → window.now ≡ piece_at (place_of_block tables) 1052672 bytes
-        → Reads (λ blocks. blocks.items) result (tested (tables_checks tables (place_of_block tables) slots.now marks.old bytes) (tables_blocks (place_of_block tables) slots.now bytes)) }
+        → Reads (λ blocks. blocks.items) result
+        (tested (tables_checks tables (place_of_block tables) slots.now marks.old bytes) (tables_blocks (place_of_block tables) slots.now bytes)) }
     ensures marks { OnOk result ((bytes : List ℕ) → window.now ≡ piece_at (place_of_block tables) 1052672 bytes
         → marks.new ≡ tables_marks (place_of_block tables) slots.now marks.old bytes) }
 {

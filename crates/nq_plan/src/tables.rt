@@ -23,7 +23,10 @@ impl Model for Tables {
 
     ghost Value = { HeldTables };
 
-    ghost view = { λ t. record { standing = record { heads = t.heads; tables = t.tables; hosts = t.hosts.items; rows = t.rows.items }; marks = t.marks.items } };
+    ghost view = { λ t. record {
+      standing = record { heads = t.heads; tables = t.tables; hosts = t.hosts.items; rows = t.rows.items };
+      marks = t.marks.items;
+    } };
 
     ghost invariant = { λ t. AreSized (record { heads = t.heads; tables = t.tables; hosts = t.hosts.items; rows = t.rows.items }) t.marks.items };
 }

@@ -18,7 +18,7 @@ mod rows;
 mod style;
 mod text;
 
-pub use chart::{Bar, Chart, Column, Note, Packet, Row, Side, Sign, Tint};
+pub use chart::{Bar, Chart, ChartRow, Column, Note, Packet, Side, Sign, Tint};
 pub use drawing::draw;
 pub use nq_memory::NoMemory;
 pub use pages::Page;

@@ -7,7 +7,7 @@ use crate::chart::{Bar, Chart, Column, Packet, Part, Side, Tint};
 use crate::making::Maker;
 use crate::picture_rows::{Rows, packet_words, rows_of};
 use crate::record::{Record, Sent};
-use crate::spans::{Kind, Span};
+use crate::spans::{Span, SpanKind};
 use crate::text::party_parts;
 use nq_base::{Host, Mode, Party};
 use std::alloc::Global;
@@ -181,13 +181,13 @@ fn bar(maker: &mut Maker, hosts: u32, span: &Span, first: usize, last: usize) ->
 }
 
 /// The name of a bar: the kind of the lease by its letter, the file, and at the server the host.
-fn bar_text(maker: &mut Maker, kind: Kind) -> String {
+fn bar_text(maker: &mut Maker, kind: SpanKind) -> String {
     match kind {
-        Kind::Recovery => maker.text(&[Part::Text("recovery")]),
-        Kind::Lease { file, mode } => {
+        SpanKind::Recovery => maker.text(&[Part::Text("recovery")]),
+        SpanKind::Lease { file, mode } => {
             maker.text(&[Part::Text(letter(mode)), Part::Number(file.0 as u64)])
         }
-        Kind::Row { file, host, mode } => maker.text(&[
+        SpanKind::Row { file, host, mode } => maker.text(&[
             Part::Text(letter(mode)),
             Part::Number(file.0 as u64),
             Part::Text(" h"),
@@ -206,10 +206,10 @@ fn letter(mode: Mode) -> &'static str {
 }
 
 /// The colour of something that lasts.
-fn tint(kind: Kind) -> Tint {
+fn tint(kind: SpanKind) -> Tint {
     match kind {
-        Kind::Recovery => Tint::Recovery,
-        Kind::Lease { mode, .. } | Kind::Row { mode, .. } => match mode {
+        SpanKind::Recovery => Tint::Recovery,
+        SpanKind::Lease { mode, .. } | SpanKind::Row { mode, .. } => match mode {
             Mode::NonCaching => Tint::NonCaching,
             Mode::Reading => Tint::Reading,
             Mode::Writing => Tint::Writing,

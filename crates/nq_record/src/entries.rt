@@ -158,7 +158,7 @@ fn call_words(maker: &mut Maker, told: &Told) -> String {
             "call write # # #",
             &[file.0 as u64, block.0 as u64, *value as u64],
         ),
-        Told::WriteSync { file, block, value } => maker.filled(
+        Told::Put { file, block, value } => maker.filled(
             "call put # # #",
             &[file.0 as u64, block.0 as u64, *value as u64],
         ),

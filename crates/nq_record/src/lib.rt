@@ -22,5 +22,5 @@ pub use nq_base::NoMemory;
 pub use packets::{reply_words, request_words};
 pub use reasons::why;
 pub use record::{Act, Moment, Noted, Record, Sent};
-pub use spans::{Change, Kind, Span};
+pub use spans::{Change, Span, SpanKind};
 pub use telling::tell;

@@ -2,7 +2,8 @@
 #![tactic(auto, using(crate::proofs::Joined::ended))]
 
 ghost use Rattle.std.specs.Prelude.{◌≡◌, ◌++◌, codes, string_bytes, Some, IfOk};
-ghost use Rattle.nq_record.specs.Words.{SaysRequest, filed, granted, lease_granted, lease_words, plain_read, read_words, refusal_word, reply_text, resize_words, revised, wanting_read, with_grant, write_words};
+ghost use Rattle.nq_record.specs.Words.{SaysRequest, filed, granted, lease_granted, lease_words, plain_read, read_words, refusal_word, reply_text};
+ghost use Rattle.nq_record.specs.Words.{resize_words, revised, wanting_read, with_grant, write_words};
 
 use crate::NoMemory;
 use crate::chart::{Part, text_of};

@@ -1,6 +1,6 @@
 //! Events as the rows of a chart.
 
-use crate::chart::{Note, Part, Row, Side, Sign};
+use crate::chart::{ChartRow, Note, Part, Side, Sign};
 use crate::drawing::{outer, place_of};
 use crate::making::Maker;
 use crate::quiet::{Quiet, is_quiet};
@@ -15,13 +15,13 @@ pub(crate) struct Rows {
     pub(crate) from: usize,
     /// The last event that is shown.
     pub(crate) to: usize,
-    rows: Vec<Row>,
+    rows: Vec<ChartRow>,
     places: Vec<usize>,
 }
 
 impl Rows {
     /// Adds the row of so many events.
-    pub(crate) fn add(&mut self, maker: &mut Maker, events: usize, row: Row) {
+    pub(crate) fn add(&mut self, maker: &mut Maker, events: usize, row: ChartRow) {
         let place = self.rows.len();
         for _ in 0..events {
             maker.push(&mut self.places, place);
@@ -41,7 +41,7 @@ impl Rows {
     }
 
     /// The rows, as many as there was memory for.
-    pub(crate) fn into_rows(self) -> Vec<Row> {
+    pub(crate) fn into_rows(self) -> Vec<ChartRow> {
         let Rows {
             from: _,
             to: _,
@@ -108,8 +108,8 @@ fn event_row(
     place: usize,
     moment: &Moment,
     clocks: &mut Clocks,
-) -> Row {
-    Row {
+) -> ChartRow {
+    ChartRow {
         name: maker.text(&[Part::Number(place as u64)]),
         clocks: taken(maker, clocks),
         party: place_of(record.hosts, moment.party),

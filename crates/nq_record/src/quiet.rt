@@ -1,6 +1,6 @@
 //! Ticks in which nothing happens, but that a party sends again what gets lost: they share a row of a chart.
 
-use crate::chart::{Note, Part, Row, Sign};
+use crate::chart::{ChartRow, Note, Part, Sign};
 use crate::drawing::{outer, place_of};
 use crate::making::Maker;
 use crate::picture_rows::{Clocks, Rows, packet_words, taken, toward};
@@ -155,7 +155,7 @@ impl Quiet {
     }
 
     /// Their row.
-    fn row(&self, maker: &mut Maker, record: &Record, clocks: &mut Clocks) -> Row {
+    fn row(&self, maker: &mut Maker, record: &Record, clocks: &mut Clocks) -> ChartRow {
         let party = self.place();
         let (name, text) = if self.count == 1 {
             ("#", "tick")
@@ -168,7 +168,7 @@ impl Quiet {
         let side = outer(record.hosts, *party);
         let sign = Sign::Plain;
         maker.push(&mut notes, Note { side, sign, text });
-        Row {
+        ChartRow {
             name: maker.filled(name, &[self.first as u64, last as u64]),
             clocks: taken(maker, clocks),
             party: place_of(record.hosts, *party),

@@ -4,7 +4,7 @@ use nq_base::{FileId, Host, Mode, Party};
 
 /// What lasts: a lease at its holder, a row at the server, or a recovery.
 #[derive(Clone, Copy, PartialEq)]
-pub enum Kind {
+pub enum SpanKind {
     /// A lease that a host holds.
     Lease {
         file: FileId,
@@ -24,7 +24,7 @@ pub enum Kind {
 #[derive(Clone, Copy)]
 pub struct Change {
     /// What it is.
-    pub kind: Kind,
+    pub kind: SpanKind,
     /// Whether it begins.
     pub begins: bool,
 }
@@ -35,7 +35,7 @@ pub struct Span {
     /// Where it is.
     pub party: Party,
     /// What it is.
-    pub kind: Kind,
+    pub kind: SpanKind,
     /// The place of the event in which it begins.
     pub first: usize,
     /// The place of the event in which it ends, or of the last one that saw it.

@@ -6,7 +6,7 @@ use crate::NoMemory;
 use crate::chart::{Page, Part};
 use crate::columns::{put_blanks, put_right};
 use crate::record::{Act, Moment, Record, Sent};
-use crate::spans::{Change, Kind};
+use crate::spans::{Change, SpanKind};
 use crate::text::{mode_word, party_parts};
 use nq_base::Mode;
 use std::alloc::Global;
@@ -106,9 +106,9 @@ fn tell_change(change: &Change, page: &mut Page) {
     let sign = if change.begins { " | + " } else { " | - " };
     page.put(&[Part::Text(sign)]);
     match change.kind {
-        Kind::Recovery => page.put(&[Part::Text("recovery")]),
-        Kind::Lease { file, mode } => tell_lease("lease ", mode, file.0, page),
-        Kind::Row { file, host, mode } => {
+        SpanKind::Recovery => page.put(&[Part::Text("recovery")]),
+        SpanKind::Lease { file, mode } => tell_lease("lease ", mode, file.0, page),
+        SpanKind::Row { file, host, mode } => {
             tell_lease("row ", mode, file.0, page);
             page.fill(" of host #", &[host.0 as u64]);
         }

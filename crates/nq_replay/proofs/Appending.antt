@@ -1,7 +1,6 @@
 -- Bytes that are put one after another.
-use Rattle.std.proofs.Common.{◌≡◌, ℕ, ◌+◌, ◌≤◌, List, [], ◌++◌, length, take, Option, Some, None, refl, sym, ap, ◌∙◌, arith, append_assoc, length-append}
+use Rattle.std.proofs.Common.{◌≡◌, ℕ, ◌+◌, ◌≤◌, List, ◌++◌, length, take, Option, Some, None, refl, sym, ap, ◌∙◌, arith, append_assoc, length-append}
 use Rattle.std.proofs.Math.Seq.{take-append-le, take-append-add}
-use Rattle.std.proofs.lemmas.List.{append-nil}
 use Rattle.nq_io.specs.Sink.{AppendsFront}
 use Rattle.nq_io.specs.Told.{with_end}
 
@@ -32,15 +31,3 @@ behind a b held mid now put f =
       appended = f.appended ∙ ap (λ h. with_end h (take f.count b)) put ∙ both a (take f.count b) held ∙ ap (with_end held)
           (sym (take-append-add a b f.count));
     }
-
-nothing : (now : Option (List ℕ)) → now ≡ with_end now []
-nothing None = refl
-nothing (Some told) = ap Some (sym (append-nil told))
-
--- nothing was put
-pub none : (b : List ℕ) (now : Option (List ℕ)) → AppendsFront b now now
-none b now = record { count = 0; within = omega arith; appended = nothing now }
-
--- nothing but the first bytes
-pub just : (a b : List ℕ) (held now : Option (List ℕ)) → now ≡ with_end held a → AppendsFront (a ++ b) held now
-just a b held now put = behind a b held now now put (none b now)

@@ -81,11 +81,6 @@ pub text_of_schedule : (end : Ending) (head : Head) (lines : List Line) (text : 
     → SpellsSchedule head lines text → EndsPlayed end head (play head lines) held now w w' → EndsText end text held now w w'
 text_of_schedule end head lines text held now w w' spelled ends = text_of_due end head lines (play head lines) text held now w w' spelled refl ends
 
--- a text outside the grammar
-pub text_of_fault : (end : Ending) (line : ℕ) (text : List ℕ) (held now : Option (List ℕ)) (w w' : ℕ) → FirstBadLine text line
-    → TellsStop end line Stepped.NoPacket held now w w' → EndsText end text held now w w'
-text_of_fault end line text held now w w' bad tells = text_of_packet end line text held now w w' (inl bad) tells
-
 -- ---- which end comes
 
 -- the end that tells an answer
@@ -165,11 +160,6 @@ ends_done end head lines h ls events held now w w' ends same is =
 -- a fault that names a line
 pub names_bad : (fault : ScriptFault) (number : ℕ) (P : ℕ → Type 0) → fault ≡ ScriptFault.Bad number → Names fault P → P number
 names_bad fault number P is names = subst (λ e. Names e P) is names
-
-pub passes_none : (text : List ℕ) (number : ℕ) (bound : Bound) → ((h : Head) (ls : List Line) → SpellsSchedule h ls text → ⊥) → Passes text number bound → ⊥
-passes_none text number Bound.Bytes none passes = passes
-passes_none text number Bound.Events none passes = none passes.head passes.lines passes.spelled
-passes_none text number Bound.Packets none passes = none passes.head passes.lines passes.spelled
 
 -- ---- what was played
 

@@ -49,7 +49,7 @@ call_of_first version (Call.Attr file) is has = tt
 call_of_first version (Call.Read file block) is has = tt
 call_of_first version (Call.Fetch file block) is has = tt
 call_of_first version (Call.Write file block body) is has = tt
-call_of_first version (Call.WriteSync file block body) is has = tt
+call_of_first version (Call.Put file block body) is has = tt
 call_of_first version (Call.Sync file) is has = tt
 
 boot_of_first : (version longest : ℕ) → version ≡ 1 → ((version ≡ 1) × (longest ≡ 60)) ⊎ ((version ≡ 2) × (5 ≤ longest)) → longest ≡ 60

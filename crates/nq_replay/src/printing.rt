@@ -55,9 +55,9 @@ pub(crate) fn limit_text(alloc: Global, number: usize, bound: Bound) -> Result<S
     ensures { IfOk result (λ line. string_bytes line ≡ limit_line number bound) }
 {
     match bound {
-        Bound::Bytes => made(format!(in alloc; "limit line {number} bytes\n")),
-        Bound::Events => made(format!(in alloc; "limit line {number} events\n")),
-        Bound::Packets => made(format!(in alloc; "limit line {number} packets\n")),
+        Bound::Bytes => line_text(format!(in alloc; "limit line {number} bytes\n")),
+        Bound::Events => line_text(format!(in alloc; "limit line {number} events\n")),
+        Bound::Packets => line_text(format!(in alloc; "limit line {number} packets\n")),
     }
 }
 
@@ -77,7 +77,7 @@ pub fn tell_over<K: Sink>(alloc: Global, front: &[u8], out: &mut K) -> Ending
 }
 
 /// A line that was made.
-fn made(line: Result<String, AllocError>) -> Result<String, NoMemory>
+fn line_text(line: Result<String, AllocError>) -> Result<String, NoMemory>
     ensures { IfOk result (λ same. line ≡ Ok same) }
 {
     match line {

@@ -7,7 +7,7 @@ use Rattle.std.proofs.lemmas.Bool.{and_parts, and_from, cases_Bool, eqb-true, eq
 use Rattle.nq_base.specs.declared.Entry.{Entry}
 use Rattle.nq_base.specs.declared.Entry.TheVariants.{C, W}
 use Rattle.nq_base.specs.declared.Told.{Told}
-use Rattle.nq_base.specs.declared.Told.TheVariants.{Write, WriteSync, Resize, Remove}
+use Rattle.nq_base.specs.declared.Told.TheVariants.{Write, Put, Resize, Remove}
 use Rattle.nq_base.specs.declared.Who.{Who}
 use Rattle.nq_model.specs.laws.Journal.{call_of, told_by}
 use Rattle.nq_model.specs.laws.JournalTest.{each, exists, is_answer, is_call, is_open, throughout}
@@ -16,7 +16,7 @@ use Rattle.nq_model.specs.laws.OrderedTest.{call_resizes, is_before_call, is_cal
 use Rattle.nq_model.specs.laws.OrderedTest.{writes}
 use Rattle.nq_model.specs.protocol.Table.{same_who}
 use Rattle.nq_model.proofs.JournalTests.{tells_who}
-use Rattle.nq_rules.specs.declared.lines.Line.{Line}
+use Rattle.nq_rules.specs.declared.lines.CallProgress.{CallProgress}
 use Rattle.nq_rules.specs.declared.lines.Open.{Open}
 use Rattle.nq_rules.specs.InOrder.{AreBusy, AreOpened, IsLineOf, IsOpened}
 use Rattle.nq_rules.specs.Lines.{Sizing, Writing, is_sizing, is_writing, sizing_of, writing_of}
@@ -243,7 +243,7 @@ pub same_busy : (before : List Entry) (who : Who) (highest : ℕ) (o n : Open) (
 same_busy before who highest o n None e h = tt
 same_busy before who highest o n (Some busy) e h = record { upto = h.upto; unanswered = h.unanswered; apart = λ x. h.apart (e ∙ x) }
 
-pub quiet : (whole before : List Entry) (who : Who) (line : Line) (entry : Entry) → IsQuiet whole who entry → IsLineOf whole before who line
+pub quiet : (whole before : List Entry) (who : Who) (line : CallProgress) (entry : Entry) → IsQuiet whole who entry → IsLineOf whole before who line
     → IsLineOf whole (entry ∷ before) who line
 quiet whole before who line entry k h = record {
   calls = λ q l. or_none (is_call who q entry) (exists (is_call who q) before) (k.call q) (h.calls q l);
@@ -261,7 +261,7 @@ quiet whole before who line entry k h = record {
 
 write_asked : (file block value : ℕ) (told : Told) → is_writing file block value (writing_of told) ≡ true → writes file block value (Some told) ≡ true
 write_asked file block value (Write f b v) h = h
-write_asked file block value (WriteSync f b v) h = h
+write_asked file block value (Put f b v) h = h
 write_asked file block value other h = absurd (cc)
 
 pub asks_write : (file block value : ℕ) (told : Told) (writing : Option Writing) → writing_of told ≡ writing → is_writing file block value writing ≡ true
@@ -280,7 +280,7 @@ asks_resize file to told sizing e h = resize_asked file to told (ap (is_sizing f
 
 -- ---- the next line, from its parts
 
-abbrev pub a_line : (highest last least : ℕ) (current : Option Open) (busy : Option ℕ) → Line
+abbrev pub a_line : (highest last least : ℕ) (current : Option Open) (busy : Option ℕ) → CallProgress
 a_line highest last least current busy = record { highest = highest; last = last; least = least; current = current; busy = busy }
 
 some_or : {X : Type 0} → X → Option X → X

@@ -13,7 +13,7 @@ use Rattle.nq_model.specs.laws.OrderedTest.{has_open, is_busy_next, is_call_belo
 use Rattle.nq_model.specs.laws.OrderedTest.{is_read_in_order, is_write_in_order, writes}
 use Rattle.nq_model.specs.protocol.Table.{same_who}
 use Rattle.nq_model.proofs.JournalTests.{tells_who}
-use Rattle.nq_rules.specs.declared.lines.Line.{Line}
+use Rattle.nq_rules.specs.declared.lines.CallProgress.{CallProgress}
 use Rattle.nq_rules.specs.declared.lines.Open.{Open}
 use Rattle.nq_rules.specs.InOrder.{AreBusy, AreLines, AreOpened, IsBusyCall, IsLineOf, IsNext, IsOpenCall, StandsInOrder, is_else}
 use Rattle.nq_rules.specs.Lines.{IsLined, after_answer_of, after_call, after_call_at, after_read_of, after_resize_of, after_write_of, begun}
@@ -60,7 +60,7 @@ opened_by before who q n told o =
     ]
 
 call_line : (whole after before : List Entry) (who : Who) (q : ℕ) (told : Told) (is_busy : Bool) (highest last least : ℕ) (current : Option Open)
-    (busy : Option ℕ) (new : Line) → is_busy ≡ is_busy_next who q after → highest < q → IsLineOf whole before who (a_line highest last least current busy)
+    (busy : Option ℕ) (new : CallProgress) → is_busy ≡ is_busy_next who q after → highest < q → IsLineOf whole before who (a_line highest last least current busy)
     → after_call_at (a_line highest last least current busy) q told is_busy current busy ≡ Some new
     → (is_call_in_order after before who q ≡ true) × IsLineOf whole (C who q told ∷ before) who new
 call_line whole after before who q told is_busy highest last least None None new b l h e =
@@ -121,7 +121,7 @@ lower_is a b =
     ]
 
 -- a number above all that were used, or below them, is new
-unused : (whole before : List Entry) (who : Who) (line : Line) (number : ℕ) → IsLineOf whole before who line
+unused : (whole before : List Entry) (who : Who) (line : CallProgress) (number : ℕ) → IsLineOf whole before who line
     → is_used line number ≡ false → exists (is_numbered who number) before ≡ false
 unused whole before who line number h f =
     elim (cases_Bool (nat_le number line.last)) [
@@ -136,7 +136,7 @@ unused whole before who line number h f =
     ]
 
 write_line : (whole before : List Entry) (who : Who) (file block number value : ℕ) (through : Bool) (highest last least : ℕ) (current : Option Open)
-    (busy : Option ℕ) (new : Line) → IsLineOf whole before who (a_line highest last least current busy)
+    (busy : Option ℕ) (new : CallProgress) → IsLineOf whole before who (a_line highest last least current busy)
     → after_write_of (a_line highest last least current busy) file block number value current busy ≡ Some new
     → (is_write_in_order before who file block number value ≡ true) × IsLineOf whole (W who file block number value through ∷ before) who new
 write_line whole before who file block number value through highest last least None busy new h e = absurd (cc)
@@ -198,7 +198,7 @@ three true true false h = absurd (cc)
 three true false c h = absurd (cc)
 three false b c h = absurd (cc)
 
-resize_line : (whole before : List Entry) (who : Who) (q file from to : ℕ) (highest last least : ℕ) (current : Option Open) (busy : Option ℕ) (new : Line)
+resize_line : (whole before : List Entry) (who : Who) (q file from to : ℕ) (highest last least : ℕ) (current : Option Open) (busy : Option ℕ) (new : CallProgress)
     → IsLineOf whole before who (a_line highest last least current busy) → after_resize_of (a_line highest last least current busy) q file to current ≡ Some new
     → (is_resize_in_order before who q file to ≡ true) × IsLineOf whole (Z who q file from to ∷ before) who new
 resize_line whole before who q file from to highest last least None busy new h e = absurd (cc)
@@ -242,7 +242,7 @@ resize_line whole before who q file from to highest last least (Some o) busy new
     ]
 
 read_line : (whole before : List Entry) (who : Who) (q file block value : ℕ) (served : Option ℕ) (highest last least : ℕ) (current : Option Open)
-    (busy : Option ℕ) (new : Line) → IsLineOf whole before who (a_line highest last least current busy)
+    (busy : Option ℕ) (new : CallProgress) → IsLineOf whole before who (a_line highest last least current busy)
     → after_read_of (a_line highest last least current busy) q current ≡ Some new
     → (is_read_in_order whole before who q ≡ true) × IsLineOf whole (R who q file block value served ∷ before) who new
 read_line whole before who q file block value served highest last least None busy new h e = absurd (cc)
@@ -317,7 +317,7 @@ still_one whole before who q said (Some o) f h =
     still_open whole before who o.q o.writing o.sizing o.wrote o.resized o.read o.wrote o.resized o.read (A who q said) h
     (and_not_there (same_who who who) (q == o.q) (other_number q o.q (λ x. f (sym x)))) (λ x. (x, refl)) (λ x. (x, refl)) (λ x. (x, refl))
 
-answer_line : (whole before : List Entry) (who : Who) (q : ℕ) (said : Said) (highest last least : ℕ) (current : Option Open) (busy : Option ℕ) (new : Line)
+answer_line : (whole before : List Entry) (who : Who) (q : ℕ) (said : Said) (highest last least : ℕ) (current : Option Open) (busy : Option ℕ) (new : CallProgress)
     → IsLineOf whole before who (a_line highest last least current busy) → after_answer_of (a_line highest last least current busy) q current busy ≡ Some new
     → (not (exists (is_answer who q) before) ≡ true) × IsLineOf whole (A who q said ∷ before) who new
 answer_line whole before who q said highest last least None None new h e = absurd (cc)
@@ -351,7 +351,7 @@ answer_line whole before who q said highest last least current (Some b) new h e 
 
 -- ---- the lines of all incarnations
 
-lines_on : (whole before : List Entry) (who : Who) (entry : Entry) (line : Line) (old new : List ((ℕ × ℕ) × Line))
+lines_on : (whole before : List Entry) (who : Who) (entry : Entry) (line : CallProgress) (old new : List ((ℕ × ℕ) × CallProgress))
     → IsLined (who.host, who.inc) line old new → AreLines whole before old → IsLineOf whole (entry ∷ before) who line
     → ((other : Who) → same_who who other ≡ false → IsQuiet whole other entry) → AreLines whole (entry ∷ before) new
 lines_on whole before who entry line old new l h here k other =
@@ -364,7 +364,7 @@ lines_on whole before who entry line old new l h here k other =
           (quiet whole before other (line_at old other) entry (k other f) (h other))
     ]
 
-pub call_stands : (whole after : List Entry) (who : Who) (q : ℕ) (told : Told) (is_busy : Bool) (old new : List ((ℕ × ℕ) × Line))
+pub call_stands : (whole after : List Entry) (who : Who) (q : ℕ) (told : Told) (is_busy : Bool) (old new : List ((ℕ × ℕ) × CallProgress))
     → is_busy ≡ is_busy_next who q after → IsNext who (after_call (line_at old who) q told is_busy) old new
     → StandsInOrder whole after (C who q told) old new
 call_stands whole after who q told is_busy old new b n before h =
@@ -388,7 +388,7 @@ call_stands whole after who q told is_busy old new b n before h =
           )
     ]
 
-pub write_stands : (whole after : List Entry) (who : Who) (file block number value : ℕ) (through : Bool) (old new : List ((ℕ × ℕ) × Line))
+pub write_stands : (whole after : List Entry) (who : Who) (file block number value : ℕ) (through : Bool) (old new : List ((ℕ × ℕ) × CallProgress))
     → IsNext who (after_write_of (line_at old who) file block number value (line_at old who).current (line_at old who).busy) old new
     → StandsInOrder whole after (W who file block number value through) old new
 write_stands whole after who file block number value through old new n before h =
@@ -407,7 +407,7 @@ write_stands whole after who file block number value through old new n before h 
           }),
     )
 
-pub resize_stands : (whole after : List Entry) (who : Who) (q file from to : ℕ) (old new : List ((ℕ × ℕ) × Line))
+pub resize_stands : (whole after : List Entry) (who : Who) (q file from to : ℕ) (old new : List ((ℕ × ℕ) × CallProgress))
     → IsNext who (after_resize_of (line_at old who) q file to (line_at old who).current) old new → StandsInOrder whole after (Z who q file from to) old new
 resize_stands whole after who q file from to old new n before h =
     let line = line_at old who in
@@ -424,7 +424,7 @@ resize_stands whole after who q file from to old new n before h =
           }),
     )
 
-pub read_stands : (whole after : List Entry) (who : Who) (q file block value : ℕ) (served : Option ℕ) (old new : List ((ℕ × ℕ) × Line))
+pub read_stands : (whole after : List Entry) (who : Who) (q file block value : ℕ) (served : Option ℕ) (old new : List ((ℕ × ℕ) × CallProgress))
     → IsNext who (after_read_of (line_at old who) q (line_at old who).current) old new → StandsInOrder whole after (R who q file block value served) old new
 read_stands whole after who q file block value served old new n before h =
     let line = line_at old who in
@@ -443,7 +443,7 @@ read_stands whole after who q file block value served old new n before h =
           }),
     )
 
-pub answer_stands : (whole after : List Entry) (who : Who) (q : ℕ) (said : Said) (old new : List ((ℕ × ℕ) × Line))
+pub answer_stands : (whole after : List Entry) (who : Who) (q : ℕ) (said : Said) (old new : List ((ℕ × ℕ) × CallProgress))
     → IsNext who (after_answer_of (line_at old who) q (line_at old who).current (line_at old who).busy) old new
     → StandsInOrder whole after (A who q said) old new
 answer_stands whole after who q said old new n before h =
@@ -463,12 +463,12 @@ answer_stands whole after who q said old new n before h =
 
 -- ---- entries that leave all lines as they are
 
-all_quiet : (whole before : List Entry) (entry : Entry) (lines : List ((ℕ × ℕ) × Line)) → ((who : Who) → IsQuiet whole who entry)
+all_quiet : (whole before : List Entry) (entry : Entry) (lines : List ((ℕ × ℕ) × CallProgress)) → ((who : Who) → IsQuiet whole who entry)
     → AreLines whole before lines → AreLines whole (entry ∷ before) lines
 all_quiet whole before entry lines k h who = quiet whole before who (line_at lines who) entry (k who) (h who)
 
 -- a read that is not counted
-pub uncounted_stands : (whole after : List Entry) (who : Who) (q file block value : ℕ) (served : Option ℕ) (lines : List ((ℕ × ℕ) × Line))
+pub uncounted_stands : (whole after : List Entry) (who : Who) (q file block value : ℕ) (served : Option ℕ) (lines : List ((ℕ × ℕ) × CallProgress))
     → is_counted whole (R who q file block value served) ≡ false → StandsInOrder whole after (R who q file block value served) lines lines
 uncounted_stands whole after who q file block value served lines c before h =
     let entry = R who q file block value served in (
@@ -486,7 +486,7 @@ uncounted_stands whole after who q file block value served lines c before h =
     )
 
 -- an entry that tells nothing of the order of calls
-pub else_stands : (whole after : List Entry) (entry : Entry) (lines : List ((ℕ × ℕ) × Line)) → is_else entry ≡ true
+pub else_stands : (whole after : List Entry) (entry : Entry) (lines : List ((ℕ × ℕ) × CallProgress)) → is_else entry ≡ true
     → StandsInOrder whole after entry lines lines
 else_stands whole after (C who q told) lines i before h = absurd (cc)
 else_stands whole after (W who file block number value through) lines i before h = absurd (cc)

@@ -4,7 +4,7 @@ use Rattle.nq_base.specs.declared.Entry.{Entry}
 use Rattle.nq_base.specs.declared.Entry.TheVariants.{C, W, Z, R, A}
 use Rattle.nq_base.specs.declared.Told.{Told}
 use Rattle.nq_base.specs.declared.Who.{Who}
-use Rattle.nq_rules.specs.declared.lines.Line.{Line}
+use Rattle.nq_rules.specs.declared.lines.CallProgress.{CallProgress}
 use Rattle.nq_rules.specs.declared.lines.Open.{Open}
 use Rattle.nq_rules.specs.Lines.{IsLined, Sizing, Writing, line_at, sizing_of, writing_of}
 use Rattle.nq_model.specs.laws.Journal.{call_of}
@@ -49,7 +49,7 @@ AreBusy before who highest current None = ⊤
 AreBusy before who highest current (Some busy) = IsBusy before who highest current busy
 
 -- the line tells how far the calls of an incarnation came among these entries
-pub record IsLineOf (whole before : List Entry) (who : Who) (line : Line) : Type 0 where
+pub record IsLineOf (whole before : List Entry) (who : Who) (line : CallProgress) : Type 0 where
   pub calls : (q : ℕ) → line.highest < q → exists (is_call who q) before ≡ false
   pub answers : (q : ℕ) → line.highest < q → exists (is_answer who q) before ≡ false
   pub resizes : (q : ℕ) → line.highest < q → exists (is_resize_by who q) before ≡ false
@@ -61,17 +61,17 @@ pub record IsLineOf (whole before : List Entry) (who : Who) (line : Line) : Type
   pub busy : AreBusy before who line.highest line.current line.busy
 
 -- the lines tell so of each incarnation
-abbrev pub AreLines : (whole before : List Entry) → List ((ℕ × ℕ) × Line) → Type 0
+abbrev pub AreLines : (whole before : List Entry) → List ((ℕ × ℕ) × CallProgress) → Type 0
 AreLines whole before lines = (who : Who) → IsLineOf whole before who (line_at lines who)
 
 -- there is a next line, and the incarnation has it now
-pub record IsNext (who : Who) (next : Option Line) (old new : List ((ℕ × ℕ) × Line)) : Type 0 where
-  pub line : Line
+pub record IsNext (who : Who) (next : Option CallProgress) (old new : List ((ℕ × ℕ) × CallProgress)) : Type 0 where
+  pub line : CallProgress
   pub some : next ≡ Some line
   pub lined : IsLined (who.host, who.inc) line old new
 
 -- where the lines tell of the entries before it, an entry stands in order, and the new lines tell of it, too
-abbrev pub StandsInOrder : (whole after : List Entry) → Entry → (old new : List ((ℕ × ℕ) × Line)) → Type 0
+abbrev pub StandsInOrder : (whole after : List Entry) → Entry → (old new : List ((ℕ × ℕ) × CallProgress)) → Type 0
 StandsInOrder whole after entry old new =
     (before : List Entry) → AreLines whole before old → (is_in_order whole after entry before ≡ true) × AreLines whole (entry ∷ before) new
 

@@ -4,7 +4,7 @@ use Rattle.nq_base.specs.declared.Entry.{Entry}
 use Rattle.nq_base.specs.declared.Entry.TheVariants.{W, A}
 use Rattle.nq_base.specs.declared.Said.TheVariants.{Ok, OkValue, OkBy}
 use Rattle.nq_base.specs.declared.Told.{Told}
-use Rattle.nq_base.specs.declared.Told.TheVariants.{WriteSync, Sync, Resize, Remove}
+use Rattle.nq_base.specs.declared.Told.TheVariants.{Put, Sync, Resize, Remove}
 use Rattle.nq_base.specs.declared.Who.{Who}
 use Rattle.nq_model.specs.laws.Journal.{call_of}
 use Rattle.nq_model.specs.laws.JournalTest.{each, is_open, is_stored, is_through, somewhere}
@@ -24,7 +24,7 @@ is_put_kept answered who q write before = is_write_of_call who q write before &&
 
 -- what an ok says to a `put`, a `sync`, a `resize` or a `remove`
 abbrev pub is_kept : (whole before : List Entry) (who : Who) (q : ℕ) → Option Told → Bool
-is_kept whole before who q (Some (WriteSync file block value)) = somewhere (is_put_kept before who q) before
+is_kept whole before who q (Some (Put file block value)) = somewhere (is_put_kept before who q) before
 is_kept whole before who q (Some (Sync file)) = are_stored_or_told whole whole before who file
 is_kept whole before who q (Some (Resize file blocks)) = somewhere (is_settled_resize whole before who q file) before
 is_kept whole before who q (Some (Remove file)) = somewhere (is_settled_resize whole before who q file) before

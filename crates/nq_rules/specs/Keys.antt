@@ -2,8 +2,8 @@
 use Rattle.std.specs.Prelude.{ℕ, Bool, true, false}
 use Rattle.nq_base.specs.declared.Entry.{Entry}
 use Rattle.nq_base.specs.declared.Entry.TheVariants.{C, W, R, S, L, G, Z, A}
-use Rattle.nq_rules.specs.declared.keys.Kind.{Kind}
-use Rattle.nq_rules.specs.declared.keys.Kind.TheVariants.{Grants, Stores, Own, Calls, Reads, Writes, Covers, Cuts, Delays}
+use Rattle.nq_rules.specs.declared.keys.KeyKind.{KeyKind}
+use Rattle.nq_rules.specs.declared.keys.KeyKind.TheVariants.{Grants, Stores, Own, Calls, Reads, Writes, Covers, Cuts, Delays}
 use Rattle.nq_rules.specs.Marks.{Spot, spot}
 
 -- a block, whoever asks for it
@@ -35,7 +35,7 @@ call_spot (A who q said) = spot who q 0
 call_spot other = block_spot 0 0
 
 -- the key of an entry
-abbrev pub spot_of : Kind → Entry → Spot
+abbrev pub spot_of : KeyKind → Entry → Spot
 spot_of Grants entry = file_spot entry
 spot_of Stores entry = file_spot entry
 spot_of Delays entry = file_spot entry
@@ -50,7 +50,7 @@ spot_of Cuts (R who q file block value served) = block_spot file 0
 spot_of kind other = block_spot 0 0
 
 -- whether links lead to an entry
-abbrev pub is_member : Kind → Entry → Bool
+abbrev pub is_member : KeyKind → Entry → Bool
 is_member Grants (G who file mode tag term now) = true
 is_member Stores (S who file block first last now) = true
 is_member Own (W who file block number value through) = true

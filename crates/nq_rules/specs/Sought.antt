@@ -3,8 +3,8 @@ use Rattle.std.specs.Prelude.{Bool}
 use Rattle.nq_base.specs.declared.Entry.{Entry}
 use Rattle.nq_rules.specs.Keys.{block_spot, own_spot}
 use Rattle.nq_rules.specs.Marks.{Spot, spot}
-use Rattle.nq_rules.specs.declared.keys.Kind.{Kind}
-use Rattle.nq_rules.specs.declared.keys.Kind.TheVariants.{Calls, Covers, Cuts, Own}
+use Rattle.nq_rules.specs.declared.keys.KeyKind.{KeyKind}
+use Rattle.nq_rules.specs.declared.keys.KeyKind.TheVariants.{Calls, Covers, Cuts, Own}
 use Rattle.nq_rules.specs.declared.sought.Sought.{Sought}
 use Rattle.nq_rules.specs.declared.sought.Sought.TheVariants.{Call, Answer, AnswerBy, AnswerWith, Busy, Resize, Cut, Cover, Store, Loss, Covered, Lost}
 use Rattle.nq_model.specs.laws.Journal.{cuts}
@@ -44,7 +44,7 @@ spot_sought (Covered cover) = own_spot cover.now
 spot_sought (Lost loss) = own_spot loss.now
 
 -- the kind of the links to follow
-abbrev pub kind_sought : Sought → Kind
+abbrev pub kind_sought : Sought → KeyKind
 kind_sought (Call who q) = Calls
 kind_sought (Answer who q) = Calls
 kind_sought (AnswerBy who q packet) = Calls

@@ -91,7 +91,7 @@ pub fn speaks_of(on: FileId, call: Option<Told>) -> bool
         Told::Read { file, .. } => file == on,
         Told::Fetch { file, .. } => file == on,
         Told::Write { file, .. } => file == on,
-        Told::WriteSync { file, .. } => file == on,
+        Told::Put { file, .. } => file == on,
         Told::Sync { file } => file == on,
         Told::Resize { file, .. } => file == on,
         Told::Remove { file } => file == on,
@@ -118,7 +118,7 @@ pub(crate) fn writes(on: FileId, at: BlockNo, v: u32, call: Option<Told>) -> boo
     };
     match told {
         Told::Write { file, block, value } => file == on && block == at && value == v,
-        Told::WriteSync { file, block, value } => file == on && block == at && value == v,
+        Told::Put { file, block, value } => file == on && block == at && value == v,
         _ => false,
     }
 }
@@ -143,7 +143,7 @@ pub(crate) fn is_reporting(on: FileId, told: &Told) -> bool
 {
     match told {
         Told::Write { file, .. } => *file == on,
-        Told::WriteSync { file, .. } => *file == on,
+        Told::Put { file, .. } => *file == on,
         Told::Sync { file } => *file == on,
         Told::Resize { file, .. } => *file == on,
         Told::Remove { file } => *file == on,

@@ -2,7 +2,8 @@
 
 ghost use Rattle.std.specs.Prelude.{◌≡◌, Some};
 ghost use Rattle.nq_model.specs.laws.Journal.{cuts, told_by, value_written};
-ghost use Rattle.nq_model.specs.laws.JournalTest.{covers, is_answer, is_answer_by, is_call, is_read_by, is_through, is_within, is_write_by, is_write_on, loss_covers, store_covers};
+ghost use Rattle.nq_model.specs.laws.JournalTest.{covers, is_answer, is_answer_by, is_call, is_read_by, is_through, is_within, is_write_by, is_write_on};
+ghost use Rattle.nq_model.specs.laws.JournalTest.{loss_covers, store_covers};
 ghost use Rattle.nq_model.specs.laws.LegalTest.{gives_value, is_answer_with};
 ghost use Rattle.nq_model.specs.laws.OrderedTest.{is_call_below, is_numbered, is_resize_by};
 ghost use Rattle.nq_model.specs.laws.ReportedTest.{is_busy_answer};

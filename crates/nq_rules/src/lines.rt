@@ -1,7 +1,8 @@
 //! How far the calls of an incarnation have come, as one look over a journal learns it.
 
 ghost use Rattle.std.specs.Prelude.{◌≡◌};
-ghost use Rattle.nq_rules.specs.Lines.{after_answer_of, after_call, after_call_at, after_read_of, after_resize_of, after_write_of, is_sizing, is_used, is_writing, lower, sizing_of, upper, writing_of};
+ghost use Rattle.nq_rules.specs.Lines.{after_answer_of, after_call, after_call_at, after_read_of, after_resize_of, after_write_of, is_sizing, is_used};
+ghost use Rattle.nq_rules.specs.Lines.{is_writing, lower, sizing_of, upper, writing_of};
 
 use nq_base::{BlockNo, FileId, Number, Told};
 
@@ -17,7 +18,7 @@ fn writing_of(told: &Told) -> Option<Writing>
 {
     match told {
         Told::Write { file, block, value } => Some((file.0, block.0, *value)),
-        Told::WriteSync { file, block, value } => Some((file.0, block.0, *value)),
+        Told::Put { file, block, value } => Some((file.0, block.0, *value)),
         _ => None,
     }
 }
@@ -72,7 +73,7 @@ pub struct Open {
 
 /// How far the calls of an incarnation have come.
 #[derive(Clone, Copy)]
-pub struct Line {
+pub struct CallProgress {
     /// The highest number of its calls.
     pub highest: u64,
     /// The highest number of its writes.
@@ -86,14 +87,14 @@ pub struct Line {
 }
 
 /// The line behind a C whose number is the highest.
-fn after_call_at(line: &Line, q: u64, told: &Told, is_busy: bool) -> Option<Line>
+fn after_call_at(line: &CallProgress, q: u64, told: &Told, is_busy: bool) -> Option<CallProgress>
     ensures { result ≡ after_call_at line.now q told.now is_busy line.now.current line.now.busy }
 {
     if line.busy.is_some() {
         return None;
     }
     match line.current {
-        None => Some(Line {
+        None => Some(CallProgress {
             highest: q,
             current: Some(Open {
                 q,
@@ -105,7 +106,7 @@ fn after_call_at(line: &Line, q: u64, told: &Told, is_busy: bool) -> Option<Line
             }),
             ..*line
         }),
-        Some(_) if is_busy => Some(Line {
+        Some(_) if is_busy => Some(CallProgress {
             highest: q,
             busy: Some(q),
             ..*line
@@ -115,7 +116,7 @@ fn after_call_at(line: &Line, q: u64, told: &Told, is_busy: bool) -> Option<Line
 }
 
 /// The line behind a C, where it is known whether the next entry answers it `busy`. None where the C may be out of order.
-pub fn after_call(line: &Line, q: u64, told: &Told, is_busy: bool) -> Option<Line>
+pub fn after_call(line: &CallProgress, q: u64, told: &Told, is_busy: bool) -> Option<CallProgress>
     ensures { result ≡ after_call line.now q told.now is_busy }
 {
     if q <= line.highest {
@@ -139,7 +140,7 @@ fn lower(a: u64, b: u64) -> u64
 }
 
 /// Whether a number is neither above all that were used nor below them.
-fn is_used(line: &Line, number: Number) -> bool
+fn is_used(line: &CallProgress, number: Number) -> bool
     ensures { result ≡ is_used line.now number }
 {
     number.0 <= line.last && line.least <= number.0
@@ -147,12 +148,12 @@ fn is_used(line: &Line, number: Number) -> bool
 
 /// The line behind a W, whose number has to be above all that were used, or below them. None where the W may be out of order.
 pub fn after_write(
-    line: &Line,
+    line: &CallProgress,
     file: FileId,
     block: BlockNo,
     number: Number,
     value: u32,
-) -> Option<Line>
+) -> Option<CallProgress>
     ensures { result ≡ after_write_of line.now file block number value line.now.current line.now.busy }
 {
     if line.busy.is_some() {
@@ -170,7 +171,7 @@ pub fn after_write(
         resized: open.resized,
         read: open.read,
     };
-    Some(Line {
+    Some(CallProgress {
         last: upper(number.0, line.last),
         least: lower(number.0, line.least),
         current: Some(open),
@@ -179,7 +180,7 @@ pub fn after_write(
 }
 
 /// The line behind a Z. None where the Z may be out of order.
-pub fn after_resize(line: &Line, q: u64, file: FileId, to: u32) -> Option<Line>
+pub fn after_resize(line: &CallProgress, q: u64, file: FileId, to: u32) -> Option<CallProgress>
     ensures { result ≡ after_resize_of line.now q file to line.now.current }
 {
     let open = line.current?;
@@ -194,14 +195,14 @@ pub fn after_resize(line: &Line, q: u64, file: FileId, to: u32) -> Option<Line>
         resized: true,
         read: open.read,
     };
-    Some(Line {
+    Some(CallProgress {
         current: Some(open),
         ..*line
     })
 }
 
 /// The line behind a counted read. None where the read may be out of order.
-pub fn after_read(line: &Line, q: u64) -> Option<Line>
+pub fn after_read(line: &CallProgress, q: u64) -> Option<CallProgress>
     ensures { result ≡ after_read_of line.now q line.now.current }
 {
     let open = line.current?;
@@ -216,21 +217,21 @@ pub fn after_read(line: &Line, q: u64) -> Option<Line>
         resized: open.resized,
         read: true,
     };
-    Some(Line {
+    Some(CallProgress {
         current: Some(open),
         ..*line
     })
 }
 
 /// The line behind an A. None where the A may be out of order.
-pub fn after_answer(line: &Line, q: u64) -> Option<Line>
+pub fn after_answer(line: &CallProgress, q: u64) -> Option<CallProgress>
     ensures { result ≡ after_answer_of line.now q line.now.current line.now.busy }
 {
     if let Some(busy) = line.busy {
         if busy != q {
             return None;
         }
-        return Some(Line {
+        return Some(CallProgress {
             busy: None,
             ..*line
         });
@@ -239,7 +240,7 @@ pub fn after_answer(line: &Line, q: u64) -> Option<Line>
     if open.q != q {
         return None;
     }
-    Some(Line {
+    Some(CallProgress {
         current: None,
         ..*line
     })

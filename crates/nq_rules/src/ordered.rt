@@ -3,7 +3,8 @@
 ghost use Rattle.std.specs.Prelude.{◌≡◌, reverse};
 ghost use Rattle.nq_model.specs.laws.JournalTest.{each, exists, is_call, throughout};
 ghost use Rattle.nq_model.specs.laws.LegalTest.{is_counted_by};
-ghost use Rattle.nq_model.specs.laws.OrderedTest.{is_before_call, is_busy_next, is_call_below, is_call_in_order, is_in_order, is_no_other, is_numbered, is_read_in_order, is_resize_in_order, is_write_in_order};
+ghost use Rattle.nq_model.specs.laws.OrderedTest.{is_before_call, is_busy_next, is_call_below, is_call_in_order, is_in_order, is_no_other, is_numbered};
+ghost use Rattle.nq_model.specs.laws.OrderedTest.{is_read_in_order, is_resize_in_order, is_write_in_order};
 
 use crate::calls::{
     call_of, has_open, is_answered, is_open, is_open_call, open_call, resizes, writes,

@@ -8,7 +8,7 @@ use crate::entries::{
     covers, cuts, is_answer, is_answer_by, is_answer_with, is_busy_answer, is_call, is_resize_by,
     loss_covers, store_covers,
 };
-use crate::keys::{Key, Kind, block_key, call_key, own_key_of};
+use crate::keys::{EntryKey, KeyKind, block_key, call_key, own_key_of};
 use nq_base::{BlockNo, Entry, FileId, Who};
 
 /// An entry that is looked for.
@@ -84,7 +84,7 @@ pub fn passes(sought: Sought, entry: &Entry) -> bool
 }
 
 /// The key of the links to follow.
-pub fn key_sought(sought: Sought) -> Key
+pub fn key_sought(sought: Sought) -> EntryKey
     ensures { result ≡ spot_sought sought.entry }
 {
     match sought {
@@ -104,7 +104,7 @@ pub fn key_sought(sought: Sought) -> Key
 }
 
 /// The kind of the links to follow.
-pub fn kind_sought(sought: Sought) -> Kind
+pub fn kind_sought(sought: Sought) -> KeyKind
     ensures { result ≡ kind_sought sought.entry }
 {
     match sought {
@@ -113,10 +113,10 @@ pub fn kind_sought(sought: Sought) -> Kind
         | Sought::AnswerBy { .. }
         | Sought::AnswerWith { .. }
         | Sought::Busy { .. }
-        | Sought::Resize { .. } => Kind::Calls,
-        Sought::Cut { .. } => Kind::Cuts,
-        Sought::Cover(_) | Sought::Store(_) | Sought::Loss(_) => Kind::Covers,
-        Sought::Covered(_) | Sought::Lost(_) => Kind::Own,
+        | Sought::Resize { .. } => KeyKind::Calls,
+        Sought::Cut { .. } => KeyKind::Cuts,
+        Sought::Cover(_) | Sought::Store(_) | Sought::Loss(_) => KeyKind::Covers,
+        Sought::Covered(_) | Sought::Lost(_) => KeyKind::Own,
     }
 }
 

@@ -179,7 +179,7 @@ pub fn is_kept(whole: &[Entry], before: &[Entry], by: &Who, n: u64, call: &Optio
         return true;
     };
     match told {
-        Told::WriteSync { .. } => is_put_kept(before, by, n),
+        Told::Put { .. } => is_put_kept(before, by, n),
         Told::Sync { file } => are_stored_or_told(whole, whole, before, by, *file),
         Told::Resize { file, .. } => is_resize_kept(whole, before, by, n, *file),
         Told::Remove { file } => is_resize_kept(whole, before, by, n, *file),

@@ -7,7 +7,7 @@ ghost use Rattle.nq_run.specs.Hosting.{Attends};
 
 use nq_base::{Host, Inc, Who};
 use nq_clock::Clock;
-use nq_hosts::user::{Plan, client};
+use nq_hosts::user::{UsePlan, client};
 use nq_io::{Sink, Source};
 use nq_link::Link;
 use std::alloc::Global;
@@ -26,11 +26,12 @@ pub(crate) fn attended<S: Source, K: Sink, L: Link, C: Clock>(
 ) -> u8
     requires { limit < 2 ^ 31 }
     ensures { Attends turns (record { host = host; inc = inc }) limit result (S.left input.old) (S.left input.new) (S.faults input.old) (S.faults input.new)
-        (K.held out.old) (K.held out.new) (K.faults out.old) (K.faults out.new) (clock_told C.floor C.readings C.reads clock.old) (clock_told C.floor C.readings C.reads clock.new)
+        (K.held out.old) (K.held out.new) (K.faults out.old) (K.faults out.new) (clock_told C.floor C.readings C.reads clock.old)
+        (clock_told C.floor C.readings C.reads clock.new)
         (link_told L.sent L.waiting L.faults L.receives link.old)
         (link_told L.sent L.waiting L.faults L.receives link.new) }
 {
-    let plan = Plan {
+    let plan = UsePlan {
         who: Who {
             host: Host(host),
             inc: Inc(inc),

@@ -16,7 +16,7 @@ mod usage;
 
 pub use judging::judge;
 pub use nq_base::ending::Ended;
-pub use nq_command::{Command, NoMemory, Words};
+pub use nq_command::{Command, CommandWords, NoMemory};
 pub use nq_storm::fates::{CutFate, Fate, HostileFate, LossyFate, SteadyFate};
 pub use setting::{Place, ROOM, blank_disk, exit_status, parties_of, party_of, place_of, words_of};
 pub use top::run;

@@ -8,7 +8,7 @@ ghost use Rattle.nq_run.specs.Setting.{clients_below, exit_status_of, parties_of
 
 use nq_base::ending::Ending;
 use nq_base::{Host, Party};
-use nq_command::{Command, NoMemory, Words};
+use nq_command::{Command, CommandWords, NoMemory};
 use nq_disk::{MemDisk, Room};
 use std::alloc::Global;
 
@@ -33,20 +33,20 @@ pub const ROOM: Room = Room {
 /// # Errors
 ///
 /// Only want of memory.
-pub fn words_of(alloc: Global, args: &[String]) -> Result<Words, NoMemory>
+pub fn words_of(alloc: Global, args: &[String]) -> Result<CommandWords, NoMemory>
     ensures { IfOk result (λ words. words ≡ map (λ word. string_bytes word) (drop 1 args.now)) }
 {
     match args.split_first() {
         Some((_name, said)) => words_among(alloc, said),
-        None => Words::new(alloc),
+        None => CommandWords::new(alloc),
     }
 }
 
 /// These words.
-fn words_among(alloc: Global, said: &[String]) -> Result<Words, NoMemory>
+fn words_among(alloc: Global, said: &[String]) -> Result<CommandWords, NoMemory>
     ensures { IfOk result (λ words. words ≡ map (λ word. string_bytes word) said.now) }
 {
-    let mut words = Words::new(alloc)?;
+    let mut words = CommandWords::new(alloc)?;
     for word in said {
         words.push(word.as_str())?;
     }
@@ -54,7 +54,7 @@ fn words_among(alloc: Global, said: &[String]) -> Result<Words, NoMemory>
 }
 
 /// The disk of what words say: `format` and `serve` have the file, and all else has one in memory.
-pub fn place_of(words: &Words) -> Place
+pub fn place_of(words: &CommandWords) -> Place
     ensures place { result ≡ place_of (command_of words.now) }
     ensures empties { result ≡ Place.File → makes_a_run (command_of words.now) ≡ false }
 {
@@ -65,7 +65,7 @@ pub fn place_of(words: &Words) -> Place
 }
 
 /// Whose link is used: a client's where the words name its host, else the server's.
-pub fn party_of(words: &Words) -> Party
+pub fn party_of(words: &CommandWords) -> Party
     ensures { result ≡ party_of (command_of words.now) }
 {
     match words.command() {
@@ -79,7 +79,7 @@ pub fn party_of(words: &Words) -> Party
 /// # Errors
 ///
 /// Only want of memory.
-pub fn parties_of(alloc: Global, words: &Words) -> Result<Vec<Party>, NoMemory>
+pub fn parties_of(alloc: Global, words: &CommandWords) -> Result<Vec<Party>, NoMemory>
     ensures parties { IfOk result (λ parties. parties.items ≡ parties_of (command_of words.now)) }
     ensures count { IfOk result (λ parties. (hosts turns : ℕ) → command_of words.now ≡ Some (Command.Loop hosts turns) → vec_len parties ≡ hosts + 1) }
 {

@@ -29,7 +29,8 @@ pub(crate) fn stormed<K: Sink, D: Disk + Drop>(
 ) -> Ended<u8, D>
     requires { (bytes : List ℕ) × (D.told disk ≡ Some bytes) }
     ensures storms { StormsOn result.end kind start events (map (λ fate. (Fate-box fate).told fate.value) fates.old)
-        (map (λ fate. fate_told ((Fate-box fate).told fate.value) (asks fate)) fates.old) (map (λ fate. fate_told ((Fate-box fate).told fate.value) (asks fate)) fates.new)
+        (map (λ fate. fate_told ((Fate-box fate).told fate.value) (asks fate)) fates.old)
+        (map (λ fate. fate_told ((Fate-box fate).told fate.value) (asks fate)) fates.new)
         (K.held out.old) (K.held out.new) (K.faults out.old) (K.faults out.new) (D.faults disk) (D.faults result.left) (D.told result.left) }
     ensures never { TellOthers kind (map (λ fate. (Fate-box fate).told fate.value) fates.old) → (result.end ≡ status_of Ending.Usage) × (result.left ≡ disk) }
     ensures alone { result.end ≡ status_of Ending.Usage → result.left ≡ disk }

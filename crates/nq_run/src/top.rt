@@ -32,7 +32,7 @@ use crate::storming::stormed;
 use crate::usage::usage;
 use nq_base::ending::Ended;
 use nq_clock::Clock;
-use nq_command::{Command, Words};
+use nq_command::{Command, CommandWords};
 use nq_disk::Disk;
 use nq_io::{Sink, Source};
 use nq_link::Link;
@@ -63,7 +63,7 @@ const MOST_BYTES: usize = 16_777_216;
 /// `docs/commands.md` says when each status comes, and what is printed then.
 pub fn run<S: Source, K: Sink, D: Disk + Drop, L: Link, C: Clock>(
     alloc: Global,
-    words: &Words,
+    words: &CommandWords,
     input: &mut S,
     out: &mut K,
     disk: D,
@@ -93,7 +93,8 @@ pub fn run<S: Source, K: Sink, D: Disk + Drop, L: Link, C: Clock>(
         (D.told result.left) disk result.left }
     ensures storms { (kind start events : ℕ) → command_of words.now ≡ Some (Command.Storm kind start events)
         → StormsOn result.end kind start events (map (λ fate. (Fate-box fate).told fate.value) fates.old)
-        (map (λ fate. fate_told ((Fate-box fate).told fate.value) (asks fate)) fates.old) (map (λ fate. fate_told ((Fate-box fate).told fate.value) (asks fate)) fates.new)
+        (map (λ fate. fate_told ((Fate-box fate).told fate.value) (asks fate)) fates.old)
+        (map (λ fate. fate_told ((Fate-box fate).told fate.value) (asks fate)) fates.new)
         (K.held out.old) (K.held out.new) (K.faults out.old) (K.faults out.new) (D.faults disk) (D.faults result.left) (D.told result.left) }
     ensures loops { (hosts turns : ℕ) → command_of words.now ≡ Some (Command.Loop hosts turns)
         → LoopsOn result.end hosts turns (clock_told C.floor C.readings C.reads clock.old) (clock_told C.floor C.readings C.reads clock.new)
@@ -109,8 +110,10 @@ pub fn run<S: Source, K: Sink, D: Disk + Drop, L: Link, C: Clock>(
         → NamesFor most_bytes result.end (S.left input.old) (S.left input.new) (K.held out.old) (K.held out.new)
         (S.faults input.old) (S.faults input.new) (K.faults out.old) (K.faults out.new) }
     ensures attends { (host inc turns : ℕ) → command_of words.now ≡ Some (Command.Client host inc turns)
-        → Attends turns (record { host = host; inc = inc }) most_bytes result.end (S.left input.old) (S.left input.new) (S.faults input.old) (S.faults input.new)
-        (K.held out.old) (K.held out.new) (K.faults out.old) (K.faults out.new) (clock_told C.floor C.readings C.reads clock.old) (clock_told C.floor C.readings C.reads clock.new)
+        → Attends turns (record { host = host; inc = inc }) most_bytes result.end (S.left input.old) (S.left input.new) (S.faults input.old)
+        (S.faults input.new)
+        (K.held out.old) (K.held out.new) (K.faults out.old) (K.faults out.new) (clock_told C.floor C.readings C.reads clock.old)
+        (clock_told C.floor C.readings C.reads clock.new)
         (link_told L.sent L.waiting L.faults L.receives link.old)
         (link_told L.sent L.waiting L.faults L.receives link.new) }
     // Refuses a run that passes over a fault of its input or its output and ends with 0.
@@ -132,7 +135,7 @@ pub fn run<S: Source, K: Sink, D: Disk + Drop, L: Link, C: Clock>(
 /// Runs the command that words say over a disk. Where they say none, it prints so.
 fn run_command<S: Source, K: Sink, D: Disk + Drop, L: Link, C: Clock>(
     alloc: Global,
-    words: &Words,
+    words: &CommandWords,
     input: &mut S,
     out: &mut K,
     disk: D,
@@ -154,7 +157,8 @@ fn run_command<S: Source, K: Sink, D: Disk + Drop, L: Link, C: Clock>(
         (S.faults input.old) (S.faults input.new) (K.faults out.old) (K.faults out.new) (D.faults disk) (D.faults result.left)
         (D.told result.left) disk result.left)
         (λ kind start events. StormsOn result.end kind start events (map (λ fate. (Fate-box fate).told fate.value) fates.old)
-        (map (λ fate. fate_told ((Fate-box fate).told fate.value) (asks fate)) fates.old) (map (λ fate. fate_told ((Fate-box fate).told fate.value) (asks fate)) fates.new)
+        (map (λ fate. fate_told ((Fate-box fate).told fate.value) (asks fate)) fates.old)
+        (map (λ fate. fate_told ((Fate-box fate).told fate.value) (asks fate)) fates.new)
         (K.held out.old) (K.held out.new) (K.faults out.old) (K.faults out.new) (D.faults disk) (D.faults result.left) (D.told result.left))
         (λ hosts turns. LoopsOn result.end hosts turns (clock_told C.floor C.readings C.reads clock.old) (clock_told C.floor C.readings C.reads clock.new)
         (map (told_of L.sent L.waiting L.faults L.receives) links.old) (map (told_of L.sent L.waiting L.faults L.receives) links.new)
@@ -165,19 +169,24 @@ fn run_command<S: Source, K: Sink, D: Disk + Drop, L: Link, C: Clock>(
         (S.faults input.old) (S.faults input.new) (K.faults out.old) (K.faults out.new))
         (NamesFor most_bytes result.end (S.left input.old) (S.left input.new) (K.held out.old) (K.held out.new)
         (S.faults input.old) (S.faults input.new) (K.faults out.old) (K.faults out.new))
-        (λ host inc turns. Attends turns (record { host = host; inc = inc }) most_bytes result.end (S.left input.old) (S.left input.new) (S.faults input.old) (S.faults input.new)
-        (K.held out.old) (K.held out.new) (K.faults out.old) (K.faults out.new) (clock_told C.floor C.readings C.reads clock.old) (clock_told C.floor C.readings C.reads clock.new)
+        (λ host inc turns. Attends turns (record { host = host; inc = inc }) most_bytes result.end (S.left input.old) (S.left input.new) (S.faults input.old)
+        (S.faults input.new)
+        (K.held out.old) (K.held out.new) (K.faults out.old) (K.faults out.new) (clock_told C.floor C.readings C.reads clock.old)
+        (clock_told C.floor C.readings C.reads clock.new)
         (link_told L.sent L.waiting L.faults L.receives link.old)
         (link_told L.sent L.waiting L.faults L.receives link.new)) }
     ensures usage { result.end ≡ status_of Ending.Usage → SaysNothing (command_of words.now) (map (λ fate. (Fate-box fate).told fate.value) fates.old)
         × (S.left input.new ≡ S.left input.old) × PrintsLine usage_line (K.held out.old) (K.held out.new) (K.faults out.old) (K.faults out.new) }
-    ensures never { NeverSays (command_of words.now) (map (λ fate. (Fate-box fate).told fate.value) fates.old) → (result.end ≡ status_of Ending.Usage) × (result.left ≡ disk) }
+    ensures never { NeverSays (command_of words.now) (map (λ fate. (Fate-box fate).told fate.value) fates.old) → (result.end ≡ status_of Ending.Usage)
+        × (result.left ≡ disk) }
     ensures alone { result.end ≡ status_of Ending.Usage → result.left ≡ disk }
     ensures faultless { result.end ≡ status_of Ending.Done
         → (S.faults input.new ≡ S.faults input.old) × (K.faults out.new ≡ K.faults out.old) }
     ensures follows { D.follows disk result.left }
-    ensures keeps { Unless (uses_disk (command_of words.now)) (result.left ≡ disk) × Unless (reads_input (command_of words.now)) (input.new ≡ input.old) × Unless (uses_link (command_of words.now)) (link.new ≡ link.old)
-        × Unless (uses_links (command_of words.now)) (links.new ≡ links.old) × Unless (reads_clock (command_of words.now)) (clock.new ≡ clock.old) × Unless (uses_fates (command_of words.now)) (fates.new ≡ fates.old) }
+    ensures keeps { Unless (uses_disk (command_of words.now)) (result.left ≡ disk) × Unless (reads_input (command_of words.now)) (input.new ≡ input.old)
+        × Unless (uses_link (command_of words.now)) (link.new ≡ link.old)
+        × Unless (uses_links (command_of words.now)) (links.new ≡ links.old) × Unless (reads_clock (command_of words.now)) (clock.new ≡ clock.old)
+        × Unless (uses_fates (command_of words.now)) (fates.new ≡ fates.old) }
 {
     match words.command() {
         Some(Command::Format) => format_disk(disk),

@@ -61,7 +61,7 @@ told_again (Told.Read file block) fits = rw (take_place file block [] fits.0 fit
 told_again (Told.Fetch file block) fits = rw (take_place file block [] fits.0 fits.1) refl
 told_again (Told.Write file block value) fits =
     rw (take_place file block (decimal value ∷ []) fits.0 fits.1, take_u32 value [] fits.2) refl
-told_again (Told.WriteSync file block value) fits =
+told_again (Told.Put file block value) fits =
     rw (take_place file block (decimal value ∷ []) fits.0 fits.1, take_u32 value [] fits.2) refl
 told_again (Told.Sync file) fits = rw (take_u32 file [] fits) refl
 told_again (Told.Resize file blocks) fits = rw (take_u32 file (decimal blocks ∷ []) fits.0, take_u32 blocks [] fits.1) refl
@@ -118,7 +118,7 @@ has_told_again version (Told.Attr file) is = refl
 has_told_again version (Told.Read file block) is = refl
 has_told_again version (Told.Fetch file block) is = refl
 has_told_again version (Told.Write file block value) is = refl
-has_told_again version (Told.WriteSync file block value) is = refl
+has_told_again version (Told.Put file block value) is = refl
 has_told_again version (Told.Sync file) is = refl
 
 -- the call that a text spells is read

@@ -203,8 +203,8 @@ by_found Verb.Fetch words left told e = two_tells Told.Fetch (codes "fetch") wor
     left told e)
 by_found Verb.Write words left told e = three_tells Told.Write (codes "write") words left told (λ l m n a b c. (refl, (a, b, c)))
     (of_value Told.Write words left told e)
-by_found Verb.Put words left told e = three_tells Told.WriteSync (codes "put") words left told (λ l m n a b c. (refl, (a, b, c)))
-    (of_value Told.WriteSync words left told e)
+by_found Verb.Put words left told e = three_tells Told.Put (codes "put") words left told (λ l m n a b c. (refl, (a, b, c)))
+    (of_value Told.Put words left told e)
 by_found Verb.Sync words left told e = one_tells Told.Sync (codes "sync") words left told (λ n a. (refl, a)) (of_one Told.Sync words left told e)
 by_found Verb.Resize words left told e = resize_found words left told e
 by_found Verb.Remove words left told e = one_tells Told.Remove (codes "remove") words left told (λ n a. (refl, a)) (of_one Told.Remove words left told e)
@@ -262,7 +262,7 @@ has_found version (Told.Attr file) test = tt
 has_found version (Told.Read file block) test = tt
 has_found version (Told.Fetch file block) test = tt
 has_found version (Told.Write file block value) test = tt
-has_found version (Told.WriteSync file block value) test = tt
+has_found version (Told.Put file block value) test = tt
 has_found version (Told.Sync file) test = tt
 
 none_left : (words : List (List ℕ)) → is_done words ≡ true → words ≡ []

@@ -64,7 +64,7 @@ call-short version (Call.Read file block) has fits = two-short (codes "read ") f
 call-short version (Call.Fetch file block) has fits = two-short (codes "fetch ") file block (lit≤ tt) fits.0 fits.1
 call-short version (Call.Write file block body) has fits =
     three-short (codes "write ") file block (value_of body) (lit≤ tt) fits.0 fits.1 (filled-same body has).0
-call-short version (Call.WriteSync file block body) has fits =
+call-short version (Call.Put file block body) has fits =
     three-short (codes "put ") file block (value_of body) (lit≤ tt) fits.0 fits.1 (filled-same body has).0
 call-short version (Call.Sync file) has fits = one-short (codes "sync ") file (lit≤ tt) (omega arith)
 call-short version (Call.Resize file blocks) has fits = two-short (codes "resize ") file blocks (lit≤ tt) fits.0 fits.1

@@ -46,7 +46,7 @@ call-lacks version (Call.Read file block) has fits = (lacks-tested 10 (codes "re
 call-lacks version (Call.Fetch file block) has fits = (lacks-tested 10 (codes "fetch") refl, (decimal32-line file fits.0, (decimal32-line block fits.1, tt)))
 call-lacks version (Call.Write file block body) has fits =
     (lacks-tested 10 (codes "write") refl, (decimal32-line file fits.0, (decimal32-line block fits.1, (decimal32-line _ (filled-same body has).0, tt))))
-call-lacks version (Call.WriteSync file block body) has fits =
+call-lacks version (Call.Put file block body) has fits =
     (lacks-tested 10 (codes "put") refl, (decimal32-line file fits.0, (decimal32-line block fits.1, (decimal32-line _ (filled-same body has).0, tt))))
 call-lacks version (Call.Sync file) has fits = (lacks-tested 10 (codes "sync") refl, (decimal32-line file fits, tt))
 call-lacks version (Call.Resize file blocks) has fits = (

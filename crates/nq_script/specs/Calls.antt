@@ -15,7 +15,7 @@ IsFilled body = (value : ℕ) × (value < 2 ^ 32) × (body ≡ filled value)
 -- a call whose body, if it has one, a number fills
 abbrev pub IsFilledCall : Call → Type 0
 IsFilledCall (Call.Write file block body) = IsFilled body
-IsFilledCall (Call.WriteSync file block body) = IsFilled body
+IsFilledCall (Call.Put file block body) = IsFilled body
 IsFilledCall other = Unit {0}
 
 -- the words of a call; a body is told by its value
@@ -25,7 +25,7 @@ call_words call = told_words (told call)
 -- a call that a version can tell: its body is a filled block, and only version 2 has resizes and removals
 abbrev pub HasCall : (version : ℕ) → Call → Type 0
 HasCall version (Call.Write file block body) = IsFilled body
-HasCall version (Call.WriteSync file block body) = IsFilled body
+HasCall version (Call.Put file block body) = IsFilled body
 HasCall version (Call.Resize file blocks) = version ≡ 2
 HasCall version (Call.Remove file) = version ≡ 2
 HasCall version other = Unit {0}
@@ -38,7 +38,7 @@ FitsCall (Call.Attr file) = file < 2 ^ 32
 FitsCall (Call.Read file block) = (file < 2 ^ 32) × (block < 2 ^ 32)
 FitsCall (Call.Fetch file block) = (file < 2 ^ 32) × (block < 2 ^ 32)
 FitsCall (Call.Write file block body) = (file < 2 ^ 32) × (block < 2 ^ 32)
-FitsCall (Call.WriteSync file block body) = (file < 2 ^ 32) × (block < 2 ^ 32)
+FitsCall (Call.Put file block body) = (file < 2 ^ 32) × (block < 2 ^ 32)
 FitsCall (Call.Sync file) = file < 2 ^ 32
 FitsCall (Call.Resize file blocks) = (file < 2 ^ 32) × (blocks < 2 ^ 32)
 FitsCall (Call.Remove file) = file < 2 ^ 32
@@ -55,7 +55,7 @@ call_of (Told.Attr file) = Call.Attr file
 call_of (Told.Read file block) = Call.Read file block
 call_of (Told.Fetch file block) = Call.Fetch file block
 call_of (Told.Write file block value) = Call.Write file block (filled value)
-call_of (Told.WriteSync file block value) = Call.WriteSync file block (filled value)
+call_of (Told.Put file block value) = Call.Put file block (filled value)
 call_of (Told.Sync file) = Call.Sync file
 call_of (Told.Resize file blocks) = Call.Resize file blocks
 call_of (Told.Remove file) = Call.Remove file

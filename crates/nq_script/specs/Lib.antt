@@ -2,6 +2,7 @@ pub mod Calls
 pub mod Faults
 pub mod Forms
 pub mod Heads
+pub mod Kept
 pub mod Lines
 pub mod Progress
 pub mod Reading

@@ -49,7 +49,7 @@ unfoldable pub put_at : List (List ℕ) → Option (Told × List (List ℕ))
 put_at words = do
   place ← place_at words
   value ← u32_at place.1
-  Some (Told.WriteSync place.0.0 place.0.1 value.0, value.1)
+  Some (Told.Put place.0.0 place.0.1 value.0, value.1)
 
 -- what stands behind `sync`
 unfoldable pub sync_at : List (List ℕ) → Option (Told × List (List ℕ))

@@ -27,7 +27,7 @@ pub(crate) fn call_of(told: &Told) -> Call
             block,
             body: Block::fill(value),
         },
-        Told::WriteSync { file, block, value } => Call::WriteSync {
+        Told::Put { file, block, value } => Call::Put {
             file,
             block,
             body: Block::fill(value),

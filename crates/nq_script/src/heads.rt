@@ -4,7 +4,8 @@ ghost use Rattle.std.specs.Prelude.{◌≡◌, ◌≤◌, ◌<◌, ◌+◌, ◌�
 ghost use Rattle.std.specs.Option.{option_map};
 ghost use Rattle.std.specs.Fmt.{decimal};
 ghost use Rattle.nq_base.specs.Name.{IsNew};
-ghost use Rattle.nq_script.specs.Heads.{IsFile, FitFiles, FitsHead, AreSettings, blocks_of, file_line, file_lines, head_lines, IsLongest, first_file, longest_lines, most_term, settings_lines};
+ghost use Rattle.nq_script.specs.Heads.{IsFile, FitFiles, FitsHead, AreSettings, blocks_of, file_line, file_lines, head_lines, IsLongest, first_file};
+ghost use Rattle.nq_script.specs.Heads.{longest_lines, most_term, settings_lines};
 ghost use Rattle.nq_script.specs.Schedule.{StandsInFront, FirstBadHeadLine};
 ghost use Rattle.nq_script.specs.declared.heads.Head.{Head};
 ghost use Rattle.nq_script.specs.Faults.{Answers};
@@ -131,7 +132,8 @@ fn read_settings(text: &[u8]) -> Result<(Settings, &[u8]), ScriptFault>
 
 /// The longest term, which version 2 tells in line 4, and what follows that line.
 fn read_longest(text: &[u8], version: u32) -> Result<(u32, &[u8]), ScriptFault>
-    ensures { Answers result (λ p. IsLongest version p.0 × (text.now ≡ text_of (longest_lines version p.0) ++ p.1.now)) (λ place. (place ≡ 4) × (version ≢ 1) × NoNumber (codes "longest ") 5 600 text.now) }
+    ensures { Answers result (λ p. IsLongest version p.0 × (text.now ≡ text_of (longest_lines version p.0) ++ p.1.now)) (λ place. (place ≡ 4) × (version ≢ 1)
+        × NoNumber (codes "longest ") 5 600 text.now) }
 {
     if version == 1 {
         return Ok((60, text));
@@ -147,7 +149,8 @@ fn ranged_line<'a>(
     most: u32,
     number: u32,
 ) -> Result<(u32, &'a [u8]), ScriptFault>
-    ensures { Answers result (λ p. (least ≤ p.0) × (p.0 ≤ most) × (text.now ≡ text_of ((prefix.now ++ decimal p.0) ∷ []) ++ p.1.now)) (λ place. (place ≡ number) × NoNumber prefix.now least most text.now) }
+    ensures { Answers result (λ p. (least ≤ p.0) × (p.0 ≤ most) × (text.now ≡ text_of ((prefix.now ++ decimal p.0) ∷ []) ++ p.1.now)) (λ place. (place ≡ number)
+        × NoNumber prefix.now least most text.now) }
 {
     let Some((line, rest)) = cut(text, b'\n') else {
         return Err(ScriptFault::Bad(number));

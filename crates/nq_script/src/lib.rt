@@ -10,6 +10,7 @@ mod calls;
 mod faults;
 mod fields;
 mod heads;
+mod kept;
 mod laws;
 mod lines;
 mod print;

@@ -1,15 +1,19 @@
 //! The lines of events.
 
-ghost use Rattle.std.specs.Prelude.{◌≡◌, ◌↔◌, ℕ, IfSome, IsNone, IsTrue};
+ghost use Rattle.std.specs.Prelude.{◌≡◌, ◌↔◌, ℕ, IfOk, IfSome, IsNone, IsTrue};
+ghost use Rattle.nq_script.specs.Kept.{kept_line};
 ghost use Rattle.nq_script.specs.Lines.{line_of};
-ghost use Rattle.nq_script.specs.Reading.{told_line, call_line, deliver_line, clock_line, tick_line, server_ticks, client_ticks, round_line, restart_line, crash_line, word_line, times_of};
+ghost use Rattle.nq_script.specs.Reading.{told_line, call_line, deliver_line, clock_line, tick_line, server_ticks, client_ticks, round_line, restart_line};
+ghost use Rattle.nq_script.specs.Reading.{crash_line, word_line, times_of};
 ghost use Rattle.nq_script.specs.declared.lines.Line.{Line};
 
 use crate::calls::call_of;
 use crate::fields::{number_then, ranged, rest_after};
 use crate::heads::Head;
+use crate::kept::{KeptCall, keep_call, told_of};
 use crate::words::{number, number32, read_told};
-use nq_base::{Event, Host, Told};
+use nq_base::{Event, Host, NoMemory, Told};
+use std::alloc::Global;
 
 /// A line after the head.
 #[derive(Drop)]
@@ -24,10 +28,24 @@ pub enum Line {
     End,
 }
 
-/// A line as it is kept: a body is told by its value.
+/// A line as it is read: a body is told by its value.
 #[derive(Clone, Copy)]
 pub(crate) enum ToldLine {
     Call { host: Host, told: Told },
+    Deliver(u64),
+    ServerTicks(u32),
+    ClientTicks { host: Host, times: u32 },
+    Restart(Host),
+    Crash { longest: u32 },
+    Round(u32),
+    Flow,
+    End,
+}
+
+/// A line as it is kept: in few bytes, since a schedule has many.
+#[derive(Drop)]
+pub(crate) enum KeptLine {
+    Call { host: Host, call: KeptCall },
     Deliver(u64),
     ServerTicks(u32),
     ClientTicks { host: Host, times: u32 },
@@ -48,42 +66,64 @@ impl ToldLine {
             _ => false,
         }
     }
+}
 
+impl KeptLine {
     /// The packet that this line delivers; None where it is another line.
     pub(crate) fn packet(&self) -> Option<u64>
-        ensures some { IfSome result (λ packet. self.now ≡ ToldLine.Deliver packet) }
-        ensures none { IsNone result → (packet : ℕ) → self.now ≡ ToldLine.Deliver packet → ⊥ }
+        ensures some { IfSome result (λ packet. self.now ≡ KeptLine.Deliver packet) }
+        ensures none { IsNone result → (packet : ℕ) → self.now ≡ KeptLine.Deliver packet → ⊥ }
     {
         match self {
-            ToldLine::Deliver(packet) => Some(*packet),
+            KeptLine::Deliver(packet) => Some(*packet),
             _ => None,
         }
     }
 }
 
-/// The line that is told, with its body.
-pub(crate) fn line_of(told: &ToldLine) -> Line
-    ensures { result ≡ line_of told.now }
+/// Keeps a line that was read.
+pub(crate) fn keep_line(alloc: Global, line: ToldLine) -> Result<KeptLine, NoMemory>
+    ensures { IfOk result (λ kept. kept_line kept ≡ line_of line) }
 {
-    match *told {
+    Ok(match line {
         ToldLine::Call { host, told } => {
-            let call = call_of(&told);
-            once(Event::Call { host, call })
+            let call = keep_call(alloc, &told)?;
+            KeptLine::Call { host, call }
         }
-        ToldLine::Deliver(packet) => once(Event::Deliver(packet)),
-        ToldLine::ServerTicks(times) => {
-            let event = Event::ServerTick;
-            Line::Events { event, times }
+        ToldLine::Deliver(packet) => KeptLine::Deliver(packet),
+        ToldLine::ServerTicks(times) => KeptLine::ServerTicks(times),
+        ToldLine::ClientTicks { host, times } => KeptLine::ClientTicks { host, times },
+        ToldLine::Restart(host) => KeptLine::Restart(host),
+        ToldLine::Crash { longest } => KeptLine::Crash { longest },
+        ToldLine::Round(times) => KeptLine::Round(times),
+        ToldLine::Flow => KeptLine::Flow,
+        ToldLine::End => KeptLine::End,
+    })
+}
+
+/// The line that is kept, with its body.
+pub(crate) fn kept_line(kept: &KeptLine) -> Line
+    ensures { result ≡ kept_line kept.now }
+{
+    match kept {
+        KeptLine::Call { host, call } => {
+            let call = call_of(&told_of(call));
+            once(Event::Call { host: *host, call })
         }
-        ToldLine::ClientTicks { host, times } => {
-            let event = Event::ClientTick(host);
-            Line::Events { event, times }
-        }
-        ToldLine::Restart(host) => once(Event::Restart(host)),
-        ToldLine::Crash { longest } => once(Event::Crash { longest }),
-        ToldLine::Round(times) => Line::Round(times),
-        ToldLine::Flow => Line::Flow,
-        ToldLine::End => Line::End,
+        KeptLine::Deliver(packet) => once(Event::Deliver(*packet)),
+        KeptLine::ServerTicks(times) => Line::Events {
+            event: Event::ServerTick,
+            times: *times,
+        },
+        KeptLine::ClientTicks { host, times } => Line::Events {
+            event: Event::ClientTick(*host),
+            times: *times,
+        },
+        KeptLine::Restart(host) => once(Event::Restart(*host)),
+        KeptLine::Crash { longest } => once(Event::Crash { longest: *longest }),
+        KeptLine::Round(times) => Line::Round(*times),
+        KeptLine::Flow => Line::Flow,
+        KeptLine::End => Line::End,
     }
 }
 

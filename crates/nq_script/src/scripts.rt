@@ -12,7 +12,7 @@ ghost use Rattle.nq_script.specs.declared.lines.Line.{Line};
 
 use crate::faults::ScriptFault;
 use crate::heads::{Head, HeadOut, parse_head};
-use crate::lines::{Line, ToldLine, line_of, read_line};
+use crate::lines::{KeptLine, Line, ToldLine, keep_line, kept_line, read_line};
 use crate::words::cut;
 use nq_base::NoMemory;
 use std::alloc::Global;
@@ -22,17 +22,17 @@ use std::marker::Model;
 /// list of lines.
 #[derive(Drop)]
 pub struct Lines {
-    told: Vec<ToldLine>,
+    kept: Vec<KeptLine>,
 }
 
 impl Model for Lines {
     ghost use Rattle.std.specs.Prelude.{List, map};
-    ghost use Rattle.nq_script.specs.Lines.{line_of};
+    ghost use Rattle.nq_script.specs.Kept.{kept_line};
     ghost use Rattle.nq_script.specs.declared.lines.Line.{Line};
 
     ghost Value = { List Line };
 
-    ghost view = { λ l. map line_of l.told.items };
+    ghost view = { λ l. map kept_line l.kept.items };
 }
 
 impl Lines {
@@ -40,37 +40,31 @@ impl Lines {
         ensures { result ≡ [] }
     {
         Lines {
-            told: Vec::new(alloc),
+            kept: Vec::new(alloc),
         }
     }
 
-    fn push(&mut self, line: ToldLine) -> Result<(), NoMemory>
+    fn push(&mut self, alloc: Global, line: ToldLine) -> Result<(), NoMemory>
         ensures { OnOk result (self.new ≡ self.old ++ line_of line ∷ []) }
     {
-        // By cases, so that the prover meets the type of a call that is told.
-        let pushed = match line {
-            ToldLine::Call { host, told } => self.told.push(ToldLine::Call { host, told }),
-            other => self.told.push(other),
-        };
-        match pushed {
-            Ok(()) => Ok(()),
-            Err(_) => Err(NoMemory::Memory),
-        }
+        let kept = keep_line(alloc, line)?;
+        self.kept.push(kept)?;
+        Ok(())
     }
 
     /// How many there are.
     pub fn len(&self) -> usize
         ensures { result ≡ length self.now }
     {
-        self.told.len()
+        self.kept.len()
     }
 
     /// The one at a place; None where the place is not below the length.
     pub fn get(&self, place: usize) -> Option<Line>
         ensures { result ≡ slice_get self.now place }
     {
-        match self.told.get(place) {
-            Some(told) => Some(line_of(told)),
+        match self.kept.get(place) {
+            Some(kept) => Some(kept_line(kept)),
             None => None,
         }
     }
@@ -81,8 +75,8 @@ impl Lines {
         ensures delivered { IfSome result (λ packet. slice_get self.now place ≡ Some (once (Event.Deliver packet))) }
         ensures other { IsNone result → (packet : ℕ) → slice_get self.now place ≡ Some (once (Event.Deliver packet)) → ⊥ }
     {
-        match self.told.get(place) {
-            Some(told) => told.packet(),
+        match self.kept.get(place) {
+            Some(kept) => kept.packet(),
             None => None,
         }
     }
@@ -130,7 +124,8 @@ fn read_script(alloc: Global, text: &[u8]) -> Result<Script, ScriptFault>
 /// Reads the lines of events, of which the first has the number `first`, up to `end`, which ends the text.
 fn read_lines(alloc: Global, text: &[u8], head: &Head, first: u32) -> Result<Lines, ScriptFault>
     requires { first + length text.now < 2 ^ 32 }
-    ensures { Answers result (λ lines. EndsWith head.now lines text.now) (λ number. WrongLine head.now first text.now number ⊎ WrongEnd head.now first text.now number) }
+    ensures { Answers result (λ lines. EndsWith head.now lines text.now) (λ number. WrongLine head.now first text.now number
+        ⊎ WrongEnd head.now first text.now number) }
 {
     let mut lines = Lines::new(alloc);
     let mut rest = text;
@@ -149,7 +144,7 @@ fn read_lines(alloc: Global, text: &[u8], head: &Head, first: u32) -> Result<Lin
                 Err(ScriptFault::Bad(number + 1))
             };
         }
-        lines.push(read)?;
+        lines.push(alloc, read)?;
         rest = after;
     }
 }

@@ -8,7 +8,7 @@ mod writing;
 
 pub use answers::take_said;
 pub use calls::{has_told, read_told, take_told};
-pub use cursor::{Words, cut, is, name, number, number32, number64};
+pub use cursor::{WordCursor, cut, is, name, number, number32, number64};
 pub use writing::{
     push_bytes, push_command, push_digits, push_numbers, push_said, push_told, push_word,
 };

@@ -16,15 +16,15 @@ use Rattle.nq_server.specs.Answering.{IsNoRequest, looked_up, attributes}
 use Rattle.nq_keeper.specs.declared.KeepFault.{KeepFault}
 use Rattle.nq_keeper.specs.declared.KeepFault.TheVariants.{Failed, Memory}
 use Rattle.nq_server.specs.declared.received.Reason.{Reason}
-use Rattle.nq_server.specs.declared.received.Taken.{Taken}
-use Rattle.nq_server.specs.declared.received.Taken.TheVariants.{Done, Dropped}
+use Rattle.nq_server.specs.declared.received.EventTaken.{EventTaken}
+use Rattle.nq_server.specs.declared.received.EventTaken.TheVariants.{Done, Dropped}
 use Rattle.nq_server.specs.Leasing.{Does}
 use Rattle.nq_server.specs.State.{Beside, server_of}
 use Rattle.nq_server.specs.Stepping.{Takes, Makes, Says, cause_of, outcome_of}
 use Rattle.nq_wire.specs.Outbox.{Datagrams}
 
 -- one packet is sent, after what is kept was read
-pub takes-answered : (host : ℕ) (message : Message) (result : Result Taken KeepFault) (step : Kept → ServerStep) (told tells : Option Kept)
+pub takes-answered : (host : ℕ) (message : Message) (result : Result EventTaken KeepFault) (step : Kept → ServerStep) (told tells : Option Kept)
     (before count : ℕ) (held : Beside) (out out' : Datagrams) (log : EntryList) → tells ≡ told → count ≡ before → Says (to_host host message) result
     out out' → ((kept : Kept) → told ≡ Some kept → step kept ≡ says (server_of held kept) host message) → Takes step result told tells before count
     held held out out' log log
@@ -57,7 +57,7 @@ get-attr-says s who xid (Some file) = refl
 -- ---- datagrams that are no requests
 
 -- one packet is sent, and nothing else is done
-pub does-answered : (host : ℕ) (message : Message) (result : Result Taken KeepFault) (step : ServerStep) (held : Beside) (kept : Kept)
+pub does-answered : (host : ℕ) (message : Message) (result : Result EventTaken KeepFault) (step : ServerStep) (held : Beside) (kept : Kept)
     (out out' : Datagrams) (log : EntryList) → Says (to_host host message) result out out' → step ≡ says (server_of held kept) host message
     → Does step result held held out out' log log
 unfolding says

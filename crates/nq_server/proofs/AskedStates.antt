@@ -15,7 +15,7 @@ use Rattle.nq_model.specs.protocol.Table.{Table}
 use Rattle.nq_server.proofs.AskedRows.{asked-run, asked-draws}
 use Rattle.nq_server.proofs.LeasedFinds.{with_asked}
 use Rattle.nq_server.proofs.LeasedSteps.{of-serving, some-kept}
-use Rattle.nq_server.specs.declared.received.Taken.{Taken}
+use Rattle.nq_server.specs.declared.received.EventTaken.{EventTaken}
 use Rattle.nq_server.specs.declared.state.State.{State}
 use Rattle.nq_server.specs.Leasing.{Does, MayAsk, asks}
 use Rattle.nq_server.specs.Sound.{MayServe, RowsRun, StaysSound}
@@ -46,7 +46,7 @@ sound-beside s after q table notice may run drawn is = record {
 }
 
 -- so it stays sound in a call that asks
-pub stays-sound : (s after : State) (q : Question) (step : Kept → ServerStep) (result : Result Taken KeepFault) (out out' : Datagrams)
+pub stays-sound : (s after : State) (q : Question) (step : Kept → ServerStep) (result : Result EventTaken KeepFault) (out out' : Datagrams)
     (log log' : EntryList) → MayAsk s q → ((kept : Kept) → (step kept).server ≡ with_asked (server_of (beside_of s) kept) (ask s.table q).table
     (step kept).server.notice) → ((kept : Kept) → Does (step kept) result (beside_of s) (beside_of after) out out' log log') → StaysSound s after
 stays-sound s after q step (Ok how) out out' log log' may is does =

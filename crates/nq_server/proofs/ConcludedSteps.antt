@@ -17,7 +17,7 @@ use Rattle.nq_model.specs.protocol.Server.{Phase, Server, says, drops, to_host}
 use Rattle.nq_model.specs.protocol.Table.{Table}
 use Rattle.nq_server.proofs.DecidedSteps.{warned}
 use Rattle.nq_server.proofs.PushedPackets.{behind-notices, one-sent}
-use Rattle.nq_server.specs.declared.received.Taken.TheVariants as took
+use Rattle.nq_server.specs.declared.received.EventTaken.TheVariants as took
 use Rattle.nq_server.specs.Deciding.{DoesAside, DoesIfFresh, Concludes, answer_to, is_later, is_put_off, dropped_for, warnings, warnings_if}
 use Rattle.nq_server.specs.State.{Beside, beside}
 use Rattle.nq_server.specs.Stepping.{Sends}

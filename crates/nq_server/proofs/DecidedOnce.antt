@@ -19,7 +19,7 @@ use Rattle.nq_model.specs.protocol.Server.{Server, ServerStep, drops, says}
 use Rattle.nq_server.specs.Deciding.{Concludes}
 use Rattle.nq_server.specs.State.{Beside, server_of}
 use Rattle.nq_server.specs.Stepping.{SaysNothing, Takes}
-use Rattle.nq_server.specs.declared.received.Taken.{Taken}
+use Rattle.nq_server.specs.declared.received.EventTaken.{EventTaken}
 use Rattle.nq_wire.specs.Outbox.{Datagrams}
 
 -- a request that was decided keeps the change of a fresh one, and nothing else
@@ -51,7 +51,7 @@ module _ (held : Beside) (who : Who) (xid : ℕ) (r : Request) where
   leaves-decided gate kept found is (inr e) = inr (e ∙ ap Some (kept-decided gate kept is))
 
   -- it was decided, and answered
-  pub takes-decided : (gate : Gate) (d : Decided) (how : Taken) (told between tells : Option Kept) (before middle count : ℕ) (after : Beside)
+  pub takes-decided : (gate : Gate) (d : Decided) (how : EventTaken) (told between tells : Option Kept) (before middle count : ℕ) (after : Beside)
       (out out' : Datagrams) (log log' : EntryList) → between ≡ told → middle ≡ before → ((kept : Kept) → told ≡ Some kept
       → gate ≡ gate_of (server_of held kept) who r) → Gives (λ kept. decided kept gate r) (λ kept. change_of kept gate r) (Ok d) between tells middle
       count → ((kept : Kept) → told ≡ Some kept → Concludes (decided_step (server_of held kept) who xid r d) how after out out' log log')

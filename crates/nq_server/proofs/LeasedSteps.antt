@@ -24,7 +24,7 @@ use Rattle.nq_model.specs.protocol.ServerStep.{noticed, lease_asked, leases, rea
 use Rattle.nq_model.specs.protocol.Table.{Table, caches, find_row}
 use Rattle.nq_keeper.specs.declared.KeepFault.{KeepFault}
 use Rattle.nq_keeper.specs.declared.KeepFault.TheVariants.{Failed, Memory}
-use Rattle.nq_server.specs.declared.received.Taken.{Taken}
+use Rattle.nq_server.specs.declared.received.EventTaken.{EventTaken}
 use Rattle.nq_server.specs.declared.state.Phase.{Phase as Held}
 use Rattle.nq_server.specs.declared.state.Phase.TheVariants.{Serving, Recovering}
 use Rattle.nq_server.specs.Leasing.{Does, MakesBeside, own_to_tell, to_tell, granted_in}
@@ -182,7 +182,7 @@ pub some-kept : Kept
 some-kept = record { files = []; hosts = []; boot = 0; opened = 0; longest = 0; next = 0 }
 
 -- a step that keeps what is kept is made, after that was read
-pub takes-does : (step base : Kept → ServerStep) (result : Result Taken KeepFault) (told tells : Option Kept) (before count : ℕ) (held after : Beside)
+pub takes-does : (step base : Kept → ServerStep) (result : Result EventTaken KeepFault) (told tells : Option Kept) (before count : ℕ) (held after : Beside)
     (out out' : Datagrams) (log log' : EntryList) → tells ≡ told → count ≡ before → ((kept : Kept) → Does (base kept) result held after out out' log
     log') → ((kept : Kept) → told ≡ Some kept → step kept ≡ base kept) → ((kept : Kept) → (base kept).server.kept ≡ kept) → Takes step result told
     tells before count held after out out' log log'

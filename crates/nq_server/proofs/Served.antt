@@ -7,8 +7,8 @@ use Rattle.nq_model.specs.protocol.Server.{ServerStep}
 use Rattle.nq_keeper.specs.declared.KeepFault.{KeepFault}
 use Rattle.nq_keeper.specs.declared.KeepFault.TheVariants.{Failed, Memory}
 use Rattle.nq_server.specs.declared.received.Received.{Received}
-use Rattle.nq_server.specs.declared.received.Taken.{Taken}
-use Rattle.nq_server.specs.declared.received.Taken.TheVariants.{Done, Dropped}
+use Rattle.nq_server.specs.declared.received.EventTaken.{EventTaken}
+use Rattle.nq_server.specs.declared.received.EventTaken.TheVariants.{Done, Dropped}
 use Rattle.nq_server.specs.Holding.{Holding, IsTaken}
 use Rattle.nq_server.specs.declared.state.State.{State}
 use Rattle.nq_server.specs.Sound.{IsSoundAfter, StaysSound}
@@ -19,7 +19,7 @@ use Rattle.nq_wire.specs.Outbox.{Datagrams}
 module _ {K : Type 0} (step : Kept → ServerStep) (told tells : Option Kept) (before count : ℕ) (old new : Holding K) (out out' : Datagrams)
     (log log' : EntryList) where
   -- it was taken in
-  pub is-taken : (how : Taken) → new.taken ≡ old.taken + 1 → Takes step (Ok how) told tells before count old.beside new.beside out out' log log'
+  pub is-taken : (how : EventTaken) → new.taken ≡ old.taken + 1 → Takes step (Ok how) told tells before count old.beside new.beside out out' log log'
       → IsTaken step (done_of how) told tells before count old new out out' log log'
   is-taken Done counted h =
       (λ kept e. let m = h.0 kept e in record { outcome = m.0; makes = m.1 }, h.1, counted)
@@ -44,7 +44,7 @@ still-sound taken s after Memory step told tells before count out out' log log' 
     record { sound = stays.sound; drawn = subst (λ (b : Beside). b.table.drawn ≤ taken) (sym h.2) sound.drawn; few = sound.few }
 
 -- the journal had room made in it first
-pub relog : (step : Kept → ServerStep) (r : Result Taken KeepFault) (told tells : Option Kept) (before count : ℕ) (held after : Beside)
+pub relog : (step : Kept → ServerStep) (r : Result EventTaken KeepFault) (told tells : Option Kept) (before count : ℕ) (held after : Beside)
     (out out' : Datagrams) (log room log' : EntryList) → room.entries ≡ log.entries → Takes step r told tells before count held after out out' room
     log' → Takes step r told tells before count held after out out' log log'
 relog step (Ok how) told tells before count held after out out' log room log' same h = (
@@ -61,7 +61,7 @@ relog step (Err Memory) told tells before count held after out out' log room log
 module _ {K : Type 0} (step : Kept → ServerStep) (told tells : Option Kept) (before count : ℕ) (old new : Holding K) (out out' : Datagrams)
     (log log' : EntryList) (answer : Received) where
   -- so it is said
-  pub is-said-taken : (how : Taken) → answer ≡ done_of how → new.taken ≡ old.taken + 1 → Takes step (Ok how) told tells before count old.beside
+  pub is-said-taken : (how : EventTaken) → answer ≡ done_of how → new.taken ≡ old.taken + 1 → Takes step (Ok how) told tells before count old.beside
       new.beside out out' log log' → IsTaken step answer told tells before count old new out out' log log'
   is-said-taken how said counted h =
       subst (λ r. IsTaken step r told tells before count old new out out' log log') (sym said) (is-taken step told tells before count old new out out'

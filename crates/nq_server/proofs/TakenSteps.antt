@@ -10,14 +10,14 @@ use Rattle.nq_model.specs.protocol.Server.{ServerStep, drops}
 use Rattle.nq_keeper.specs.declared.KeepFault.{KeepFault}
 use Rattle.nq_keeper.specs.declared.KeepFault.TheVariants.{Failed, Memory}
 use Rattle.nq_server.specs.declared.received.Reason.{Reason}
-use Rattle.nq_server.specs.declared.received.Taken.{Taken}
-use Rattle.nq_server.specs.declared.received.Taken.TheVariants.{Dropped}
+use Rattle.nq_server.specs.declared.received.EventTaken.{EventTaken}
+use Rattle.nq_server.specs.declared.received.EventTaken.TheVariants.{Dropped}
 use Rattle.nq_server.specs.State.{Beside, server_of}
 use Rattle.nq_server.specs.Stepping.{Takes, Makes, cause_of, outcome_of}
 use Rattle.nq_wire.specs.Outbox.{Datagrams}
 
 -- the same step, told in other words, after what is kept was read
-pub takes-after : (step base : Kept → ServerStep) (result : Result Taken KeepFault) (told between tells : Option Kept) (before middle count : ℕ)
+pub takes-after : (step base : Kept → ServerStep) (result : Result EventTaken KeepFault) (told between tells : Option Kept) (before middle count : ℕ)
     (held after : Beside) (out out' : Datagrams) (log log' : EntryList) → between ≡ told → middle ≡ before → ((kept : Kept) → told ≡ Some kept
     → step kept ≡ base kept) → Takes base result between tells middle count held after out out' log log' → Takes step result told tells before count
     held after out out' log log'

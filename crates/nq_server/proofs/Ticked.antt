@@ -22,7 +22,7 @@ use Rattle.nq_model.specs.protocol.Kept.{Kept, can_rise, find_file}
 use Rattle.nq_model.specs.protocol.Server.{serving, recovering, ServerStep, taken, quiet, with_table, keeping_with}
 use Rattle.nq_model.specs.protocol.ServerStep.{is_due, end_reading, end_writing, ends_writing, fence, opens, at_time, tick, tick_in}
 use Rattle.nq_model.specs.protocol.Table.{Table, drop_row, with_rows}
-use Rattle.nq_server.specs.declared.received.Taken.TheVariants.{Done}
+use Rattle.nq_server.specs.declared.received.EventTaken.TheVariants.{Done}
 use Rattle.nq_server.specs.declared.ticks.Opened.{Opened}
 use Rattle.nq_server.specs.declared.state.Phase.{Phase as Held}
 use Rattle.nq_server.specs.declared.state.Phase.TheVariants as held

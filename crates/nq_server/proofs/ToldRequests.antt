@@ -18,11 +18,11 @@ use Rattle.nq_model.specs.protocol.Decided.{entry_aside}
 use Rattle.nq_model.specs.protocol.Server.{Phase, Server, serving, recovering}
 use Rattle.nq_server.specs.Deciding.{Concludes, as_told}
 use Rattle.nq_server.specs.State.{Beside}
-use Rattle.nq_server.specs.declared.received.Taken.{Taken}
+use Rattle.nq_server.specs.declared.received.EventTaken.{EventTaken}
 use Rattle.nq_wire.specs.Outbox.{Datagrams}
 
 -- two fresh steps that differ in what they keep do the same beside it
-module _ (s : Server) (who : Who) (xid : ℕ) (how : Taken) (after : Beside) (out out' : Datagrams) (log log' : EntryList) where
+module _ (s : Server) (who : Who) (xid : ℕ) (how : EventTaken) (after : Beside) (out out' : Datagrams) (log log' : EntryList) where
   alike : (change told : Change) (done : Aside) (answer : Answer) → Concludes (fresh_step s who xid told done answer) how after out out' log log'
       → Concludes (fresh_step s who xid change done answer) how after out out' log log'
   unfolding fresh_step
@@ -64,7 +64,7 @@ module _ (s : Server) (who w : Who) (seq file block first last : ℕ) (body : Li
   told-answer inc value push Verdict.TryLater = refl
 
 module _ (s : Server) (who : Who) (xid : ℕ) where
-  written-told : (w : Who) (seq file block first last : ℕ) (push : Option PushBase) (body : List ℕ) (d : Decided) (how : Taken) (after : Beside)
+  written-told : (w : Who) (seq file block first last : ℕ) (push : Option PushBase) (body : List ℕ) (d : Decided) (how : EventTaken) (after : Beside)
       (out out' : Datagrams) (log log' : EntryList) → Concludes (decided_step s who xid (Write w seq file block first last push
       (filled (value_of body))) d) how after out out' log log' → Concludes (decided_step s who xid (Write w seq file block first last push body) d)
       how after out out' log log'
@@ -88,7 +88,7 @@ module _ (s : Server) (who : Who) (xid : ℕ) where
   written-told w seq file block first last push body NotAttached how after out out' log log' h = h
   written-told w seq file block first last push body OutOfBounds how after out out' log log' h = h
 
-  any-told : (r : Request) (d : Decided) (how : Taken) (after : Beside) (out out' : Datagrams) (log log' : EntryList)
+  any-told : (r : Request) (d : Decided) (how : EventTaken) (after : Beside) (out out' : Datagrams) (log log' : EntryList)
       → Concludes (decided_step s who xid (as_told r) d) how after out out' log log' → Concludes (decided_step s who xid r d) how after out out' log log'
   any-told (Write w seq file block first last push body) d how after out out' log log' h = written-told w seq file block first last push body d how
       after out out' log log' h
@@ -105,7 +105,7 @@ module _ (s : Server) (who : Who) (xid : ℕ) where
   any-told (Remove w seq q file) d how after out out' log log' h = h
 
   -- a request that was answered as one without its body was answered
-  pub concludes-told : (r told : Request) (d : Decided) (how : Taken) (after : Beside) (out out' : Datagrams) (log log' : EntryList)
+  pub concludes-told : (r told : Request) (d : Decided) (how : EventTaken) (after : Beside) (out out' : Datagrams) (log log' : EntryList)
       → told ≡ as_told r → Concludes (decided_step s who xid told d) how after out out' log log' → Concludes (decided_step s who xid r d) how after
       out out' log log'
   concludes-told r told d how after out out' log log' is h =

@@ -21,7 +21,7 @@ use Rattle.nq_model.specs.protocol.Server.{Server, ServerStep}
 use Rattle.nq_model.specs.protocol.Table.{find_row, put_row, drop_host, drop_rows_of}
 use Rattle.nq_server.specs.declared.deciding.Ready.{Ready}
 use Rattle.nq_server.specs.declared.received.Reason.{Reason}
-use Rattle.nq_server.specs.declared.received.Taken.{Taken}
+use Rattle.nq_server.specs.declared.received.EventTaken.{EventTaken}
 use Rattle.nq_server.specs.Leasing.{MakesBeside}
 use Rattle.nq_server.specs.State.{Beside}
 use Rattle.nq_server.specs.Stepping.{Enters, Sends, outcome_of}
@@ -137,7 +137,7 @@ as_told (Write who seq file block first last push body) = Write who seq file blo
 as_told other = other
 
 -- a request that was decided is answered so
-pub record Concludes (step : ServerStep) (how : Taken) (after : Beside) (out out' : Datagrams) (log log' : EntryList) : Type 0 where
+pub record Concludes (step : ServerStep) (how : EventTaken) (after : Beside) (out out' : Datagrams) (log log' : EntryList) : Type 0 where
   pub outcome : step.outcome ≡ outcome_of how
   pub makes : MakesBeside step after out out' log log'
 

@@ -17,7 +17,7 @@ use Rattle.nq_model.specs.protocol.ServerStep.{access_of}
 use Rattle.nq_model.specs.protocol.Table.{Table, find_row}
 use Rattle.nq_keeper.specs.declared.KeepFault.{KeepFault}
 use Rattle.nq_keeper.specs.declared.KeepFault.TheVariants as keep
-use Rattle.nq_server.specs.declared.received.Taken.{Taken}
+use Rattle.nq_server.specs.declared.received.EventTaken.{EventTaken}
 use Rattle.nq_server.specs.declared.state.State.{State}
 use Rattle.nq_server.specs.Sound.{IsSound}
 use Rattle.nq_server.specs.State.{Beside, beside, beside_of, phase_of}
@@ -31,7 +31,7 @@ pub record MakesBeside (step : ServerStep) (after : Beside) (out out' : Datagram
   pub enters : Enters step.entries log log'
 
 -- what a call does that makes a step which keeps what is kept, by its answer: where memory is wanting nothing changed
-abbrev pub Does : (step : ServerStep) → Result Taken KeepFault → (held after : Beside) (out out' : Datagrams) (log log' : EntryList) → Type 0
+abbrev pub Does : (step : ServerStep) → Result EventTaken KeepFault → (held after : Beside) (out out' : Datagrams) (log log' : EntryList) → Type 0
 Does step (Ok how) held after out out' log log' = (step.outcome ≡ outcome_of how) × MakesBeside step after out out' log log'
 Does step (Err keep.Memory) held after out out' log log' = (after ≡ held) × SaysNothing out out' log log'
 Does step (Err keep.Failed) held after out out' log log' = ⊥

@@ -19,8 +19,8 @@ use Rattle.nq_keeper.specs.declared.KeepFault.TheVariants as keep
 use Rattle.nq_server.specs.declared.received.Reason.{Reason}
 use Rattle.nq_server.specs.declared.received.Reason.TheVariants as reason
 use Rattle.nq_server.specs.declared.received.Received.{Received}
-use Rattle.nq_server.specs.declared.received.Taken.{Taken}
-use Rattle.nq_server.specs.declared.received.Taken.TheVariants as took
+use Rattle.nq_server.specs.declared.received.EventTaken.{EventTaken}
+use Rattle.nq_server.specs.declared.received.EventTaken.TheVariants as took
 use Rattle.nq_server.specs.State.{Beside, beside}
 use Rattle.nq_wire.specs.Outbox.{Datagrams}
 
@@ -35,7 +35,7 @@ cause_of reason.OutOfBounds = out_of_bounds
 cause_of reason.NoReplyOwed = no_reply_owed
 
 -- how a datagram was taken, as the protocol says it
-abbrev pub outcome_of : Taken → Outcome
+abbrev pub outcome_of : EventTaken → Outcome
 outcome_of took.Done = taken
 outcome_of (took.Dropped reason) = dropped (cause_of reason)
 
@@ -71,7 +71,7 @@ pub record SaysNothing (out out' : Datagrams) (log log' : EntryList) : Type 0 wh
   pub entries : log'.entries ≡ log.entries
 
 -- what a call does, by its answer: it makes the step of the kept state that was told, or changes nothing
-abbrev pub Takes : (step : Kept → ServerStep) → Result Taken KeepFault → (told tells : Option Kept) (before count : ℕ) (held after : Beside)
+abbrev pub Takes : (step : Kept → ServerStep) → Result EventTaken KeepFault → (told tells : Option Kept) (before count : ℕ) (held after : Beside)
     (out out' : Datagrams) (log log' : EntryList) → Type 0
 Takes step (Ok how) told tells before count held after out out' log log' =
     ForSome told (λ kept. ((step kept).outcome ≡ outcome_of how) × Makes (step kept) tells after out out' log log')
@@ -82,7 +82,7 @@ Takes step (Err keep.Failed) told tells before count held after out out' log log
     StaysOrEnds told tells × Rose before count × (after ≡ held) × SaysNothing out out' log log'
 
 -- a packet was sent and nothing else happened; or memory was wanting, and the outbox is as before
-abbrev pub Says : Packet → Result Taken KeepFault → (out out' : Datagrams) → Type 0
+abbrev pub Says : Packet → Result EventTaken KeepFault → (out out' : Datagrams) → Type 0
 Says packet (Ok took.Done) out out' = Sends (packet ∷ []) out out'
 Says packet (Ok (took.Dropped reason)) out out' = ⊥
 Says packet (Err keep.Memory) out out' = (out'.first ≡ out.first) × (out'.datagrams ≡ out.datagrams)
@@ -94,7 +94,7 @@ LeavesStep step told leaves =
     ForSome told (λ kept. (found : Option Kept) → leaves found → (found ≡ Some kept) ⊎ (found ≡ Some (step kept).server.kept))
 
 -- how an event was taken in, for those who sent it
-abbrev pub done_of : Taken → Received
+abbrev pub done_of : EventTaken → Received
 done_of took.Done = Received.Done
 done_of (took.Dropped reason) = Received.Dropped reason
 

@@ -4,7 +4,8 @@ ghost use Rattle.std.specs.Prelude.{◌≡◌, ◌<◌, ◌≤◌, ◌^◌, Some
 ghost use Rattle.nq_model.specs.protocol.Decided.{done_aside, file_to_change as changed_file, later_aside};
 ghost use Rattle.nq_model.specs.protocol.Kept.{Kept};
 ghost use Rattle.nq_model.specs.protocol.Table.{find_row, with_rows};
-ghost use Rattle.nq_server.specs.Deciding.{DoesAside, DoesIfFresh, entries_of, entries_recovering, entries_serving, file_to_tell as told_file, heard_rows, length_in, recovery_after, rows_serving};
+ghost use Rattle.nq_server.specs.Deciding.{DoesAside, DoesIfFresh, entries_of, entries_recovering, entries_serving, file_to_tell as told_file, heard_rows};
+ghost use Rattle.nq_server.specs.Deciding.{length_in, recovery_after, rows_serving};
 ghost use Rattle.nq_server.specs.Sound.{IsSound, StaysSound};
 ghost use Rattle.nq_server.specs.State.{beside_of, phase_of, server_of};
 ghost use Rattle.nq_server.specs.Stepping.{Enters};
@@ -193,7 +194,9 @@ fn done(state: &mut State, who: Who, request: &Request, length: u32, log: &mut J
     requires line { 1 ≤ log.old.spare }
     requires sound { IsSound state.old }
     ensures stays { StaysSound state.old state.new }
-    ensures does { (kept : Kept) → length ≡ length_in kept (told_file request.now) → DoesAside (done_aside (server_of (beside_of state.old) kept) (phase_of state.old.phase) who request.now) (beside_of state.old) (beside_of state.new) log.old log.new }
+    ensures does { (kept : Kept) → length ≡ length_in kept (told_file request.now)
+        → DoesAside (done_aside (server_of (beside_of state.old) kept) (phase_of state.old.phase) who request.now) (beside_of state.old)
+        (beside_of state.new) log.old log.new }
 {
     let now = state.time;
     match &mut state.phase {
@@ -211,7 +214,9 @@ fn done(state: &mut State, who: Who, request: &Request, length: u32, log: &mut J
 fn put_off(state: &mut State, who: Who, file: Option<FileId>, notice: u32, log: &Journal)
     requires { IsSound state.old }
     ensures stays { StaysSound state.old state.new }
-    ensures does { (kept : Kept) → notice ≡ (later_aside (server_of (beside_of state.old) kept) (phase_of state.old.phase) who file).notice → DoesAside (later_aside (server_of (beside_of state.old) kept) (phase_of state.old.phase) who file) (beside_of state.old) (beside_of state.new) log.now log.now }
+    ensures does { (kept : Kept) → notice ≡ (later_aside (server_of (beside_of state.old) kept) (phase_of state.old.phase) who file).notice
+        → DoesAside (later_aside (server_of (beside_of state.old) kept) (phase_of state.old.phase) who file) (beside_of state.old)
+        (beside_of state.new) log.now log.now }
 {
     match (&state.phase, file) {
         (Phase::Recovering { .. }, _) | (Phase::Serving(_), None) => {}
@@ -235,7 +240,9 @@ pub(crate) fn do_if_fresh(
     requires line { 1 ≤ log.old.spare }
     requires sound { IsSound state.old }
     ensures stays { StaysSound state.old state.new }
-    ensures does { (kept : Kept) → length ≡ length_in kept (told_file request.now) → notice ≡ (later_aside (server_of (beside_of state.old) kept) (phase_of state.old.phase) who (changed_file request.now)).notice → DoesIfFresh (server_of (beside_of state.old) kept) who request.now decided.now (beside_of state.old) (beside_of state.new) log.old log.new }
+    ensures does { (kept : Kept) → length ≡ length_in kept (told_file request.now)
+        → notice ≡ (later_aside (server_of (beside_of state.old) kept) (phase_of state.old.phase) who (changed_file request.now)).notice
+        → DoesIfFresh (server_of (beside_of state.old) kept) who request.now decided.now (beside_of state.old) (beside_of state.new) log.old log.new }
 {
     match decided {
         Decided::Fresh { verdict, .. } => match verdict {

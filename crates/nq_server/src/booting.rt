@@ -100,7 +100,8 @@ fn phase_after(started: Started) -> Phase
 /// What a server holds once a boot began.
 pub(crate) fn state_after(begun: Begun, longest: u32, now: Ticks) -> State
     requires { IsFitToBegin longest now begun }
-    ensures boots { (kept : Kept) → begun.started ≡ started_of kept longest now → begun.table ≡ empty_table (kept.boot + 1) → beside_of result ≡ beside (booted_server kept longest now None) }
+    ensures boots { (kept : Kept) → begun.started ≡ started_of kept longest now → begun.table ≡ empty_table (kept.boot + 1)
+        → beside_of result ≡ beside (booted_server kept longest now None) }
     ensures sound { IsSoundAfter 0 result }
 {
     let Begun {
@@ -152,7 +153,8 @@ fn remember(phase: &mut Phase, table: Option<Table>)
 /// Puts what a boot begins with in place of what a server held when it crashed.
 pub(crate) fn replace_state(state: &mut State, begun: Begun, longest: u32, now: Ticks)
     requires { IsFitToBegin longest now begun }
-    ensures boots { (kept : Kept) → begun.started ≡ started_of kept longest now → begun.table ≡ empty_table (kept.boot + 1) → beside_of state.new ≡ beside (booted_server kept longest now (last_in (phase_of state.old.phase) state.old.table)) }
+    ensures boots { (kept : Kept) → begun.started ≡ started_of kept longest now → begun.table ≡ empty_table (kept.boot + 1)
+        → beside_of state.new ≡ beside (booted_server kept longest now (last_in (phase_of state.old.phase) state.old.table)) }
     ensures sound { IsSoundAfter 0 state.new }
 {
     let fresh = state_after(begun, longest, now);

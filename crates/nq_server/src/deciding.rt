@@ -21,7 +21,7 @@ ghost use Rattle.nq_wire.specs.Outbox.{Datagrams};
 use crate::aside::do_if_fresh;
 use crate::gates::{file_to_change, file_to_tell, gate};
 use crate::leasing::make_room;
-use crate::received::Taken;
+use crate::received::EventTaken;
 use crate::replying::{Caller, end_reply};
 use crate::state::{Phase, State};
 use crate::verdicts::{answer_to, drop_reason};
@@ -87,8 +87,10 @@ fn warn(
     out: &mut Outbox,
 ) -> Result<(), NoMemory>
     requires { notice.old ≡ state.now.notice }
-    ensures told { OnOk result ((kept : Kept) → Sends (later_aside (server_of (beside_of state.now) kept) (phase_of state.now.phase) who file).sends out.old out.new) }
-    ensures counted { OnOk result ((kept : Kept) → notice.new ≡ (later_aside (server_of (beside_of state.now) kept) (phase_of state.now.phase) who file).notice) }
+    ensures told { OnOk result ((kept : Kept)
+        → Sends (later_aside (server_of (beside_of state.now) kept) (phase_of state.now.phase) who file).sends out.old out.new) }
+    ensures counted { OnOk result ((kept : Kept)
+        → notice.new ≡ (later_aside (server_of (beside_of state.now) kept) (phase_of state.now.phase) who file).notice) }
     ensures silent { OnErr result (IsSilent out.old out.new) }
 {
     match (&state.phase, file) {
@@ -168,7 +170,8 @@ fn was_put_off(decided: &Decided) -> bool
 fn keep_warnings(decided: &Decided, len: usize, out: &mut Outbox)
     requires { len ≤ length out.old.datagrams }
     ensures first { out.new.first ≡ out.old.first }
-    ensures kept { (before : List (Receiver × List ℕ)) (packets : List Packet) → len ≡ length before → out.old.datagrams ≡ before ++ map sent packets → out.new.datagrams ≡ before ++ map sent (warnings_if (is_put_off decided.now) packets) }
+    ensures kept { (before : List (Receiver × List ℕ)) (packets : List Packet) → len ≡ length before → out.old.datagrams ≡ before ++ map sent packets
+        → out.new.datagrams ≡ before ++ map sent (warnings_if (is_put_off decided.now) packets) }
     ensures spare { out.old.spare ≤ out.new.spare }
 {
     if !was_put_off(decided) {
@@ -186,14 +189,18 @@ fn conclude(
     ready: Ready,
     out: &mut Outbox,
     log: &mut Journal,
-) -> Taken
+) -> EventTaken
     requires sound { IsSound state.old }
     requires within { ready.len ≤ length out.old.datagrams }
     requires number { ready.begun.xid ≡ caller.xid }
     requires room { 16 ≤ ready.begun.room }
     requires datagram { 1 ≤ out.old.spare }
     requires line { 1 ≤ log.old.spare }
-    ensures makes { (kept : Kept) (before : Datagrams) (entries : EntryList) → IsReady caller.xid ready before out.old entries log.old → Warns (server_of (beside_of state.old) kept) caller.who request.now ready.notice before out.old → ready.length ≡ length_in kept (told_file request.now) → Concludes (decided_step (server_of (beside_of state.old) kept) caller.who caller.xid request.now decided.now) result (beside_of state.new) before out.new entries log.new }
+    ensures makes { (kept : Kept) (before : Datagrams) (entries : EntryList) → IsReady caller.xid ready before out.old entries log.old
+        → Warns (server_of (beside_of state.old) kept) caller.who request.now ready.notice before out.old
+        → ready.length ≡ length_in kept (told_file request.now)
+        → Concludes (decided_step (server_of (beside_of state.old) kept) caller.who caller.xid request.now decided.now) result
+        (beside_of state.new) before out.new entries log.new }
     ensures stays { StaysSound state.old state.new }
 {
     let Ready {
@@ -205,11 +212,11 @@ fn conclude(
     let who = caller.who;
     keep_warnings(decided, len, out);
     let Some(said) = answer_to(&who, request, decided) else {
-        return Taken::Dropped(drop_reason(decided));
+        return EventTaken::Dropped(drop_reason(decided));
     };
     end_reply(who.host, begun, &said, out);
     do_if_fresh(state, who, request, decided, length, notice, log);
-    Taken::Done
+    EventTaken::Done
 }
 
 /// A second RESIZE or REMOVE of the same words.
@@ -299,14 +306,17 @@ pub(crate) fn decide_once<K: Keeper>(
     request: Request,
     out: &mut Outbox,
     log: &mut Journal,
-) -> Result<Taken, KeepFault>
+) -> Result<EventTaken, KeepFault>
     requires sound { IsSound state.old }
     requires once { is_decided_once request ≡ true }
     requires host { IsOfHost request }
-    ensures takes { Takes (λ kept. decided_step (server_of (beside_of state.old) kept) caller.who caller.xid request (decided_of kept (gate_of (server_of (beside_of state.old) kept) caller.who request) request)) result (K.content keeper.old) (K.content keeper.new) (K.faults keeper.old) (K.faults keeper.new) (beside_of state.old) (beside_of state.new) out.old out.new log.old log.new }
+    ensures takes { Takes (λ kept. decided_step (server_of (beside_of state.old) kept) caller.who caller.xid request
+        (decided_of kept (gate_of (server_of (beside_of state.old) kept) caller.who request) request)) result (K.content keeper.old) (K.content keeper.new)
+        (K.faults keeper.old) (K.faults keeper.new) (beside_of state.old) (beside_of state.new) out.old out.new log.old log.new }
     ensures stays { StaysSound state.old state.new }
     ensures follows { K.follows keeper.old keeper.new }
-    ensures leaves { LeavesStep (λ kept. decided_step (server_of (beside_of state.old) kept) caller.who caller.xid request (decided_of kept (gate_of (server_of (beside_of state.old) kept) caller.who request) request)) (K.content keeper.old) (K.leaves keeper.old keeper.new) }
+    ensures leaves { LeavesStep (λ kept. decided_step (server_of (beside_of state.old) kept) caller.who caller.xid request
+        (decided_of kept (gate_of (server_of (beside_of state.old) kept) caller.who request) request)) (K.content keeper.old) (K.leaves keeper.old keeper.new) }
 {
     let told = without_body(&request);
     let before = read_before(keeper, &told)?;

@@ -7,13 +7,14 @@ ghost use Rattle.nq_keeper.specs.Keeping.{LeavesOne};
 ghost use Rattle.nq_model.specs.protocol.Ask.{ask as asked_of};
 ghost use Rattle.nq_model.specs.protocol.Kept.{Kept, find_file};
 ghost use Rattle.nq_model.specs.protocol.Server.{Server};
-ghost use Rattle.nq_model.specs.protocol.ServerStep.{access_of as access_as, get_lease as gets_lease, grants, lease_asked, leases, read as reads, read_asked, serves, tells_later};
+ghost use Rattle.nq_model.specs.protocol.ServerStep.{access_of as access_as, get_lease as gets_lease, grants, lease_asked, leases, read as reads, read_asked};
+ghost use Rattle.nq_model.specs.protocol.ServerStep.{serves, tells_later};
 ghost use Rattle.nq_server.specs.Leasing.{Does, HasRoom, MakesBeside, MayAsk, asks, file_asked, granted_in as grant_of, to_tell as to_tell_of};
 ghost use Rattle.nq_server.specs.Sound.{MayServe, StaysSound};
 ghost use Rattle.nq_server.specs.State.{beside_of, server_of};
 ghost use Rattle.nq_server.specs.Stepping.{Enters, SaysNothing, Takes, next_of};
 
-use crate::received::Taken;
+use crate::received::EventTaken;
 use crate::replying::{Caller, end_reply, put_off, refuse};
 use crate::state::State;
 use nq_base::{
@@ -167,9 +168,11 @@ fn later(
     to: NoticeTo,
     xid: u32,
     out: &mut Outbox,
-) -> Result<Taken, KeepFault>
+) -> Result<EventTaken, KeepFault>
     requires { MayAsk state.old question.now }
-    ensures { (kept : Kept) (log : EntryList) → Does (tells_later (server_of (beside_of state.old) kept) question.now.who xid (asked_of state.old.table question.now).table (told_rows question.now.file to state.old.table.rows)) result (beside_of state.old) (beside_of state.new) out.old out.new log log }
+    ensures { (kept : Kept) (log : EntryList)
+        → Does (tells_later (server_of (beside_of state.old) kept) question.now.who xid (asked_of state.old.table question.now).table
+        (told_rows question.now.file to state.old.table.rows)) result (beside_of state.old) (beside_of state.new) out.old out.new log log }
 {
     let mut notice = state.notice;
     let caller = Caller {
@@ -181,7 +184,7 @@ fn later(
         Ok(()) => {
             ask(&mut state.table, question);
             state.notice = notice;
-            Ok(Taken::Done)
+            Ok(EventTaken::Done)
         }
         Err(NoMemory::Memory) => Err(KeepFault::Memory),
     }
@@ -200,7 +203,9 @@ fn give(
     requires room { 56 ≤ begun.room }
     requires datagram { 1 ≤ out.old.spare }
     requires line { 1 ≤ log.old.spare }
-    ensures { (kept : Kept) → MakesBeside (leases (server_of (beside_of state.old) kept) question.now.who begun.xid question.now.file (asked_of state.old.table question.now).table (grant_of (asked_of state.old.table question.now).asked)) (beside_of state.new) out.old out.new log.old log.new }
+    ensures { (kept : Kept) → MakesBeside
+        (leases (server_of (beside_of state.old) kept) question.now.who begun.xid question.now.file (asked_of state.old.table question.now).table
+        (grant_of (asked_of state.old.table question.now).asked)) (beside_of state.new) out.old out.new log.old log.new }
 {
     let who = question.who;
     let grant = granted_in(ask(&mut state.table, question));
@@ -220,9 +225,12 @@ fn lease(
     xid: u32,
     out: &mut Outbox,
     log: &mut Journal,
-) -> Result<Taken, KeepFault>
+) -> Result<EventTaken, KeepFault>
     requires { MayAsk state.old question.now }
-    ensures { (kept : Kept) → Does (lease_asked (server_of (beside_of state.old) kept) question.now.who xid question.now.file question.now.access (asked_of state.old.table question.now).table (asked_of state.old.table question.now).asked) result (beside_of state.old) (beside_of state.new) out.old out.new log.old log.new }
+    ensures { (kept : Kept) → Does
+        (lease_asked (server_of (beside_of state.old) kept) question.now.who xid question.now.file question.now.access
+        (asked_of state.old.table question.now).table (asked_of state.old.table question.now).asked) result (beside_of state.old)
+        (beside_of state.new) out.old out.new log.old log.new }
 {
     match to_tell(&state.table, question) {
         Some(to) => later(alloc, state, question, to, xid, out),
@@ -230,7 +238,7 @@ fn lease(
             Err(NoMemory::Memory) => Err(KeepFault::Memory),
             Ok(begun) => {
                 give(state, question, begun, out, log);
-                Ok(Taken::Done)
+                Ok(EventTaken::Done)
             }
         },
     }
@@ -245,9 +253,11 @@ pub(crate) fn get_lease<K: Keeper>(
     wish: LeaseWish,
     out: &mut Outbox,
     log: &mut Journal,
-) -> Result<Taken, KeepFault>
+) -> Result<EventTaken, KeepFault>
     requires { MayServe state.old }
-    ensures takes { Takes (λ kept. gets_lease (server_of (beside_of state.old) kept) caller.who caller.xid wish.want (find_file wish.file kept.files)) result (K.content keeper.old) (K.content keeper.new) (K.faults keeper.old) (K.faults keeper.new) (beside_of state.old) (beside_of state.new) out.old out.new log.old log.new }
+    ensures takes { Takes (λ kept. gets_lease (server_of (beside_of state.old) kept) caller.who caller.xid wish.want (find_file wish.file kept.files)) result
+        (K.content keeper.old) (K.content keeper.new) (K.faults keeper.old) (K.faults keeper.new) (beside_of state.old)
+        (beside_of state.new) out.old out.new log.old log.new }
     ensures stays { StaysSound state.old state.new }
     ensures follows { K.follows keeper.old keeper.new }
     ensures leaves { LeavesOne (K.content keeper.old) (K.leaves keeper.old keeper.new) }
@@ -275,7 +285,10 @@ fn serve(
     requires room { 4164 ≤ begun.room }
     requires datagram { 1 ≤ out.old.spare }
     requires lines { 2 ≤ log.old.spare }
-    ensures { (kept : Kept) → MakesBeside (serves (server_of (beside_of state.old) kept) question.now.who begun.xid (next_of out.old) found.call (file_asked question.now) found.block found.body (asked_of state.old.table question.now).table (grant_of (asked_of state.old.table question.now).asked)) (beside_of state.new) out.old out.new log.old log.new }
+    ensures { (kept : Kept) → MakesBeside
+        (serves (server_of (beside_of state.old) kept) question.now.who begun.xid (next_of out.old) found.call (file_asked question.now) found.block found.body
+        (asked_of state.old.table question.now).table (grant_of (asked_of state.old.table question.now).asked))
+        (beside_of state.new) out.old out.new log.old log.new }
 {
     let Found { call, block, body } = found;
     let value = body.value();
@@ -310,9 +323,12 @@ fn read_found(
     found: Found,
     out: &mut Outbox,
     log: &mut Journal,
-) -> Result<Taken, KeepFault>
+) -> Result<EventTaken, KeepFault>
     requires { MayAsk state.old question.now }
-    ensures { (kept : Kept) → Does (read_asked (server_of (beside_of state.old) kept) question.now.who xid (next_of out.old) found.call (file_asked question.now) found.block found.body question.now.access (asked_of state.old.table question.now).table (asked_of state.old.table question.now).asked) result (beside_of state.old) (beside_of state.new) out.old out.new log.old log.new }
+    ensures { (kept : Kept) → Does
+        (read_asked (server_of (beside_of state.old) kept) question.now.who xid (next_of out.old) found.call
+        (file_asked question.now) found.block found.body question.now.access (asked_of state.old.table question.now).table
+        (asked_of state.old.table question.now).asked) result (beside_of state.old) (beside_of state.new) out.old out.new log.old log.new }
 {
     match to_tell(&state.table, question) {
         Some(to) => later(alloc, state, question, to, xid, out),
@@ -320,7 +336,7 @@ fn read_found(
             Err(NoMemory::Memory) => Err(KeepFault::Memory),
             Ok(begun) => {
                 serve(state, question, found, begun, out, log);
-                Ok(Taken::Done)
+                Ok(EventTaken::Done)
             }
         },
     }
@@ -335,9 +351,11 @@ pub(crate) fn read<K: Keeper>(
     wish: &Wish,
     out: &mut Outbox,
     log: &mut Journal,
-) -> Result<Taken, KeepFault>
+) -> Result<EventTaken, KeepFault>
     requires { MayServe state.old }
-    ensures takes { Takes (λ kept. reads (server_of (beside_of state.old) kept) caller.who caller.xid (next_of out.old) wish.now.call wish.now.block wish.now.want (find_file wish.now.file kept.files)) result (K.content keeper.old) (K.content keeper.new) (K.faults keeper.old) (K.faults keeper.new) (beside_of state.old) (beside_of state.new) out.old out.new log.old log.new }
+    ensures takes { Takes (λ kept. reads (server_of (beside_of state.old) kept) caller.who caller.xid
+        (next_of out.old) wish.now.call wish.now.block wish.now.want (find_file wish.now.file kept.files)) result (K.content keeper.old) (K.content keeper.new)
+        (K.faults keeper.old) (K.faults keeper.new) (beside_of state.old) (beside_of state.new) out.old out.new log.old log.new }
     ensures stays { StaysSound state.old state.new }
     ensures follows { K.follows keeper.old keeper.new }
     ensures leaves { LeavesOne (K.content keeper.old) (K.leaves keeper.old keeper.new) }

@@ -9,7 +9,7 @@ ghost use Rattle.nq_server.specs.Answering.{attributes as attributes_as, looked_
 ghost use Rattle.nq_server.specs.State.{Beside, server_of};
 ghost use Rattle.nq_server.specs.Stepping.{Takes};
 
-use crate::received::Taken;
+use crate::received::EventTaken;
 use crate::replying::answer;
 use nq_base::{FileId, FileRow, Name, Refusal, Reply, Who};
 use nq_keeper::{KeepFault, Keeper};
@@ -58,8 +58,10 @@ pub(crate) fn look_up<K: Keeper>(
     xid: u32,
     name: &Name,
     out: &mut Outbox,
-) -> Result<Taken, KeepFault>
-    ensures takes { (held : Beside) (log : EntryList) → Takes (λ kept. looks_up (server_of held kept) who xid (find_name name.now kept.files)) result (K.content keeper.old) (K.content keeper.new) (K.faults keeper.old) (K.faults keeper.new) held held out.old out.new log log }
+) -> Result<EventTaken, KeepFault>
+    ensures takes { (held : Beside) (log : EntryList)
+        → Takes (λ kept. looks_up (server_of held kept) who xid (find_name name.now kept.files)) result (K.content keeper.old) (K.content keeper.new)
+        (K.faults keeper.old) (K.faults keeper.new) held held out.old out.new log log }
     ensures follows { K.follows keeper.old keeper.new }
     ensures leaves { LeavesOne (K.content keeper.old) (K.leaves keeper.old keeper.new) }
 {
@@ -76,8 +78,10 @@ pub(crate) fn get_attr<K: Keeper>(
     xid: u32,
     file: FileId,
     out: &mut Outbox,
-) -> Result<Taken, KeepFault>
-    ensures takes { (held : Beside) (log : EntryList) → Takes (λ kept. gets_attributes (server_of held kept) who xid (find_file file kept.files)) result (K.content keeper.old) (K.content keeper.new) (K.faults keeper.old) (K.faults keeper.new) held held out.old out.new log log }
+) -> Result<EventTaken, KeepFault>
+    ensures takes { (held : Beside) (log : EntryList)
+        → Takes (λ kept. gets_attributes (server_of held kept) who xid (find_file file kept.files)) result (K.content keeper.old) (K.content keeper.new)
+        (K.faults keeper.old) (K.faults keeper.new) held held out.old out.new log log }
     ensures follows { K.follows keeper.old keeper.new }
     ensures leaves { LeavesOne (K.content keeper.old) (K.leaves keeper.old keeper.new) }
 {

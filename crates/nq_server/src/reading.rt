@@ -11,7 +11,7 @@ ghost use Rattle.nq_server.specs.Sound.{IsSound, StaysSound};
 ghost use Rattle.nq_server.specs.State.{Beside, beside_of, server_of};
 ghost use Rattle.nq_server.specs.Stepping.{LeavesStep, Takes, next_of};
 
-use crate::received::{Reason, Taken};
+use crate::received::{EventTaken, Reason};
 use crate::replying::say_error;
 use crate::requests::{Origin, answer};
 use crate::state::State;
@@ -27,14 +27,15 @@ fn take_other(
     sender: Host,
     incoming: &Incoming,
     out: &mut Outbox,
-) -> Result<Taken, KeepFault>
+) -> Result<EventTaken, KeepFault>
     requires { IsNoRequest incoming.now }
-    ensures { (held : Beside) (kept : Kept) (next : ℕ) (log : EntryList) → Does (receive (server_of held kept) sender next (told incoming.now)) result held held out.old out.new log log }
+    ensures { (held : Beside) (kept : Kept) (next : ℕ) (log : EntryList)
+        → Does (receive (server_of held kept) sender next (told incoming.now)) result held held out.old out.new log log }
 {
     match incoming {
-        Incoming::TooLong => Ok(Taken::Dropped(Reason::TooLong)),
-        Incoming::NoMessage(fault) => Ok(Taken::Dropped(Reason::Rpc(*fault))),
-        Incoming::NoCall => Ok(Taken::Dropped(Reason::NotACall)),
+        Incoming::TooLong => Ok(EventTaken::Dropped(Reason::TooLong)),
+        Incoming::NoMessage(fault) => Ok(EventTaken::Dropped(Reason::Rpc(*fault))),
+        Incoming::NoCall => Ok(EventTaken::Dropped(Reason::NotACall)),
         Incoming::OtherRpc { xid } => {
             say_error(alloc, sender, *xid, ErrorReply::RpcMismatch, out)
         }
@@ -47,7 +48,7 @@ fn take_other(
         Incoming::UnknownProcedure { xid } => {
             say_error(alloc, sender, *xid, ErrorReply::ProcedureUnavailable, out)
         }
-        Incoming::GarbageVacated => Ok(Taken::Dropped(Reason::NoReplyOwed)),
+        Incoming::GarbageVacated => Ok(EventTaken::Dropped(Reason::NoReplyOwed)),
         Incoming::Garbage { xid } => {
             say_error(alloc, sender, *xid, ErrorReply::GarbageArguments, out)
         }
@@ -57,7 +58,7 @@ fn take_other(
 
 /// Takes a datagram in, by what it is: a request is answered, another call gets a reply that brings no result, and the rest is
 /// dropped.
-pub(crate) fn take<K: Keeper>(
+pub(crate) fn take_datagram<K: Keeper>(
     alloc: Global,
     keeper: &mut K,
     state: &mut State,
@@ -65,13 +66,15 @@ pub(crate) fn take<K: Keeper>(
     incoming: Incoming,
     out: &mut Outbox,
     log: &mut Journal,
-) -> Result<Taken, KeepFault>
+) -> Result<EventTaken, KeepFault>
     requires sound { IsSound state.old }
     requires drawn { state.old.table.drawn < 2 ^ 62 }
-    ensures takes { Takes (λ kept. receive (server_of (beside_of state.old) kept) sender (next_of out.old) (told incoming)) result (K.content keeper.old) (K.content keeper.new) (K.faults keeper.old) (K.faults keeper.new) (beside_of state.old) (beside_of state.new) out.old out.new log.old log.new }
+    ensures takes { Takes (λ kept. receive (server_of (beside_of state.old) kept) sender (next_of out.old) (told incoming)) result (K.content keeper.old)
+        (K.content keeper.new) (K.faults keeper.old) (K.faults keeper.new) (beside_of state.old) (beside_of state.new) out.old out.new log.old log.new }
     ensures stays { StaysSound state.old state.new }
     ensures follows { K.follows keeper.old keeper.new }
-    ensures leaves { LeavesStep (λ kept. receive (server_of (beside_of state.old) kept) sender (next_of out.old) (told incoming)) (K.content keeper.old) (K.leaves keeper.old keeper.new) }
+    ensures leaves { LeavesStep (λ kept. receive (server_of (beside_of state.old) kept) sender (next_of out.old) (told incoming)) (K.content keeper.old)
+        (K.leaves keeper.old keeper.new) }
 {
     keeper.pause();
     match incoming {

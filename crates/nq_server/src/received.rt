@@ -38,7 +38,7 @@ pub enum Received {
 
 /// How an event was taken in.
 #[derive(Clone, Copy)]
-pub(crate) enum Taken {
+pub(crate) enum EventTaken {
     /// It was answered, or needs no answer.
     Done,
     /// The datagram was dropped.

@@ -13,7 +13,7 @@ ghost use Rattle.nq_server.specs.Answering.{IsSilent};
 ghost use Rattle.nq_server.specs.Stepping.{Says, Sends};
 ghost use Rattle.nq_wire.specs.Reply.{results_len};
 
-use crate::received::Taken;
+use crate::received::EventTaken;
 use nq_base::{FileId, Host, NoMemory, Party, Refusal, Reply, Who};
 use nq_datagrams::{BegunReply, ErrorReply, error_bytes, reply_bytes};
 use nq_keeper::KeepFault;
@@ -33,7 +33,8 @@ pub(crate) struct Caller {
 
 /// Adds a datagram to a host, if memory was there for it. Where memory is wanting the datagrams are as before.
 fn push(host: Host, made: Result<Vec<u8>, NoMemory>, out: &mut Outbox) -> Result<(), NoMemory>
-    ensures sends { (message : Message) → IfOk made (λ bytes. bytes.items ≡ bytes_of message) → OnOk made (FitsMessage message) → OnOk result (Sends (to_host host message ∷ []) out.old out.new) }
+    ensures sends { (message : Message) → IfOk made (λ bytes. bytes.items ≡ bytes_of message) → OnOk made (FitsMessage message)
+        → OnOk result (Sends (to_host host message ∷ []) out.old out.new) }
     ensures refused { OnErr result (IsSilent out.old out.new) }
 {
     match made {
@@ -49,11 +50,11 @@ pub(crate) fn answer(
     xid: u32,
     said: &Reply,
     out: &mut Outbox,
-) -> Result<Taken, KeepFault>
+) -> Result<EventTaken, KeepFault>
     ensures { Says (to_host host (reply_to xid said.now)) result out.old out.new }
 {
     match push(host, reply_bytes(alloc, xid, said), out) {
-        Ok(()) => Ok(Taken::Done),
+        Ok(()) => Ok(EventTaken::Done),
         Err(NoMemory::Memory) => Err(KeepFault::Memory),
     }
 }
@@ -65,7 +66,7 @@ pub(crate) fn refuse(
     xid: u32,
     status: Refusal,
     out: &mut Outbox,
-) -> Result<Taken, KeepFault>
+) -> Result<EventTaken, KeepFault>
     ensures { Says (to_host who.host (reply_to xid (Answer.Refused who.inc status))) result out.old out.new }
 {
     let said = Reply::Refused {
@@ -82,11 +83,11 @@ pub(crate) fn say_error(
     xid: u32,
     said: ErrorReply,
     out: &mut Outbox,
-) -> Result<Taken, KeepFault>
+) -> Result<EventTaken, KeepFault>
     ensures { Says (to_host host (error_to xid (told_error said))) result out.old out.new }
 {
     match push(host, error_bytes(alloc, xid, said), out) {
-        Ok(()) => Ok(Taken::Done),
+        Ok(()) => Ok(EventTaken::Done),
         Err(NoMemory::Memory) => Err(KeepFault::Memory),
     }
 }
@@ -124,7 +125,8 @@ pub(crate) fn put_off(
     notice: &mut u32,
     out: &mut Outbox,
 ) -> Result<(), NoMemory>
-    ensures sends { OnOk result (Sends (notices_of notice.old (told_rows file to table.now.rows) ++ to_host caller.who.host (reply_to caller.xid (Answer.Refused caller.who.inc Status.TryLater)) ∷ []) out.old out.new) }
+    ensures sends { OnOk result (Sends (notices_of notice.old (told_rows file to table.now.rows)
+        ++ to_host caller.who.host (reply_to caller.xid (Answer.Refused caller.who.inc Status.TryLater)) ∷ []) out.old out.new) }
     ensures counted { OnOk result (notice.new ≡ (notice.old + length (told_rows file to table.now.rows)) % xid_end) }
     ensures silent { OnErr result (IsSilent out.old out.new) }
 {

@@ -18,7 +18,7 @@ ghost use Rattle.nq_server.specs.Stepping.{LeavesStep, Takes, next_of};
 use crate::deciding::decide_once;
 use crate::leasing::{LeaseWish, Wish, get_lease, read};
 use crate::looking::{get_attr, look_up};
-use crate::received::{Reason, Taken};
+use crate::received::{EventTaken, Reason};
 use crate::replying::{self, Caller, refuse};
 use crate::state::{Phase, State};
 use nq_base::{Host, HostRow, Journal, Refusal, Reply, Request, Who};
@@ -68,11 +68,12 @@ fn not_attached(
     caller: Caller,
     request: &Request,
     out: &mut Outbox,
-) -> Result<Taken, KeepFault>
-    ensures { (held : Beside) (kept : Kept) (log : EntryList) → Does (is_not_attached (server_of held kept) caller.who caller.xid request.now) result held held out.old out.new log log }
+) -> Result<EventTaken, KeepFault>
+    ensures { (held : Beside) (kept : Kept) (log : EntryList)
+        → Does (is_not_attached (server_of held kept) caller.who caller.xid request.now) result held held out.old out.new log log }
 {
     match request {
-        Request::Vacated { .. } => Ok(Taken::Done),
+        Request::Vacated { .. } => Ok(EventTaken::Done),
         _ => refuse(alloc, caller.who, caller.xid, Refusal::NotAttached, out),
     }
 }
@@ -87,9 +88,11 @@ fn look<K: Keeper>(
     request: &Request,
     out: &mut Outbox,
     log: &mut Journal,
-) -> Result<Taken, KeepFault>
+) -> Result<EventTaken, KeepFault>
     requires { MayServe state.old }
-    ensures takes { Takes (λ kept. looks (server_of (beside_of state.old) kept) serving caller.who caller.xid (next_of out.old) request.now) result (K.content keeper.old) (K.content keeper.new) (K.faults keeper.old) (K.faults keeper.new) (beside_of state.old) (beside_of state.new) out.old out.new log.old log.new }
+    ensures takes { Takes (λ kept. looks (server_of (beside_of state.old) kept) serving caller.who caller.xid (next_of out.old) request.now) result
+        (K.content keeper.old) (K.content keeper.new) (K.faults keeper.old) (K.faults keeper.new) (beside_of state.old)
+        (beside_of state.new) out.old out.new log.old log.new }
     ensures stays { StaysSound state.old state.new }
     ensures follows { K.follows keeper.old keeper.new }
     ensures leaves { LeavesOne (K.content keeper.old) (K.leaves keeper.old keeper.new) }
@@ -125,7 +128,7 @@ fn look<K: Keeper>(
         }
         _ => {
             keeper.pause();
-            Ok(Taken::Done)
+            Ok(EventTaken::Done)
         }
     }
 }
@@ -140,11 +143,14 @@ fn perform<K: Keeper>(
     request: &Request,
     out: &mut Outbox,
     log: &mut Journal,
-) -> Result<Taken, KeepFault>
+) -> Result<EventTaken, KeepFault>
     requires sound { IsSound state.old }
     requires drawn { state.old.table.drawn < 2 ^ 62 }
     requires other { decided_once request.now ≡ false }
-    ensures takes { (line : Kept → Line) → Takes (λ kept. performs (server_of (beside_of state.old) kept) caller.who caller.xid (next_of out.old) (line kept) request.now) result (K.content keeper.old) (K.content keeper.new) (K.faults keeper.old) (K.faults keeper.new) (beside_of state.old) (beside_of state.new) out.old out.new log.old log.new }
+    ensures takes { (line : Kept → Line)
+        → Takes (λ kept. performs (server_of (beside_of state.old) kept) caller.who caller.xid (next_of out.old) (line kept) request.now) result
+        (K.content keeper.old) (K.content keeper.new) (K.faults keeper.old) (K.faults keeper.new) (beside_of state.old)
+        (beside_of state.new) out.old out.new log.old log.new }
     ensures stays { StaysSound state.old state.new }
     ensures follows { K.follows keeper.old keeper.new }
     ensures leaves { LeavesOne (K.content keeper.old) (K.leaves keeper.old keeper.new) }
@@ -153,11 +159,11 @@ fn perform<K: Keeper>(
         (Request::Vacated { file, tag, .. }, _) => {
             keeper.pause();
             vacated(&mut state.table, caller.who, *file, *tag);
-            Ok(Taken::Done)
+            Ok(EventTaken::Done)
         }
         (Request::Null | Request::Evicted { .. }, _) => {
             keeper.pause();
-            Ok(Taken::Done)
+            Ok(EventTaken::Done)
         }
         (_, Phase::Serving(_)) => look(alloc, keeper, state, caller, request, out, log),
         (_, Phase::Recovering { .. }) => {
@@ -190,12 +196,14 @@ fn admit<K: Keeper>(
     request: &Request,
     out: &mut Outbox,
     log: &mut Journal,
-) -> Result<Taken, KeepFault>
+) -> Result<EventTaken, KeepFault>
     requires sound { IsSound state.old }
     requires drawn { state.old.table.drawn < 2 ^ 62 }
     requires few { caller.who.host < most_hosts }
     requires other { decided_once request.now ≡ false }
-    ensures takes { Takes (λ kept. admits (server_of (beside_of state.old) kept) caller.who caller.xid (next_of out.old) request.now (host_row kept caller.who.host)) result (K.content keeper.old) (K.content keeper.new) (K.faults keeper.old) (K.faults keeper.new) (beside_of state.old) (beside_of state.new) out.old out.new log.old log.new }
+    ensures takes { Takes (λ kept. admits (server_of (beside_of state.old) kept) caller.who caller.xid (next_of out.old) request.now
+        (host_row kept caller.who.host)) result (K.content keeper.old) (K.content keeper.new) (K.faults keeper.old) (K.faults keeper.new) (beside_of state.old)
+        (beside_of state.new) out.old out.new log.old log.new }
     ensures stays { StaysSound state.old state.new }
     ensures follows { K.follows keeper.old keeper.new }
     ensures leaves { LeavesOne (K.content keeper.old) (K.leaves keeper.old keeper.new) }
@@ -203,7 +211,7 @@ fn admit<K: Keeper>(
     let who = caller.who;
     let line = keeper.host(who.host)?;
     if is_older(&who, &line) {
-        return Ok(Taken::Dropped(Reason::OldIncarnation));
+        return Ok(EventTaken::Dropped(Reason::OldIncarnation));
     }
     if is_newer(&who, &line) {
         return not_attached(alloc, caller, request, out);
@@ -246,13 +254,16 @@ pub(crate) fn answer<K: Keeper>(
     request: Request,
     out: &mut Outbox,
     log: &mut Journal,
-) -> Result<Taken, KeepFault>
+) -> Result<EventTaken, KeepFault>
     requires sound { IsSound state.old }
     requires drawn { state.old.table.drawn < 2 ^ 62 }
-    ensures takes { Takes (λ kept. answer_request (server_of (beside_of state.old) kept) origin.host origin.xid (next_of out.old) request (asked_by request)) result (K.content keeper.old) (K.content keeper.new) (K.faults keeper.old) (K.faults keeper.new) (beside_of state.old) (beside_of state.new) out.old out.new log.old log.new }
+    ensures takes { Takes (λ kept. answer_request (server_of (beside_of state.old) kept) origin.host origin.xid (next_of out.old) request
+        (asked_by request)) result (K.content keeper.old) (K.content keeper.new) (K.faults keeper.old) (K.faults keeper.new) (beside_of state.old)
+        (beside_of state.new) out.old out.new log.old log.new }
     ensures stays { StaysSound state.old state.new }
     ensures follows { K.follows keeper.old keeper.new }
-    ensures leaves { LeavesStep (λ kept. answer_request (server_of (beside_of state.old) kept) origin.host origin.xid (next_of out.old) request (asked_by request)) (K.content keeper.old) (K.leaves keeper.old keeper.new) }
+    ensures leaves { LeavesStep (λ kept. answer_request (server_of (beside_of state.old) kept) origin.host origin.xid (next_of out.old) request
+        (asked_by request)) (K.content keeper.old) (K.leaves keeper.old keeper.new) }
 {
     keeper.pause();
     let Origin { host, xid } = origin;
@@ -260,7 +271,7 @@ pub(crate) fn answer<K: Keeper>(
         return replying::answer(alloc, host, xid, &Reply::Null, out);
     };
     if !is_of_sender(&who, host) {
-        return Ok(Taken::Dropped(Reason::WrongHost));
+        return Ok(EventTaken::Dropped(Reason::WrongHost));
     }
     let caller = Caller { who, xid };
     if is_decided_once(&request) {

@@ -16,8 +16,8 @@ ghost use Rattle.nq_server.specs.State.{server_of};
 ghost use Rattle.nq_server.specs.Stepping.{LeavesStep, done_of, halted_of, next_of};
 
 use crate::booting::{begin, replace_state, state_after, tell_crash};
-use crate::reading::take;
-use crate::received::{Received, Taken};
+use crate::reading::take_datagram;
+use crate::received::{EventTaken, Received};
 use crate::state::{Phase, State};
 use crate::ticks::tick;
 use nq_base::{FileId, FileRow, Host, Inc, Journal, Spare, Ticks};
@@ -75,12 +75,12 @@ fn received_of(fault: StartFault) -> Received
 }
 
 /// How an event was taken in, for those who sent it.
-fn done(taken: Taken) -> Received
+fn done(taken: EventTaken) -> Received
     ensures { result ≡ done_of taken }
 {
     match taken {
-        Taken::Done => Received::Done,
-        Taken::Dropped(reason) => Received::Dropped(reason),
+        EventTaken::Done => Received::Done,
+        EventTaken::Dropped(reason) => Received::Dropped(reason),
     }
 }
 
@@ -144,10 +144,13 @@ impl<K: Keeper> Server<K> {
         out: &mut Outbox,
         log: &mut Journal,
     ) -> Received
-        ensures takes { IsTaken (λ kept. received (server_of self.old.beside kept) sender (next_of out.old) (datagram_in datagram.now)) result (K.content self.old.keeper) (K.content self.new.keeper) (K.faults self.old.keeper) (K.faults self.new.keeper) self.old self.new out.old out.new log.old log.new }
+        ensures takes { IsTaken (λ kept. received (server_of self.old.beside kept) sender (next_of out.old) (datagram_in datagram.now)) result
+            (K.content self.old.keeper) (K.content self.new.keeper) (K.faults self.old.keeper)
+            (K.faults self.new.keeper) self.old self.new out.old out.new log.old log.new }
         ensures spent { (result ≡ Received.Spent) ↔ (self.old.taken ≡ most_taken_by_server) }
         ensures follows { K.follows self.old.keeper self.new.keeper }
-        ensures leaves { LeavesStep (λ kept. received (server_of self.old.beside kept) sender (next_of out.old) (datagram_in datagram.now)) (K.content self.old.keeper) (K.leaves self.old.keeper self.new.keeper) }
+        ensures leaves { LeavesStep (λ kept. received (server_of self.old.beside kept) sender (next_of out.old) (datagram_in datagram.now))
+            (K.content self.old.keeper) (K.leaves self.old.keeper self.new.keeper) }
     {
         self.keeper.pause();
         if self.taken == MOST_TAKEN {
@@ -158,7 +161,7 @@ impl<K: Keeper> Server<K> {
         }
         let incoming = read_incoming(datagram, &mut self.room);
         let keeper = &mut self.keeper;
-        match take(alloc, keeper, &mut self.state, sender, incoming, out, log) {
+        match take_datagram(alloc, keeper, &mut self.state, sender, incoming, out, log) {
             Ok(taken) => {
                 self.taken += 1;
                 done(taken)
@@ -177,10 +180,12 @@ impl<K: Keeper> Server<K> {
     pub fn tick(&mut self, now: Ticks, out: &mut Outbox, log: &mut Journal) -> Received
         requires later { self.old.beside.time ≤ now }
         requires early { now < 2 ^ 62 }
-        ensures takes { IsTaken (λ kept. ticked (server_of self.old.beside kept) now) result (K.content self.old.keeper) (K.content self.new.keeper) (K.faults self.old.keeper) (K.faults self.new.keeper) self.old self.new out.old out.new log.old log.new }
+        ensures takes { IsTaken (λ kept. ticked (server_of self.old.beside kept) now) result (K.content self.old.keeper) (K.content self.new.keeper)
+            (K.faults self.old.keeper) (K.faults self.new.keeper) self.old self.new out.old out.new log.old log.new }
         ensures spent { (result ≡ Received.Spent) ↔ (self.old.taken ≡ most_taken_by_server) }
         ensures follows { K.follows self.old.keeper self.new.keeper }
-        ensures leaves { LeavesStep (λ kept. ticked (server_of self.old.beside kept) now) (K.content self.old.keeper) (K.leaves self.old.keeper self.new.keeper) }
+        ensures leaves { LeavesStep (λ kept. ticked (server_of self.old.beside kept) now) (K.content self.old.keeper)
+            (K.leaves self.old.keeper self.new.keeper) }
     {
         self.keeper.pause();
         if self.taken == MOST_TAKEN {
@@ -210,7 +215,8 @@ impl<K: Keeper> Server<K> {
         requires short { longest ≤ 600 }
         requires later { self.old.beside.time ≤ now }
         requires early { now < 2 ^ 62 }
-        ensures reboots { Reboots longest now result (K.content self.old.keeper) (K.content self.new.keeper) (K.faults self.old.keeper) (K.faults self.new.keeper) self.old self.new log.old log.new }
+        ensures reboots { Reboots longest now result (K.content self.old.keeper) (K.content self.new.keeper) (K.faults self.old.keeper)
+            (K.faults self.new.keeper) self.old self.new log.old log.new }
         ensures follows { K.follows self.old.keeper self.new.keeper }
         ensures leaves { LeavesThen (λ kept. booted kept longest) (K.content self.old.keeper) (K.leaves self.old.keeper self.new.keeper) }
     {

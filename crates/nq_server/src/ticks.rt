@@ -12,7 +12,7 @@ ghost use Rattle.nq_server.specs.Stepping.{LeavesStep, Takes};
 ghost use Rattle.nq_server.specs.Ticking.{EndsFirst, LeavesEnded, OpensAt, at_tick_opened, fence_entries, left_of};
 ghost use Rattle.nq_wire.specs.Outbox.{Datagrams};
 
-use crate::received::Taken;
+use crate::received::EventTaken;
 use crate::state::{Phase, State};
 use nq_base::{Entry, Journal, Ticks};
 use nq_keeper::requests::boot::{Finish, Recovering, Serving};
@@ -26,7 +26,8 @@ fn end_first<K: Keeper>(
     table: &mut Table,
     now: Ticks,
 ) -> Result<Option<Fence>, KeepFault>
-    ensures ends { EndsFirst now (find (is_due now) table.old.rows) result table.old table.new (K.content keeper.old) (K.content keeper.new) (K.faults keeper.old) (K.faults keeper.new) }
+    ensures ends { EndsFirst now (find (is_due now) table.old.rows) result table.old table.new (K.content keeper.old) (K.content keeper.new)
+        (K.faults keeper.old) (K.faults keeper.new) }
     ensures follows { K.follows keeper.old keeper.new }
     ensures leaves { LeavesEnded (find (is_due now) table.old.rows) (K.content keeper.old) (K.leaves keeper.old keeper.new) }
 {
@@ -119,13 +120,15 @@ fn end_leases<K: Keeper>(
     state: &mut State,
     now: Ticks,
     log: &mut Journal,
-) -> Result<Taken, KeepFault>
+) -> Result<EventTaken, KeepFault>
     requires serves { phase_of state.old.phase ≡ serving }
     requires room { 1 ≤ log.old.spare }
     requires sound { IsSound state.old }
     requires later { state.old.time ≤ now }
     requires early { now < 2 ^ 62 }
-    ensures takes { (out : Datagrams) → Takes (λ kept. ticked (server_of (beside_of state.old) kept) now) result (K.content keeper.old) (K.content keeper.new) (K.faults keeper.old) (K.faults keeper.new) (beside_of state.old) (beside_of state.new) out out log.old log.new }
+    ensures takes { (out : Datagrams)
+        → Takes (λ kept. ticked (server_of (beside_of state.old) kept) now) result (K.content keeper.old) (K.content keeper.new) (K.faults keeper.old)
+        (K.faults keeper.new) (beside_of state.old) (beside_of state.new) out out log.old log.new }
     ensures stays { StaysSound state.old state.new }
     ensures follows { K.follows keeper.old keeper.new }
     ensures leaves { LeavesStep (λ kept. ticked (server_of (beside_of state.old) kept) now) (K.content keeper.old) (K.leaves keeper.old keeper.new) }
@@ -134,7 +137,7 @@ fn end_leases<K: Keeper>(
     end_reading(&mut state.table, now);
     state.time = now;
     tell_fence(fence, log);
-    Ok(Taken::Done)
+    Ok(EventTaken::Done)
 }
 
 /// Serves from now on, as the recovery has ended.
@@ -160,12 +163,14 @@ pub(crate) fn tick<K: Keeper>(
     state: &mut State,
     now: Ticks,
     log: &mut Journal,
-) -> Result<Taken, KeepFault>
+) -> Result<EventTaken, KeepFault>
     requires room { 1 ≤ log.old.spare }
     requires sound { IsSound state.old }
     requires later { state.old.time ≤ now }
     requires early { now < 2 ^ 62 }
-    ensures takes { (out : Datagrams) → Takes (λ kept. ticked (server_of (beside_of state.old) kept) now) result (K.content keeper.old) (K.content keeper.new) (K.faults keeper.old) (K.faults keeper.new) (beside_of state.old) (beside_of state.new) out out log.old log.new }
+    ensures takes { (out : Datagrams)
+        → Takes (λ kept. ticked (server_of (beside_of state.old) kept) now) result (K.content keeper.old) (K.content keeper.new) (K.faults keeper.old)
+        (K.faults keeper.new) (beside_of state.old) (beside_of state.new) out out log.old log.new }
     ensures stays { StaysSound state.old state.new }
     ensures follows { K.follows keeper.old keeper.new }
     ensures leaves { LeavesStep (λ kept. ticked (server_of (beside_of state.old) kept) now) (K.content keeper.old) (K.leaves keeper.old keeper.new) }
@@ -175,11 +180,11 @@ pub(crate) fn tick<K: Keeper>(
         Phase::Recovering { recovery, .. } => match open(keeper, recovery, now)? {
             None => {
                 state.time = now;
-                Ok(Taken::Done)
+                Ok(EventTaken::Done)
             }
             Some(opened) => {
                 begin_serving(state, opened, now, log);
-                Ok(Taken::Done)
+                Ok(EventTaken::Done)
             }
         },
     }

@@ -1,5 +1,5 @@
 -- When serving fails.
-use Rattle.std.proofs.Common.{◌≡◌, ◌⊎◌, ◌<◌, ◌≤◌, ◌^◌, ◌-◌, ◌∙◌, ℕ, Option, Result, Ok, Err, inl, inr, subst, ap, sym, arith}
+use Rattle.std.proofs.Common.{◌≡◌, ◌⊎◌, ◌<◌, ◌≤◌, ◌^◌, ◌-◌, ◌∙◌, ℕ, Option, Result, Ok, Err, inl, inr, subst, ap, arith}
 use Rattle.std.proofs.lemmas.Bool.{cases_lt}
 use Rattle.nq_serving.specs.Running.{HaltsBy}
 use Rattle.nq_serving.specs.declared.turning.LinkPolicy.{LinkPolicy}

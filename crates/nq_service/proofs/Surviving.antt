@@ -1,5 +1,5 @@
 -- What a stop within serving leaves, from what one leaves before the store was opened and behind it.
-use Rattle.std.proofs.Common.{◌≡◌, ◌⊎◌, ◌≤◌, ℕ, List, Option, Some, Result, Ok, Err, IfOk, OnOk, inl, inr, refl, sym, ap, subst, ◌∙◌}
+use Rattle.std.proofs.Common.{◌≡◌, ◌⊎◌, ◌≤◌, ℕ, List, Option, Some, Result, Ok, Err, IfOk, OnOk, refl, sym, ap, subst, ◌∙◌}
 use Rattle.std.specs.Option.{ForSome}
 use Rattle.nq_base.specs.declared.ending.ending.Ending.{Ending}
 use Rattle.nq_base.specs.declared.ending.fault.Fault.{Fault}
@@ -7,12 +7,11 @@ use Rattle.nq_serving.specs.Extending.{no_extension}
 use Rattle.nq_serving.specs.LeavingTurns.{IsLeftInRuns, LeavesServing}
 use Rattle.nq_serving.specs.Serving.{Tells}
 use Rattle.nq_serving.specs.declared.turning.LinkPolicy.{LinkPolicy}
-use Rattle.nq_model.specs.protocol.Kept.{Kept}
 use Rattle.nq_clock.specs.Clocks.{ClockTold}
 use Rattle.nq_link.specs.Links.{LinkTold}
 use Rattle.nq_service.specs.Serving.{EndsServing, ServesStore, StaysSame, Survives}
 use Rattle.nq_store.specs.Opening.{AnswersOpen, FollowsOpen, LeavesLike, disk_of}
-use Rattle.nq_store.specs.Storing.{AllStandFor, GoesOn, HasRisen, IsFresh, IsKept, LeavesKept, StoredStore, content_of, faults_of, kept_on, kept_told}
+use Rattle.nq_store.specs.Storing.{GoesOn, HasRisen, IsFresh, IsKept, LeavesKept, StoredStore, content_of, faults_of, kept_on, kept_told}
 use Rattle.nq_store.specs.declared.fault.OpenFault.{OpenFault}
 use Rattle.nq_service.proofs.Failing.{failed_by, right_of}
 use Rattle.nq_service.proofs.LeftFirst.{left_either, left_first, left_same}

@@ -148,7 +148,7 @@ fn tick_to<K: Keeper>(
     ensures follows { K.follows server.old.keeper server.new.keeper }
 {
     if is_below(server, reading) {
-        made(server.tick(reading, out, log))
+        received(server.tick(reading, out, log))
     } else {
         Ok(())
     }
@@ -263,7 +263,7 @@ fn take_from_host<K: Keeper, E: Extension>(
     if extension.is_own(datagram) {
         answered(extension.answer(alloc, server, host, datagram, out))
     } else {
-        made(server.receive(alloc, host, datagram, out, log))
+        received(server.receive(alloc, host, datagram, out, log))
     }
 }
 
@@ -279,7 +279,7 @@ fn answered(how: Result<(), KeepFault>) -> Result<(), Fault>
 }
 
 /// Whether a turn goes on after a server has taken something so.
-fn made(how: Received) -> Result<(), Fault>
+fn received(how: Received) -> Result<(), Fault>
     ensures { result ≡ goes_on how }
 {
     match how {

@@ -40,7 +40,8 @@ pub fn serve<K: Keeper, L: Link, C: Clock, S: Sink>(
 ) -> Ended<Ending, K>
     requires long { 5 ≤ longest }
     requires short { longest ≤ 600 }
-    ensures serves { Tells result.end turns (λ ended. LeavesServing K.content K.faults LinkPolicy.Stop no_extension K.follows K.leaves longest turns keeper ended result.left
+    ensures serves { Tells result.end turns
+        (λ ended. LeavesServing K.content K.faults LinkPolicy.Stop no_extension K.follows K.leaves longest turns keeper ended result.left
         (clock_told C.floor C.readings C.reads clock.old) (clock_told C.floor C.readings C.reads clock.new)
         (link_told L.sent L.waiting L.faults L.receives link.old)
         (link_told L.sent L.waiting L.faults L.receives link.new))

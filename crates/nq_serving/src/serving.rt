@@ -47,7 +47,8 @@ pub fn keep_serving<K: Keeper, L: Link, C: Clock, W: Watcher<L> + Extension>(
     requires few { turns < 2 ^ 60 }
     requires long { 5 ≤ longest }
     requires short { longest ≤ 600 }
-    ensures serves { LeavesServing K.content K.faults LinkPolicy.GoOn (extension_told W.owns W.replies) K.follows K.leaves longest turns keeper result.end result.left
+    ensures serves { LeavesServing K.content K.faults LinkPolicy.GoOn
+        (extension_told W.owns W.replies) K.follows K.leaves longest turns keeper result.end result.left
         (clock_told C.floor C.readings C.reads clock.old) (clock_told C.floor C.readings C.reads clock.new)
         (link_told L.sent L.waiting L.faults L.receives link.old)
         (link_told L.sent L.waiting L.faults L.receives link.new) }

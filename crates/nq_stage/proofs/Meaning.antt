@@ -1,6 +1,6 @@
 -- What a packet that travels outside means: each STAGE and each body in the pool carries the body of its write, each COMMIT stands for a
 -- push that carries it, and all else that stands for an inner packet is that packet. What is sent has this meaning.
-use Rattle.std.proofs.Common.{◌≡◌, ◌<◌, ◌^◌, ℕ, zero, suc, ◌+◌, ◌==◌, Bool, true, false, List, [], ◌∷◌, ◌++◌, Option, Some, None, length, drop, map}
+use Rattle.std.proofs.Common.{◌≡◌, ◌<◌, ◌^◌, ℕ, zero, suc, ◌+◌, ◌==◌, Bool, true, false, List, [], ◌∷◌, ◌++◌, Option, Some, None, drop, map}
 use Rattle.std.proofs.Common.{refl, sym, subst, ap, ◌∙◌, arith}
 use Rattle.std.specs.Prelude.{slice_get, slice_set}
 use Rattle.nq_base.specs.declared.Event.{Event}
@@ -111,10 +111,6 @@ pub get-left : {X : Type 0} (xs ys : List X) (n : ℕ) (x : X) → slice_get xs 
 get-left [] ys n x e = none-some x e
 get-left (y ∷ xs) ys zero x e = e
 get-left (y ∷ xs) ys (suc n) x e = get-left xs ys n x e
-
-pub drop-all : {X : Type 0} (xs ys : List X) → drop (length xs) (xs ++ ys) ≡ ys
-drop-all [] ys = refl
-drop-all (x ∷ xs) ys = drop-all xs ys
 
 pub drop-head : {X : Type 0} (xs : List X) (n : ℕ) (y : X) (ys : List X) → drop n xs ≡ y ∷ ys → slice_get xs n ≡ Some y
 drop-head [] zero y ys e = absurd cc

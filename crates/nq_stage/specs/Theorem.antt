@@ -30,7 +30,7 @@ OffersStoreNothing = (o : Outside) (host : ℕ) → (outside_step o (StagedEvent
 -- a call that writes brings a block of 4096 bytes, and the numbers of its file and of its block are words
 abbrev pub BringsBlock : Call → Type 0
 BringsBlock (Call.Write file block body) = (file < 2 ^ 32) × (block < 2 ^ 32) × (length body ≡ 4096)
-BringsBlock (Call.WriteSync file block body) = (file < 2 ^ 32) × (block < 2 ^ 32) × (length body ≡ 4096)
+BringsBlock (Call.Put file block body) = (file < 2 ^ 32) × (block < 2 ^ 32) × (length body ≡ 4096)
 BringsBlock other = Unit {0}
 
 -- so does an event that is a call

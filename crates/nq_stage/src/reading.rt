@@ -3,7 +3,8 @@
 ghost use Rattle.std.specs.Prelude.{◌≡◌, length, option_copied, IfOk, IfSome};
 ghost use Rattle.nq_xdr.specs.Lent.{lent_message, lent_outcome};
 ghost use Rattle.nq_stage.specs.Lent.{lent_call, lent_stage, lent_stages};
-ghost use Rattle.nq_stage.specs.Reading.{base_at, body_at, call_as, call_in, commit_at, commit_in, end_at, front_at, is_unstaged_in, pushed_of, push_at, push_in, results_in, results_of, stage_at, stage_in, staged_at, unstaged_at, verifier_in, written_at};
+ghost use Rattle.nq_stage.specs.Reading.{base_at, body_at, call_as, call_in, commit_at, commit_in, end_at, front_at, is_unstaged_in, pushed_of, push_at};
+ghost use Rattle.nq_stage.specs.Reading.{push_in, results_in, results_of, stage_at, stage_in, staged_at, unstaged_at, verifier_in, written_at};
 ghost use Rattle.nq_xdr.specs.Reading.{Gives};
 
 use crate::messages::{

@@ -2,7 +2,8 @@
 
 ghost use Rattle.std.specs.Prelude.{◌≡◌, ℕ, ◌+◌, ◌≤◌, List, ◌++◌, length, IfOk, OnOk};
 ghost use Rattle.nq_xdr.specs.Message.{call_with, null, reply_with, spelling};
-ghost use Rattle.nq_stage.specs.Messages.{commit_bytes, head_of, pushed_bytes, stage_bytes, staged_bytes, unstaged_bytes, write_bytes, written_bytes, IsFront, IsPushed, IsWritten};
+ghost use Rattle.nq_stage.specs.Messages.{commit_bytes, head_of, pushed_bytes, stage_bytes, staged_bytes, unstaged_bytes, write_bytes, written_bytes, IsFront};
+ghost use Rattle.nq_stage.specs.Messages.{IsPushed, IsWritten};
 
 use crate::messages::{COMMIT_PROCEDURE, Pushed, STAGE_PROCEDURE, UNSTAGED_STATUS, Written};
 use nq_base::{Block, NoMemory};

@@ -22,7 +22,7 @@ use Rattle.nq_staged.proofs.Sending.{there}
 use Rattle.nq_staged.specs.Around.{once_sent, over}
 use Rattle.nq_staged.specs.Worlds.{IsLeft, IsReady, IsTested, Leads, Reaches, RunsInner, StagedOver, stepped_outside}
 use Rattle.nq_staged.specs.Taking.{IsTakenIn}
-use Rattle.nq_staged.specs.declared.commit.taking.Taken.{Taken}
+use Rattle.nq_staged.specs.declared.commit.taking.PacketTaken.{PacketTaken}
 
 -- ---- an event of the inner world
 
@@ -61,15 +61,15 @@ delivers-some o n p is = ap (delivers o) is
 pub delivered-beside : {K : Type 0} (head : Head) (events : List StagedEvent) (n : ℕ) (old new : StagedOver K) (told : Option Kept) → IsReady old
     → Reaches head events old told
     → new.inner ≡ old.inner → new.ran ≡ old.ran → n < length old.around.sent
-    → IfSome (slice_get old.around.sent n) (λ p. IsTakenIn Taken.Beside p.stands old.around new.around (λ w ran. takes (over w ran old.around) p p.to))
+    → IfSome (slice_get old.around.sent n) (λ p. IsTakenIn PacketTaken.Beside p.stands old.around new.around (λ w ran. takes (over w ran old.around) p p.to))
     → IsLeft (stepped_outside head events (StagedEvent.Plain (Event.Deliver n)))
     → (stepped_outside head events (StagedEvent.Plain (Event.Deliver n)) ≡ done) × Reaches head (StagedEvent.Plain (Event.Deliver n) ∷ events) new told
 delivered-beside head events n old new told ready r inner ran less taken left =
     let x = there old.around.sent n less in
     let rn = reverse old.ran in
     let v = run head rn in
-    let is : IsTakenIn Taken.Beside x.0.stands old.around new.around (λ w ran. takes (over w ran old.around) x.0 x.0.to) =
-    subst (λ o. IfSome o (λ p. IsTakenIn Taken.Beside p.stands old.around new.around (λ w ran. takes (over w ran old.around) p p.to))) x.1 taken in (
+    let is : IsTakenIn PacketTaken.Beside x.0.stands old.around new.around (λ w ran. takes (over w ran old.around) x.0 x.0.to) =
+    subst (λ o. IfSome o (λ p. IsTakenIn PacketTaken.Beside p.stands old.around new.around (λ w ran. takes (over w ran old.around) p p.to))) x.1 taken in (
       deliver-done head events n left,
       reaches-beside head events (StagedEvent.Plain (Event.Deliver n)) old new told ready r inner ran is.0
           (is.1 v rn ∙ sym (delivers-some (over v rn old.around) n x.0 x.1))
@@ -79,18 +79,18 @@ delivered-beside head events n old new told ready r inner ran less taken left =
 pub delivered-memory : {K : Type 0} (head : Head) (events : List StagedEvent) (n : ℕ) (old new : StagedOver K) (told : Option Kept)
     → Reaches head events old told
     → new.inner ≡ old.inner → new.ran ≡ old.ran → n < length old.around.sent
-    → IfSome (slice_get old.around.sent n) (λ p. IsTakenIn Taken.Memory p.stands old.around new.around (λ w ran. takes (over w ran old.around) p p.to))
+    → IfSome (slice_get old.around.sent n) (λ p. IsTakenIn PacketTaken.Memory p.stands old.around new.around (λ w ran. takes (over w ran old.around) p p.to))
     → Reaches head events new told
 delivered-memory head events n old new told r inner ran less taken =
     let x = there old.around.sent n less in
-    let is : new.around ≡ old.around = subst (λ o. IfSome o (λ p. IsTakenIn Taken.Memory p.stands old.around new.around
+    let is : new.around ≡ old.around = subst (λ o. IfSome o (λ p. IsTakenIn PacketTaken.Memory p.stands old.around new.around
     (λ w ran. takes (over w ran old.around) p p.to))) x.1 taken in
     reaches-same head events old new told told r (subst (λ i. Plays head (reverse old.ran) i told) (sym inner) r.inner) ran is
 
 pub delivered-inner : {K : Type 0} (head : Head) (events : List StagedEvent) (n k : ℕ) (commit : Bool) (said : Stepped) (old mid new : StagedOver K)
     (told tells : Option Kept) → IsReady old → Reaches head events old told
     → n < length old.around.sent
-    → IfSome (slice_get old.around.sent n) (λ p. IsTakenIn (Taken.Inner k commit) p.stands old.around mid.around
+    → IfSome (slice_get old.around.sent n) (λ p. IsTakenIn (PacketTaken.Inner k commit) p.stands old.around mid.around
     (λ w ran. takes (over w ran old.around) p p.to))
     → mid ≡ record old { around = mid.around }
     → IsLeft (stepped_outside head events (StagedEvent.Plain (Event.Deliver n)))
@@ -100,8 +100,8 @@ delivered-inner head events n k commit said old mid new told tells ready r less 
     let x = there old.around.sent n less in
     let rn = reverse old.ran in
     let v = run head rn in
-    let is : IsTakenIn (Taken.Inner k commit) x.0.stands old.around mid.around (λ w ran. takes (over w ran old.around) x.0 x.0.to) =
-    subst (λ o. IfSome o (λ p. IsTakenIn (Taken.Inner k commit) p.stands old.around mid.around (λ w ran. takes (over w ran old.around) p p.to))) x.1 taken in
+    let is : IsTakenIn (PacketTaken.Inner k commit) x.0.stands old.around mid.around (λ w ran. takes (over w ran old.around) x.0 x.0.to) =
+    subst (λ o. IfSome o (λ p. IsTakenIn (PacketTaken.Inner k commit) p.stands old.around mid.around (λ w ran. takes (over w ran old.around) p p.to))) x.1 taken in
     let all : mid ≡ old = same ∙ ap (λ a. record old { around = a }) is.0 in
     let back = subst (λ m. Plays head (reverse m.ran) m.inner told → RunsInner head (Event.Deliver k) commit said m new told tells) all runs in
     let sent : slice_get (outside_run head events).sent n ≡ Some x.0 = subst (λ (o : Outside). slice_get o.sent n ≡ Some x.0)

@@ -234,25 +234,6 @@ inner-leads head events event e commit (Stepped.Limit limit) old new told tells 
 
 -- ---- sending what is due
 
-pub settled-plays : {K : Type 0} (head : Head) (events : List StagedEvent) (w : StagedOver K) (a : AroundOver) (told : Option Kept)
-    → ((v : World) (ran : List Event) → w.inner.datagrams ≡ map datagram v.packets → shown v ran a ≡ shown v ran w.around)
-    → (w.around.gone ≤ length w.inner.datagrams → a.gone ≤ length w.inner.datagrams)
-    → PlaysOutside head events w told → PlaysOutside head events (record w { around = a }) told
-settled-plays head events w a told same gone p =
-    let r = p.reaches in
-    let v = run head (reverse w.ran) in
-    record {
-      reaches = record {
-        inner = r.inner;
-        shows = same v (reverse w.ran) r.inner.shown.shows.datagrams ∙ r.shows;
-        gone = gone r.gone;
-        schedule =
-            r.schedule;
-        faithful = r.faithful;
-      };
-      counted = p.counted;
-    }
-
 -- ---- the counts
 
 counts-as : (o : Outside) (number host : ℕ) (p : Packet) (side : Side) (short : Option (Pushed × ℕ)) → (sends_as o number host p side short).counts ≡ o.counts

@@ -8,7 +8,7 @@ use Rattle.nq_base.specs.declared.Party.{Party}
 use Rattle.nq_base.specs.declared.Push.{Push}
 use Rattle.nq_model.specs.protocol.Client.{Client}
 use Rattle.nq_model.specs.protocol.World.{World}
-use Rattle.nq_stage.specs.Answering.{own_commit, own_stage, staged}
+use Rattle.nq_stage.specs.Answering.{own_stage, staged}
 use Rattle.nq_stage.specs.Bodies.{Bodies}
 use Rattle.nq_stage.specs.declared.Written.{Written}
 use Rattle.nq_stage.specs.Reading.{Stage}
@@ -16,17 +16,11 @@ use Rattle.nq_stage.specs.Hearing.{acknowledged}
 use Rattle.nq_stage.specs.Offering.{body_among, first_unknown, offer_of, offered}
 use Rattle.nq_stage.specs.Staged.{Staged}
 use Rattle.nq_stage.specs.Outer.{Outer, Side, Outside}
-use Rattle.nq_stage.specs.Outside.{beside, offers, offers_body, sends_stage, served_commit, served_stage, takes_stage}
+use Rattle.nq_stage.specs.Outside.{beside, offers, offers_body, sends_stage, served_stage, takes_stage}
 use Rattle.nq_staged.specs.Around.{AroundOver, offers_at, once_sent, over, side_offers, side_offers_as}
-use Rattle.nq_staged.specs.Taking.{IsTakenIn, Leading}
-use Rattle.nq_staged.specs.declared.commit.taking.Taken.{Taken}
+use Rattle.nq_staged.specs.Taking.{IsTakenIn}
+use Rattle.nq_staged.specs.declared.commit.taking.PacketTaken.{PacketTaken}
 use Rattle.nq_staged.proofs.Sending.{set-same}
-
-pub leads-same : (r : Taken) (stands : Option ℕ) (old new : AroundOver) (leads leads' : Leading) → ((w : World) (ran : List Event) → leads w ran
-    ≡ leads' w ran) → IsTakenIn r stands old new leads → IsTakenIn r stands old new leads'
-leads-same Taken.Beside stands old new leads leads' same is = (is.0, λ w ran. is.1 w ran ∙ same w ran)
-leads-same (Taken.Inner number commit) stands old new leads leads' same is = (is.0, is.1, λ w ran. is.2 w ran ∙ same w ran)
-leads-same Taken.Memory stands old new leads leads' same is = is
 
 -- ---- STAGE
 
@@ -39,7 +33,7 @@ stage-as o host p (Some s) reply pool is =
 
 pub stage_taken : (a : AroundOver) (host : ℕ) (p : Outer) (reply : List ℕ) (pool : Bodies) → option_map (staged a.pool) (own_stage host p.bytes)
     ≡ Some (reply, pool)
-    → IsTakenIn Taken.Beside p.stands a (record a {
+    → IsTakenIn PacketTaken.Beside p.stands a (record a {
       pool = pool;
       counts = record a.counts { staged = a.counts.staged + 1 };
       due = Some (beside Party.Server (Party.Client host) reply);
@@ -47,14 +41,6 @@ pub stage_taken : (a : AroundOver) (host : ℕ) (p : Outer) (reply : List ℕ) (
     (λ w ran. served_stage (over w ran a) host p (own_stage host p.bytes))
 unfolding takes_stage
 stage_taken a host p reply pool is = (refl, λ w ran. stage-as (over w ran a) host p (own_stage host p.bytes) reply pool is)
-
--- what is no STAGE
-pub no-stage : (r : Taken) (old new : AroundOver) (host : ℕ) (p : Outer) → own_stage host p.bytes ≡ None
-    → IsTakenIn r p.stands old new (λ w ran. served_commit (over w ran old) host p (own_commit host p.bytes))
-    → IsTakenIn r p.stands old new (λ w ran. served_stage (over w ran old) host p (own_stage host p.bytes))
-no-stage r old new host p none is =
-    leads-same r p.stands old new (λ w ran. served_commit (over w ran old) host p (own_commit host p.bytes)) (λ w ran. served_stage (over w ran old)
-    host p (own_stage host p.bytes)) (λ w ran. ap (served_stage (over w ran old) host p) (sym none)) is
 
 -- ---- COMMIT
 

@@ -136,7 +136,8 @@ fn tell<L: Keeper, K: Sink>(
     requires version { head.now.version ≡ 2 }
     requires reason { HasReason played }
     requires told { played ≡ Played.All → IsTold head.now world.now (L.content world.now.inner.server.keeper) }
-    ensures ends { (due : Ended (List StagedEvent)) → Comes played due (λ events. PlaysOutside (beginning head.now) events world.now (L.content world.now.inner.server.keeper))
+    ensures ends { (due : Ended (List StagedEvent))
+        → Comes played due (λ events. PlaysOutside (beginning head.now) events world.now (L.content world.now.inner.server.keeper))
         → EndsStagedPlayed result head.now due (K.held out.old) (K.held out.new) (K.faults out.old) (K.faults out.new) }
     ensures sink { CountsSink result (K.faults out.old) (K.faults out.new) }
 {

@@ -57,7 +57,8 @@ fn load_behind<D: Disk>(
 /// What is in an image of version 2, whose record is closed and whose first bytes were read.
 pub(crate) fn load<D: Disk>(disk: &mut D, alloc: Global, head: &[u8]) -> Result<Tables, Fault>
     requires { length head.now ≡ 28672 }
-    ensures told { ForSome (D.told disk.old) (λ bytes. IsShut (D.may_leave disk.old) bytes → IsHeadOf bytes head.now → OpensTables result bytes (D.told disk.new) (D.may_leave disk.new)) }
+    ensures told { ForSome (D.told disk.old) (λ bytes. IsShut (D.may_leave disk.old) bytes → IsHeadOf bytes head.now
+        → OpensTables result bytes (D.told disk.new) (D.may_leave disk.new)) }
     ensures asked { OnlyAsked D.told D.follows D.may_leave D.leaves disk.old disk.new }
     ensures cause { CountsFault result (D.faults disk.old) (D.faults disk.new) }
 {

@@ -50,7 +50,8 @@ fn write_tables<D: Disk>(
     ensures written { OnOk result (ForSome (D.told disk.old) (λ old. D.told disk.new ≡ Some (tabled (place_of_block tables) 0 slots.now old))) }
     ensures cause { CountsWriting result (D.faults disk.old) (D.faults disk.new) }
     ensures follows { D.follows disk.old disk.new }
-    ensures below { ForSome (D.told disk.old) (λ old. Only old (D.may_leave disk.old) → place_of_block tables ≤ length old → Each (D.leaves disk.old disk.new) (SameBelow (place_of_block tables) old)) }
+    ensures below { ForSome (D.told disk.old) (λ old. Only old (D.may_leave disk.old) → place_of_block tables ≤ length old
+        → Each (D.leaves disk.old disk.new) (SameBelow (place_of_block tables) old)) }
 {
     let mut first = 0;
     let mut place = block_place(tables);
@@ -71,7 +72,8 @@ fn prepare<D: Disk>(disk: &mut D, alloc: Global, slots: &[Option<Slot>]) -> Resu
     ensures written { OnOk result (ForSome (D.told disk.old) (λ old. D.told disk.new ≡ Some (prepared slots.now old))) }
     ensures cause { CountsWriting result (D.faults disk.old) (D.faults disk.new) }
     ensures follows { D.follows disk.old disk.new }
-    ensures below { ForSome (D.told disk.old) (λ old. Only old (D.may_leave disk.old) → place_of_block (blocks_at_all slots.now) ≤ length old → Each (D.leaves disk.old disk.new) (SameBelow (place_of_block (blocks_at_all slots.now)) old)) }
+    ensures below { ForSome (D.told disk.old) (λ old. Only old (D.may_leave disk.old) → place_of_block (blocks_at_all slots.now) ≤ length old
+        → Each (D.leaves disk.old disk.new) (SameBelow (place_of_block (blocks_at_all slots.now)) old)) }
 {
     let tables = blocks_in(slots);
     write_tables(disk, alloc, slots, tables)?;
@@ -84,7 +86,8 @@ fn prepare<D: Disk>(disk: &mut D, alloc: Global, slots: &[Option<Slot>]) -> Resu
 #[tactic(auto, unfolding(nq_image::specs::Writing::heads_bytes))]
 fn spell_numbers(alloc: Global, boots: Boots, files: u32, tables: u32) -> Result<Vec<u8>, NoMemory>
     requires { files ≤ 256 }
-    ensures numbers { IfOk result (λ bytes. (found : FoundOne) → found.boots ≡ boots → files_at found.rows.slots ≡ files → blocks_at_all found.rows.slots ≡ tables → bytes.items ≡ numbers_then found) }
+    ensures numbers { IfOk result (λ bytes. (found : FoundOne) → found.boots ≡ boots → files_at found.rows.slots ≡ files
+        → blocks_at_all found.rows.slots ≡ tables → bytes.items ≡ numbers_then found) }
     ensures size { IfOk result (λ bytes. length bytes.items ≡ 21) }
 {
     let heads = Heads {
@@ -118,10 +121,13 @@ fn batch_of(alloc: Global, boots: Boots, slots: &[Option<Slot>]) -> Result<Batch
 fn finish<D: Disk>(redo: &mut Redo<D>, batch: &Batch) -> Result<(), Fault>
     requires { redo.old.area ≡ image_area }
     ensures area { redo.new.area ≡ image_area }
-    ensures settled { OnOk result (ForSome (D.told redo.old.disk) (λ mid. Each (D.may_leave redo.old.disk) (IsClosed image_area) → IsFit image_area (length mid) batch.now → Settled image_area (after image_area batch.now mid) (D.told redo.new.disk) (D.may_leave redo.new.disk))) }
+    ensures settled { OnOk result (ForSome (D.told redo.old.disk) (λ mid. Each (D.may_leave redo.old.disk) (IsClosed image_area)
+        → IsFit image_area (length mid) batch.now → Settled image_area (after image_area batch.now mid) (D.told redo.new.disk) (D.may_leave redo.new.disk))) }
     ensures cause { CountsWriting result (D.faults redo.old.disk) (D.faults redo.new.disk) }
     ensures follows { D.follows redo.old.disk redo.new.disk }
-    ensures whole { ForSome (D.told redo.old.disk) (λ mid. Each (D.may_leave redo.old.disk) (IsClosed image_area) → IsFit image_area (length mid) batch.now → Each (D.leaves redo.old.disk redo.new.disk) (λ image. OpensAsOne image_area (D.may_leave redo.old.disk) image ⊎ OpensAfter image_area batch.now mid image)) }
+    ensures whole { ForSome (D.told redo.old.disk) (λ mid. Each (D.may_leave redo.old.disk) (IsClosed image_area) → IsFit image_area (length mid) batch.now
+        → Each (D.leaves redo.old.disk redo.new.disk) (λ image. OpensAsOne image_area (D.may_leave redo.old.disk) image
+        ⊎ OpensAfter image_area batch.now mid image)) }
 {
     redo.disk.sync()?;
     redo.apply(batch)?;
@@ -138,10 +144,12 @@ fn rewrite<D: Disk>(
     requires area { redo.old.area ≡ image_area }
     requires sized { IsSized slots.now }
     ensures area { redo.new.area ≡ image_area }
-    ensures migrated { OnOk result (ForSome (D.told redo.old.disk) (λ old. (found : FoundOne) → IsFoundIn boots slots.now found → IsOldImage found (D.may_leave redo.old.disk) old → IsMigrated old (D.told redo.new.disk) (D.may_leave redo.new.disk))) }
+    ensures migrated { OnOk result (ForSome (D.told redo.old.disk) (λ old. (found : FoundOne) → IsFoundIn boots slots.now found
+        → IsOldImage found (D.may_leave redo.old.disk) old → IsMigrated old (D.told redo.new.disk) (D.may_leave redo.new.disk))) }
     ensures cause { CountsWriting result (D.faults redo.old.disk) (D.faults redo.new.disk) }
     ensures follows { D.follows redo.old.disk redo.new.disk }
-    ensures leaves { ForSome (D.told redo.old.disk) (λ old. (found : FoundOne) → IsFoundIn boots slots.now found → IsOldImage found (D.may_leave redo.old.disk) old → LeavesSameKept old (D.leaves redo.old.disk redo.new.disk)) }
+    ensures leaves { ForSome (D.told redo.old.disk) (λ old. (found : FoundOne) → IsFoundIn boots slots.now found
+        → IsOldImage found (D.may_leave redo.old.disk) old → LeavesSameKept old (D.leaves redo.old.disk redo.new.disk)) }
 {
     let batch = batch_of(alloc, boots, slots)?;
     prepare(&mut redo.disk, alloc, slots)?;
@@ -154,8 +162,10 @@ pub(crate) fn migrate<D: Disk>(redo: &mut Redo<D>, alloc: Global, head: &[u8]) -
     requires area { redo.old.area ≡ image_area }
     requires size { length head.now ≡ 28672 }
     ensures area { redo.new.area ≡ image_area }
-    ensures migrates { ForSome (D.told redo.old.disk) (λ bytes. IsOld head.now (D.may_leave redo.old.disk) bytes → Migrates result bytes (D.told redo.new.disk) (D.may_leave redo.new.disk)) }
-    ensures leaves { ForSome (D.told redo.old.disk) (λ bytes. IsOld head.now (D.may_leave redo.old.disk) bytes → LeavesSameKept bytes (D.leaves redo.old.disk redo.new.disk)) }
+    ensures migrates { ForSome (D.told redo.old.disk) (λ bytes. IsOld head.now (D.may_leave redo.old.disk) bytes
+        → Migrates result bytes (D.told redo.new.disk) (D.may_leave redo.new.disk)) }
+    ensures leaves { ForSome (D.told redo.old.disk) (λ bytes. IsOld head.now (D.may_leave redo.old.disk) bytes
+        → LeavesSameKept bytes (D.leaves redo.old.disk redo.new.disk)) }
     ensures cause { CountsFault result (D.faults redo.old.disk) (D.faults redo.new.disk) }
     ensures follows { D.follows redo.old.disk redo.new.disk }
 {

@@ -55,12 +55,14 @@ fn is_named<D: Disk>(disk: &mut D, alloc: Global) -> Result<bool, Fault>
 /// A disk that begins as an image, with its record closed; what its record said is written.
 fn open_named<D: Disk>(disk: D, alloc: Global) -> Result<Redo<D>, OpenFault<D>>
     ensures area { IfOk result (λ redo. redo.area ≡ image_area) }
-    ensures shut { ForSome (D.told disk) (λ bytes. begins_as_image bytes ≡ true → IfOk result (λ redo. IsShutAs bytes (D.told redo.disk) (D.may_leave redo.disk))) }
+    ensures shut { ForSome (D.told disk) (λ bytes. begins_as_image bytes ≡ true
+        → IfOk result (λ redo. IsShutAs bytes (D.told redo.disk) (D.may_leave redo.disk))) }
     ensures wrong { ForSome (D.told disk) (λ bytes. begins_as_image bytes ≡ true → SaysWrong result (D.told disk)) }
     ensures stays { ForSome (D.told disk) (λ bytes. begins_as_image bytes ≡ true → StaysRefused D.told result bytes) }
     ensures cause { AnswersOpen (λ redo. redo.disk) D.faults result disk }
     ensures follows { FollowsOpen (λ redo. redo.disk) D.follows result disk }
-    ensures leaves { ForSome (D.told disk) (λ bytes. begins_as_image bytes ≡ true → Only bytes (D.may_leave disk) → LeavesSameKept bytes (D.leaves disk (disk_of (λ redo. redo.disk) result))) }
+    ensures leaves { ForSome (D.told disk) (λ bytes. begins_as_image bytes ≡ true → Only bytes (D.may_leave disk)
+        → LeavesSameKept bytes (D.leaves disk (disk_of (λ redo. redo.disk) result))) }
 {
     match Redo::open(alloc, disk, AREA) {
         Ok(redo) => Ok(redo),
@@ -104,7 +106,8 @@ fn read_head<D: Disk>(disk: &mut D, alloc: Global) -> Result<Vec<u8>, Fault>
 
 /// What is in an image that was migrated.
 fn load_migrated<D: Disk>(disk: &mut D, alloc: Global) -> Result<Tables, Fault>
-    ensures told { ForSome (D.told disk.old) (λ bytes. IsShut (D.may_leave disk.old) bytes → slice_index bytes 7 ≡ 50 → OpensTables result bytes (D.told disk.new) (D.may_leave disk.new)) }
+    ensures told { ForSome (D.told disk.old) (λ bytes. IsShut (D.may_leave disk.old) bytes → slice_index bytes 7 ≡ 50
+        → OpensTables result bytes (D.told disk.new) (D.may_leave disk.new)) }
     ensures asked { OnlyAsked D.told D.follows D.may_leave D.leaves disk.old disk.new }
     ensures cause { CountsFault result (D.faults disk.old) (D.faults disk.new) }
 {
@@ -117,11 +120,13 @@ fn load_old<D: Disk>(redo: &mut Redo<D>, alloc: Global, head: &[u8]) -> Result<T
     requires area { redo.old.area ≡ image_area }
     requires size { length head.now ≡ 28672 }
     ensures area { redo.new.area ≡ image_area }
-    ensures told { ForSome (D.told redo.old.disk) (λ bytes. IsOld head.now (D.may_leave redo.old.disk) bytes → OpensTables result bytes (D.told redo.new.disk) (D.may_leave redo.new.disk)) }
+    ensures told { ForSome (D.told redo.old.disk) (λ bytes. IsOld head.now (D.may_leave redo.old.disk) bytes
+        → OpensTables result bytes (D.told redo.new.disk) (D.may_leave redo.new.disk)) }
     ensures stays { ForSome (D.told redo.old.disk) (λ bytes. IsOld head.now (D.may_leave redo.old.disk) bytes → StaysAs result bytes (D.told redo.new.disk)) }
     ensures cause { CountsFault result (D.faults redo.old.disk) (D.faults redo.new.disk) }
     ensures follows { D.follows redo.old.disk redo.new.disk }
-    ensures leaves { ForSome (D.told redo.old.disk) (λ bytes. IsOld head.now (D.may_leave redo.old.disk) bytes → LeavesSameKept bytes (D.leaves redo.old.disk redo.new.disk)) }
+    ensures leaves { ForSome (D.told redo.old.disk) (λ bytes. IsOld head.now (D.may_leave redo.old.disk) bytes
+        → LeavesSameKept bytes (D.leaves redo.old.disk redo.new.disk)) }
 {
     migrate(redo, alloc, head)?;
     load_migrated(&mut redo.disk, alloc)
@@ -140,11 +145,14 @@ fn load_any<D: Disk>(redo: &mut Redo<D>, alloc: Global, head: &[u8]) -> Result<T
     requires area { redo.old.area ≡ image_area }
     requires size { length head.now ≡ 28672 }
     ensures area { redo.new.area ≡ image_area }
-    ensures told { ForSome (D.told redo.old.disk) (λ bytes. IsShut (D.may_leave redo.old.disk) bytes → head.now ≡ piece 0 28672 bytes → OpensTables result bytes (D.told redo.new.disk) (D.may_leave redo.new.disk)) }
-    ensures stays { ForSome (D.told redo.old.disk) (λ bytes. IsShut (D.may_leave redo.old.disk) bytes → head.now ≡ piece 0 28672 bytes → StaysAs result bytes (D.told redo.new.disk)) }
+    ensures told { ForSome (D.told redo.old.disk) (λ bytes. IsShut (D.may_leave redo.old.disk) bytes → head.now ≡ piece 0 28672 bytes
+        → OpensTables result bytes (D.told redo.new.disk) (D.may_leave redo.new.disk)) }
+    ensures stays { ForSome (D.told redo.old.disk) (λ bytes. IsShut (D.may_leave redo.old.disk) bytes → head.now ≡ piece 0 28672 bytes
+        → StaysAs result bytes (D.told redo.new.disk)) }
     ensures cause { CountsFault result (D.faults redo.old.disk) (D.faults redo.new.disk) }
     ensures follows { D.follows redo.old.disk redo.new.disk }
-    ensures leaves { ForSome (D.told redo.old.disk) (λ bytes. IsShut (D.may_leave redo.old.disk) bytes → head.now ≡ piece 0 28672 bytes → LeavesSameKept bytes (D.leaves redo.old.disk redo.new.disk)) }
+    ensures leaves { ForSome (D.told redo.old.disk) (λ bytes. IsShut (D.may_leave redo.old.disk) bytes → head.now ≡ piece 0 28672 bytes
+        → LeavesSameKept bytes (D.leaves redo.old.disk redo.new.disk)) }
 {
     match version_in(head) {
         None => Err(Fault::NotAnImage),
@@ -157,11 +165,13 @@ fn load_any<D: Disk>(redo: &mut Redo<D>, alloc: Global, head: &[u8]) -> Result<T
 pub(crate) fn open_tables<D: Disk>(redo: &mut Redo<D>, alloc: Global) -> Result<Tables, Fault>
     requires { redo.old.area ≡ image_area }
     ensures area { redo.new.area ≡ image_area }
-    ensures told { ForSome (D.told redo.old.disk) (λ bytes. IsShut (D.may_leave redo.old.disk) bytes → OpensTables result bytes (D.told redo.new.disk) (D.may_leave redo.new.disk)) }
+    ensures told { ForSome (D.told redo.old.disk) (λ bytes. IsShut (D.may_leave redo.old.disk) bytes
+        → OpensTables result bytes (D.told redo.new.disk) (D.may_leave redo.new.disk)) }
     ensures stays { ForSome (D.told redo.old.disk) (λ bytes. IsShut (D.may_leave redo.old.disk) bytes → StaysAs result bytes (D.told redo.new.disk)) }
     ensures cause { CountsFault result (D.faults redo.old.disk) (D.faults redo.new.disk) }
     ensures follows { D.follows redo.old.disk redo.new.disk }
-    ensures leaves { ForSome (D.told redo.old.disk) (λ bytes. IsShut (D.may_leave redo.old.disk) bytes → LeavesSameKept bytes (D.leaves redo.old.disk redo.new.disk)) }
+    ensures leaves { ForSome (D.told redo.old.disk) (λ bytes. IsShut (D.may_leave redo.old.disk) bytes
+        → LeavesSameKept bytes (D.leaves redo.old.disk redo.new.disk)) }
 {
     let head = read_head(&mut redo.disk, alloc)?;
     load_any(redo, alloc, &head)

@@ -14,7 +14,8 @@ ghost use Rattle.nq_plan.specs.Placing.{IsPlacedFor};
 ghost use Rattle.nq_plan.specs.Ranges.{ranges_of};
 ghost use Rattle.nq_store.specs.Laws.{goes-further, goes-itself, goes-rising, leaves-parts, may-leave, told-is-within};
 ghost use Rattle.nq_store.specs.Opening.{AnswersOpen, FollowsOpen, LeavesLike, SaysWrong, StaysRefused, disk_of};
-ghost use Rattle.nq_store.specs.Storing.{GoesOn, IsFresh, IsKept, IsSound, LeavesKept, StaysForMemory, after_asking, answered, content_of, faults_of, kept_told, space_in};
+ghost use Rattle.nq_store.specs.Storing.{GoesOn, IsFresh, IsKept, IsSound, LeavesKept, StaysForMemory, after_asking, answered, content_of, faults_of};
+ghost use Rattle.nq_store.specs.Storing.{kept_told, space_in};
 
 use crate::fault::OpenFault;
 use crate::opening::{open_record, open_tables};
@@ -174,7 +175,8 @@ impl<D: Disk + Drop> Store<D> {
         requires fits { ForSome (content_of D.told self.old) (λ kept. Fits kept change.now) }
         requires within { ForSome (content_of D.told self.old) (λ kept. IsChangeWithin kept change.now) }
         ensures memory { StaysForMemory result self.old self.new }
-        ensures commits { Commits result change.now (content_of D.told self.old) (content_of D.told self.new) (faults_of D.faults self.old) (faults_of D.faults self.new) }
+        ensures commits { Commits result change.now (content_of D.told self.old) (content_of D.told self.new) (faults_of D.faults self.old)
+            (faults_of D.faults self.new) }
         ensures follows { GoesOn D.faults D.follows self.old self.new }
         ensures leaves { LeavesTwo change.now (content_of D.told self.old) (LeavesKept (D.leaves self.old.disk self.new.disk)) }
     {
@@ -318,7 +320,8 @@ impl<D: Disk + Drop> Keeper for Store<D> {
         requires within { ForSome (content_of D.told self.old) (λ kept. IsChangeWithin kept change) }
 
         // As of any keeper.
-        ensures commits { Commits result change (content_of D.told self.old) (content_of D.told self.new) (faults_of D.faults self.old) (faults_of D.faults self.new) }
+        ensures commits { Commits result change (content_of D.told self.old) (content_of D.told self.new) (faults_of D.faults self.old)
+            (faults_of D.faults self.new) }
         ensures follows { GoesOn D.faults D.follows self.old self.new }
         ensures leaves { LeavesTwo change (content_of D.told self.old) (LeavesKept (D.leaves self.old.disk self.new.disk)) }
 

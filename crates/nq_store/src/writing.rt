@@ -61,7 +61,8 @@ fn write_zeros<D: Disk>(disk: &mut D, blocks: &[u32], zeros: &[u8]) -> Result<()
     ensures written { OnOk result (ForSome (D.told disk.old) (λ old. D.told disk.new ≡ Some (zeroed blocks.now old))) }
     ensures cause { Counts result (D.faults disk.old) (D.faults disk.new) }
     ensures follows { D.follows disk.old disk.new }
-    ensures still { ForSome (D.told disk.old) (λ old. (s : Standing) → IsReady s blocks.now (D.may_leave disk.old) old → Each (D.leaves disk.old disk.new) (StandsStill s old)) }
+    ensures still { ForSome (D.told disk.old) (λ old. (s : Standing) → IsReady s blocks.now (D.may_leave disk.old) old
+        → Each (D.leaves disk.old disk.new) (StandsStill s old)) }
 {
     for block in blocks {
         disk.write_at(block_place(*block), zeros)?;
@@ -80,10 +81,14 @@ pub(crate) fn carry_out<D: Disk>(
     requires area { redo.old.area ≡ image_area }
     requires zeros { zeros.now ≡ block_of_zeros }
     ensures area { redo.new.area ≡ image_area }
-    ensures settled { OnOk result (ForSome (D.told redo.old.disk) (λ old. (s : Standing) → IsReady s fresh.now (D.may_leave redo.old.disk) old → IsFit image_area (length (zeroed fresh.now old)) batch.now → Settled image_area (after image_area batch.now (zeroed fresh.now old)) (D.told redo.new.disk) (D.may_leave redo.new.disk))) }
+    ensures settled { OnOk result (ForSome (D.told redo.old.disk) (λ old. (s : Standing) → IsReady s fresh.now (D.may_leave redo.old.disk) old
+        → IsFit image_area (length (zeroed fresh.now old)) batch.now
+        → Settled image_area (after image_area batch.now (zeroed fresh.now old)) (D.told redo.new.disk) (D.may_leave redo.new.disk))) }
     ensures cause { Counts result (D.faults redo.old.disk) (D.faults redo.new.disk) }
     ensures follows { D.follows redo.old.disk redo.new.disk }
-    ensures whole { ForSome (D.told redo.old.disk) (λ old. (s : Standing) → IsReady s fresh.now (D.may_leave redo.old.disk) old → IsFit image_area (length (zeroed fresh.now old)) batch.now → Each (D.leaves redo.old.disk redo.new.disk) (OpensWhole s batch.now old (zeroed fresh.now old))) }
+    ensures whole { ForSome (D.told redo.old.disk) (λ old. (s : Standing) → IsReady s fresh.now (D.may_leave redo.old.disk) old
+        → IsFit image_area (length (zeroed fresh.now old)) batch.now
+        → Each (D.leaves redo.old.disk redo.new.disk) (OpensWhole s batch.now old (zeroed fresh.now old))) }
 {
     write_zeros(&mut redo.disk, fresh, zeros)?;
     redo.apply(batch)

@@ -41,7 +41,7 @@ can_come event w settings stormy = rw (settings.hosts_are, settings.longest_is) 
 -- what a storm writes is filled with a number
 pub filled_call : (call : Call) → WritesNumber call → IsFilledCall call
 filled_call (Call.Write file block body) writes = writes
-filled_call (Call.WriteSync file block body) writes = writes
+filled_call (Call.Put file block body) writes = writes
 filled_call other writes = tt
 
 pub filled_event : (event : Event) → IsStormy event → IsFilledEvent event

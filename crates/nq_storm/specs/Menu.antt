@@ -20,7 +20,7 @@ abbrev pub host_calls : (number : ℕ) → List Call
 host_calls number =
     map (λ b. Call.Read b.0 b.1) blocks
     ++ map (λ b. Call.Write b.0 b.1 (filled number)) blocks
-    ++ map (λ b. Call.WriteSync b.0 b.1 (filled number)) blocks
+    ++ map (λ b. Call.Put b.0 b.1 (filled number)) blocks
     ++ Call.Sync 1 ∷ Call.Sync 2 ∷ []
 
 -- the calls of all hosts, host by host
@@ -45,7 +45,7 @@ abbrev pub call_at : (number place : ℕ) → Call
 call_at number place =
     if nat_lt place 8 then Call.Read (1 + place % 8 / 4) (place % 4)
     else if nat_lt place 16 then Call.Write (1 + place % 8 / 4) (place % 4) (filled number)
-    else if nat_lt place 24 then Call.WriteSync (1 + place % 8 / 4) (place % 4) (filled number)
+    else if nat_lt place 24 then Call.Put (1 + place % 8 / 4) (place % 4) (filled number)
     else Call.Sync (place - 23)
 
 -- the call at a place among those of all hosts

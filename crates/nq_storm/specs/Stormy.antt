@@ -8,7 +8,7 @@ use Rattle.nq_base.specs.declared.Event.{Event}
 abbrev pub WritesNumber : Call → Type 0
 WritesNumber (Call.Read file block) = Unit {0}
 WritesNumber (Call.Write file block body) = (number : ℕ) × (number < 2 ^ 32) × (body ≡ filled number)
-WritesNumber (Call.WriteSync file block body) = (number : ℕ) × (number < 2 ^ 32) × (body ≡ filled number)
+WritesNumber (Call.Put file block body) = (number : ℕ) × (number < 2 ^ 32) × (body ≡ filled number)
 WritesNumber (Call.Sync file) = Unit {0}
 WritesNumber other = ⊥
 

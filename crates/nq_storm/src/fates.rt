@@ -14,4 +14,4 @@ pub use fate::{Fate, choose_event};
 pub use fates::{CutFate, HostileFate, LossyFate, SteadyFate};
 pub use menus::{event_at, menu_is_offered};
 pub use offers::Offer;
-pub use words::Words;
+pub use words::RandomWords;

@@ -8,7 +8,7 @@ ghost use Rattle.nq_storm.specs.Ending.{CountsFaults, Storms};
 ghost use Rattle.nq_storm.specs.Stormy.{IsStormy};
 ghost use Rattle.nq_world.specs.Playing.{HasSettings, Plays};
 
-use crate::fates::{Fate, Words};
+use crate::fates::{Fate, RandomWords};
 use crate::moments::pass_moment;
 use crate::stormed::Stormed;
 use nq_keeper::Keeper;
@@ -42,7 +42,7 @@ pub(crate) fn storm<K: Keeper>(
     ensures faults { CountsFaults result (K.faults world.old.server.keeper) (K.faults world.new.server.keeper) }
     ensures follows { K.follows world.old.server.keeper world.new.server.keeper }
 {
-    let mut words = Words::new(start);
+    let mut words = RandomWords::new(start);
     let mut delivered = Delivered::new(alloc);
     for earlier in 0..events {
         let word = words.draw();

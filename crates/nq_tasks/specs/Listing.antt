@@ -8,14 +8,14 @@ use Rattle.nq_directory.specs.Messages.{Answer, page, wait}
 use Rattle.nq_directory.specs.Reading.{told_in}
 use Rattle.nq_directory.specs.declared.listing.messages.ReadDir.{ReadDir}
 use Rattle.nq_directory.specs.declared.names.FileName.{FileName}
-use Rattle.nq_tasks.specs.declared.listing.Asked.{Asked}
+use Rattle.nq_tasks.specs.declared.listing.AskedPage.{AskedPage}
 use Rattle.nq_tasks.specs.declared.listing.Listed.{Listed}
 
 -- a list under way: how the names begin, the file behind which it goes on, the request for its next page, and its lines so far
 pub record Lists : Type 0 where
   pub prefix : List ℕ
   pub after : ℕ
-  pub asked : Option Asked
+  pub asked : Option AskedPage
   pub lines : List ℕ
 
 -- a list of which nothing came yet
@@ -23,7 +23,7 @@ abbrev pub begun : (prefix : List ℕ) → (after : ℕ) → Lists
 begun prefix after = record { prefix = prefix; after = after; asked = None; lines = [] }
 
 -- whether the next page is to be asked for: where none is asked for, or for 2 ticks
-abbrev pub is_due : (now : ℕ) → Option Asked → Bool
+abbrev pub is_due : (now : ℕ) → Option AskedPage → Bool
 is_due now None = true
 is_due now (Some asked) = nat_le 2 (now - asked.sent)
 
@@ -87,7 +87,7 @@ told None l = record { said = Listed.Goes; lists = l }
 told (Some answer) l = heard answer l
 
 -- the same, where something was asked
-abbrev pub taken_for : Option Asked → Who → (datagram : List ℕ) → Lists → ListStep
+abbrev pub taken_for : Option AskedPage → Who → (datagram : List ℕ) → Lists → ListStep
 taken_for None who datagram l = told None l
 taken_for (Some asked) who datagram l = told (told_in asked.number who.inc datagram) l
 

@@ -5,7 +5,7 @@ use Rattle.nq_base.specs.Steps.{◌>>=◌}
 use Rattle.nq_base.specs.declared.Who.{Who}
 use Rattle.nq_script.specs.WordsReading.{name_of, word_at, words_of}
 use Rattle.nq_tasks.specs.declared.work.Came.{Came}
-use Rattle.nq_tasks.specs.declared.work.Reply.{Reply}
+use Rattle.nq_tasks.specs.declared.work.AskReply.{AskReply}
 
 -- who asked, and the number of the ask
 pub record Asked : Type 0 where
@@ -17,7 +17,7 @@ abbrev pub nobodys : Asked
 nobodys = record { place = 18446744073709551615; number = 0 }
 
 -- an answer goes to whoever asked, with the number of the ask
-pub record IsOf (asked : Asked) (reply : Reply) : Type 0 where
+pub record IsOf (asked : Asked) (reply : AskReply) : Type 0 where
   pub place : reply.place ≡ asked.place
   pub number : reply.number ≡ asked.number
 

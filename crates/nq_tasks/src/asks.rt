@@ -4,7 +4,7 @@ ghost use Rattle.std.specs.Prelude.{◌≡◌, IfSome};
 ghost use Rattle.nq_tasks.specs.Work.{own_name, stored_name};
 
 use nq_base::{Name, Who};
-use nq_script::words::{Words, is, name};
+use nq_script::words::{WordCursor, is, name};
 use std::alloc::Global;
 
 /// What somebody asks: the words of a line and, where they say that a whole file is stored, its bytes.
@@ -32,7 +32,7 @@ pub struct Made {
 pub fn name_stored(text: &[u8]) -> Option<Name>
     ensures { result ≡ stored_name text.now }
 {
-    let mut words = Words::new(text);
+    let mut words = WordCursor::new(text);
     let verb = words.next()?;
     if !is(verb, b"store") {
         return None;

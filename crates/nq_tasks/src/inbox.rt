@@ -6,7 +6,7 @@ ghost use Rattle.nq_tasks.specs.Inbox.{TakesOut};
 use crate::asks::Ask;
 use nq_asks::{Numbers, ask_in};
 use nq_base::NoMemory;
-use nq_script::words::{Words, cut, is};
+use nq_script::words::{WordCursor, cut, is};
 use nq_whole::MOST_BYTES;
 use std::alloc::Global;
 use std::marker::Model;
@@ -16,7 +16,7 @@ const MOST_LINE: usize = 1024;
 
 /// What is taken out of what came.
 #[derive(Drop)]
-pub enum Taken {
+pub enum AskTaken {
     /// An ask.
     Ask(Ask),
     /// No ask is there yet, or one that came again and is left out.
@@ -43,7 +43,7 @@ impl Model for Inbox {
 
 /// How many bytes follow a line: as many as the third word of `store NAME SIZE` says. None where those are too many.
 fn bytes_behind(text: &[u8]) -> Option<usize> {
-    let mut words = Words::new(text);
+    let mut words = WordCursor::new(text);
     let verb = words.next().unwrap_or(b"");
     if !is(verb, b"store") {
         return Some(0);
@@ -108,31 +108,31 @@ impl Inbox {
     }
 
     /// Takes the next ask out, if all of it has come. One whose number is not above all before it is left out, so none is carried out twice.
-    pub fn next(&mut self) -> Taken
+    pub fn next(&mut self) -> AskTaken
         ensures { TakesOut result self.old self.new }
     {
-        match self.take() {
+        match self.take_ask() {
             Ok(Some(ask)) => self.admit(ask),
-            Ok(None) => Taken::Nothing,
-            Err(_) => Taken::Wrong,
+            Ok(None) => AskTaken::Nothing,
+            Err(_) => AskTaken::Wrong,
         }
     }
 
     /// Lets an ask pass whose number is above all before it.
     #[tactic(auto, using(crate::proofs::Numbering::risen, crate::proofs::Numbering::not_lower))]
-    fn admit(&mut self, ask: Ask) -> Taken
+    fn admit(&mut self, ask: Ask) -> AskTaken
         ensures { TakesOut result self.old self.new }
     {
         let number = ask.number;
         if self.numbers.admit(number) {
-            Taken::Ask(ask)
+            AskTaken::Ask(ask)
         } else {
-            Taken::Nothing
+            AskTaken::Nothing
         }
     }
 
     /// Takes the next ask out, whatever its number, if all of it has come. An error says that it is none.
-    fn take(&mut self) -> Result<Option<Ask>, ()>
+    fn take_ask(&mut self) -> Result<Option<Ask>, ()>
         ensures { self.new ≡ self.old }
     {
         let Some((line, rest)) = cut(&self.bytes, b'\n') else {

@@ -10,8 +10,8 @@ mod waiting;
 mod work;
 
 pub use asks::{Ask, Made, name_stored, own_name};
-pub use inbox::{Inbox, Taken};
+pub use inbox::{AskTaken, Inbox};
 pub use listing::{Listed, Listing};
 pub use texts::NO_MEMORY;
 pub use waiting::Waiting;
-pub use work::{Came, NOBODY, Reply, Work};
+pub use work::{AskReply, Came, NOBODY, Work};

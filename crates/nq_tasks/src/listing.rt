@@ -7,7 +7,7 @@ ghost use Rattle.nq_directory.specs.Messages.{read_dir_bytes};
 ghost use Rattle.nq_tasks.specs.Listing.{asked_for, begun, heard, is_due, is_hidden, is_shown, line_of, lines_of, request_of, taken, turned};
 
 use nq_base::{FileId, NoMemory, Who};
-use nq_directory::listing::{Page, ReadDir, Told, read_dir_bytes, read_told};
+use nq_directory::listing::{Page, PageTold, ReadDir, read_dir_bytes, read_told};
 use nq_directory::{FileName, Prefix};
 use nq_script::words::{push_bytes, push_digits};
 use std::alloc::Global;
@@ -30,7 +30,7 @@ pub enum Listed {
 
 /// A request for a page: its number, and when it was sent.
 #[derive(Clone, Copy)]
-pub(crate) struct Asked {
+pub(crate) struct AskedPage {
     number: u32,
     sent: u64,
 }
@@ -40,7 +40,7 @@ pub(crate) struct Asked {
 pub struct Listing {
     prefix: Prefix,
     after: FileId,
-    asked: Option<Asked>,
+    asked: Option<AskedPage>,
     lines: Vec<u8>,
 }
 
@@ -164,7 +164,7 @@ impl Listing {
             term: 0,
         };
         let bytes = read_dir_bytes(alloc, &request)?;
-        self.asked = Some(Asked { number, sent: now });
+        self.asked = Some(AskedPage { number, sent: now });
         Ok(bytes)
     }
 
@@ -173,7 +173,12 @@ impl Listing {
     /// # Errors
     ///
     /// Only want of memory; then the list can not go on.
-    pub fn take(&mut self, alloc: Global, who: Who, datagram: &[u8]) -> Result<Listed, NoMemory>
+    pub fn take_page(
+        &mut self,
+        alloc: Global,
+        who: Who,
+        datagram: &[u8],
+    ) -> Result<Listed, NoMemory>
         ensures { IfOk result (λ said. taken who datagram.now self.old ≡ record { said = said; lists = self.new }) }
     {
         let Some(asked) = self.asked else {
@@ -186,12 +191,12 @@ impl Listing {
     }
 
     /// Takes the answer to the request.
-    fn hear(&mut self, alloc: Global, told: &Told) -> Result<Listed, NoMemory>
+    fn hear(&mut self, alloc: Global, told: &PageTold) -> Result<Listed, NoMemory>
         ensures { IfOk result (λ said. heard (answer_of told.now) self.old ≡ record { said = said; lists = self.new }) }
     {
         match told {
-            Told::Page(page) => self.turn(alloc, page),
-            Told::Later => Ok(Listed::Later),
+            PageTold::Page(page) => self.turn(alloc, page),
+            PageTold::Later => Ok(Listed::Later),
         }
     }
 

@@ -16,7 +16,7 @@ const TELLS: u64 = 3;
 
 /// What is known of the server since an ask began to wait.
 #[derive(Clone, Copy)]
-pub(crate) enum Known {
+pub(crate) enum KnownServer {
     /// Nothing came.
     Nothing,
     /// It serves.
@@ -29,7 +29,7 @@ pub(crate) enum Known {
 #[derive(Drop)]
 pub struct Waiting {
     since: u64,
-    known: Known,
+    known: KnownServer,
     is_told: bool,
     probe: Listing,
 }
@@ -43,23 +43,23 @@ impl Model for Waiting {
 }
 
 /// Why an ask waits, in words.
-fn reason_of(known: Known) -> &'static [u8]
+fn reason_of(known: KnownServer) -> &'static [u8]
     ensures { result.now ≡ reason_of known }
 {
     match known {
-        Known::Nothing => b"waiting: no server answers",
-        Known::Serves => b"waiting: another host may have a lease on the file",
-        Known::Recovers => b"waiting: the server recovers",
+        KnownServer::Nothing => b"waiting: no server answers",
+        KnownServer::Serves => b"waiting: another host may have a lease on the file",
+        KnownServer::Recovers => b"waiting: the server recovers",
     }
 }
 
 /// Whether nothing is known yet.
-fn is_unknown(known: Known) -> bool
+fn is_unknown(known: KnownServer) -> bool
     ensures { result ≡ is_unknown known }
 {
     match known {
-        Known::Nothing => true,
-        Known::Serves | Known::Recovers => false,
+        KnownServer::Nothing => true,
+        KnownServer::Serves | KnownServer::Recovers => false,
     }
 }
 
@@ -70,7 +70,7 @@ impl Waiting {
     {
         Waiting {
             since: now,
-            known: Known::Nothing,
+            known: KnownServer::Nothing,
             is_told: false,
             probe: Listing::probe(alloc),
         }
@@ -82,8 +82,8 @@ impl Waiting {
     {
         match listed {
             Listed::Goes => {}
-            Listed::Later => self.known = Known::Recovers,
-            Listed::Whole => self.known = Known::Serves,
+            Listed::Later => self.known = KnownServer::Recovers,
+            Listed::Whole => self.known = KnownServer::Serves,
         }
     }
 
@@ -120,8 +120,8 @@ impl Waiting {
     }
 
     /// Takes a datagram, which may answer that request. Where memory is wanting it is lost.
-    pub fn take(&mut self, alloc: Global, who: Who, datagram: &[u8]) {
-        if let Ok(listed) = self.probe.take(alloc, who, datagram) {
+    pub fn take_page(&mut self, alloc: Global, who: Who, datagram: &[u8]) {
+        if let Ok(listed) = self.probe.take_page(alloc, who, datagram) {
             self.hear(listed);
         }
     }

@@ -7,13 +7,13 @@ ghost use Rattle.nq_whole.specs.Heads.{most_bytes};
 use crate::asks::{Ask, Made};
 use crate::listing::{Listed, Listing};
 use crate::texts::{AGAIN, NO_MEMORY, NOT_WHOLE};
-use nq_asks::Kind;
+use nq_asks::AnswerKind;
 use nq_base::{Answer, Call, FileId, Name, NoMemory, Who};
 use nq_command::prompt::answer_text;
 use nq_directory::Prefix;
 use nq_script::parse_call;
-use nq_script::words::{Words, is};
-use nq_whole::{Getting, Got, MOST_BYTES, Said, Storing, Tidying, Told};
+use nq_script::words::{WordCursor, is};
+use nq_whole::{Getting, GettingSays, MOST_BYTES, Storing, StoringSays, Tidying, TidyingSays};
 use std::alloc::Global;
 use std::marker::Model;
 use std::mem;
@@ -45,11 +45,11 @@ enum Stepped {
     /// A call has its answer.
     Called,
     /// Storing says this.
-    Stored(Said),
+    Stored(StoringSays),
     /// Getting says this.
-    Got(Got),
+    Got(GettingSays),
     /// Tidying says this.
-    Tidied(Told),
+    Tidied(TidyingSays),
     /// A list makes no call, so this is no answer of its own.
     Listing,
 }
@@ -62,20 +62,20 @@ pub enum Came {
     /// It goes on later: the server recovers.
     Later,
     /// It is over, with this answer.
-    Over(Reply),
+    Over(AskReply),
     /// Tidying up is over. What was made is kept on the list, if it is there or may be there.
     Tidied(Option<Made>),
 }
 
 /// The answer to an ask.
 #[derive(Drop)]
-pub struct Reply {
+pub struct AskReply {
     /// Who asked.
     pub place: usize,
     /// The number of the ask.
     pub number: u32,
     /// Its kind.
-    pub kind: Kind,
+    pub kind: AnswerKind,
     /// Its words.
     pub text: Vec<u8>,
     /// The bytes behind its line.
@@ -126,7 +126,7 @@ fn due_page(
 
 /// The list of names that an ask wants; None where it wants none.
 fn listing_of(alloc: Global, text: &[u8]) -> Option<Listing> {
-    let mut words = Words::new(text);
+    let mut words = WordCursor::new(text);
     if !is(words.next()?, b"ls") {
         return None;
     }
@@ -136,7 +136,7 @@ fn listing_of(alloc: Global, text: &[u8]) -> Option<Listing> {
 
 /// The task that an ask names, beside a store and a list; None where it names none.
 fn task_of(alloc: Global, text: &[u8]) -> Option<Task> {
-    let mut words = Words::new(text);
+    let mut words = WordCursor::new(text);
     let verb = words.next()?;
     if is(verb, b"get") {
         let name = words.name()?;
@@ -280,7 +280,7 @@ impl Work {
         ensures own { Answers self.old result }
     {
         let listed = match &mut self.listing {
-            Some(listing) => listing.take(self.alloc, who, datagram),
+            Some(listing) => listing.take_page(self.alloc, who, datagram),
             None => Ok(Listed::Goes),
         };
         match listed {
@@ -292,9 +292,9 @@ impl Work {
     }
 
     /// The name under which a store is refused, if an answer of this kind says so.
-    fn refused(&self, kind: Kind) -> Option<Name> {
+    fn refused(&self, kind: AnswerKind) -> Option<Name> {
         match kind {
-            Kind::Refused => match &self.made {
+            AnswerKind::Refused => match &self.made {
                 Some(made) => Some(made.name),
                 None => None,
             },
@@ -303,15 +303,15 @@ impl Work {
     }
 
     /// Whether an answer of this kind says that a file was removed.
-    fn is_removal(&self, kind: Kind) -> bool {
-        matches!(&self.task, Task::Call(Call::Remove { .. })) && matches!(kind, Kind::Done)
+    fn is_removal(&self, kind: AnswerKind) -> bool {
+        matches!(&self.task, Task::Call(Call::Remove { .. })) && matches!(kind, AnswerKind::Done)
     }
 
     /// It is over, with this answer and no bytes.
-    fn ends(&self, kind: Kind, text: Vec<u8>) -> Came
+    fn ends(&self, kind: AnswerKind, text: Vec<u8>) -> Came
         ensures { Answers self.now result }
     {
-        Came::Over(Reply {
+        Came::Over(AskReply {
             place: self.place,
             number: self.number,
             kind,
@@ -339,7 +339,7 @@ impl Work {
     }
 
     /// It is over, with these words.
-    fn says(&self, kind: Kind, words: &[u8]) -> Came
+    fn says(&self, kind: AnswerKind, words: &[u8]) -> Came
         ensures { Answers self.now result }
     {
         self.ends(kind, self.words(words))
@@ -349,18 +349,18 @@ impl Work {
     pub fn lacks(&self) -> Came
         ensures { Answers self.now result }
     {
-        self.says(Kind::Refused, NO_MEMORY)
+        self.says(AnswerKind::Refused, NO_MEMORY)
     }
 
     /// It is over, with an answer in words.
-    fn tells(&self, kind: Kind, answer: &Answer) -> Came
+    fn tells(&self, kind: AnswerKind, answer: &Answer) -> Came
         ensures { Answers self.now result }
     {
         self.ends(kind, self.text(answer))
     }
 
     /// Takes the answer to the call.
-    pub fn take(&mut self, answer: &Answer) -> Came
+    pub fn take_answer(&mut self, answer: &Answer) -> Came
         ensures same { self.new ≡ self.old }
         ensures own { Answers self.old result }
     {
@@ -379,9 +379,9 @@ impl Work {
     {
         match &mut self.task {
             Task::Call(_) => Stepped::Called,
-            Task::Store(storing) => Stepped::Stored(storing.take(answer)),
-            Task::Get(getting) => Stepped::Got(getting.take(answer)),
-            Task::Tidy(tidying) => Stepped::Tidied(tidying.take(answer)),
+            Task::Store(storing) => Stepped::Stored(storing.take_answer(answer)),
+            Task::Get(getting) => Stepped::Got(getting.take_answer(answer)),
+            Task::Tidy(tidying) => Stepped::Tidied(tidying.take_answer(answer)),
             Task::List => Stepped::Listing,
         }
     }
@@ -391,20 +391,20 @@ impl Work {
         ensures { Answers self.now result }
     {
         match answer {
-            Answer::Ok(_) => self.tells(Kind::Done, answer),
-            _ => self.tells(Kind::Refused, answer),
+            Answer::Ok(_) => self.tells(AnswerKind::Done, answer),
+            _ => self.tells(AnswerKind::Refused, answer),
         }
     }
 
     /// What tidying says.
-    fn tidied(&self, told: Told) -> Came
+    fn tidied(&self, told: TidyingSays) -> Came
         ensures { Answers self.now result }
     {
         match told {
-            Told::Goes => Came::On,
-            Told::Gone => Came::Tidied(None),
-            Told::Kept => Came::Tidied(self.kept()),
-            Told::Unsure => Came::Tidied(self.kept()),
+            TidyingSays::Goes => Came::On,
+            TidyingSays::Gone => Came::Tidied(None),
+            TidyingSays::Kept => Came::Tidied(self.kept()),
+            TidyingSays::Unsure => Came::Tidied(self.kept()),
         }
     }
 
@@ -420,22 +420,22 @@ impl Work {
     }
 
     /// What storing says.
-    fn stored(&mut self, said: Said, answer: &Answer) -> Came
+    fn stored(&mut self, said: StoringSays, answer: &Answer) -> Came
         ensures same { self.new ≡ self.old }
         ensures own { Answers self.old result }
     {
         match said {
-            Said::Goes => Came::On,
-            Said::Done => self.says(Kind::Done, b"ok, stored"),
-            Said::Drops => {
+            StoringSays::Goes => Came::On,
+            StoringSays::Done => self.says(AnswerKind::Done, b"ok, stored"),
+            StoringSays::Drops => {
                 self.why = self.text(answer);
                 Came::On
             }
-            Said::NotWhole => {
+            StoringSays::NotWhole => {
                 self.why = self.words(NOT_WHOLE);
                 Came::On
             }
-            Said::Refused => self.refuses(answer),
+            StoringSays::Refused => self.refuses(answer),
         }
     }
 
@@ -445,24 +445,24 @@ impl Work {
         ensures own { Answers self.old result }
     {
         if self.why.is_empty() {
-            return self.tells(Kind::Refused, answer);
+            return self.tells(AnswerKind::Refused, answer);
         }
         let text = mem::replace(&mut self.why, Vec::new(self.alloc));
-        self.ends(Kind::Refused, text)
+        self.ends(AnswerKind::Refused, text)
     }
 
     /// What getting says.
-    fn got(&mut self, got: Got, answer: &Answer) -> Came
+    fn got(&mut self, got: GettingSays, answer: &Answer) -> Came
         ensures same { self.new ≡ self.old }
         ensures own { Answers self.old result }
     {
         match got {
-            Got::Goes => Came::On,
-            Got::Anew => self.begins_anew(),
-            Got::Done => self.gives(),
-            Got::Refused => self.tells(Kind::Refused, answer),
-            Got::NotWhole => self.says(Kind::Refused, NOT_WHOLE),
-            Got::Memory => self.lacks(),
+            GettingSays::Goes => Came::On,
+            GettingSays::Anew => self.begins_anew(),
+            GettingSays::Done => self.gives(),
+            GettingSays::Refused => self.tells(AnswerKind::Refused, answer),
+            GettingSays::NotWhole => self.says(AnswerKind::Refused, NOT_WHOLE),
+            GettingSays::Memory => self.lacks(),
         }
     }
 
@@ -473,7 +473,7 @@ impl Work {
     {
         self.anew = self.anew.saturating_add(1);
         if self.anew > MOST_ANEW {
-            self.says(Kind::Refused, AGAIN)
+            self.says(AnswerKind::Refused, AGAIN)
         } else {
             Came::On
         }
@@ -504,10 +504,10 @@ impl Work {
             Ok(text) => text.into_bytes(),
             Err(_) => Vec::new(self.alloc),
         };
-        Came::Over(Reply {
+        Came::Over(AskReply {
             place: self.place,
             number: self.number,
-            kind: Kind::Bytes,
+            kind: AnswerKind::Bytes,
             text,
             bytes,
             refused: None,

@@ -20,6 +20,8 @@ const MOST_REST: u32 = 63;
 #[derive(Drop)]
 pub(crate) struct PatientSocket {
     socket: UdpSocket,
+    /// The address at which it was bound.
+    home: SocketAddr,
     /// Whether a receive may wait.
     waits: bool,
     /// Whether the machine waits in the calls of the socket.
@@ -51,6 +53,7 @@ impl PatientSocket {
         address: SocketAddr,
         wait: Option<Duration>,
     ) -> io::Result<PatientSocket>
+        ensures home { IfOk result (λ socket. socket.home ≡ address) }
         ensures receiver { IfOk result (λ socket. socket.receiver ≡ None) }
         ensures sender { IfOk result (λ socket. socket.sender ≡ None) }
     {
@@ -62,6 +65,7 @@ impl PatientSocket {
         let waits = wait.is_some();
         Ok(PatientSocket {
             socket,
+            home: address,
             waits,
             is_blocking: waits,
             is_busy: false,
@@ -76,6 +80,7 @@ impl PatientSocket {
     pub(crate) fn send(&mut self, to: SocketAddr, bytes: &[u8]) -> io::Result<usize>
         ensures goes { self.new.receiver ≡ Some to }
         ensures sender { self.new.sender ≡ self.old.sender }
+        ensures home { self.new.home ≡ self.old.home }
     {
         self.receiver = Some(to);
         self.socket.send_to(bytes, to)
@@ -87,6 +92,7 @@ impl PatientSocket {
         ensures came { IfOk result (λ r. self.new.sender ≡ Some r.1) }
         ensures nothing { OnErr result (self.new.sender ≡ None) }
         ensures receiver { self.new.receiver ≡ self.old.receiver }
+        ensures home { self.new.home ≡ self.old.home }
     {
         let came = if self.looks_first() {
             self.look_and_wait(into)
@@ -103,7 +109,8 @@ impl PatientSocket {
 
     /// Whether the next receive looks some times before it waits.
     fn looks_first(&mut self) -> bool
-        ensures { self.new.receiver ≡ self.old.receiver }
+        ensures receiver { self.new.receiver ≡ self.old.receiver }
+        ensures home { self.new.home ≡ self.old.home }
     {
         if !self.is_busy || self.rest == 0 {
             return self.is_busy;
@@ -116,6 +123,7 @@ impl PatientSocket {
     fn look_and_wait(&mut self, into: &mut [u8]) -> io::Result<(usize, SocketAddr)>
         ensures within { IfOk result (λ r. r.0 ≤ length into.old) }
         ensures receiver { self.new.receiver ≡ self.old.receiver }
+        ensures home { self.new.home ≡ self.old.home }
     {
         self.set_blocking(false)?;
         for _look in 0..LOOKS {
@@ -137,6 +145,7 @@ impl PatientSocket {
     fn wait(&mut self, into: &mut [u8]) -> io::Result<(usize, SocketAddr)>
         ensures within { IfOk result (λ r. r.0 ≤ length into.old) }
         ensures receiver { self.new.receiver ≡ self.old.receiver }
+        ensures home { self.new.home ≡ self.old.home }
     {
         self.set_blocking(self.waits)?;
         self.socket.recv_from(into)
@@ -144,7 +153,8 @@ impl PatientSocket {
 
     /// Sees to it that the machine waits in the calls of the socket, or does not.
     fn set_blocking(&mut self, is_blocking: bool) -> io::Result<()>
-        ensures { self.new.receiver ≡ self.old.receiver }
+        ensures receiver { self.new.receiver ≡ self.old.receiver }
+        ensures home { self.new.home ≡ self.old.home }
     {
         if self.is_blocking != is_blocking {
             self.socket.set_nonblocking(!is_blocking)?;

@@ -1,10 +1,10 @@
 //! A link over UDP.
 
-ghost use Rattle.std.specs.Prelude.{◌≡◌, ◌≤◌, ◌≢◌, None, Some, IfOk, IfSome, OnErr, OnOk, length};
+ghost use Rattle.std.specs.Prelude.{◌≡◌, ◌≤◌, ◌≢◌, None, Some, IfOk, IfSome, OnErr, OnOk, is_some, length, true};
 ghost use Rattle.nq_io.specs.Faults.{Rose, count_up};
 ghost use Rattle.nq_link.specs.Link.{Comes, CountsReceive, CountsSend, Sends};
 ghost use Rattle.nq_udp.specs.Book.{HasAddressIn};
-ghost use Rattle.nq_udp.specs.UdpLink.{CameFrom, ComesFrom, HasPort, IsFromParty, IsOf, ListensAt, unused};
+ghost use Rattle.nq_udp.specs.UdpLink.{CameFrom, ComesFrom, HasPort, IsBoundBy, IsFromParty, IsHeardAt, IsOf, IsSentAt, ListensAt, unused};
 ghost use Rattle.nq_link.specs.declared.link.Sent.{Sent};
 
 use crate::book::Book;
@@ -39,7 +39,7 @@ pub struct UdpLink<R> {
 }
 
 impl<R> Model for UdpLink<R> {
-    ghost use Rattle.std.specs.Prelude.{option_and_then};
+    ghost use Rattle.std.specs.Prelude.{option_and_then, option_map};
     ghost use Rattle.nq_udp.specs.UdpLink.{CountedSocket};
 
     ghost Value = { CountedSocket };
@@ -48,6 +48,7 @@ impl<R> Model for UdpLink<R> {
       me = l.me;
       book = l.book;
       home = l.home;
+      bound = option_map (λ s. s.home) l.socket;
       faults = l.faults;
       receives = l.receives;
       receiver = option_and_then (λ s. s.receiver) l.socket;
@@ -55,12 +56,13 @@ impl<R> Model for UdpLink<R> {
     } };
 }
 
-/// A socket at this address, if there is one, which waits for so long in each receive, or not at all.
+/// A socket that is bound at this address and no other, if there is one, and waits for so long in each receive, or not at all.
 fn bound<R: Net>(
     net: &R,
     home: Option<SocketAddr>,
     wait: Option<Duration>,
 ) -> io::Result<PatientSocket>
+    ensures home { IfOk result (λ socket. home ≡ Some socket.home) }
     ensures receiver { IfOk result (λ socket. socket.receiver ≡ None) }
     ensures sender { IfOk result (λ socket. socket.sender ≡ None) }
 {
@@ -157,14 +159,16 @@ impl<R: Net> UdpLink<R> {
     /// Binds the socket now, so that it keeps what comes before the first use. Where the machine refuses, nothing is counted: the
     /// first use tries again, and counts its fault.
     pub fn open(&mut self)
-        ensures { self.new ≡ self.old }
+        ensures same { self.new ≡ record self.old { bound = self.new.bound } }
+        ensures bound { IsBoundBy self.old self.new.bound }
     {
         let _tried = self.bind();
     }
 
     /// Binds the socket, if that was not done yet.
     fn bind(&mut self) -> io::Result<()>
-        ensures same { self.new ≡ self.old }
+        ensures same { self.new ≡ record self.old { bound = self.new.bound } }
+        ensures bound { IsBoundBy self.old self.new.bound }
         ensures nothing { OnErr result (self.new.sender ≡ None) }
     {
         if self.socket.is_some() {
@@ -184,7 +188,9 @@ impl<R: Net> UdpLink<R> {
 
     /// Sends a datagram, and says how many of its bytes were sent. A party without an address is an error.
     fn send_to(&mut self, to: Party, bytes: &[u8]) -> io::Result<usize>
-        ensures same { self.new ≡ record self.old { receiver = self.new.receiver } }
+        ensures same { self.new ≡ record self.old { bound = self.new.bound; receiver = self.new.receiver } }
+        ensures bound { IsBoundBy self.old self.new.bound }
+        ensures from { IfOk result (λ _. is_some self.new.bound ≡ true) }
         ensures goes { OnOk result (IsOf self.old.book to self.new.receiver) }
         ensures nowhere { IfOk result (λ _. ¬ (HasAddressIn self.old.book to None)) }
     {
@@ -200,7 +206,9 @@ impl<R: Net> UdpLink<R> {
 
     /// Receives a datagram, and says how many bytes it has and where it came from.
     fn receive_from(&mut self, into: &mut [u8]) -> io::Result<(usize, SocketAddr)>
-        ensures same { self.new ≡ record self.old { sender = self.new.sender } }
+        ensures same { self.new ≡ record self.old { bound = self.new.bound; sender = self.new.sender } }
+        ensures bound { IsBoundBy self.old self.new.bound }
+        ensures at { IfOk result (λ _. is_some self.new.bound ≡ true) }
         ensures within { IfOk result (λ r. r.0 ≤ length into.old) }
         ensures came { IfOk result (λ r. self.new.sender ≡ Some r.1) }
         ensures nothing { OnErr result (self.new.sender ≡ None) }
@@ -241,6 +249,8 @@ impl<R: Net> Link for UdpLink<R> {
         // Of this one.
         ensures goes { result ≡ Sent.All → IsOf self.old.book to self.new.receiver }
         ensures nowhere { HasAddressIn self.old.book to None → result ≡ Sent.Failed }
+        ensures bound { IsBoundBy self.old self.new.bound }
+        ensures from { IsSentAt result self.new.bound }
     {
         match self.send_to(to, bytes) {
             Ok(count) if count == bytes.len() => Sent::All,
@@ -260,6 +270,8 @@ impl<R: Net> Link for UdpLink<R> {
         // Of this one.
         ensures came { CameFrom self.old.book result self.new.sender }
         ensures known { IsFromParty self.old.book result }
+        ensures bound { IsBoundBy self.old self.new.bound }
+        ensures at { IsHeardAt result self.new.bound }
     {
         self.count_receive();
         match self.receive_from(into) {

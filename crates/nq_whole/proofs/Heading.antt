@@ -7,10 +7,10 @@ use Rattle.nq_base.specs.Block.{filled, value_of, word}
 use Rattle.nq_base.proofs.Filling.{filled-value}
 use Rattle.nq_whole.specs.Heads.{block_of, front_of_head, head_in, most_bytes}
 use Rattle.nq_whole.specs.Pieces.{piece_of}
-use Rattle.nq_whole.specs.declared.heads.Head.{Head}
+use Rattle.nq_whole.specs.declared.heads.FileHead.{FileHead}
 
 -- the piece that the first bytes alone make
-pub first-piece : (head : Head) → piece_of 0 (front_of_head head) ≡ block_of head
+pub first-piece : (head : FileHead) → piece_of 0 (front_of_head head) ≡ block_of head
 unfolding piece_of block_of
 first-piece head = refl
 
@@ -22,16 +22,16 @@ fits : (n most : ℕ) → n ≤ most → nat_le n most ≡ true
 fits n most small = grind (arith, nat_tests)
 
 -- a head of two numbers, where the second is one of bytes
-abbrev told : (file size : ℕ) → Option Head
+abbrev told : (file size : ℕ) → Option FileHead
 told file size = if nat_le size most_bytes then Some (record { file = file; size = size }) else None
 
-told-same : (file size : ℕ) (head : Head) → file ≡ head.file → size ≡ head.size → head.size ≤ most_bytes → told file size ≡ Some head
+told-same : (file size : ℕ) (head : FileHead) → file ≡ head.file → size ≡ head.size → head.size ≤ most_bytes → told file size ≡ Some head
 told-same file size head same also small =
     ap (λ (f : ℕ). told f size) same
     ∙ ap (λ (n : ℕ). told head.file n) also
     ∙ ap (λ (t : Bool). if t then Some head else None) (fits head.size most_bytes small)
 
-pub read-again : (head : Head) → head.size ≤ most_bytes → head_in (block_of head) ≡ Some head
+pub read-again : (head : FileHead) → head.size ≤ most_bytes → head_in (block_of head) ≡ Some head
 unfolding head_in block_of
 read-again head small =
     told-same (value_of (block_of head)) (value_of (drop 4 (block_of head))) head (value-word head.file []) (value-word head.size []) small
@@ -44,7 +44,7 @@ no-mark v is =
     let other : v ≡ 1696622185 = sym (filled-value v) ∙ ap (λ (bytes : List ℕ). value_of (drop 4 bytes)) is in
     omega (arith, one, other)
 
-unmarked : (test : Bool) (more : Bool) (head : Head) → (test ≡ true → ⊥) → (if test && more then Some head else None) ≡ None
+unmarked : (test : Bool) (more : Bool) (head : FileHead) → (test ≡ true → ⊥) → (if test && more then Some head else None) ≡ None
 unmarked true more head not = absurd (not refl)
 unmarked false more head not = refl
 

@@ -1,5 +1,5 @@
 -- The head is written behind all the bytes that it tells.
-use Rattle.std.proofs.Common.{◌≡◌, ◌≤◌, ◌<◌, ℕ, suc, ◌+◌, ◌*◌, Bool, true, false, nat_le, List, [], ◌∷◌, ◌++◌, Option, Some, None, length, if◌then◌else◌, refl, sym, subst, ap, ◌∙◌, append_assoc, append-nil, arith}
+use Rattle.std.proofs.Common.{◌≡◌, ◌<◌, ℕ, ◌+◌, ◌*◌, Bool, true, false, nat_le, List, [], ◌∷◌, ◌++◌, Option, Some, None, length, if◌then◌else◌, refl, sym, subst, append_assoc, append-nil, arith}
 use Rattle.std.specs.Prelude.{Contains, ◌==◌}
 use Rattle.nq_base.specs.Block.{value_of}
 use Rattle.std.proofs.lemmas.Bool.Decides.{nat_tests}
@@ -12,21 +12,18 @@ use Rattle.nq_whole.specs.Answers.{body_in, file_in, is_done}
 use Rattle.nq_whole.specs.Heads.{head_in}
 use Rattle.nq_whole.specs.Storing.{AreStored, IsWhole, KeepsOrder, Made, StandsBefore, Stores, asked_at, cleared, filled_to, found, headed, made, old_head}
 use Rattle.nq_whole.specs.Storing.{goes, made_from, step_after, store_at, stored, synced, written}
-use Rattle.nq_whole.specs.declared.heads.Head.{Head}
-use Rattle.nq_whole.specs.declared.storing.Said.{Said}
-use Rattle.nq_whole.specs.declared.storing.Step.{Step}
+use Rattle.nq_whole.specs.declared.heads.FileHead.{FileHead}
+use Rattle.nq_whole.specs.declared.storing.StoringSays.{StoringSays}
+use Rattle.nq_whole.specs.declared.storing.StoringStep.{StoringStep}
 use Rattle.nq_whole.specs.declared.storing.StoreStep.{StoreStep}
 
-choice : (P : Step → Type 0) (test : Bool) (one other : StoreStep) → (test ≡ true → P one.step) → (test ≡ false → P other.step)
+choice : (P : StoringStep → Type 0) (test : Bool) (one other : StoreStep) → (test ≡ true → P one.step) → (test ≡ false → P other.step)
     → P (if test then one else other).step
 choice P true one other is so = is refl
 choice P false one other is so = so refl
 
 whole-more : (calls more : Made) (file : ℕ) (bytes : List ℕ) → IsWhole calls file bytes → IsWhole (calls ++ more) file bytes
 whole-more calls more file bytes is = λ place below. let one = is place below in (one.0, Contains-append_left calls more _ one.1)
-
-stored-more : (calls more : Made) (file count : ℕ) (bytes : List ℕ) → AreStored calls file count bytes → AreStored (calls ++ more) file count bytes
-stored-more calls more file count bytes are = λ place below. let one = are place below in (one.0, Contains-append_left calls more _ one.1)
 
 -- so many blocks are stored, and the next step
 filled-stands : (calls : Made) (file place : ℕ) (bytes : List ℕ) → AreStored calls file place bytes
@@ -43,22 +40,22 @@ made-stands calls (Some file) bytes = filled-stands calls file 0 bytes (λ place
 
 -- one block more
 block-more : (calls : Made) (file place : ℕ) (bytes : List ℕ) (value : Value) → AreStored calls file place bytes
-    → AreStored (calls ++ (Call.WriteSync file place (piece_of place bytes), Answer.Ok value) ∷ []) file (place + 1) bytes
+    → AreStored (calls ++ (Call.Put file place (piece_of place bytes), Answer.Ok value) ∷ []) file (place + 1) bytes
 block-more calls file place bytes value are = λ at below. here at below (nat_le place at) refl
   where
     here : (at : ℕ) → at < place + 1 → (late : Bool) → nat_le place at ≡ late
-        → (v : Value) × Contains (calls ++ (Call.WriteSync file place (piece_of place bytes), Answer.Ok value) ∷ []) (Call.WriteSync file at (piece_of at bytes), Answer.Ok v)
+        → (v : Value) × Contains (calls ++ (Call.Put file place (piece_of place bytes), Answer.Ok value) ∷ []) (Call.Put file at (piece_of at bytes), Answer.Ok v)
     here at below false is =
         let one = are at (grind (arith, nat_tests)) in (one.0, Contains-append_left calls _ _ one.1)
     here at below true is =
         let same : place ≡ at = grind (arith, nat_tests) in (
           value,
-          subst (λ (n : ℕ). Contains (calls ++ (Call.WriteSync file place (piece_of place bytes), Answer.Ok value) ∷ [])
-              (Call.WriteSync file n (piece_of n bytes), Answer.Ok value)) same (Contains-push calls _),
+          subst (λ (n : ℕ). Contains (calls ++ (Call.Put file place (piece_of place bytes), Answer.Ok value) ∷ [])
+              (Call.Put file n (piece_of n bytes), Answer.Ok value)) same (Contains-push calls _),
         )
 
 stored-stands : (calls : Made) (file place : ℕ) (bytes : List ℕ) (answer : Answer) → AreStored calls file place bytes
-    → StandsBefore (calls ++ (Call.WriteSync file place (piece_of place bytes), answer) ∷ []) bytes (stored (is_done answer) file place bytes).step
+    → StandsBefore (calls ++ (Call.Put file place (piece_of place bytes), answer) ∷ []) bytes (stored (is_done answer) file place bytes).step
 stored-stands calls file place bytes (Answer.Ok value) are =
     filled-stands _ file (place + 1) bytes (block-more calls file place bytes value are)
 stored-stands calls file place bytes other are = tt
@@ -81,12 +78,12 @@ found-stands calls Answer.DirtyFull file bytes is = tt
 found-stands calls Answer.Memory file bytes is = tt
 found-stands calls Answer.Spent file bytes is = tt
 
-old-stands : (calls : Made) (body : List ℕ) (head : Option Head) (file at : ℕ) (bytes : List ℕ) → IsWhole calls file bytes
+old-stands : (calls : Made) (body : List ℕ) (head : Option FileHead) (file at : ℕ) (bytes : List ℕ) → IsWhole calls file bytes
     → StandsBefore calls bytes (old_head body head file at).step
 old-stands calls body (Some head) file at bytes is = is
 old-stands calls body None file at bytes is =
-    choice (λ step. StandsBefore calls bytes step) (value_of body == 0) (goes (Step.Writing file at None))
-    (record { said = Said.NotWhole; step = Step.Dropping file }) (λ fresh. is) (λ other. tt)
+    choice (λ step. StandsBefore calls bytes step) (value_of body == 0) (goes (StoringStep.Writing file at None))
+    (record { said = StoringSays.NotWhole; step = StoringStep.Dropping file }) (λ fresh. is) (λ other. tt)
 
 headed-stands : (calls : Made) (body : Option (List ℕ)) (file at : ℕ) (bytes : List ℕ) → IsWhole calls file bytes
     → StandsBefore calls bytes (headed body file at).step
@@ -116,19 +113,19 @@ synced-stands calls Answer.DirtyFull old bytes = tt
 synced-stands calls Answer.Memory old bytes = tt
 synced-stands calls Answer.Spent old bytes = tt
 
-step-stands : (name own bytes : List ℕ) (step : Step) (answer : Answer) (calls : Made) → StandsBefore calls bytes step
+step-stands : (name own bytes : List ℕ) (step : StoringStep) (answer : Answer) (calls : Made) → StandsBefore calls bytes step
     → StandsBefore (calls ++ (asked_at name own bytes step, answer) ∷ []) bytes (store_at step answer bytes).step
-step-stands name own bytes Step.Making answer calls is = made-stands _ (file_in answer) bytes
-step-stands name own bytes (Step.Filling file place) answer calls is = stored-stands calls file place bytes answer is
-step-stands name own bytes (Step.Finding file) answer calls is = found-stands _ answer file bytes (whole-more calls _ file bytes is)
-step-stands name own bytes (Step.Founding file) answer calls is = found-stands _ answer file bytes (whole-more calls _ file bytes is)
-step-stands name own bytes (Step.Heading file at) answer calls is = headed-stands _ (body_in answer) file at bytes (whole-more calls _ file bytes is)
-step-stands name own bytes (Step.Writing file at old) answer calls is =
+step-stands name own bytes StoringStep.Making answer calls is = made-stands _ (file_in answer) bytes
+step-stands name own bytes (StoringStep.Filling file place) answer calls is = stored-stands calls file place bytes answer is
+step-stands name own bytes (StoringStep.Finding file) answer calls is = found-stands _ answer file bytes (whole-more calls _ file bytes is)
+step-stands name own bytes (StoringStep.Founding file) answer calls is = found-stands _ answer file bytes (whole-more calls _ file bytes is)
+step-stands name own bytes (StoringStep.Heading file at) answer calls is = headed-stands _ (body_in answer) file at bytes (whole-more calls _ file bytes is)
+step-stands name own bytes (StoringStep.Writing file at old) answer calls is =
     written-stands _ (is_done answer) file at old bytes (whole-more calls _ file bytes is)
-step-stands name own bytes (Step.Syncing file at old) answer calls is = synced-stands _ answer old bytes
-step-stands name own bytes (Step.Clearing old) answer calls is = tt
-step-stands name own bytes (Step.Dropping file) answer calls is = tt
-step-stands name own bytes Step.Ended answer calls is = tt
+step-stands name own bytes (StoringStep.Syncing file at old) answer calls is = synced-stands _ answer old bytes
+step-stands name own bytes (StoringStep.Clearing old) answer calls is = tt
+step-stands name own bytes (StoringStep.Dropping file) answer calls is = tt
+step-stands name own bytes StoringStep.Ended answer calls is = tt
 
 -- a step more keeps what stands before it
 pub keeps : (answer : Answer) (old new : Stores) → new ≡ record old { step = (store_at old.step answer old.bytes).step } → KeepsOrder answer old new
@@ -137,7 +134,7 @@ keeps answer old new is = λ calls stands.
     (step-stands old.name old.own old.bytes old.step answer calls stands)
 
 -- whatever is answered from a step on, what stands before each step was done
-pub runs : (name own bytes : List ℕ) (answers : List Answer) (step : Step) (calls : Made) → StandsBefore calls bytes step
+pub runs : (name own bytes : List ℕ) (answers : List Answer) (step : StoringStep) (calls : Made) → StandsBefore calls bytes step
     → StandsBefore (calls ++ made_from name own bytes answers step) bytes (step_after bytes answers step)
 runs name own bytes [] step calls is = subst (λ (c : Made). StandsBefore c bytes step) (sym (append-nil calls)) is
 runs name own bytes (answer ∷ answers) step calls is =

@@ -1,18 +1,17 @@
 -- What came so far stays part of one stored file.
-use Rattle.std.proofs.Common.{◌≡◌, ◌≢◌, ◌≤◌, ℕ, ◌+◌, ◌*◌, Bool, true, false, nat_le, nat_lt, List, [], ◌++◌, Option, Some, None, length, take, ◌∷◌, if◌then◌else◌, refl, sym, subst, ap, ◌∙◌, suc, arith}
-use Rattle.std.specs.Prelude.{⊤}
+use Rattle.std.proofs.Common.{◌≡◌, ◌≢◌, ℕ, ◌+◌, ◌*◌, Bool, true, false, nat_le, nat_lt, List, [], ◌++◌, Option, Some, None, length, take, ◌∷◌, if◌then◌else◌, refl, sym, subst, ap, ◌∙◌, suc, arith}
 use Rattle.std.proofs.lemmas.Bool.Decides.{nat_tests}
 use Rattle.nq_base.specs.declared.Answer.{Answer}
 use Rattle.nq_whole.specs.Pieces.{joined_pieces, piece_of}
 use Rattle.nq_whole.proofs.Joining.{whole}
-use Rattle.nq_whole.specs.Getting.{GetStep, Gets, Gives, HasPartAt, IsLawfulAt, IsPiece, IsStored, KeepsPart, TellsStored, found, get_at, headed}
+use Rattle.nq_whole.specs.Getting.{GetStep, Gets, Gives, HasPartAt, IsLawfulAt, IsStored, KeepsPart, found, get_at, headed}
 use Rattle.nq_whole.specs.Getting.{AreLawful, Takes, gets_after}
 use Rattle.nq_whole.specs.Answers.{body_in, is_gone}
 use Rattle.nq_whole.specs.Getting.{missed, reached, read_on, told}
 use Rattle.nq_whole.specs.Heads.{head_in}
-use Rattle.nq_whole.specs.declared.getting.Got.{Got}
+use Rattle.nq_whole.specs.declared.getting.GettingSays.{GettingSays}
 use Rattle.nq_whole.specs.declared.getting.Stage.{Stage}
-use Rattle.nq_whole.specs.declared.heads.Head.{Head}
+use Rattle.nq_whole.specs.declared.heads.FileHead.{FileHead}
 
 -- what is got at the end of a step is part of a stored file
 abbrev IsKept : (stored : ℕ → Option (List ℕ)) → GetStep → Type 0
@@ -29,7 +28,7 @@ all-bytes : (size place : ℕ) (bytes file : List ℕ) → length file ≡ size 
 all-bytes size place bytes file long enough are =
     ap (take size) are ∙ ap (λ n. take n (joined_pieces place file)) (sym long) ∙ whole place file (grind (arith, nat_tests))
 
-reached-keeps : (stored : ℕ → Option (List ℕ)) (head : Head) (place : ℕ) (bytes name file : List ℕ)
+reached-keeps : (stored : ℕ → Option (List ℕ)) (head : FileHead) (place : ℕ) (bytes name file : List ℕ)
     → IsStored stored head file → bytes ≡ joined_pieces place file → IsKept stored (reached head place bytes name)
 unfolding reached
 reached-keeps stored head place bytes name file is are =
@@ -42,8 +41,8 @@ found-keeps : (stored : ℕ → Option (List ℕ)) (at : Option ℕ) (g : Gets) 
 found-keeps stored None g has = has
 found-keeps stored (Some file) g has = tt
 
-told-keeps : (stored : ℕ → Option (List ℕ)) (head : Option Head) (g : Gets) → HasPartAt stored g.stage g.bytes
-    → ((h : Head) → head ≡ Some h → (bytes : List ℕ) × IsStored stored h bytes) → IsKept stored (told head g)
+told-keeps : (stored : ℕ → Option (List ℕ)) (head : Option FileHead) (g : Gets) → HasPartAt stored g.stage g.bytes
+    → ((h : FileHead) → head ≡ Some h → (bytes : List ℕ) × IsStored stored h bytes) → IsKept stored (told head g)
 told-keeps stored None g has is = has
 told-keeps stored (Some head) g has is = let stands = is head refl in reached-keeps stored head 0 [] g.name stands.0 stands.1 refl
 
@@ -64,7 +63,7 @@ one-more place bytes file body are is =
     next : (n : ℕ) → suc n ≡ n + 1
     next n = omega arith
 
-read-keeps : (stored : ℕ → Option (List ℕ)) (body : Option (List ℕ)) (answer : Answer) (head : Head) (place : ℕ) (g : Gets)
+read-keeps : (stored : ℕ → Option (List ℕ)) (body : Option (List ℕ)) (answer : Answer) (head : FileHead) (place : ℕ) (g : Gets)
     → ((file : List ℕ) × IsStored stored head file × (g.bytes ≡ joined_pieces place file)) → HasPartAt stored g.stage g.bytes
     → IsLawfulAt stored (Stage.Reading head place) body → IsKept stored (read_on body answer head place g)
 read-keeps stored None answer head place g part has lawful = missed-keeps stored (is_gone answer) g has
@@ -82,29 +81,29 @@ stage-keeps stored (Stage.Reading head place) answer g part has lawful =
     read-keeps stored (body_in answer) answer head place g part has lawful
 stage-keeps stored (Stage.Whole head) answer g part has lawful = has
 
-given : (said : Got) (answer : Answer) (old new : Gets) → get_at old.stage answer old ≡ record { said = said; gets = new }
+given : (said : GettingSays) (answer : Answer) (old new : Gets) → get_at old.stage answer old ≡ record { said = said; gets = new }
     → KeepsPart answer old new
 given said answer old new is = λ stored lawful has.
     subst (λ (step : GetStep). IsKept stored step) is (stage-keeps stored old.stage answer old has has lawful)
 
 -- what came so far stays part of one stored file
-pub keeps : (said : Got) (answer : Answer) (old new : Gets) → Gives said answer old new → KeepsPart answer old new
-keeps Got.Goes answer old new gives = given Got.Goes answer old new gives
-keeps Got.Anew answer old new gives = given Got.Anew answer old new gives
-keeps Got.Done answer old new gives = given Got.Done answer old new gives
-keeps Got.Refused answer old new gives = given Got.Refused answer old new gives
-keeps Got.NotWhole answer old new gives = given Got.NotWhole answer old new gives
-keeps Got.Memory answer old new gives = λ stored lawful has. subst (λ (g : Gets). HasPartAt stored g.stage g.bytes) (sym gives) has
+pub keeps : (said : GettingSays) (answer : Answer) (old new : Gets) → Gives said answer old new → KeepsPart answer old new
+keeps GettingSays.Goes answer old new gives = given GettingSays.Goes answer old new gives
+keeps GettingSays.Anew answer old new gives = given GettingSays.Anew answer old new gives
+keeps GettingSays.Done answer old new gives = given GettingSays.Done answer old new gives
+keeps GettingSays.Refused answer old new gives = given GettingSays.Refused answer old new gives
+keeps GettingSays.NotWhole answer old new gives = given GettingSays.NotWhole answer old new gives
+keeps GettingSays.Memory answer old new gives = λ stored lawful has. subst (λ (g : Gets). HasPartAt stored g.stage g.bytes) (sym gives) has
 
 -- a step that does not want memory
-pub lifts : (said : Got) (step : GetStep) (old new : Gets) → step ≡ record { said = said; gets = new } → said ≢ Got.Memory
+pub lifts : (said : GettingSays) (step : GetStep) (old new : Gets) → step ≡ record { said = said; gets = new } → said ≢ GettingSays.Memory
     → Takes said step old new
-lifts Got.Goes step old new is never = is
-lifts Got.Anew step old new is never = is
-lifts Got.Done step old new is never = is
-lifts Got.Refused step old new is never = is
-lifts Got.NotWhole step old new is never = is
-lifts Got.Memory step old new is never = absurd (never refl)
+lifts GettingSays.Goes step old new is never = is
+lifts GettingSays.Anew step old new is never = is
+lifts GettingSays.Done step old new is never = is
+lifts GettingSays.Refused step old new is never = is
+lifts GettingSays.NotWhole step old new is never = is
+lifts GettingSays.Memory step old new is never = absurd (never refl)
 
 -- whatever lawful answers come, what is there is part of one stored file
 pub runs : (stored : ℕ → Option (List ℕ)) (answers : List Answer) (g : Gets) → HasPartAt stored g.stage g.bytes → AreLawful stored answers g

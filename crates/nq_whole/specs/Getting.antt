@@ -5,9 +5,9 @@ use Rattle.nq_base.specs.declared.Call.{Call}
 use Rattle.nq_whole.specs.Pieces.{joined_pieces, piece_of}
 use Rattle.nq_whole.specs.Answers.{body_in, file_in, is_gone}
 use Rattle.nq_whole.specs.Heads.{head_in}
-use Rattle.nq_whole.specs.declared.getting.Got.{Got}
+use Rattle.nq_whole.specs.declared.getting.GettingSays.{GettingSays}
 use Rattle.nq_whole.specs.declared.getting.Stage.{Stage}
-use Rattle.nq_whole.specs.declared.heads.Head.{Head}
+use Rattle.nq_whole.specs.declared.heads.FileHead.{FileHead}
 
 -- where getting a file stands, and the bytes that came so far
 pub record Gets : Type 0 where
@@ -25,38 +25,38 @@ asked_at name (Stage.Whole head) = Call.Attr head.file
 
 -- what getting says, and where it stands then
 pub record GetStep : Type 0 where
-  pub said : Got
+  pub said : GettingSays
   pub gets : Gets
 
 -- it begins anew
 abbrev pub anew : Gets → GetStep
-anew g = record { said = Got.Anew; gets = record { name = g.name; stage = Stage.Finding; bytes = [] } }
+anew g = record { said = GettingSays.Anew; gets = record { name = g.name; stage = Stage.Finding; bytes = [] } }
 
 -- it ends without the file, and stands as before
-abbrev pub ended : Got → Gets → GetStep
+abbrev pub ended : GettingSays → Gets → GetStep
 ended said g = record { said = said; gets = g }
 
 -- so many pieces have come: it is done where they have all the bytes, and else it goes on
-unfoldable pub reached : Head → (place : ℕ) → (bytes name : List ℕ) → GetStep
+unfoldable pub reached : FileHead → (place : ℕ) → (bytes name : List ℕ) → GetStep
 reached head place bytes name =
     if nat_le head.size (4096 * place)
-    then record { said = Got.Done; gets = record { name = name; stage = Stage.Whole head; bytes = take head.size bytes } }
-    else record { said = Got.Goes; gets = record { name = name; stage = Stage.Reading head place; bytes = bytes } }
+    then record { said = GettingSays.Done; gets = record { name = name; stage = Stage.Whole head; bytes = take head.size bytes } }
+    else record { said = GettingSays.Goes; gets = record { name = name; stage = Stage.Reading head place; bytes = bytes } }
 
 -- behind the file of the name
 abbrev pub found : Option ℕ → Gets → GetStep
-found (Some file) g = record { said = Got.Goes; gets = record { name = g.name; stage = Stage.Heading file; bytes = [] } }
-found None g = ended Got.Refused g
+found (Some file) g = record { said = GettingSays.Goes; gets = record { name = g.name; stage = Stage.Heading file; bytes = [] } }
+found None g = ended GettingSays.Refused g
 
 -- behind the head, if the block tells one
-abbrev pub told : Option Head → Gets → GetStep
+abbrev pub told : Option FileHead → Gets → GetStep
 told (Some head) g = reached head 0 [] g.name
-told None g = ended Got.NotWhole g
+told None g = ended GettingSays.NotWhole g
 
 -- behind an answer that brings no block
 abbrev pub missed : Bool → Gets → GetStep
 missed true g = anew g
-missed false g = ended Got.Refused g
+missed false g = ended GettingSays.Refused g
 
 -- behind the first block of the file of the name
 abbrev pub headed : Option (List ℕ) → Answer → Gets → GetStep
@@ -64,12 +64,12 @@ headed (Some body) answer g = told (head_in body) g
 headed None answer g = missed (is_gone answer) g
 
 -- behind a piece that came. No file has more than 1024
-abbrev pub added : (body : List ℕ) → Head → (place : ℕ) → Gets → GetStep
+abbrev pub added : (body : List ℕ) → FileHead → (place : ℕ) → Gets → GetStep
 added body head place g =
-    if nat_lt place 1024 then reached head (place + 1) (g.bytes ++ body) g.name else ended Got.NotWhole g
+    if nat_lt place 1024 then reached head (place + 1) (g.bytes ++ body) g.name else ended GettingSays.NotWhole g
 
 -- behind the answer to a piece
-abbrev pub read_on : Option (List ℕ) → Answer → Head → (place : ℕ) → Gets → GetStep
+abbrev pub read_on : Option (List ℕ) → Answer → FileHead → (place : ℕ) → Gets → GetStep
 read_on (Some body) answer head place g = added body head place g
 read_on None answer head place g = missed (is_gone answer) g
 
@@ -78,21 +78,21 @@ abbrev pub get_at : Stage → Answer → Gets → GetStep
 get_at Stage.Finding answer g = found (file_in answer) g
 get_at (Stage.Heading file) answer g = headed (body_in answer) answer g
 get_at (Stage.Reading head place) answer g = read_on (body_in answer) answer head place g
-get_at (Stage.Whole head) answer g = ended Got.Done g
+get_at (Stage.Whole head) answer g = ended GettingSays.Done g
 
 -- a step of getting, by what it said: where memory was wanting it stands as before
-abbrev pub Takes : Got → GetStep → (old new : Gets) → Type 0
-Takes Got.Memory step old new = new ≡ old
+abbrev pub Takes : GettingSays → GetStep → (old new : Gets) → Type 0
+Takes GettingSays.Memory step old new = new ≡ old
 Takes said step old new = step ≡ record { said = said; gets = new }
 
 -- an answer was taken
-abbrev pub Gives : Got → Answer → (old new : Gets) → Type 0
+abbrev pub Gives : GettingSays → Answer → (old new : Gets) → Type 0
 Gives said answer old new = Takes said (get_at old.stage answer old) old new
 
 -- ---- what is got
 
 -- a file has these bytes, as many as its head tells
-pub record IsStored (stored : ℕ → Option (List ℕ)) (head : Head) (bytes : List ℕ) : Type 0 where
+pub record IsStored (stored : ℕ → Option (List ℕ)) (head : FileHead) (bytes : List ℕ) : Type 0 where
   pub has : stored head.file ≡ Some bytes
   pub size : length bytes ≡ head.size
 
@@ -102,7 +102,7 @@ IsPiece stored file place body = (bytes : List ℕ) → stored file ≡ Some byt
 
 -- a first block that tells a head tells a file that was stored, to its last byte
 abbrev pub TellsStored : (stored : ℕ → Option (List ℕ)) → (body : List ℕ) → Type 0
-TellsStored stored body = (head : Head) → head_in body ≡ Some head → (bytes : List ℕ) × IsStored stored head bytes
+TellsStored stored body = (head : FileHead) → head_in body ≡ Some head → (bytes : List ℕ) × IsStored stored head bytes
 
 -- what holds of a block that is brought at a stage, where each head is written behind all the bytes that it tells, into a file that nobody
 -- changes

@@ -6,7 +6,7 @@ ghost use Rattle.nq_whole.specs.Getting.{Gives, KeepsPart, Takes, added, asked_a
 ghost use Rattle.nq_whole.specs.Heads.{head_in};
 
 use crate::answers::{body_in, file_in, is_gone};
-use crate::heads::{Head, head_in};
+use crate::heads::{FileHead, head_in};
 use crate::pieces::push_body;
 use nq_base::{Answer, Block, BlockNo, Call, FileId, Name};
 use std::alloc::Global;
@@ -23,14 +23,14 @@ pub(crate) enum Stage {
     /// The head in this file is asked for.
     Heading(FileId),
     /// The pieces from this place on are asked for.
-    Reading(Head, u32),
+    Reading(FileHead, u32),
     /// All is there.
-    Whole(Head),
+    Whole(FileHead),
 }
 
 /// What getting a file says of an answer.
 #[derive(Clone, Copy)]
-pub enum Got {
+pub enum GettingSays {
     /// It goes on.
     Goes,
     /// It begins anew: the bytes were gone, since somebody stored others.
@@ -95,7 +95,7 @@ impl Getting {
     /// the bytes are those of one file that was stored.
     ///
     /// Where memory is wanting it stands as before.
-    pub fn take(&mut self, answer: &Answer) -> Got
+    pub fn take_answer(&mut self, answer: &Answer) -> GettingSays
         ensures gives { Gives result answer.now self.old self.new }
         ensures part { KeepsPart answer.now self.old self.new }
     {
@@ -103,14 +103,14 @@ impl Getting {
     }
 
     /// Takes the answer to what was asked.
-    fn step(&mut self, answer: &Answer) -> Got
+    fn step(&mut self, answer: &Answer) -> GettingSays
         ensures { Gives result answer.now self.old self.new }
     {
         match self.standing() {
             Stage::Finding => self.find(answer),
             Stage::Heading(file) => self.head(answer, file),
             Stage::Reading(head, place) => self.read(answer, head, place),
-            Stage::Whole(_) => Got::Done,
+            Stage::Whole(_) => GettingSays::Done,
         }
     }
 
@@ -122,7 +122,7 @@ impl Getting {
     }
 
     /// Takes the answer to what the file of the name is.
-    fn find(&mut self, answer: &Answer) -> Got
+    fn find(&mut self, answer: &Answer) -> GettingSays
         requires { self.old.stage ≡ Stage.Finding }
         ensures { Gives result answer.now self.old self.new }
     {
@@ -130,14 +130,14 @@ impl Getting {
             Some(file) => {
                 self.stage = Stage::Heading(file);
                 self.bytes.clear();
-                Got::Goes
+                GettingSays::Goes
             }
-            None => Got::Refused,
+            None => GettingSays::Refused,
         }
     }
 
     /// Takes the answer to what the head is.
-    fn head(&mut self, answer: &Answer, file: FileId) -> Got
+    fn head(&mut self, answer: &Answer, file: FileId) -> GettingSays
         requires { self.old.stage ≡ Stage.Heading file }
         ensures { Gives result answer.now self.old self.new }
     {
@@ -149,7 +149,7 @@ impl Getting {
 
     /// Takes the head that a block tells.
     #[tactic(auto, using(crate::proofs::Parts::lifts))]
-    fn tell(&mut self, body: &Block) -> Got
+    fn tell(&mut self, body: &Block) -> GettingSays
         ensures { Takes result (told (head_in body.now) self.old) self.old self.new }
     {
         match head_in(body) {
@@ -157,12 +157,12 @@ impl Getting {
                 self.bytes.clear();
                 self.reach(head, 0)
             }
-            None => Got::NotWhole,
+            None => GettingSays::NotWhole,
         }
     }
 
     /// Takes the answer to a piece.
-    fn read(&mut self, answer: &Answer, head: Head, place: u32) -> Got
+    fn read(&mut self, answer: &Answer, head: FileHead, place: u32) -> GettingSays
         requires { self.old.stage ≡ Stage.Reading head place }
         ensures { Gives result answer.now self.old self.new }
     {
@@ -174,45 +174,45 @@ impl Getting {
 
     /// Adds a piece.
     #[tactic(auto, using(crate::proofs::Parts::lifts))]
-    fn add(&mut self, body: &Block, head: Head, place: u32) -> Got
+    fn add(&mut self, body: &Block, head: FileHead, place: u32) -> GettingSays
         ensures { Takes result (added body.now head place self.old) self.old self.new }
     {
         if place >= MOST_PIECES {
-            return Got::NotWhole;
+            return GettingSays::NotWhole;
         }
         if push_body(&mut self.bytes, body).is_err() {
-            return Got::Memory;
+            return GettingSays::Memory;
         }
         self.reach(head, place + 1)
     }
 
     /// So many pieces have come.
     #[tactic(auto, unfolding(crate::specs::Getting::reached))]
-    fn reach(&mut self, head: Head, place: u32) -> Got
+    fn reach(&mut self, head: FileHead, place: u32) -> GettingSays
         ensures is { reached head place self.old.bytes self.old.name ≡ record { said = result; gets = self.new } }
-        ensures goes { result ≢ Got.Memory }
+        ensures goes { result ≢ GettingSays.Memory }
     {
         let size = head.size as usize;
         if size <= Block::SIZE * place as usize {
             self.bytes.truncate(size);
             self.stage = Stage::Whole(head);
-            Got::Done
+            GettingSays::Done
         } else {
             self.stage = Stage::Reading(head, place);
-            Got::Goes
+            GettingSays::Goes
         }
     }
 
     /// Takes an answer that brings no block.
-    fn miss(&mut self, answer: &Answer) -> Got
+    fn miss(&mut self, answer: &Answer) -> GettingSays
         ensures { Takes result (missed (is_gone answer.now) self.old) self.old self.new }
     {
         if is_gone(answer) {
             self.stage = Stage::Finding;
             self.bytes.clear();
-            Got::Anew
+            GettingSays::Anew
         } else {
-            Got::Refused
+            GettingSays::Refused
         }
     }
 

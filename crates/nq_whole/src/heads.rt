@@ -14,7 +14,7 @@ pub const MOST_BYTES: usize = 4_194_304;
 
 /// What the first block under a name tells of a whole file.
 #[derive(Clone, Copy)]
-pub struct Head {
+pub struct FileHead {
     /// The file that has the bytes.
     pub file: FileId,
     /// How many bytes there are, at most 4,194,304.
@@ -26,7 +26,7 @@ pub struct Head {
 /// # Errors
 ///
 /// Only want of memory.
-pub fn head_block(alloc: Global, head: Head) -> Result<Block, NoMemory>
+pub fn head_block(alloc: Global, head: FileHead) -> Result<Block, NoMemory>
     ensures { IfOk result (λ block. block ≡ block_of head) }
 {
     piece(alloc, &front_of_head(head), 0)
@@ -34,11 +34,11 @@ pub fn head_block(alloc: Global, head: Head) -> Result<Block, NoMemory>
 
 /// A block that tells a head is read as this head.
 pub fn heads_are_read()
-    ensures { (head : Head) → head.size ≤ most_bytes → head_in (block_of head) ≡ Some head }
+    ensures { (head : FileHead) → head.size ≤ most_bytes → head_in (block_of head) ≡ Some head }
 {}
 
 /// The first bytes of the block that tells a head: two numbers, and a mark.
-fn front_of_head(head: Head) -> [u8; 18]
+fn front_of_head(head: FileHead) -> [u8; 18]
     ensures { result ≡ front_of_head head }
 {
     let file = head.file.0;
@@ -66,7 +66,7 @@ fn front_of_head(head: Head) -> [u8; 18]
 }
 
 /// The head that a block tells; None where it tells none. No block that repeats a number tells one.
-pub fn head_in(block: &Block) -> Option<Head>
+pub fn head_in(block: &Block) -> Option<FileHead>
     ensures is { result ≡ head_in block.now }
     ensures none { (v : ℕ) → block.now ≡ filled v → result ≡ None }
 {
@@ -74,7 +74,7 @@ pub fn head_in(block: &Block) -> Option<Head>
 }
 
 /// The head that a block tells.
-fn head_seen(block: &Block) -> Option<Head>
+fn head_seen(block: &Block) -> Option<FileHead>
     ensures { result ≡ head_in block.now }
 {
     match block.seen() {
@@ -84,7 +84,7 @@ fn head_seen(block: &Block) -> Option<Head>
 }
 
 /// The head that a block tells which repeats this number: none.
-fn none_filled(value: u32) -> Option<Head>
+fn none_filled(value: u32) -> Option<FileHead>
     ensures { result ≡ head_in (filled value) }
 {
     let _repeated = value;
@@ -93,14 +93,14 @@ fn none_filled(value: u32) -> Option<Head>
 
 /// The head that the bytes of a block tell.
 #[tactic(auto, unfolding(crate::specs::Heads::head_in))]
-fn head_read(bytes: &[u8]) -> Option<Head>
+fn head_read(bytes: &[u8]) -> Option<FileHead>
     requires { length bytes.now ≡ 4096 }
     ensures { result ≡ head_in bytes.now }
 {
     let size = number_at(&bytes[4..]);
     if is(&bytes[8..18], b"whole file") && size as usize <= MOST_BYTES {
         let file = FileId(number_at(bytes));
-        Some(Head { file, size })
+        Some(FileHead { file, size })
     } else {
         None
     }

@@ -12,8 +12,8 @@ mod pieces;
 mod storing;
 mod tidying;
 
-pub use getting::{Getting, Got};
-pub use heads::{Head, MOST_BYTES, head_block, head_in, heads_are_read};
+pub use getting::{Getting, GettingSays};
+pub use heads::{FileHead, MOST_BYTES, head_block, head_in, heads_are_read};
 pub use laws::{got_files_were_stored, heads_come_last};
-pub use storing::{Said, Storing};
-pub use tidying::{Tidying, Told};
+pub use storing::{Storing, StoringSays};
+pub use tidying::{Tidying, TidyingSays};

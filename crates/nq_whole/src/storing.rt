@@ -7,7 +7,7 @@ ghost use Rattle.nq_whole.specs.Heads.{block_of, head_in, most_bytes};
 ghost use Rattle.nq_whole.specs.Storing.{KeepsOrder, asked_at, blocks_for, filled_to, found, headed, head_of, needs, old_head, store_at, synced};
 
 use crate::answers::{body_in, file_in, is_done};
-use crate::heads::{Head, head_block, head_in};
+use crate::heads::{FileHead, head_block, head_in};
 use crate::pieces::piece;
 use nq_base::{Answer, Block, BlockNo, Call, FileId, Name, NoMemory, Value};
 use std::alloc::Global;
@@ -15,7 +15,7 @@ use std::marker::Model;
 
 /// A step of storing a file.
 #[derive(Clone, Copy)]
-pub(crate) enum Step {
+pub(crate) enum StoringStep {
     /// The file for the bytes is made.
     Making,
     /// Its block at this place is stored.
@@ -40,7 +40,7 @@ pub(crate) enum Step {
 
 /// What storing a file says of an answer.
 #[derive(Clone, Copy)]
-pub enum Said {
+pub enum StoringSays {
     /// It goes on.
     Goes,
     /// That answer refused it. What it had made is removed next.
@@ -59,7 +59,7 @@ pub struct Storing {
     name: Name,
     own: Name,
     bytes: Vec<u8>,
-    step: Step,
+    step: StoringStep,
 }
 
 impl Model for Storing {
@@ -76,34 +76,34 @@ impl Model for Storing {
 /// A step behind an answer: what storing says, and what comes next.
 #[derive(Clone, Copy)]
 struct StoreStep {
-    said: Said,
-    step: Step,
+    said: StoringSays,
+    step: StoringStep,
 }
 
 /// It goes on with this step.
-fn goes(step: Step) -> StoreStep
-    ensures { result ≡ record { said = Said.Goes; step = step } }
+fn goes(step: StoringStep) -> StoreStep
+    ensures { result ≡ record { said = StoringSays.Goes; step = step } }
 {
-    let said = Said::Goes;
+    let said = StoringSays::Goes;
     StoreStep { said, step }
 }
 
 /// It was refused, and the bytes in this file are removed.
 fn drops(file: FileId) -> StoreStep
-    ensures is { result ≡ record { said = Said.Drops; step = Step.Dropping file } }
+    ensures is { result ≡ record { said = StoringSays.Drops; step = StoringStep.Dropping file } }
     ensures none { needs result.step ≡ 0 }
 {
-    let said = Said::Drops;
-    let step = Step::Dropping(file);
+    let said = StoringSays::Drops;
+    let step = StoringStep::Dropping(file);
     StoreStep { said, step }
 }
 
 /// It ends so.
-fn ends(said: Said) -> StoreStep
-    ensures is { result ≡ record { said = said; step = Step.Ended } }
+fn ends(said: StoringSays) -> StoreStep
+    ensures is { result ≡ record { said = said; step = StoringStep.Ended } }
     ensures none { needs result.step ≡ 0 }
 {
-    let step = Step::Ended;
+    let step = StoringStep::Ended;
     StoreStep { said, step }
 }
 
@@ -114,11 +114,11 @@ fn found(answer: &Answer, file: FileId) -> StoreStep
 {
     match answer {
         Answer::Ok(value) => match value {
-            Value::File(at) => goes(Step::Heading(file, *at)),
+            Value::File(at) => goes(StoringStep::Heading(file, *at)),
             _ => drops(file),
         },
-        Answer::NoEntry => goes(Step::Founding(file)),
-        Answer::Exists => goes(Step::Finding(file)),
+        Answer::NoEntry => goes(StoringStep::Founding(file)),
+        Answer::Exists => goes(StoringStep::Finding(file)),
         _ => drops(file),
     }
 }
@@ -140,11 +140,11 @@ fn old_head(body: &Block, file: FileId, at: FileId) -> StoreStep
     ensures none { needs result.step ≡ 0 }
 {
     match head_in(body) {
-        Some(head) => goes(Step::Writing(file, at, Some(head.file))),
-        None if body.value() == 0 => goes(Step::Writing(file, at, None)),
+        Some(head) => goes(StoringStep::Writing(file, at, Some(head.file))),
+        None if body.value() == 0 => goes(StoringStep::Writing(file, at, None)),
         None => StoreStep {
-            said: Said::NotWhole,
-            step: Step::Dropping(file),
+            said: StoringSays::NotWhole,
+            step: StoringStep::Dropping(file),
         },
     }
 }
@@ -156,10 +156,10 @@ fn synced(answer: &Answer, old: Option<FileId>) -> StoreStep
 {
     match answer {
         Answer::Ok(_) => match old {
-            Some(old) => goes(Step::Clearing(old)),
-            None => ends(Said::Done),
+            Some(old) => goes(StoringStep::Clearing(old)),
+            None => ends(StoringSays::Done),
         },
-        _ => ends(Said::Refused),
+        _ => ends(StoringSays::Refused),
     }
 }
 
@@ -179,13 +179,13 @@ impl Storing {
     /// Storing these bytes begins. No file has the name `own` yet, and nobody else gives it to one.
     pub fn new(name: Name, own: Name, bytes: Vec<u8>) -> Storing
         requires { length bytes.items ≤ most_bytes }
-        ensures { result ≡ record { name = name; own = own; bytes = bytes.items; step = Step.Making } }
+        ensures { result ≡ record { name = name; own = own; bytes = bytes.items; step = StoringStep.Making } }
     {
         Storing {
             name,
             own,
             bytes,
-            step: Step::Making,
+            step: StoringStep::Making,
         }
     }
 
@@ -199,25 +199,25 @@ impl Storing {
     {
         let block = BlockNo(0);
         match self.step {
-            Step::Making => Ok(self.makes()),
-            Step::Filling(file, place) => self.fills(alloc, file, place),
-            Step::Finding(_) => Ok(Call::Lookup { name: self.name }),
-            Step::Founding(_) => Ok(Call::Create {
+            StoringStep::Making => Ok(self.makes()),
+            StoringStep::Filling(file, place) => self.fills(alloc, file, place),
+            StoringStep::Finding(_) => Ok(Call::Lookup { name: self.name }),
+            StoringStep::Founding(_) => Ok(Call::Create {
                 name: self.name,
                 blocks: 1,
             }),
-            Step::Heading(_, file) => Ok(Call::Read { file, block }),
-            Step::Writing(file, at, _) => self.heads(alloc, file, at),
-            Step::Syncing(_, file, _) => Ok(Call::Sync { file }),
-            Step::Clearing(file) => Ok(Call::Remove { file }),
-            Step::Dropping(file) => Ok(Call::Remove { file }),
-            Step::Ended => Ok(Call::Lookup { name: self.own }),
+            StoringStep::Heading(_, file) => Ok(Call::Read { file, block }),
+            StoringStep::Writing(file, at, _) => self.heads(alloc, file, at),
+            StoringStep::Syncing(_, file, _) => Ok(Call::Sync { file }),
+            StoringStep::Clearing(file) => Ok(Call::Remove { file }),
+            StoringStep::Dropping(file) => Ok(Call::Remove { file }),
+            StoringStep::Ended => Ok(Call::Lookup { name: self.own }),
         }
     }
 
     /// The call that makes the file for the bytes.
     fn makes(&self) -> Call
-        ensures { result ≡ asked_at self.now.name self.now.own self.now.bytes Step.Making }
+        ensures { result ≡ asked_at self.now.name self.now.own self.now.bytes StoringStep.Making }
     {
         Call::Create {
             name: self.own,
@@ -228,11 +228,11 @@ impl Storing {
     /// The call that stores a block.
     fn fills(&self, alloc: Global, file: FileId, place: u32) -> Result<Call, NoMemory>
         requires { 4096 * place < length self.now.bytes }
-        ensures { IfOk result (λ call. call ≡ asked_at self.now.name self.now.own self.now.bytes (Step.Filling file place)) }
+        ensures { IfOk result (λ call. call ≡ asked_at self.now.name self.now.own self.now.bytes (StoringStep.Filling file place)) }
     {
         let block = BlockNo(place);
         let body = piece(alloc, &self.bytes, place as usize)?;
-        Ok(Call::WriteSync { file, block, body })
+        Ok(Call::Put { file, block, body })
     }
 
     /// The call that writes the head.
@@ -240,7 +240,7 @@ impl Storing {
         ensures { IfOk result (λ call. call ≡ Call.Write at 0 (block_of (head_of file self.now.bytes))) }
     {
         let size = self.bytes.len() as u32;
-        let body = head_block(alloc, Head { file, size })?;
+        let body = head_block(alloc, FileHead { file, size })?;
         Ok(Call::Write {
             file: at,
             block: BlockNo(0),
@@ -249,15 +249,16 @@ impl Storing {
     }
 
     /// Takes the answer to what was asked. When the head is written, all bytes are stored.
-    pub fn take(&mut self, answer: &Answer) -> Said
-        ensures gives { let next = store_at self.old.step answer.now self.old.bytes in (result ≡ next.said) × (self.new ≡ record self.old { step = next.step }) }
+    pub fn take_answer(&mut self, answer: &Answer) -> StoringSays
+        ensures gives { let next = store_at self.old.step answer.now self.old.bytes in (result ≡ next.said)
+            × (self.new ≡ record self.old { step = next.step }) }
         ensures order { KeepsOrder answer.now self.old self.new }
     {
         self.give(answer)
     }
 
     /// Takes the answer to what was asked.
-    fn give(&mut self, answer: &Answer) -> Said
+    fn give(&mut self, answer: &Answer) -> StoringSays
         ensures { let next = store_at self.old.step answer.now self.old.bytes in (result ≡ next.said) × (self.new ≡ record self.old { step = next.step }) }
     {
         let next = self.next(answer);
@@ -271,31 +272,31 @@ impl Storing {
         ensures enough { needs result.step ≤ length self.now.bytes }
     {
         match self.step {
-            Step::Making => match file_in(answer) {
+            StoringStep::Making => match file_in(answer) {
                 Some(file) => self.filled_to(file, 0),
-                None => ends(Said::Refused),
+                None => ends(StoringSays::Refused),
             },
-            Step::Filling(file, place) => {
+            StoringStep::Filling(file, place) => {
                 if is_done(answer) {
                     self.filled_to(file, place + 1)
                 } else {
                     drops(file)
                 }
             }
-            Step::Finding(file) => found(answer, file),
-            Step::Founding(file) => found(answer, file),
-            Step::Heading(file, at) => headed(answer, file, at),
-            Step::Writing(file, at, old) => {
+            StoringStep::Finding(file) => found(answer, file),
+            StoringStep::Founding(file) => found(answer, file),
+            StoringStep::Heading(file, at) => headed(answer, file, at),
+            StoringStep::Writing(file, at, old) => {
                 if is_done(answer) {
-                    goes(Step::Syncing(file, at, old))
+                    goes(StoringStep::Syncing(file, at, old))
                 } else {
                     drops(file)
                 }
             }
-            Step::Syncing(_, _, old) => synced(answer, old),
-            Step::Clearing(_) => ends(Said::Done),
-            Step::Dropping(_) => ends(Said::Refused),
-            Step::Ended => ends(Said::Refused),
+            StoringStep::Syncing(_, _, old) => synced(answer, old),
+            StoringStep::Clearing(_) => ends(StoringSays::Done),
+            StoringStep::Dropping(_) => ends(StoringSays::Refused),
+            StoringStep::Ended => ends(StoringSays::Refused),
         }
     }
 
@@ -306,9 +307,9 @@ impl Storing {
         ensures enough { needs result.step ≤ length self.now.bytes }
     {
         if self.bytes.len() <= Block::SIZE * place as usize {
-            goes(Step::Finding(file))
+            goes(StoringStep::Finding(file))
         } else {
-            goes(Step::Filling(file, place))
+            goes(StoringStep::Filling(file, place))
         }
     }
 }

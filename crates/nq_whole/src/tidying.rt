@@ -25,7 +25,7 @@ pub(crate) enum Rest {
 
 /// What tidying says of an answer.
 #[derive(Clone, Copy)]
-pub enum Told {
+pub enum TidyingSays {
     /// It goes on.
     Goes,
     /// A head tells the file: it stays.
@@ -39,7 +39,7 @@ pub enum Told {
 /// A step behind an answer.
 #[derive(Clone, Copy)]
 struct TidyStep {
-    told: Told,
+    told: TidyingSays,
     rest: Rest,
 }
 
@@ -62,14 +62,14 @@ impl Model for Tidying {
 
 /// It goes on.
 fn goes(rest: Rest) -> TidyStep
-    ensures { result ≡ record { told = Told.Goes; rest = rest } }
+    ensures { result ≡ record { told = TidyingSays.Goes; rest = rest } }
 {
-    let told = Told::Goes;
+    let told = TidyingSays::Goes;
     TidyStep { told, rest }
 }
 
 /// It ends so.
-fn ends(told: Told) -> TidyStep
+fn ends(told: TidyingSays) -> TidyStep
     ensures { result ≡ record { told = told; rest = Rest.Ended } }
 {
     let rest = Rest::Ended;
@@ -83,10 +83,10 @@ fn owned(answer: &Answer) -> TidyStep
     match answer {
         Answer::Ok(value) => match value {
             Value::File(file) => goes(Rest::Naming(*file)),
-            _ => ends(Told::Unsure),
+            _ => ends(TidyingSays::Unsure),
         },
-        Answer::NoEntry => ends(Told::Gone),
-        _ => ends(Told::Unsure),
+        Answer::NoEntry => ends(TidyingSays::Gone),
+        _ => ends(TidyingSays::Unsure),
     }
 }
 
@@ -97,10 +97,10 @@ fn named(answer: &Answer, file: FileId) -> TidyStep
     match answer {
         Answer::Ok(value) => match value {
             Value::File(at) => goes(Rest::Heading(file, *at)),
-            _ => ends(Told::Unsure),
+            _ => ends(TidyingSays::Unsure),
         },
         Answer::NoEntry => goes(Rest::Removing(file)),
-        _ => ends(Told::Unsure),
+        _ => ends(TidyingSays::Unsure),
     }
 }
 
@@ -111,7 +111,7 @@ fn told_by(body: &Block, file: FileId) -> TidyStep
     match head_in(body) {
         Some(head) => {
             if head.file.0 == file.0 {
-                ends(Told::Kept)
+                ends(TidyingSays::Kept)
             } else {
                 goes(Rest::Removing(file))
             }
@@ -127,10 +127,10 @@ fn headed(answer: &Answer, file: FileId) -> TidyStep
     match answer {
         Answer::Ok(value) => match value {
             Value::Body(body) => told_by(body, file),
-            _ => ends(Told::Unsure),
+            _ => ends(TidyingSays::Unsure),
         },
         Answer::Stale => goes(Rest::Removing(file)),
-        _ => ends(Told::Unsure),
+        _ => ends(TidyingSays::Unsure),
     }
 }
 
@@ -139,9 +139,9 @@ fn removed(answer: &Answer) -> TidyStep
     ensures { result ≡ removed answer.now }
 {
     match answer {
-        Answer::Ok(_) => ends(Told::Gone),
-        Answer::Stale => ends(Told::Gone),
-        _ => ends(Told::Unsure),
+        Answer::Ok(_) => ends(TidyingSays::Gone),
+        Answer::Stale => ends(TidyingSays::Gone),
+        _ => ends(TidyingSays::Unsure),
     }
 }
 
@@ -174,7 +174,7 @@ impl Tidying {
     }
 
     /// Takes the answer to what was asked.
-    pub fn take(&mut self, answer: &Answer) -> Told
+    pub fn take_answer(&mut self, answer: &Answer) -> TidyingSays
         ensures { let next = tidy_at self.old.rest answer.now in (result ≡ next.told) × (self.new ≡ record self.old { rest = next.rest }) }
     {
         let next = self.next(answer);
@@ -191,7 +191,7 @@ impl Tidying {
             Rest::Naming(file) => named(answer, file),
             Rest::Heading(file, _) => headed(answer, file),
             Rest::Removing(_) => removed(answer),
-            Rest::Ended => ends(Told::Unsure),
+            Rest::Ended => ends(TidyingSays::Unsure),
         }
     }
 }

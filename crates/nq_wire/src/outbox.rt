@@ -20,7 +20,11 @@ impl Model for Outbox {
 
     ghost Value = { Datagrams };
 
-    ghost view = { λ o. record { first = o.first; datagrams = map (λ d. (d.0, d.1.items)) o.datagrams.items; spare = vec_capacity o.datagrams - vec_len o.datagrams } };
+    ghost view = { λ o. record {
+      first = o.first;
+      datagrams = map (λ d. (d.0, d.1.items)) o.datagrams.items;
+      spare = vec_capacity o.datagrams - vec_len o.datagrams;
+    } };
 }
 
 impl Outbox {

@@ -18,7 +18,7 @@ use Rattle.nq_keeper.specs.declared.keeper.KeepFault.{KeepFault}
 use Rattle.nq_base.specs.Name.{AreDistinct, IsNew}
 use Rattle.walk_steps.specs.Within.{IsFirstFile}
 use Rattle.walk_steps.proofs.FirstNumbers.{first-unnamed, first-length, first-blocks}
-use Rattle.nq_world.specs.First.{kept_first, heads_change, file_change, host_change, AreFirstFiles, Tells, told_as, Counts}
+use Rattle.nq_world.specs.First.{kept_first, heads_change, file_change, host_change, AreFirstFiles, Tells, told_as}
 use Rattle.nq_world.proofs.Outboxes.{sum-take-below}
 
 -- ---- the numbers of the server
@@ -213,9 +213,6 @@ host-applied longest files host below =
     ap (λ rows. record { files = first_files 1 files; hosts = rows; boot = 0; opened = 0; longest = longest; next = length files + 1 })
     (ap (λ n. slice_set (replicate host first_row ++ replicate n fresh_row) host first_row) left ∙ next-row host (most_hosts - suc host))
 
-pub host-fits : (longest : ℕ) (files : List (List ℕ × ℕ)) (host : ℕ) → host < most_hosts → Fits (kept_first longest files host) (host_change host)
-host-fits longest files host below = record { file = tt; block = tt; host = below; heads = tt; removed = tt }
-
 -- ---- what is told
 
 pub told-next : (told : Option Kept) (before after : Kept) (change : Change) → Tells before told → applied before change ≡ after
@@ -232,19 +229,11 @@ pub told-on : (told middle tells : Option Kept) (first second : Kept) → middle
 told-on None middle tells first second one two = two ∙ ap (told_as second) one
 told-on (Some k) middle tells first second one two = two ∙ ap (told_as second) one
 
-pub told-same : (told : Option Kept) (kept : Kept) → Tells kept told → told ≡ told_as kept told
-told-same None kept tells = refl
-told-same (Some found) kept tells = ap Some (tells found refl)
-
 -- a commit that was made leads from what was told to what is told
 pub commit-told : (r : Result Unit KeepFault) (change : Change) (told tells : Option Kept) (before count : ℕ) (next : Option Kept)
     → Commits r change told tells before count → told_after change told ≡ next → OnOk r (tells ≡ next)
 commit-told (Ok done) change told tells before count next commits is = commits.0 ∙ is
 commit-told (Err fault) change told tells before count next commits is = tt
-
--- a fault after calls that met none
-pub counts-on : (fault : KeepFault) (before middle count : ℕ) → middle ≡ before → Counts (Err fault) middle count → Counts (Err fault) before count
-counts-on fault before middle count same counts = subst (λ n. Counts (Err fault) n count) same counts
 
 -- what holds after a call that was made
 pub made-so : {X : Type 0} (r : Result X KeepFault) (P Q : Type 0) → (P → Q) → OnOk r P → OnOk r Q

@@ -15,8 +15,6 @@ use Rattle.nq_model.specs.protocol.Message.{Packet}
 use Rattle.nq_model.specs.protocol.Profile.{most_taken_by_server}
 use Rattle.nq_model.specs.protocol.Server.{Server, ServerStep}
 use Rattle.nq_model.specs.protocol.ServerStep.{at_time, crash, receive}
-use Rattle.nq_model.specs.protocol.SkewBroken.{skew_broken}
-use Rattle.nq_model.specs.protocol.Stepped.{done, stepped}
 use Rattle.nq_model.specs.protocol.World.{Head, World, after_server, run, sending_host, step}
 use Rattle.nq_link.specs.Packets.{Datagram, PacketList}
 use Rattle.nq_server.specs.Holding.{Holding, IsTaken, Reboots, TakesIn}
@@ -27,7 +25,6 @@ use Rattle.walk_steps.specs.Says.{SaysPlainly}
 use Rattle.walk_steps.specs.Within.{IsGiven}
 use Rattle.nq_world.proofs.Counting.{took-more}
 use Rattle.nq_world.proofs.Little.{server-sends-little}
-use Rattle.nq_world.proofs.Passing.{done-passes}
 use Rattle.nq_world.proofs.Played.{IsFit, plays-on}
 use Rattle.nq_world.proofs.Showing.{server-shown, deliveries-to-the-server, found-packet, packet-fits}
 use Rattle.nq_world.proofs.Texts.{bytes-carry-text}
@@ -202,11 +199,3 @@ pub delivery-steps : {K : Type 0} (head : Head) (events : List Event) (w : World
     → step (run head events) (Event.Deliver k) ≡ after_server (run head events) (receive (run head events).server (sending_host d.sender)
     (length w.datagrams) (datagram_in d.bytes))
 delivery-steps head events w told k d plays e to = deliveries-to-the-server head events (seen_of w) k d plays.shown.shows e to
-
--- a tick that passed the tests is within skew
-pub not-broken : {K : Type 0} (head : Head) (events : List Event) (w : WorldOver K) (told : Option Kept) (broken : SkewBroken)
-    → Plays head events w told → stepped head events Event.ServerTick ≡ done → skew_broken (length w.skew.hosts) w.skew.window events ≡ Some broken → ⊥
-not-broken head events w told broken plays e some =
-    let passes = done-passes head events (seen_of w) w.skew Event.ServerTick plays.shown e in
-    let none = passes.allows in
-    absurd (cc)

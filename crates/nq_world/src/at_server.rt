@@ -33,7 +33,7 @@ fn sending_host(sender: Party) -> Host
 }
 
 /// How the server took an event in, for the event.
-fn made(taken: Received) -> Result<(), Fault>
+fn received(taken: Received) -> Result<(), Fault>
     ensures { result ≡ received taken }
 {
     match taken {
@@ -101,7 +101,7 @@ impl<K: Keeper> World<K> {
             &mut self.journal,
         );
         finish(
-            made(taken),
+            received(taken),
             &mut self.packets,
             &mut self.events,
             Party::Server,
@@ -122,7 +122,7 @@ impl<K: Keeper> World<K> {
             return Stepped::Limit(Limit::Events);
         };
         let taken = self.server.tick(time, &mut out, &mut self.journal);
-        let ended = made(taken);
+        let ended = received(taken);
         match follow(&ended, &mut self.skew) {
             Ok(()) => finish(
                 ended,
@@ -152,7 +152,7 @@ impl<K: Keeper> World<K> {
         };
         let taken = self.server.reboot(alloc, longest, time, &mut self.journal);
         finish(
-            made(taken),
+            received(taken),
             &mut self.packets,
             &mut self.events,
             Party::Server,

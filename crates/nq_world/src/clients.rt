@@ -65,7 +65,8 @@ pub(crate) fn tick(
     requires there { host < length clients.old.items }
     requires tested { length clients.old.items ≡ length skew.old.hosts }
     requires empty { out.old.datagrams ≡ [] }
-    ensures acts { ActsAt host (λ c. Some (client_tick c (c.now + 1))) result clients.old.items clients.new.items out.new.datagrams log.old.entries log.new.entries }
+    ensures acts { ActsAt host (λ c. Some
+        (client_tick c (c.now + 1))) result clients.old.items clients.new.items out.new.datagrams log.old.entries log.new.entries }
     ensures clocks { Clocks result (Event.ClientTick host) skew.old skew.new }
     ensures hosts { length clients.new.items ≡ length clients.old.items }
 {

@@ -119,7 +119,8 @@ impl<K: Keeper> World<K> {
     pub fn next_file(&mut self, after: FileId) -> Result<Option<FileRow>, KeepFault>
         ensures told { ForSome (K.content self.old.server.keeper) (λ kept. IfOk result (λ row. row ≡ row_of_found (file_after after kept.files))) }
         ensures unchanged { IsAsBefore self.old self.new }
-        ensures reads { Reads result (K.content self.old.server.keeper) (K.content self.new.server.keeper) (K.faults self.old.server.keeper) (K.faults self.new.server.keeper) }
+        ensures reads { Reads result (K.content self.old.server.keeper) (K.content self.new.server.keeper) (K.faults self.old.server.keeper)
+            (K.faults self.new.server.keeper) }
         ensures follows { K.follows self.old.server.keeper self.new.server.keeper }
     {
         self.server.next_file(after)
@@ -130,7 +131,8 @@ impl<K: Keeper> World<K> {
         requires { host < most_hosts }
         ensures told { ForSome (K.content self.old.server.keeper) (λ kept. IfOk result (λ inc. inc ≡ (host_row kept host).inc)) }
         ensures unchanged { IsAsBefore self.old self.new }
-        ensures reads { Reads result (K.content self.old.server.keeper) (K.content self.new.server.keeper) (K.faults self.old.server.keeper) (K.faults self.new.server.keeper) }
+        ensures reads { Reads result (K.content self.old.server.keeper) (K.content self.new.server.keeper) (K.faults self.old.server.keeper)
+            (K.faults self.new.server.keeper) }
         ensures follows { K.follows self.old.server.keeper self.new.server.keeper }
     {
         self.server.kept_inc(host)

@@ -102,7 +102,10 @@ fn boot<K: Keeper>(
     requires hosts { hosts ≤ most_hosts }
     requires long { shortest_term ≤ longest }
     requires short { longest ≤ longest_term }
-    ensures begins { (files : List (List ℕ × ℕ)) → AreFirstFiles files → Begins (record { hosts = hosts; term = term; longest = longest; files = files }) (first_kept (record { hosts = hosts; term = term; longest = longest; files = files })) result (K.content keeper) (K.content (keeper_in result)) (K.faults keeper) (K.faults (keeper_in result)) }
+    ensures begins { (files : List (List ℕ × ℕ)) → AreFirstFiles files
+        → Begins (record { hosts = hosts; term = term; longest = longest; files = files })
+        (first_kept (record { hosts = hosts; term = term; longest = longest; files = files })) result (K.content keeper) (K.content (keeper_in result))
+        (K.faults keeper) (K.faults (keeper_in result)) }
     ensures follows { K.follows keeper (keeper_in result) }
 {
     let Ok(skew) = Skew::new(alloc, hosts, longest) else {
@@ -133,7 +136,8 @@ impl<K: Keeper> World<K> {
         requires short { longest ≤ longest_term }
         requires fine { AreFirstFiles files.now }
         requires empty { Tells empty_kept (K.content keeper) }
-        ensures begins { Begins (record { hosts = hosts; term = term; longest = longest; files = files.now }) empty_kept result (K.content keeper) (K.content (keeper_in result)) (K.faults keeper) (K.faults (keeper_in result)) }
+        ensures begins { Begins (record { hosts = hosts; term = term; longest = longest; files = files.now }) empty_kept result (K.content keeper)
+            (K.content (keeper_in result)) (K.faults keeper) (K.faults (keeper_in result)) }
         ensures follows { K.follows keeper (keeper_in result) }
     {
         let mut keeper = keeper;

@@ -69,13 +69,13 @@ impl<K: Keeper> World<K> {
         ensures settings { HasSettings (length self.old.clients) self.old.skew.window self.old.term self.new }
     {
         match test(self.events, self.packets.len(), &self.skew, event) {
-            Stepped::Done => self.take(event),
+            Stepped::Done => self.take_event(event),
             refused => refused,
         }
     }
 
     /// Takes in an event that passed the tests.
-    fn take(&mut self, event: &Event) -> Stepped
+    fn take_event(&mut self, event: &Event) -> Stepped
         requires few { self.old.events < most_events }
         requires can { CanCome (length self.old.clients) self.old.skew.window event.now }
         ensures takes { TakesIn K.content event.now result self.old self.new }

@@ -8,13 +8,14 @@ ghost use Rattle.nq_command.specs.declared.commands.Command.{Command};
 ghost use Rattle.nq_run.specs.Frames.{makes_a_run};
 ghost use Rattle.nq_run.specs.Setting.{place_of};
 ghost use Rattle.nq_run.specs.declared.setting.Place.{Place};
+ghost use Rattle.nq_udp.specs.UdpLink.{IsBoundBy};
 
 use crate::top::ran;
 use nq_base::Party;
 use nq_clock::StdClock;
 use nq_disk::{Disk, FileDisk};
 use nq_io::streams::{StdSink, StdSource};
-use nq_run::{NoMemory, Place, Words, blank_disk, parties_of, party_of, place_of};
+use nq_run::{CommandWords, NoMemory, Place, blank_disk, parties_of, party_of, place_of};
 use nq_udp::UdpLink;
 use std::io;
 
@@ -22,8 +23,9 @@ use std::io;
 const IMAGE: &str = "nqnfs.img";
 
 /// Runs what the words say, with the links of a loop and the link of the party that they name; the status.
-pub(crate) fn run(rt: &HostRuntime, words: &Words) -> Result<u8, NoMemory>
+pub(crate) fn run(rt: &HostRuntime, words: &CommandWords) -> Result<u8, NoMemory>
     ensures never { IfOk result (λ status. command_of words.now ≡ None → status ≡ status_of Ending.Usage) }
+    ensures known { IfOk result (λ status. status ≡ status_of Ending.Usage → command_of words.now ≡ None) }
 {
     let parties = parties_of(rt.alloc(), words)?;
     let mut links = links_of(rt, parties.as_slice())?;
@@ -45,7 +47,7 @@ fn image(rt: &HostRuntime) -> Result<FileDisk, NoMemory>
 /// Runs what the words say, over a disk and the clock of the machine; the status.
 fn run_over<D: Disk + Drop>(
     rt: &HostRuntime,
-    words: &Words,
+    words: &CommandWords,
     disk: D,
     link: &mut UdpLink<HostRuntime>,
     links: &mut [UdpLink<HostRuntime>],
@@ -54,6 +56,7 @@ fn run_over<D: Disk + Drop>(
     requires lasts { place_of (command_of words.now) ≡ Place.File → D.told disk ≡ None }
     requires links { (hosts turns : ℕ) → command_of words.now ≡ Some (Command.Loop hosts turns) → length links.old ≡ hosts + 1 }
     ensures never { IfOk result (λ status. command_of words.now ≡ None → status ≡ status_of Ending.Usage) }
+    ensures known { IfOk result (λ status. status ≡ status_of Ending.Usage → command_of words.now ≡ None) }
 {
     let alloc = rt.alloc();
     let mut clock = StdClock::new(rt.clone()?);
@@ -99,9 +102,10 @@ fn link_of(rt: &HostRuntime, party: Party) -> Result<UdpLink<HostRuntime>, NoMem
     }
 }
 
-/// A link whose socket is bound, if the machine lets it.
+/// A link whose socket is bound where it listens, if the machine lets it.
 fn opened(link: UdpLink<HostRuntime>) -> UdpLink<HostRuntime>
-    ensures { result ≡ link }
+    ensures same { result ≡ record link { bound = result.bound } }
+    ensures bound { IsBoundBy link result.bound }
 {
     let mut link = link;
     link.open();

@@ -13,14 +13,16 @@ use nq_clock::Clock;
 use nq_disk::Disk;
 use nq_io::{Sink, Source};
 use nq_link::Link;
-use nq_run::{CutFate, Ended, Fate, HostileFate, LossyFate, NoMemory, SteadyFate, Words, run};
+use nq_run::{
+    CommandWords, CutFate, Ended, Fate, HostileFate, LossyFate, NoMemory, SteadyFate, run,
+};
 use std::alloc::Global;
 
-/// Runs what the words say, with the four fates. Where they say no command the status is that of usage. What else `run` promises is said there. The
-/// words that want the file get a disk that lasts, which is none that tells its bytes.
+/// Runs what the words say, with the four fates. The status is that of usage exactly where they say no command. What else `run` promises is said
+/// there. The words that want the file get a disk that lasts, which is none that tells its bytes.
 pub(crate) fn ran<S: Source, K: Sink, D: Disk + Drop, L: Link, C: Clock>(
     alloc: Global,
-    words: &Words,
+    words: &CommandWords,
     input: &mut S,
     out: &mut K,
     disk: D,
@@ -32,6 +34,8 @@ pub(crate) fn ran<S: Source, K: Sink, D: Disk + Drop, L: Link, C: Clock>(
     requires lasts { place_of (command_of words.now) ≡ Place.File → D.told disk ≡ None }
     requires links { (hosts turns : ℕ) → command_of words.now ≡ Some (Command.Loop hosts turns) → length links.old ≡ hosts + 1 }
     ensures never { IfOk result (λ ended. command_of words.now ≡ None → ended.end ≡ status_of Ending.Usage) }
+    // Refuses a list of fates that lacks one of the four.
+    ensures known { IfOk result (λ ended. ended.end ≡ status_of Ending.Usage → command_of words.now ≡ None) }
 {
     let mut fates: Vec<Box<dyn Fate>> = Vec::new(alloc);
     fates.push(Box::new(alloc, SteadyFate::new())?)?;

@@ -1,8 +1,8 @@
 //! Those who ask a host on this machine.
 
 use mio::net::UnixStream;
-use nq_asks::{Kind, push_answer};
-use nq_tasks::{Ask, Inbox, Taken};
+use nq_asks::{AnswerKind, push_answer};
+use nq_tasks::{Ask, AskTaken, Inbox};
 use std::alloc::Global;
 use std::io::{ErrorKind, Read, Write};
 
@@ -66,9 +66,9 @@ impl Asker {
             return None;
         }
         match self.inbox.next() {
-            Taken::Ask(ask) => Some(ask),
-            Taken::Nothing => None,
-            Taken::Wrong => {
+            AskTaken::Ask(ask) => Some(ask),
+            AskTaken::Nothing => None,
+            AskTaken::Wrong => {
                 self.is_over = true;
                 None
             }
@@ -81,7 +81,7 @@ impl Asker {
     }
 
     /// Sends an answer, with bytes behind the line where the kind says so.
-    pub(crate) fn answer(&mut self, number: u32, kind: Kind, text: &[u8], bytes: &[u8]) {
+    pub(crate) fn answer(&mut self, number: u32, kind: AnswerKind, text: &[u8], bytes: &[u8]) {
         let told = push_answer(&mut self.outgoing, number, kind, text);
         if told.is_err()
             || self.outgoing.push(b'\n').is_err()

@@ -6,10 +6,10 @@ use crate::ledger::Ledger;
 use crate::starts::pause;
 use mio::net::UnixListener;
 use mio::{Events, Interest, Poll, Token};
-use nq_asks::Kind;
+use nq_asks::AnswerKind;
 use nq_base::{Answer, Call, Name, NoMemory};
 use nq_tasks::{
-    Ask, Came, Listed, Made, NO_MEMORY, NOBODY, Reply, Waiting, Work, name_stored, own_name,
+    Ask, AskReply, Came, Listed, Made, NO_MEMORY, NOBODY, Waiting, Work, name_stored, own_name,
 };
 use std::alloc::Global;
 use std::io;
@@ -321,7 +321,7 @@ impl Hosting {
         let now = self.desk.time();
         if let Some(words) = self.waiting.tells(now) {
             if let Some(Some(asker)) = self.askers.get_mut(place) {
-                asker.answer(number, Kind::Wait, words, &[]);
+                asker.answer(number, AnswerKind::Wait, words, &[]);
             }
         }
     }
@@ -332,7 +332,7 @@ impl Hosting {
             return;
         };
         let who = self.desk.who();
-        self.waiting.take(self.alloc, who, &page);
+        self.waiting.take_page(self.alloc, who, &page);
     }
 
     /// Asks whether the server recovers, where that is due.
@@ -444,7 +444,7 @@ impl Hosting {
     /// Takes the answer to the call under way.
     fn advance(&mut self, answer: &Answer) {
         let came = match &mut self.work {
-            Some(work) => work.take(answer),
+            Some(work) => work.take_answer(answer),
             None => Came::On,
         };
         self.came(came);
@@ -461,7 +461,7 @@ impl Hosting {
             }
             Came::Over(reply) => {
                 self.work = None;
-                let Reply {
+                let AskReply {
                     place,
                     number,
                     kind,
@@ -483,15 +483,15 @@ impl Hosting {
 
     /// Refuses an ask.
     fn refuse(&mut self, place: usize, number: u32, why: &[u8]) {
-        self.reply(place, number, Kind::Refused, why, &[]);
+        self.reply(place, number, AnswerKind::Refused, why, &[]);
     }
 
     /// Answers an ask. Before, whoever asked is told of the delayed writes that were lost since somebody was told.
-    fn reply(&mut self, place: usize, number: u32, kind: Kind, text: &[u8], bytes: &[u8]) {
+    fn reply(&mut self, place: usize, number: u32, kind: AnswerKind, text: &[u8], bytes: &[u8]) {
         if let Some(Some(asker)) = self.askers.get_mut(place) {
             let lost = self.desk.take_lost();
             if !lost.is_empty() {
-                asker.answer(number, Kind::Note, &lost, &[]);
+                asker.answer(number, AnswerKind::Note, &lost, &[]);
             }
             asker.answer(number, kind, text, bytes);
         }
@@ -511,7 +511,7 @@ impl Hosting {
             self.refuse(place, number, STILL_DELAYED);
             return false;
         }
-        self.reply(place, number, Kind::Done, b"ok", &[]);
+        self.reply(place, number, AnswerKind::Done, b"ok", &[]);
         true
     }
 

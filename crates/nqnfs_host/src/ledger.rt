@@ -2,7 +2,7 @@
 
 use crate::starts::replace_file;
 use nq_base::Name;
-use nq_script::words::{Words, cut};
+use nq_script::words::{WordCursor, cut};
 use nq_tasks::Made;
 use std::alloc::{AllocError, Global};
 use std::fs;
@@ -21,7 +21,7 @@ pub(crate) struct Ledger {
 
 /// What a line tells.
 fn made_in(line: &[u8]) -> Option<Made> {
-    let mut words = Words::new(line);
+    let mut words = WordCursor::new(line);
     let own = words.name()?;
     let name = words.name()?;
     Some(Made { own, name })

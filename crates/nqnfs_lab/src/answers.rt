@@ -1,6 +1,6 @@
 //! Answers as JSON.
 
-use crate::runs::Told;
+use crate::runs::ToldRun;
 use nq_bend::{Bent, LeftOut, Why};
 use serde_json::{Map, Value};
 use std::alloc::{AllocError, Global};
@@ -41,8 +41,8 @@ impl Made {
     }
 
     /// Adds what is told of a run.
-    pub(crate) fn run(&mut self, run: Told) -> Result<(), AllocError> {
-        let Told {
+    pub(crate) fn run(&mut self, run: ToldRun) -> Result<(), AllocError> {
+        let ToldRun {
             status,
             printed,
             verdict,

@@ -3,7 +3,7 @@
 ghost use Rattle.std.specs.Prelude.{◌<◌, ◌^◌, length};
 
 use crate::answers::Made;
-use crate::files::{Kind, file_of};
+use crate::files::{FileKind, file_of};
 use crate::requests::{Bends, bends_in, number_in, text_in, then_in};
 use crate::runs::{Bending, Untold, bend_text, tell_run, tell_why};
 use crate::watch::Watch;
@@ -29,7 +29,7 @@ pub(crate) struct Desk<'a> {
 #[derive(Drop)]
 struct Answer {
     status: u16,
-    kind: Kind,
+    kind: FileKind,
     body: Vec<u8>,
 }
 
@@ -81,7 +81,7 @@ impl<'a> Desk<'a> {
         match file_of(self.rt, self.web, path) {
             Some(body) => Ok(Answer {
                 status: 200,
-                kind: Kind::of(path),
+                kind: FileKind::of(path),
                 body,
             }),
             None => text(self.rt.alloc(), 404, "there is no such file\n"),
@@ -195,7 +195,7 @@ fn untold(alloc: Global, why: Untold) -> Result<Answer, AllocError> {
 fn object(made: Made) -> Result<Answer, AllocError> {
     Ok(Answer {
         status: 200,
-        kind: Kind::Object,
+        kind: FileKind::Object,
         body: made.into_bytes()?,
     })
 }
@@ -204,7 +204,7 @@ fn object(made: Made) -> Result<Answer, AllocError> {
 fn text(alloc: Global, status: u16, words: &str) -> Result<Answer, AllocError> {
     Ok(Answer {
         status,
-        kind: Kind::Plain,
+        kind: FileKind::Plain,
         body: words.as_bytes().to_vec(alloc)?,
     })
 }

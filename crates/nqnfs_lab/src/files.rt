@@ -36,7 +36,7 @@ fn is_plain(name: &str) -> bool {
 
 /// What a browser takes an answer for.
 #[derive(Clone, Copy)]
-pub(crate) enum Kind {
+pub(crate) enum FileKind {
     Html,
     Css,
     Script,
@@ -45,31 +45,31 @@ pub(crate) enum Kind {
     Object,
 }
 
-impl Kind {
+impl FileKind {
     /// The kind of a file, by the end of its path.
-    pub(crate) fn of(path: &str) -> Kind {
+    pub(crate) fn of(path: &str) -> FileKind {
         if path == "/" || path.ends_with(".html") {
-            Kind::Html
+            FileKind::Html
         } else if path.ends_with(".css") {
-            Kind::Css
+            FileKind::Css
         } else if path.ends_with(".js") {
-            Kind::Script
+            FileKind::Script
         } else if path.ends_with(".svg") {
-            Kind::Picture
+            FileKind::Picture
         } else {
-            Kind::Plain
+            FileKind::Plain
         }
     }
 
     /// As a header tells it.
     pub(crate) fn header(self) -> HeaderValue {
         match self {
-            Kind::Html => HeaderValue::from_static("text/html; charset=utf-8"),
-            Kind::Css => HeaderValue::from_static("text/css; charset=utf-8"),
-            Kind::Script => HeaderValue::from_static("text/javascript; charset=utf-8"),
-            Kind::Picture => HeaderValue::from_static("image/svg+xml"),
-            Kind::Plain => HeaderValue::from_static("text/plain; charset=utf-8"),
-            Kind::Object => HeaderValue::from_static("application/json"),
+            FileKind::Html => HeaderValue::from_static("text/html; charset=utf-8"),
+            FileKind::Css => HeaderValue::from_static("text/css; charset=utf-8"),
+            FileKind::Script => HeaderValue::from_static("text/javascript; charset=utf-8"),
+            FileKind::Picture => HeaderValue::from_static("image/svg+xml"),
+            FileKind::Plain => HeaderValue::from_static("text/plain; charset=utf-8"),
+            FileKind::Object => HeaderValue::from_static("application/json"),
         }
     }
 }

@@ -14,7 +14,7 @@ mod words;
 use crate::desk::Desk;
 use crate::files::file_of;
 use crate::peers::{serve_all, serve_once};
-use crate::words::{Asked, Options, asked_of};
+use crate::words::{Options, Order, asked_of};
 use nq_base::ending::Ending;
 use nq_words::{Unread, args_of};
 use std::net::TcpListener;
@@ -48,13 +48,13 @@ fn obey(rt: &HostRuntime) -> Ending {
         }
     };
     match asked_of(words.as_slice()) {
-        Ok(Asked::Serve(options)) => serve(rt, options),
-        Ok(Asked::Once(options)) => once(rt, options),
-        Ok(Asked::Help) => {
+        Ok(Order::Serve(options)) => serve(rt, options),
+        Ok(Order::Once(options)) => once(rt, options),
+        Ok(Order::Help) => {
             let _told = print!(rt; "{HELP}");
             Ending::Done
         }
-        Ok(Asked::Version) => {
+        Ok(Order::Version) => {
             let _told = println!(rt; "nqnfs_lab 1");
             Ending::Done
         }

@@ -19,7 +19,7 @@ const MOST_BYTES: usize = 16_777_216;
 
 /// What is told of the run of a schedule.
 #[derive(Drop)]
-pub(crate) struct Told {
+pub(crate) struct ToldRun {
     /// The status with which `nqnfs replay` ends.
     pub(crate) status: u8,
     /// What it prints: the journal, or the line that names the fault.
@@ -66,10 +66,10 @@ impl From<BendFault> for Untold {
     }
 }
 
-impl Told {
+impl ToldRun {
     /// What is told of a run of which no journal is shown.
-    fn without_journal(alloc: Global, end: Ending, printed: Vec<u8>) -> Told {
-        Told {
+    fn without_journal(alloc: Global, end: Ending, printed: Vec<u8>) -> ToldRun {
+        ToldRun {
             status: end.status(),
             printed,
             verdict: Vec::new(alloc),
@@ -79,12 +79,12 @@ impl Told {
 }
 
 /// Runs a schedule, and tells what came of it.
-pub(crate) fn tell_run(watch: &mut Watch<'_>, text: &[u8]) -> Result<Told, Untold>
+pub(crate) fn tell_run(watch: &mut Watch<'_>, text: &[u8]) -> Result<ToldRun, Untold>
     requires { length text.now < 2 ^ 31 }
 {
     let alloc = watch.alloc();
     let (end, printed) = replayed(alloc, text)?;
-    let mut told = Told::without_journal(alloc, end, printed);
+    let mut told = ToldRun::without_journal(alloc, end, printed);
     if let Ending::Done = end {
         watch.check()?;
         told.verdict = judged(alloc, &told.printed)?;
@@ -116,9 +116,9 @@ pub(crate) fn tell_why(
 #[derive(Drop)]
 pub(crate) enum Bending {
     /// It was bent, and this is told of its run.
-    Bent { bent: Bent, told: Told },
+    Bent { bent: Bent, told: ToldRun },
     /// It has a fault, which is told.
-    Faulty(Told),
+    Faulty(ToldRun),
 }
 
 /// Bends a schedule, and tells what came of it.
@@ -135,7 +135,7 @@ pub(crate) fn bend_text(
     let script = match (end, parse(alloc, text)) {
         (Ending::Done, Ok(script)) => script,
         (Ending::Done, Err(_)) => return Err(Untold::Memory),
-        _ => return Ok(Bending::Faulty(Told::without_journal(alloc, end, printed))),
+        _ => return Ok(Bending::Faulty(ToldRun::without_journal(alloc, end, printed))),
     };
     watch.check()?;
     let bent = bend(alloc, &script, bends, then, watch)?;

@@ -4,7 +4,7 @@ use nq_words::{Args, Next, Wrong};
 
 /// What is to be done.
 #[derive(Clone, Copy)]
-pub(crate) enum Asked<'a> {
+pub(crate) enum Order<'a> {
     /// Serve the page.
     Serve(Options<'a>),
     /// Answer the requests that come on the standard input.
@@ -29,7 +29,7 @@ pub(crate) struct Options<'a> {
 /// # Errors
 ///
 /// What is wrong with them.
-pub(crate) fn asked_of(words: &[String]) -> Result<Asked<'_>, Wrong<'_>> {
+pub(crate) fn asked_of(words: &[String]) -> Result<Order<'_>, Wrong<'_>> {
     let mut args = Args::new(words);
     let mut port = 8059u16;
     let mut web = "web";
@@ -37,8 +37,8 @@ pub(crate) fn asked_of(words: &[String]) -> Result<Asked<'_>, Wrong<'_>> {
     for _word in 0..words.len() {
         match args.next() {
             Next::End => break,
-            Next::Help => return Ok(Asked::Help),
-            Next::Version => return Ok(Asked::Version),
+            Next::Help => return Ok(Order::Help),
+            Next::Version => return Ok(Order::Version),
             Next::Flag("--once") => once = true,
             Next::Flag("--port") => match args.number("--port", 1, 65_535) {
                 Ok(number) => port = u16::try_from(number).unwrap_or(u16::MAX),
@@ -54,8 +54,8 @@ pub(crate) fn asked_of(words: &[String]) -> Result<Asked<'_>, Wrong<'_>> {
     }
     let options = Options { port, web };
     Ok(if once {
-        Asked::Once(options)
+        Order::Once(options)
     } else {
-        Asked::Serve(options)
+        Order::Serve(options)
     })
 }

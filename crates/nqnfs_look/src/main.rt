@@ -8,7 +8,7 @@ mod words;
 
 ghost use Rattle.std.specs.Prelude.{◌<◌, ◌^◌, length};
 
-use crate::words::{Asked, asked_of};
+use crate::words::{Order, asked_of};
 use nq_base::ending::Ending;
 use nq_io::streams::{StdSink, StdSource};
 use nq_io::{MemSink, MemSource, Put, Sink, Source, Whole, read_all};
@@ -53,9 +53,9 @@ fn obey(rt: &HostRuntime) -> Ending {
         }
     };
     match asked_of(words.as_slice()) {
-        Ok(Asked::Show(view)) => show(rt, view),
-        Ok(Asked::Help) => put(rt, HELP.as_bytes(), Ending::Done),
-        Ok(Asked::Version) => put(rt, b"nqnfs_look 1\n", Ending::Done),
+        Ok(Order::Show(view)) => show(rt, view),
+        Ok(Order::Help) => print_page(rt, HELP.as_bytes(), Ending::Done),
+        Ok(Order::Version) => print_page(rt, b"nqnfs_look 1\n", Ending::Done),
         Err(wrong) => {
             let _told = eprintln!(rt; "nqnfs_look: {wrong}; usage: {USAGE}");
             Ending::Usage
@@ -84,8 +84,8 @@ fn show_text(rt: &HostRuntime, text: &[u8], view: View) -> Ending
     }
     let mut page = Vec::new(rt.alloc());
     match look(rt.alloc(), text, view, &mut Endless, &mut page) {
-        Ok(Shown::All) => put(rt, &page, Ending::Done),
-        Ok(Shown::Nothing) => put(rt, b"no entry\n", Ending::Usage),
+        Ok(Shown::All) => print_page(rt, &page, Ending::Done),
+        Ok(Shown::Nothing) => print_page(rt, b"no entry\n", Ending::Usage),
         Err(Unseen::Memory) => Ending::Memory,
         // There is always time.
         Err(Unseen::Time) => Ending::Limit,
@@ -113,12 +113,12 @@ fn tell_fault(rt: &HostRuntime, text: &[u8]) -> Ending {
     match end {
         // A journal that does not fit is that of a schedule without a fault.
         Ending::Done | Ending::WriteFault => Ending::Done,
-        fault => put(rt, told.bytes(), fault),
+        fault => print_page(rt, told.bytes(), fault),
     }
 }
 
 /// Puts bytes out; this end, or that of a sink that failed.
-fn put(rt: &HostRuntime, bytes: &[u8], end: Ending) -> Ending {
+fn print_page(rt: &HostRuntime, bytes: &[u8], end: Ending) -> Ending {
     let mut out = StdSink::new(io::writer(rt));
     match out.put(bytes) {
         Put::All => end,

@@ -8,7 +8,7 @@ const MOST: u32 = 1_000_000_000;
 
 /// What is to be done.
 #[derive(Clone, Copy)]
-pub(crate) enum Asked {
+pub(crate) enum Order {
     /// Show a run.
     Show(View),
     /// Say what words there are.
@@ -22,12 +22,12 @@ pub(crate) enum Asked {
 /// # Errors
 ///
 /// What is wrong with them.
-pub(crate) fn asked_of(words: &[String]) -> Result<Asked, Wrong<'_>> {
+pub(crate) fn asked_of(words: &[String]) -> Result<Order, Wrong<'_>> {
     let mut args = Args::new(words);
     match args.next() {
         Next::End => Err(Wrong::Missing("picture, tell or why")),
-        Next::Help => Ok(Asked::Help),
-        Next::Version => Ok(Asked::Version),
+        Next::Help => Ok(Order::Help),
+        Next::Version => Ok(Order::Version),
         Next::Flag(word) => Err(Wrong::Flag(word)),
         Next::Plain("picture") => picture_of(&mut args, words.len()),
         Next::Plain("tell") => alone(&mut args, View::Tell),
@@ -37,15 +37,15 @@ pub(crate) fn asked_of(words: &[String]) -> Result<Asked, Wrong<'_>> {
 }
 
 /// A view behind which no word stands.
-fn alone<'a>(args: &mut Args<'a>, view: View) -> Result<Asked, Wrong<'a>> {
+fn alone<'a>(args: &mut Args<'a>, view: View) -> Result<Order, Wrong<'a>> {
     match args.word() {
         Some(word) => Err(Wrong::Extra(word)),
-        None => Ok(Asked::Show(view)),
+        None => Ok(Order::Show(view)),
     }
 }
 
 /// What stands behind `why`.
-fn why_of<'a>(args: &mut Args<'a>) -> Result<Asked, Wrong<'a>> {
+fn why_of<'a>(args: &mut Args<'a>) -> Result<Order, Wrong<'a>> {
     let Some(word) = args.word() else {
         return Err(Wrong::Missing("LINE"));
     };
@@ -59,14 +59,14 @@ fn why_of<'a>(args: &mut Args<'a>) -> Result<Asked, Wrong<'a>> {
 }
 
 /// What stands behind `picture`, among so many words.
-fn picture_of<'a>(args: &mut Args<'a>, count: usize) -> Result<Asked, Wrong<'a>> {
+fn picture_of<'a>(args: &mut Args<'a>, count: usize) -> Result<Order, Wrong<'a>> {
     let mut from = 0usize;
     let mut to = usize::MAX;
     for _word in 0..count {
         match args.next() {
             Next::End => break,
-            Next::Help => return Ok(Asked::Help),
-            Next::Version => return Ok(Asked::Version),
+            Next::Help => return Ok(Order::Help),
+            Next::Version => return Ok(Order::Version),
             Next::Flag("--from") => match args.number("--from", 0, MOST) {
                 Ok(number) => from = number as usize,
                 Err(wrong) => return Err(wrong),
@@ -79,5 +79,5 @@ fn picture_of<'a>(args: &mut Args<'a>, count: usize) -> Result<Asked, Wrong<'a>>
             Next::Plain(word) => return Err(Wrong::Extra(word)),
         }
     }
-    Ok(Asked::Show(View::Picture { from, to }))
+    Ok(Order::Show(View::Picture { from, to }))
 }

@@ -1,6 +1,6 @@
 //! A connection to a host.
 
-use nq_asks::{Kind, answer_in, push_ask};
+use nq_asks::{AnswerKind, answer_in, push_ask};
 use nq_script::words::{cut, number};
 use nq_whole::MOST_BYTES;
 use std::alloc::Global;
@@ -26,9 +26,9 @@ const GOES_ON: &str = "Ctrl-C ends this program, and the host goes on with what 
 
 /// What a host answers.
 #[derive(Drop)]
-pub(crate) struct Reply {
+pub(crate) struct HostAnswer {
     /// Whether it was done, and whether bytes came.
-    pub(crate) kind: Kind,
+    pub(crate) kind: AnswerKind,
     /// Its words.
     pub(crate) text: Vec<u8>,
     /// The bytes.
@@ -67,7 +67,7 @@ impl<'a> Asking<'a> {
     }
 
     /// Asks, with bytes behind the line, and waits for the answer.
-    pub(crate) fn ask(&mut self, text: &[u8], bytes: &[u8]) -> io::Result<Reply> {
+    pub(crate) fn ask(&mut self, text: &[u8], bytes: &[u8]) -> io::Result<HostAnswer> {
         self.last = self.last.saturating_add(1);
         let mut line = Vec::new(self.alloc);
         if push_ask(&mut line, self.last, text).is_err() {
@@ -81,11 +81,13 @@ impl<'a> Asking<'a> {
     }
 
     /// Waits for the answer. What the host notes before it is told at once.
-    fn take_reply(&mut self) -> io::Result<Reply> {
+    fn take_reply(&mut self) -> io::Result<HostAnswer> {
         for _read in 0..MOST_READS {
             match self.reply_in()? {
-                Some(reply) if matches!(reply.kind, Kind::Note) => self.tell_note(&reply),
-                Some(reply) if matches!(reply.kind, Kind::Wait) => self.tell_wait(&reply.text),
+                Some(reply) if matches!(reply.kind, AnswerKind::Note) => self.tell_note(&reply),
+                Some(reply) if matches!(reply.kind, AnswerKind::Wait) => self.tell_wait(
+                    &reply.text,
+                ),
                 Some(reply) => return Ok(reply),
                 None => self.read()?,
             }
@@ -94,7 +96,7 @@ impl<'a> Asking<'a> {
     }
 
     /// Tells what the host notes.
-    fn tell_note(&self, note: &Reply) {
+    fn tell_note(&self, note: &HostAnswer) {
         let words = str::from_utf8(&note.text).unwrap_or("");
         let _told = println!(self.rt; "{words}");
     }
@@ -107,7 +109,7 @@ impl<'a> Asking<'a> {
     }
 
     /// The answer, if all of it has come.
-    fn reply_in(&mut self) -> io::Result<Option<Reply>> {
+    fn reply_in(&mut self) -> io::Result<Option<HostAnswer>> {
         let Some((line, rest)) = cut(&self.incoming, b'\n') else {
             return Ok(None);
         };
@@ -115,7 +117,7 @@ impl<'a> Asking<'a> {
             return Err(gone());
         };
         let size = match kind {
-            Kind::Bytes => number(text, MOST_BYTES as u64).unwrap_or(0) as usize,
+            AnswerKind::Bytes => number(text, MOST_BYTES as u64).unwrap_or(0) as usize,
             _ => 0,
         };
         if answered != self.last {
@@ -124,7 +126,7 @@ impl<'a> Asking<'a> {
         if rest.len() < size {
             return Ok(None);
         }
-        let reply = Reply {
+        let reply = HostAnswer {
             kind,
             text: text.to_vec(self.alloc)?,
             bytes: rest[..size].to_vec(self.alloc)?,

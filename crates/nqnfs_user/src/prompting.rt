@@ -1,11 +1,11 @@
 //! Lines at the prompt, each answered at once.
 
-use crate::asking::{Asking, Reply};
-use nq_asks::Kind;
+use crate::asking::{Asking, HostAnswer};
+use nq_asks::AnswerKind;
 use nq_base::Name;
 use nq_base::ending::Ending;
-use nq_command::prompt::{Line, Wrong, line_of, wrong_of};
-use nq_script::words::{Words, is};
+use nq_command::prompt::{PromptLine, Wrong, line_of, wrong_of};
+use nq_script::words::{WordCursor, is};
 use nq_whole::MOST_BYTES;
 use std::fs::{self, File};
 use std::io::{self, BufRead, BufReader, ErrorKind, Write};
@@ -92,19 +92,19 @@ pub(crate) fn serve_line(rt: &HostRuntime, asking: &mut Asking<'_>, text: &[u8])
         None => {}
     }
     match line_of(rt.alloc(), text) {
-        Line::Empty => Did::Done,
-        Line::Quit => Did::Quit,
-        Line::Help => {
+        PromptLine::Empty => Did::Done,
+        PromptLine::Quit => Did::Quit,
+        PromptLine::Help => {
             let _told = print!(rt; "{HELP}");
             Did::Done
         }
-        Line::Unknown => tell_wrong(rt, why_not(text)),
-        Line::Call(_) | Line::End => serve_call(rt, asking, text),
-        Line::Store { path, name } => match str::from_utf8(path) {
+        PromptLine::Unknown => tell_wrong(rt, why_not(text)),
+        PromptLine::Call(_) | PromptLine::End => serve_call(rt, asking, text),
+        PromptLine::Store { path, name } => match str::from_utf8(path) {
             Ok(path) => serve_store(rt, asking, path, name),
             Err(_) => refuse(rt, NO_TEXT),
         },
-        Line::Get { name, path } => match str::from_utf8(path) {
+        PromptLine::Get { name, path } => match str::from_utf8(path) {
             Ok(path) => serve_get(rt, asking, name, path),
             Err(_) => refuse(rt, NO_TEXT),
         },
@@ -113,7 +113,7 @@ pub(crate) fn serve_line(rt: &HostRuntime, asking: &mut Asking<'_>, text: &[u8])
 
 /// What a line says that asks for names, `ls` or `ls PREFIX`: whether it may be asked so, or what is wrong. None where it asks for none.
 fn list_of(text: &[u8]) -> Option<Result<(), &'static str>> {
-    let mut words = Words::new(text);
+    let mut words = WordCursor::new(text);
     if !is(words.next()?, b"ls") {
         return None;
     }
@@ -131,7 +131,7 @@ fn list_of(text: &[u8]) -> Option<Result<(), &'static str>> {
 fn serve_list(rt: &HostRuntime, asking: &mut Asking<'_>, text: &[u8]) -> Did {
     match asking.ask(text, &[]) {
         Ok(reply) => match reply.kind {
-            Kind::Bytes => tell_names(rt, &reply.bytes),
+            AnswerKind::Bytes => tell_names(rt, &reply.bytes),
             _ => tell(rt, &reply),
         },
         Err(_) => tell_gone(rt),
@@ -174,7 +174,7 @@ fn tell_wrong(rt: &HostRuntime, why: &str) -> Did {
 }
 
 /// Tells an answer without bytes. A host that had no memory for words says none.
-fn tell(rt: &HostRuntime, reply: &Reply) -> Did {
+fn tell(rt: &HostRuntime, reply: &HostAnswer) -> Did {
     match str::from_utf8(&reply.text) {
         Ok(words) if !words.is_empty() => {
             let _told = println!(rt; "{words}");
@@ -184,7 +184,7 @@ fn tell(rt: &HostRuntime, reply: &Reply) -> Did {
         }
     }
     match reply.kind {
-        Kind::Refused => Did::Refused,
+        AnswerKind::Refused => Did::Refused,
         _ => Did::Done,
     }
 }
@@ -225,7 +225,7 @@ fn store_bytes(rt: &HostRuntime, asking: &mut Asking<'_>, name: Name, bytes: &[u
         return refuse(rt, NO_MEMORY);
     };
     match asking.ask(line.as_str().as_bytes(), bytes) {
-        Ok(reply) if matches!(reply.kind, Kind::Done) => {
+        Ok(reply) if matches!(reply.kind, AnswerKind::Done) => {
             let _told = println!(rt; "ok, {count} bytes stored");
             Did::Done
         }
@@ -242,7 +242,7 @@ fn serve_get(rt: &HostRuntime, asking: &mut Asking<'_>, name: Name, path: &str) 
     };
     match asking.ask(line.as_str().as_bytes(), &[]) {
         Ok(reply) => match reply.kind {
-            Kind::Bytes => write_new(rt, path, &reply.bytes),
+            AnswerKind::Bytes => write_new(rt, path, &reply.bytes),
             _ => tell(rt, &reply),
         },
         Err(_) => tell_gone(rt),

@@ -37,7 +37,8 @@ end_unopened (opening.Memory back) = Ending.Memory
 
 -- the image on this disk was served from, and the program ends as its turns did
 pub record EndsServed {D : Type 0} (told : D → Option (List ℕ)) (faults : D → ℕ) (may_leave : D → List ℕ → Type 0) (follows : D → D → Type 0)
-    (leaves : D → D → List ℕ → Type 0) (extension : Extension) (longest : ℕ) (end : Ending) (disk left : D) (clock clock' : ClockTold) (link link' : LinkTold) : Type 0 where
+    (leaves : D → D → List ℕ → Type 0) (extension : Extension) (longest : ℕ) (end : Ending) (disk left : D) (clock clock' : ClockTold)
+    (link link' : LinkTold) : Type 0 where
   pub ended : Result Unit Fault
   pub serves : ServesImage told faults may_leave follows leaves extension longest most_turns disk ended left clock clock' link link'
   pub so : end ≡ end_of_turns ended
@@ -52,7 +53,8 @@ pub record EndsUnopened {D : Type 0} (told : D → Option (List ℕ)) (faults : 
 
 -- The image on this disk was served from or not, and the program ends so. This refuses a program that ends with 0 although its keeper failed
 abbrev pub EndsSo : {D : Type 0} → (told : D → Option (List ℕ)) → (faults : D → ℕ) → (may_leave : D → List ℕ → Type 0) → (follows : D → D → Type 0)
-    → (leaves : D → D → List ℕ → Type 0) → (extension : Extension) → (longest : ℕ) → Ending → (disk left : D) → (clock clock' : ClockTold) → (link link' : LinkTold) → Type 0
+    → (leaves : D → D → List ℕ → Type 0) → (extension : Extension) → (longest : ℕ) → Ending → (disk left : D) → (clock clock' : ClockTold)
+    → (link link' : LinkTold) → Type 0
 EndsSo told faults may_leave follows leaves extension longest end disk left clock clock' link link' =
     EndsServed told faults may_leave follows leaves extension longest end disk left clock clock' link link'
     ⊎ EndsUnopened told faults may_leave leaves end disk left clock clock' link link'

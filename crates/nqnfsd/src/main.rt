@@ -118,6 +118,7 @@ fn serve_with(
         address,
         longest,
         diary,
+        has_complained: false,
         report: Report::new(
             rt.alloc(),
             StdSink::new(io::writer(rt)),

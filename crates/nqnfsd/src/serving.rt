@@ -11,7 +11,7 @@ ghost use Rattle.std.specs.Prelude.{◌≡◌, ◌≤◌, IfErr, IfOk};
 use nq_base::ending::{Ended, Ending, Fault};
 use nq_base::{Entry, Host, Journal, Party, Ticks};
 use nq_clock::{Clock, StdClock};
-use nq_diary::Diary;
+use nq_diary::{Diary, Noted};
 use nq_disk::{Disk, FileDisk};
 use nq_keeper::{KeepFault, Keeper};
 use nq_link::{Came, Link};
@@ -37,7 +37,24 @@ pub(crate) struct Teller<'a, R> {
     pub(crate) address: SocketAddr,
     pub(crate) longest: u32,
     pub(crate) diary: Diary,
+    /// Whether it was said that a turn could not be noted.
+    pub(crate) has_complained: bool,
     pub(crate) report: R,
+}
+
+impl<R> Teller<'_, R> {
+    /// Says that the journal lacks a turn, at the first one that could not be noted.
+    fn look(&mut self, noted: Noted) {
+        let why = match noted {
+            Noted::All => return,
+            Noted::Failed => "it could not be written",
+            Noted::Memory => "memory was wanting",
+        };
+        if !self.has_complained {
+            self.has_complained = true;
+            let _told = eprintln!(self.rt; "nqnfsd: the journal lacks a turn: {why}");
+        }
+    }
 }
 
 impl<R> Greeter for Teller<'_, R> {
@@ -49,17 +66,19 @@ impl<R> Greeter for Teller<'_, R> {
         } else {
             heads.longest
         };
-        let _noted = self.diary.note_one(Entry::X {
+        let noted = self.diary.note_one(Entry::X {
             boot: heads.boot.saturating_add(1),
             now: Ticks(0),
             longest,
         });
+        self.look(noted);
     }
 }
 
 impl<L, R: Watcher<L>> Watcher<L> for Teller<'_, R> {
     fn entered(&mut self, log: &Journal) {
-        let _noted = self.diary.note(log);
+        let noted = self.diary.note(log);
+        self.look(noted);
         <R as Watcher<L>>::entered(&mut self.report, log);
     }
 

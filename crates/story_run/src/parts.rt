@@ -5,14 +5,14 @@ ghost use Rattle.std.specs.Prelude.{◌≡◌, IfOk, length, vec_len};
 use crate::post::{Post, PostLink};
 use nq_base::{Host, Party};
 use nq_disk::MemDisk;
-use nq_run::{NoMemory, ROOM, Words};
+use nq_run::{CommandWords, NoMemory, ROOM};
 use std::alloc::Global;
 use std::cell::RefCell;
 use std::rc::Rc;
 
 /// Words that stand behind one another, with a blank between two.
-pub(crate) fn words_of(alloc: Global, said: &str) -> Words {
-    let mut words = Words::new(alloc).unwrap();
+pub(crate) fn words_of(alloc: Global, said: &str) -> CommandWords {
+    let mut words = CommandWords::new(alloc).unwrap();
     for word in said.split(' ') {
         words.push(word).ok();
     }

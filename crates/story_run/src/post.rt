@@ -53,13 +53,13 @@ impl Post {
     }
 
     /// Takes in a datagram that is sent over a link; answers whether there was memory.
-    fn put(&mut self, from: Party, to: Party, bytes: &[u8]) -> bool {
+    fn put_letter(&mut self, from: Party, to: Party, bytes: &[u8]) -> bool {
         self.sent = self.sent.saturating_add(1);
         !self.carries || self.bring(from, to, bytes).is_ok()
     }
 
     /// Takes out the datagram that waits longest for a party.
-    fn take(&mut self, to: Party) -> Option<Letter> {
+    fn take_letter(&mut self, to: Party) -> Option<Letter> {
         let place = self.waiting.iter().position(|letter| letter.to == to)?;
         Some(self.waiting.remove(place))
     }
@@ -100,7 +100,7 @@ impl PostLink {
 /// Sends a datagram over the post; answers whether it was taken.
 fn was_put(post: &RefCell<Post>, from: Party, to: Party, bytes: &[u8]) -> bool {
     match post.try_borrow_mut() {
-        Ok(mut post) => post.put(from, to, bytes),
+        Ok(mut post) => post.put_letter(from, to, bytes),
         Err(_) => false,
     }
 }
@@ -108,7 +108,7 @@ fn was_put(post: &RefCell<Post>, from: Party, to: Party, bytes: &[u8]) -> bool {
 /// The datagram that waits longest for a party; None where none does.
 fn first_for(post: &RefCell<Post>, to: Party) -> Option<Letter> {
     match post.try_borrow_mut() {
-        Ok(mut post) => post.take(to),
+        Ok(mut post) => post.take_letter(to),
         Err(_) => None,
     }
 }

@@ -1,9 +1,9 @@
 //! Scenes: commands that run in memory, one after another, with ample memory. What each prints is printed, and its status.
 //!
 //! Each line of the standard input that begins with `=` is printed as it stands. Any other is a scene, words, a colon and an input, in which
-//! `|` stands for each line feed, and `N*L` for N lines L. In a scene that ends with `unread` the first read fails, with `unput` the first put, with `unkept` the first
-//! call of the disk, and with `unsent` the first call of each link. The disk has no bytes; in a scene that begins with `again` it has those
-//! that the scene before left. What is sent is lost. The clock shows 0, and from then on 1.
+//! `|` stands for each line feed, and `N*L` for N lines L. In a scene that ends with `unread` the first read fails, with `unput` the
+//! first put, with `unkept` the first call of the disk, and with `unsent` the first call of each link. The disk has no bytes; in a scene
+//! that begins with `again` it has those that the scene before left. What is sent is lost. The clock shows 0, and from then on 1.
 //!
 //! In a scene that begins with `attached` the server's reply waits that attaches host 0 in its incarnation 1. With `answered` nineteen replies
 //! wait behind it, to requests 2 to 20, that there is no such file. In one that ends with `asked` twenty hosts ask the server to attach them. Behind these two
@@ -24,7 +24,7 @@ use crate::watched::tell_watched;
 use nq_base::ending::Ending;
 use nq_disk::MemDisk;
 use nq_io::{MemSink, MemSource};
-use nq_run::{Ended, NoMemory, Words, parties_of, party_of};
+use nq_run::{CommandWords, Ended, NoMemory, parties_of, party_of};
 use sha2::{Digest, Sha256};
 use std::alloc::Global;
 use std::cell::RefCell;
@@ -133,7 +133,7 @@ fn push_line(text: &mut Vec<u8>, line: &str) {
 pub(crate) fn play(
     alloc: Global,
     scene: &str,
-    words: &Words,
+    words: &CommandWords,
     source: &mut MemSource,
     out: &mut MemSink,
     left: Vec<u8>,

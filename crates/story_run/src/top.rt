@@ -9,13 +9,15 @@ use nq_clock::Clock;
 use nq_disk::Disk;
 use nq_io::{Sink, Source};
 use nq_link::Link;
-use nq_run::{CutFate, Ended, Fate, HostileFate, LossyFate, NoMemory, SteadyFate, Words, run};
+use nq_run::{
+    CommandWords, CutFate, Ended, Fate, HostileFate, LossyFate, NoMemory, SteadyFate, run,
+};
 use std::alloc::Global;
 
 /// Runs what the words say, with the four fates. What `run` promises is said there; no line here needs it.
 pub(crate) fn ran<S: Source, K: Sink, D: Disk + Drop, L: Link, C: Clock>(
     alloc: Global,
-    words: &Words,
+    words: &CommandWords,
     input: &mut S,
     out: &mut K,
     disk: D,

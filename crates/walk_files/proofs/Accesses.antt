@@ -52,7 +52,7 @@ pub record IsHeld (c : Client) (file block : ℕ) (lease : Lease) : Type 0 where
 -- no call goes on but a put whose write was delayed
 abbrev pub IsCalm : Option UnderWay → Type 0
 IsCalm None = ⊤
-IsCalm (Some u) = (file : ℕ) × (block : ℕ) × (body : List ℕ) × (u.call ≡ Call.WriteSync file block body) × (u.written ≡ true)
+IsCalm (Some u) = (file : ℕ) × (block : ℕ) × (body : List ℕ) × (u.call ≡ Call.Put file block body) × (u.written ≡ true)
 
 -- what a step has read or written so far: nothing, a block that the client has, or one write that it delayed
 pub data Accesses (who : Who) (t : ClientStep) : Type 0 where
@@ -134,7 +134,7 @@ settled-write t u file block body lease can within h =
     (used-writes t.client.now file lease can.lets)
     tt
 
-settled-put : (t : ClientStep) (u : UnderWay) (file block : ℕ) (body : List ℕ) (lease : Lease) → u.call ≡ Call.WriteSync file block body
+settled-put : (t : ClientStep) (u : UnderWay) (file block : ℕ) (body : List ℕ) (lease : Lease) → u.call ≡ Call.Put file block body
     → CanWrite t.client u file lease → block < lease.blocks → PlainOf t → Accesses t.client.who (marks_written (delays t file block body) u)
 unfolding marks_written after_write
 settled-put t u file block body lease is can within h =
@@ -177,7 +177,7 @@ still who t s entries leases now call cached (wrote file block number value leas
 
 -- where a call other than a written put goes on nothing was read or written
 busy-plain : (who : Who) (t : ClientStep) (u : UnderWay) → t.client.call ≡ Some u
-    → ((file block : ℕ) (body : List ℕ) → u.call ≡ Call.WriteSync file block body → u.written ≡ true → ⊥) → Accesses who t → PlainOf t
+    → ((file block : ℕ) (body : List ℕ) → u.call ≡ Call.Put file block body → u.written ≡ true → ⊥) → Accesses who t → PlainOf t
 busy-plain who t u is other (neither plain) = plain
 busy-plain who t u is other (read q file block lease body rest es plain held lets has idle) = none-some u (sym idle ∙ is)
 busy-plain who t u is other (wrote file block number value lease more rest es plain others held lets calm) =
@@ -281,11 +281,11 @@ send-accesses who in_tick t unpushed a = send-cases in_tick t (Accesses who) (re
   resizing =
       λ u file blocks is e clean. neither
       (gives-plain t file Job.for_call _
-      (busy-plain who t u is.called (λ f b body other written. let no : Call.Resize file blocks ≡ Call.WriteSync f b body = sym e ∙ other in
+      (busy-plain who t u is.called (λ f b body other written. let no : Call.Resize file blocks ≡ Call.Put f b body = sym e ∙ other in
       absurd (cc)) a));
   removing =
       λ u file is e clean. neither (gives-plain t file Job.for_call _
-      (busy-plain who t u is.called (λ f b body other written. let no : Call.Remove file ≡ Call.WriteSync f b body = sym e ∙ other in absurd (cc)) a));
+      (busy-plain who t u is.called (λ f b body other written. let no : Call.Remove file ≡ Call.Put f b body = sym e ∙ other in absurd (cc)) a));
   renewing = λ file lease tick free nothing unpaused due held of clean unnoticed. sent-same who t Job.renewing _ a;
 })
 

@@ -57,7 +57,7 @@ abbrev pub NoneDone : HostRow → Who → Option Ticket → Type 0
 NoneDone line who ticket = (t : Ticket) → ticket ≡ Some t → IsDone line who t → ⊥
 
 abbrev pub IsPut : Call → Type 0
-IsPut (Call.WriteSync file block body) = ⊤
+IsPut (Call.Put file block body) = ⊤
 IsPut other = ⊥
 
 -- the call under way has made nothing yet, unless its write was delayed, or its request was done

@@ -43,7 +43,7 @@ reads-told u file block journal who (inr e) tells = subst (Reads file block) (sy
 
 -- a call of a write of this block
 abbrev IsWriting : Call → (file block : ℕ) (body : List ℕ) → Type 0
-IsWriting op file block body = (op ≡ Call.Write file block body) ⊎ (op ≡ Call.WriteSync file block body)
+IsWriting op file block body = (op ≡ Call.Write file block body) ⊎ (op ≡ Call.Put file block body)
 
 writes-told : (op : Call) (q file block : ℕ) (body : List ℕ) (journal : List Entry) (who : Who) → IsWriting op file block body
     → call_of journal who q ≡ Some (told op) → Writes file block (value_of body) (call_of journal who q)
@@ -118,7 +118,7 @@ module _ (line : HostRow) (Refused : ℕ → Type 0) (limit : ℕ) (mine : Who) 
   delays-call t u file block body h = h
 
   -- a put's write is delayed, and the put goes on
-  puts-keeps : (t : ClientStep) (u : UnderWay) (file block : ℕ) (body : List ℕ) → t.client.call ≡ Some u → u.call ≡ Call.WriteSync file block body
+  puts-keeps : (t : ClientStep) (u : UnderWay) (file block : ℕ) (body : List ℕ) → t.client.call ≡ Some u → u.call ≡ Call.Put file block body
       → NotForCall t.client.ticket → IsWriteInOrder (t.entries ++ old) t.client.who file block t.client.number (value_of body)
       → Doing line Refused limit mine old ⊤ t → Doing line Refused limit mine old ⊤ (marks_written (delays t file block body) u)
   unfolding after_write marks_written

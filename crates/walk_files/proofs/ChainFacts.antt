@@ -2,7 +2,7 @@
 use Rattle.std.proofs.Common.{◌≡◌, ◌<◌, ◌≤◌, ◌⊎◌, ℕ, ◌+◌, Bool, true, false, List, Option, Some, None}
 use Rattle.std.specs.Prelude.{is_some}
 use Rattle.nq_base.specs.declared.Call.{Call}
-use Rattle.nq_base.specs.declared.Call.TheVariants.{Write, WriteSync}
+use Rattle.nq_base.specs.declared.Call.TheVariants.{Write, Put}
 use Rattle.nq_base.specs.declared.Grant.{Grant}
 use Rattle.nq_base.specs.declared.HostRow.{HostRow}
 use Rattle.nq_base.specs.declared.Push.{Push}
@@ -109,7 +109,7 @@ pub record IsPushed (leases : List Lease) (revisions : List Revision) (push : Op
 -- the file that a call writes to
 abbrev pub file_written : Call → Option ℕ
 file_written (Write file block body) = Some file
-file_written (WriteSync file block body) = Some file
+file_written (Put file block body) = Some file
 file_written other = None
 
 pub record WriteChains (table : Table) (kept : Kept) (who : Who) (ticket : Option Ticket) (call : Option UnderWay) (leases : List Lease)

@@ -404,7 +404,7 @@ module _ (s : Server) (ps : List Packet) where
                 (waits-clean t (call-noticed t _ d) (call-pushless t _ d) is.free is.nothing settled s ps h u false file block body is.called call off),
           )
 
-      put-clean : (u : UnderWay) (file block : ℕ) (body : List ℕ) → IsFree t u → u.call ≡ Call.WriteSync file block body → u.written ≡ false
+      put-clean : (u : UnderWay) (file block : ℕ) (body : List ℕ) → IsFree t u → u.call ≡ Call.Put file block body → u.written ≡ false
           → DelayingOf (sends_write t file block body).client → (b : Bool) → u.through ≡ b → is_clean t.client file ≡ true
       put-clean u file block body is call off d true on = marked-clean u file is.called (ap file_written call) on
       put-clean u file block body is call off d false through =

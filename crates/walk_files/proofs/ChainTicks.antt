@@ -11,7 +11,7 @@ use Rattle.walk_files.proofs.ServerChains.{RowsMove, LineTo, FilesGrow, rev_stay
 use Rattle.walk_files.proofs.ChainFacts.{line_for}
 use Rattle.nq_model.specs.laws.Chained.{OwnRow, has_done_write}
 use Rattle.walk_steps.proofs.ClientMoves.{none-some}
-use Rattle.walk_steps.proofs.ServerEffects.{standing-serving}
+use Rattle.walk_steps.proofs.TermsDrawn.{standing-serving}
 use Rattle.walk_steps.proofs.ServerLives.{HasServed}
 use Rattle.nq_model.specs.protocol.Client.{Ticket}
 use Rattle.nq_model.specs.protocol.Kept.{File, Kept, find_file, replace_file, fenced_file, with_files}

@@ -8,9 +8,10 @@ use Rattle.nq_base.specs.declared.Value.{Value}
 use Rattle.walk_steps.proofs.RepliedCases.{replied-cases}
 use Rattle.walk_steps.proofs.StepCases.{heard-cases}
 use Rattle.walk_steps.proofs.ClientFacts.{Alone, changes_file, push_in}
-use Rattle.walk_files.proofs.ClientContents.{P, Spent, goes-mid, notice-mid, spends-mid, attached-mid, pauses-mid, answers-call-mid, refused-spent}
+use Rattle.walk_files.proofs.ContentsSent.{P, Spent, goes-mid}
+use Rattle.walk_files.proofs.ClientContents.{notice-mid, spends-mid, attached-mid, pauses-mid, answers-call-mid, refused-spent}
 use Rattle.walk_files.proofs.ClientContents.{optional-spent, read-mid, lease-mid, through-known, resized-known, stored-mid}
-use Rattle.walk_files.proofs.ClientParts.{history_in, IsOverKnown}
+use Rattle.walk_files.proofs.KnownContents.{history_in, IsOverKnown}
 use Rattle.walk_files.proofs.Facts.{Tells}
 use Rattle.nq_model.specs.protocol.Client.{Client, ClientStep, Ticket, begun, clean_at, dirty_at, revision_of, revision_or_zero}
 use Rattle.nq_model.specs.protocol.Hear.{inc_of, reply_counts, answer_of, caches_write, knows_revision, spends, replied, hear}

@@ -166,9 +166,6 @@ module _ (s : Server) (t : ServerStep) (who : Who) (xid number seq : ℕ) (ticke
   -- ---- a request of this host is decided
 
   module _ (k : Decides ps s t) (same : who.host ≡ k.w.host) where
-    abbrev request : Request
-    request = k.r
-
     here : DecidedAt ps s t k who.host
     here = decided-at ps s t k who.host same
 

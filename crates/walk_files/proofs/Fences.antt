@@ -14,7 +14,8 @@ use Rattle.nq_model.specs.protocol.Table.{Table}
 use Rattle.walk_steps.proofs.ServerTables.{BootsFit, RecoversBoot, BootsFitOf}
 use Rattle.walk_steps.proofs.KeptChanges.{find-replaced, find-own-replaced, find-other-replaced, find-removed, find-not-removed}
 use Rattle.walk_steps.proofs.Rows.{same-number, number-same}
-use Rattle.walk_steps.proofs.ServerCases.{server-hears, server-ticks, found-file}
+use Rattle.walk_steps.proofs.DecideCases.{found-file}
+use Rattle.walk_steps.proofs.ServerCases.{server-hears, server-ticks}
 
 -- a change of what is kept that fences no less
 abbrev pub Keeps : (file boot rev : ℕ) → (kept after : Kept) → Type 0

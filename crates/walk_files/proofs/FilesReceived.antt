@@ -17,7 +17,7 @@ use Rattle.walk_files.proofs.ChainLists.{fresh-undone}
 use Rattle.nq_model.specs.laws.Chained.{OwnRow, is_done, has_done, has_done_write}
 use Rattle.walk_steps.proofs.ClientFacts.{changes_file}
 use Rattle.walk_steps.proofs.ClientMoves.{some-same, none-some}
-use Rattle.walk_steps.proofs.ServerEffects.{standing-serving}
+use Rattle.walk_steps.proofs.TermsDrawn.{standing-serving}
 use Rattle.nq_model.specs.protocol.Ask.{marked}
 use Rattle.nq_model.specs.protocol.Client.{Client, Ticket}
 use Rattle.nq_model.specs.protocol.Decide.{Decision, commits, row_after, decides, creates, writes_through, stores, wrote, stores_recovering, resizes, removes}

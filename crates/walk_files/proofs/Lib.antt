@@ -24,7 +24,9 @@ pub mod ServerContents
 pub mod ServerTimes
 pub mod ServerDelays
 pub mod ClientLookups
+pub mod KnownContents
 pub mod ClientParts
+pub mod ContentsSent
 pub mod ClientContents
 pub mod ClientHears
 pub mod LogRuns

@@ -22,7 +22,7 @@ use Rattle.nq_model.specs.protocol.Server.{serving, Server, standing, standing_i
 use Rattle.nq_model.specs.protocol.Table.{is_writing, find_row}
 use Rattle.walk_steps.proofs.ServerTables.{BootsFit, BootsFitOf, ServesBoot, StandingFitsOf}
 use Rattle.walk_steps.proofs.Rows.{number-same}
-use Rattle.walk_steps.proofs.ServerCases.{found-file}
+use Rattle.walk_steps.proofs.DecideCases.{found-file}
 use Rattle.walk_steps.proofs.ServerOutcomes.{IsDeclined, bad_length, name_taken, no_room, not_kept, outside, no_row, not_under, not_over}
 use Rattle.walk_steps.proofs.ServerOutcomes.{not_while_recovering, bad_size, no_room_to_grow, file_changed_by, base_in}
 use Rattle.nq_model.proofs.Finding.{number-other}

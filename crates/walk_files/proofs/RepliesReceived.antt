@@ -13,7 +13,7 @@ use Rattle.nq_base.specs.declared.Who.{Who}
 use Rattle.walk_files.proofs.ServerChains.{NewGrant, NewReply}
 use Rattle.walk_steps.proofs.ClientMoves.{some-same, none-some}
 use Rattle.walk_steps.proofs.Covers.{granted-key}
-use Rattle.walk_steps.proofs.ServerEffects.{standing-serving}
+use Rattle.walk_steps.proofs.TermsDrawn.{standing-serving}
 use Rattle.walk_steps.proofs.Sequences.{reads-no-seq}
 use Rattle.nq_model.specs.protocol.Ask.{marked, grant_of, sharing_row, caching_row, shared_again, renewed_row}
 use Rattle.nq_model.specs.protocol.Decide.{Decision, commits, row_after, decides, creates, writes_through, stores, wrote, stores_recovering, resizes, removes}

@@ -15,7 +15,7 @@ use Rattle.nq_base.specs.declared.Who.{Who}
 use Rattle.walk_files.proofs.ServerChains.{Continues, RowFrom, row_fresh, row_on, RowOn, goes_on, vacated, superseded, loosened, removed, reopened, RowsMove}
 use Rattle.walk_steps.proofs.ClientMoves.{some-same, none-some}
 use Rattle.walk_steps.proofs.Covers.{granted-key}
-use Rattle.walk_steps.proofs.ServerEffects.{standing-serving}
+use Rattle.walk_steps.proofs.TermsDrawn.{standing-serving}
 use Rattle.nq_model.specs.protocol.Ask.{marked, term_of, sharing_row, caching_row, shared_again, renewed_row}
 use Rattle.nq_model.specs.protocol.Kept.{File, find_file, host_row}
 use Rattle.nq_model.specs.laws.LeaseInterval.{is_at_least}

@@ -20,7 +20,8 @@ use Rattle.walk_steps.proofs.ServerTables.{StandingFits, StandingFitsOf}
 use Rattle.walk_steps.proofs.Rows.{number-same}
 use Rattle.walk_steps.proofs.RowChanges.{found-kept, unique-filtered, found-any}
 use Rattle.walk_steps.proofs.TableFits.{TableFits}
-use Rattle.walk_steps.proofs.ServerCases.{found-file, server-ticks}
+use Rattle.walk_steps.proofs.DecideCases.{found-file}
+use Rattle.walk_steps.proofs.ServerCases.{server-ticks}
 
 -- what is known before
 pub record Standing (journal : List Entry) (first : ℕ → ℕ) (ps : List Packet) (s : Server) : Type 0 where

@@ -1,5 +1,5 @@
 -- What a journal keeps when an entry of a client comes behind it, it keeps in each step of a client.
-use Rattle.std.proofs.Common.{◌≡◌, ◌≢◌, ◌⊎◌, ◌≤◌, ℕ, ◌+◌, ◌==◌, Bool, true, false, List, [], ◌∷◌, Option, Some, None, if◌then◌else◌, refl, sym, subst}
+use Rattle.std.proofs.Common.{◌≡◌, ◌≤◌, ℕ, ◌+◌, Bool, true, false, List, [], ◌∷◌, Option, Some, None, refl, sym, subst}
 use Rattle.std.proofs.Common.{ap, ◌∙◌, inl, inr}
 use Rattle.std.specs.Prelude.{⊤}
 use Rattle.nq_base.specs.Block.{value_of}
@@ -60,7 +60,7 @@ abbrev pub IsOfBlock : (file block : ℕ) → Call → Type 0
 IsOfBlock file block (Call.Read f b) = (f ≡ file) × (b ≡ block)
 IsOfBlock file block (Call.Fetch f b) = (f ≡ file) × (b ≡ block)
 IsOfBlock file block (Call.Write f b body) = (f ≡ file) × (b ≡ block)
-IsOfBlock file block (Call.WriteSync f b body) = (f ≡ file) × (b ≡ block)
+IsOfBlock file block (Call.Put f b body) = (f ≡ file) × (b ≡ block)
 IsOfBlock file block other = ⊥
 
 read-of-block : (op : Call) (file block : ℕ) → IsRead op file block → IsOfBlock file block op

@@ -14,8 +14,10 @@ use Rattle.walk_steps.proofs.ClientFacts.{Alone, Asking, AskingOf, IsPush, push_
 use Rattle.walk_steps.proofs.ClientMoves as move
 use Rattle.walk_steps.proofs.ClientMoves.{some-same, none-some, attached-with-ticket, keeps-or-cancels}
 use Rattle.walk_steps.proofs.ClientWrites as writes
-use Rattle.walk_steps.proofs.HearWalk.{IsFree, Brings, Spent, answers-call-keeps, pauses-keeps, optional-keeps, read-done-keeps, lease-done-keeps}
-use Rattle.walk_steps.proofs.HearWalk.{write-done-keeps, quiet-knows, knows-free, push-done-keeps, push-refused-keeps, push-of-file, spent-keeps}
+use Rattle.walk_steps.proofs.HearAnswers.{IsFree, Brings, answers-call-keeps, pauses-keeps, optional-keeps, read-done-keeps, lease-done-keeps}
+use Rattle.walk_steps.proofs.HearWalk.{Spent}
+use Rattle.walk_steps.proofs.HearAnswers.{write-done-keeps, quiet-knows, knows-free}
+use Rattle.walk_steps.proofs.HearWalk.{push-done-keeps, push-refused-keeps, push-of-file, spent-keeps}
 use Rattle.walk_steps.proofs.HearWalk.{spent-free, spent-now, spent-notices, spent-push, spent-gone}
 use Rattle.walk_steps.proofs.RepliedCases.{replied-cases}
 use Rattle.walk_steps.proofs.StepCases.{call-cases, unless-cached-cases, tick-cases, evicted-cases}

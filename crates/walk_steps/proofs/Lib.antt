@@ -4,6 +4,7 @@ pub mod Modes
 pub mod Incarnations
 pub mod AskCases
 pub mod ServerOutcomes
+pub mod DecideCases
 pub mod ServerCases
 pub mod ServerMoves
 pub mod RowChanges
@@ -25,6 +26,7 @@ pub mod ClientMoves
 pub mod ClientWrites
 pub mod SendWalk
 pub mod SettleWalk
+pub mod HearAnswers
 pub mod HearWalk
 pub mod ClientWalk
 pub mod SettleCases
@@ -64,6 +66,7 @@ pub mod Hearing
 pub mod KnownWorlds
 pub mod Runs
 pub mod ServerChanges
+pub mod TermsDrawn
 pub mod ServerEffects
 pub mod ServerHears
 pub mod ServerLives

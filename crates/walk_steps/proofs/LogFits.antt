@@ -9,22 +9,10 @@ use Rattle.nq_model.specs.protocol.Profile.{shortest_term, most_hosts}
 use Rattle.nq_model.specs.protocol.Server.{Server}
 use Rattle.nq_model.specs.protocol.ServerStep.{boot, crash}
 use Rattle.nq_model.specs.protocol.World.{Head, first_files, first_kept, start}
-use Rattle.walk_steps.proofs.LogGrants.{GrantsFitOf}
 use Rattle.walk_steps.proofs.LogMoves.{is_timed, timed}
-use Rattle.walk_steps.proofs.LogRows.{RowsGranted, RowsHear}
-use Rattle.walk_steps.proofs.LogTimes.{LogBy, HeardAll, ToldBoot}
 use Rattle.walk_steps.proofs.Rows.{same-number}
 use Rattle.walk_steps.proofs.ServerFits.{ServerFits, fits-boot}
 use Rattle.walk_steps.proofs.ServerNumbers.{IdsFit, LinesFit}
-
--- the facts: the last boot was at this time
-pub record LogFits (booted : ℕ) (s : Server) (log : List Entry) : Type 0 where
-  pub by : LogBy s.now log
-  pub heard : HeardAll s.phase log
-  pub told : ToldBoot booted s.kept.boot s.kept.longest s.phase log
-  pub grants : GrantsFitOf s log
-  pub granted : RowsGranted s.phase s.table log
-  pub hear : RowsHear s.phase s.table log
 
 pub crash-now : (s : Server) (longest : ℕ) → (crash s longest).server.now ≡ s.now
 unfolding crash boot

@@ -1,5 +1,5 @@
 -- Look-ups in lists of rows after each change of the list.
-use Rattle.std.proofs.Common.{◌≡◌, ℕ, Bool, true, false, ◌&&◌, ◌==◌, List, ◌∷◌, Some, if◌then◌else◌, refl}
+use Rattle.std.proofs.Common.{◌≡◌, ℕ, Bool, true, false, List, ◌∷◌, Some, if◌then◌else◌, refl}
 use Rattle.std.proofs.lemmas.Bool.{and_parts}
 use Rattle.nq_base.specs.declared.Row.{Row}
 pub use Rattle.nq_model.proofs.Finding.{choice, decided, same-number, number-same, find-passes, find-none, find-filter, find-dropped, find-map}
@@ -9,10 +9,6 @@ use Rattle.nq_model.specs.protocol.Table.{is_row_of, find_row, insert_row}
 pub found-row : (file host : ℕ) (rows : List Row) (row : Row) → find_row file host rows ≡ Some row → (row.file ≡ file) × (row.who.host ≡ host)
 found-row file host rows row h =
     let e = and_parts _ _ (find-passes (is_row_of file host) row rows h) in (same-number _ _ e.0, same-number _ _ e.1)
-
--- whether two keys are one
-abbrev pub same_key : (file host f h : ℕ) → Bool
-same_key file host f h = file == f && host == h
 
 -- rows after one was put in its place: it is found under its key, and the others are found as before
 pub insert-step : (file host : ℕ) (row r : Row) (rows : List Row) (b : Bool)

@@ -59,7 +59,7 @@ pub record SendCases (in_tick : Bool) (t : ClientStep) (Q : ClientStep → Type 
       → shares_live t.client.now (lease_on file t.client.leases) ≡ false
       → Q (sends_request t for_call (Request.GetLease t.client.who file (want_of t.client Mode.Writing)))
   -- a put goes through
-  pub putting : (u : UnderWay) (file block : ℕ) (body : List ℕ) → IsFree t u → u.call ≡ Call.WriteSync file block body → u.written ≡ false
+  pub putting : (u : UnderWay) (file block : ℕ) (body : List ℕ) → IsFree t u → u.call ≡ Call.Put file block body → u.written ≡ false
       → Q (sends_write t file block body)
   -- a clean file is changed, and its lease is given up before
   pub resizing : (u : UnderWay) (file blocks : ℕ) → IsFree t u → u.call ≡ Call.Resize file blocks → is_clean t.client file ≡ true
@@ -244,7 +244,7 @@ module _ (in_tick : Bool) (t : ClientStep) (Q : ClientStep → Type 0) (cases : 
           (λ through. sent _ _ _ (cases.writing u file block body (goes e) is through))
           (λ wants. let a = or_parts _ _ wants in sent _ _ _ (cases.leasing u file block body (goes e) is a.0 a.1))
 
-      puts : (file block : ℕ) (body : List ℕ) → u.call ≡ Call.WriteSync file block body → (written may_ask : Bool) → u.written ≡ written → b ≡ may_ask
+      puts : (file block : ℕ) (body : List ℕ) → u.call ≡ Call.Put file block body → (written may_ask : Bool) → u.written ≡ written → b ≡ may_ask
           → R (next_put t written may_ask file block body)
       puts file block body is true may_ask w e = pushes-or nothing file
       puts file block body is false true w e = sent _ _ _ (cases.putting u file block body (goes e) is w)
@@ -265,7 +265,7 @@ module _ (in_tick : Bool) (t : ClientStep) (Q : ClientStep → Type 0) (cases : 
       go (Call.Fetch file block) is = asked nothing b _ (λ e. cases.fetching u file block (goes e) is)
       go (Call.Write file block body) is =
           choice R b (next_write t u file block body) t (λ e. writes file block body is e) (λ e. then-renewed nothing in_tick refl)
-      go (Call.WriteSync file block body) is = puts file block body is u.written b refl refl
+      go (Call.Put file block body) is = puts file block body is u.written b refl refl
       go (Call.Sync file) is = pushes-or nothing file
       go (Call.Resize file blocks) is = change nothing b file _ (λ e clean. cases.resizing u file blocks (goes e) is clean)
       go (Call.Remove file) is = change nothing b file _ (λ e clean. cases.removing u file (goes e) is clean)

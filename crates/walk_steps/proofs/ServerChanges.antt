@@ -22,7 +22,8 @@ use Rattle.walk_steps.proofs.KeptChanges.{own-line, same-lines}
 use Rattle.walk_steps.proofs.Packets.{In, Asked}
 use Rattle.walk_steps.proofs.RowChanges.{no-clash, find-other-dropped, find-other-host-dropped, find-other-file-dropped}
 use Rattle.walk_steps.proofs.Rows.{same-number, number-same, found-row}
-use Rattle.walk_steps.proofs.ServerEffects.{verdict-no-attach, line-after, drawn-more, claimed-kept, one-new, both-new, rows-new, reply-new}
+use Rattle.walk_steps.proofs.TermsDrawn.{verdict-no-attach, line-after, drawn-more}
+use Rattle.walk_steps.proofs.ServerEffects.{claimed-kept, one-new, both-new, rows-new, reply-new}
 use Rattle.walk_steps.proofs.ServerEffects.{goes-effect, all-go-on, way-rows}
 use Rattle.walk_steps.proofs.ServerKnows.{IsNew, LineMoves, line_stays, line_decides, line_attaches, IsClaimed, Effect}
 use Rattle.walk_steps.proofs.ServerMoves.{first_line}

@@ -19,7 +19,7 @@ use Rattle.walk_steps.proofs.RowChanges.{kept_if, find-kept, found-any, unique-f
 use Rattle.walk_steps.proofs.Rows.{same-number, find-passes}
 use Rattle.walk_steps.proofs.ServerCases.{server-ticks}
 use Rattle.walk_steps.proofs.ServerChanges.{same-cover-table}
-use Rattle.walk_steps.proofs.ServerEffects.{drawn-more}
+use Rattle.walk_steps.proofs.TermsDrawn.{drawn-more}
 use Rattle.walk_steps.proofs.ServerFacts.{fence-lines}
 use Rattle.walk_steps.proofs.ServerKnows.{NoneHeard, NoneGiven, Timely}
 use Rattle.walk_steps.proofs.ServerNumbers.{TermsFitOf}

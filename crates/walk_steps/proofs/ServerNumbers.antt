@@ -10,7 +10,7 @@ use Rattle.nq_model.specs.protocol.Server.{Phase, serving, recovering, Server, l
 use Rattle.nq_model.specs.protocol.ServerStep.{receive, fence, tick, booted, boot, crash}
 use Rattle.nq_model.specs.protocol.Table.{Table}
 use Rattle.walk_steps.proofs.KeptChanges.{length-with-row, found-replaced, find-not-removed, find-removed, found-added}
-use Rattle.walk_steps.proofs.ServerCases.{found-file}
+use Rattle.walk_steps.proofs.DecideCases.{found-file}
 use Rattle.walk_steps.proofs.ServerMoves.{phase-moves, ServerMoves, server-moves, receive-keeps, tick-moves, tick-keeps}
 
 -- the longest terms, of this boot and of the one that served last, are at least the shortest and at most this; while the

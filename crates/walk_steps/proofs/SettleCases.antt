@@ -29,12 +29,12 @@ IsRead op file block = (op ≡ Call.Read file block) ⊎ (op ≡ Call.Fetch file
 -- a call writes a block, and its write was not delayed yet; `sync` tells a put from a write
 abbrev pub IsWrite : UnderWay → (sync : Bool) → (file block : ℕ) → (body : List ℕ) → Type 0
 IsWrite u false file block body = u.call ≡ Call.Write file block body
-IsWrite u true file block body = (u.call ≡ Call.WriteSync file block body) × (u.written ≡ false)
+IsWrite u true file block body = (u.call ≡ Call.Put file block body) × (u.written ≡ false)
 
 -- a call waits until a file is clean: a sync, or a put whose write was delayed
 pub data IsSync (u : UnderWay) (file : ℕ) : Type 0 where
   of_sync : u.call ≡ Call.Sync file → IsSync u file
-  of_put : (block : ℕ) (body : List ℕ) → u.call ≡ Call.WriteSync file block body → u.written ≡ true → IsSync u file
+  of_put : (block : ℕ) (body : List ℕ) → u.call ≡ Call.Put file block body → u.written ≡ true → IsSync u file
 
 -- a call that always needs a packet
 abbrev pub needs_packet : Call → Bool
@@ -91,7 +91,7 @@ pub record SettleCases (t : ClientStep) (Q : ClientStep → Type 0) : Type 0 whe
       → CanWrite t.client u file lease → block < lease.blocks → is_full t.client file block ≡ false
       → Q (answers (delays t file block body) u.q (Answer.Ok Value.Nothing) None)
   -- a put's write is delayed, and the put waits until the file is clean
-  pub putting : (u : UnderWay) (file block : ℕ) (body : List ℕ) (lease : Lease) → IsSettling t u → u.call ≡ Call.WriteSync file block body
+  pub putting : (u : UnderWay) (file block : ℕ) (body : List ℕ) (lease : Lease) → IsSettling t u → u.call ≡ Call.Put file block body
       → u.written ≡ false → CanWrite t.client u file lease → block < lease.blocks → is_full t.client file block ≡ false
       → Q (marks_written (delays t file block body) u)
   -- a write or a put that waits
@@ -201,7 +201,7 @@ settle-cases t Q cases = under-way t.client.call refl
     syncs u file is sync =
         choice Q (is_clean t.client file) (answers t u.q (Answer.Ok Value.Nothing) None) t (cases.syncing u file is sync) (cases.sync_waits u file is sync)
 
-    puts : (u : UnderWay) (file block : ℕ) (body : List ℕ) → IsSettling t u → u.call ≡ Call.WriteSync file block body → (written : Bool)
+    puts : (u : UnderWay) (file block : ℕ) (body : List ℕ) → IsSettling t u → u.call ≡ Call.Put file block body → (written : Bool)
         → u.written ≡ written → Q (settle_put t u written file block body)
     puts u file block body is put true written = syncs u file is (of_put block body put written)
     puts u file block body is put false written = writes u true file block body is (put, written) (lease_on file t.client.leases) refl
@@ -213,7 +213,7 @@ settle-cases t Q cases = under-way t.client.call refl
     calls u is (Call.Read file block) e = reads u file block is (inl e) (lease_on file t.client.leases) refl
     calls u is (Call.Fetch file block) e = reads u file block is (inr e) (lease_on file t.client.leases) refl
     calls u is (Call.Write file block body) e = writes u false file block body is e (lease_on file t.client.leases) refl
-    calls u is (Call.WriteSync file block body) e = puts u file block body is e u.written refl
+    calls u is (Call.Put file block body) e = puts u file block body is e u.written refl
     calls u is (Call.Sync file) e = syncs u file is (of_sync e)
     calls u is (Call.Resize file blocks) e = cases.others u is (ap needs_packet e)
     calls u is (Call.Remove file) e = cases.others u is (ap needs_packet e)
@@ -238,33 +238,33 @@ same-read op f b g d (inr x) (inr y) = let e : Call.Fetch f b ≡ Call.Fetch g d
 
 pub same-write : (u : UnderWay) (s r : Bool) (f b g d : ℕ) (x y : List ℕ) → IsWrite u s f b x → IsWrite u r g d y → (f ≡ g) × (b ≡ d)
 same-write u false false f b g d x y k l = let e : Call.Write f b x ≡ Call.Write g d y = sym k ∙ l in (cc, cc)
-same-write u false true f b g d x y k l = let e : Call.Write f b x ≡ Call.WriteSync g d y = sym k ∙ l.0 in absurd (cc)
-same-write u true false f b g d x y k l = let e : Call.WriteSync f b x ≡ Call.Write g d y = sym k.0 ∙ l in absurd (cc)
-same-write u true true f b g d x y k l = let e : Call.WriteSync f b x ≡ Call.WriteSync g d y = sym k.0 ∙ l.0 in (cc, cc)
+same-write u false true f b g d x y k l = let e : Call.Write f b x ≡ Call.Put g d y = sym k ∙ l.0 in absurd (cc)
+same-write u true false f b g d x y k l = let e : Call.Put f b x ≡ Call.Write g d y = sym k.0 ∙ l in absurd (cc)
+same-write u true true f b g d x y k l = let e : Call.Put f b x ≡ Call.Put g d y = sym k.0 ∙ l.0 in (cc, cc)
 
 pub same-sync : (u : UnderWay) (f g : ℕ) → IsSync u f → IsSync u g → f ≡ g
 same-sync u f g (of_sync k) (of_sync l) = let e : Call.Sync f ≡ Call.Sync g = sym k ∙ l in cc
-same-sync u f g (of_sync k) (of_put d y l w) = let e : Call.Sync f ≡ Call.WriteSync g d y = sym k ∙ l in absurd (cc)
-same-sync u f g (of_put b x k v) (of_sync l) = let e : Call.WriteSync f b x ≡ Call.Sync g = sym k ∙ l in absurd (cc)
-same-sync u f g (of_put b x k v) (of_put d y l w) = let e : Call.WriteSync f b x ≡ Call.WriteSync g d y = sym k ∙ l in cc
+same-sync u f g (of_sync k) (of_put d y l w) = let e : Call.Sync f ≡ Call.Put g d y = sym k ∙ l in absurd (cc)
+same-sync u f g (of_put b x k v) (of_sync l) = let e : Call.Put f b x ≡ Call.Sync g = sym k ∙ l in absurd (cc)
+same-sync u f g (of_put b x k v) (of_put d y l w) = let e : Call.Put f b x ≡ Call.Put g d y = sym k ∙ l in cc
 
 -- and of one kind
 pub read-no-write : (u : UnderWay) (s : Bool) (f b g d : ℕ) (y : List ℕ) → IsRead u.call f b → IsWrite u s g d y → ⊥
 read-no-write u false f b g d y (inl k) l = let e : Call.Read f b ≡ Call.Write g d y = sym k ∙ l in absurd (cc)
 read-no-write u false f b g d y (inr k) l = let e : Call.Fetch f b ≡ Call.Write g d y = sym k ∙ l in absurd (cc)
-read-no-write u true f b g d y (inl k) l = let e : Call.Read f b ≡ Call.WriteSync g d y = sym k ∙ l.0 in absurd (cc)
-read-no-write u true f b g d y (inr k) l = let e : Call.Fetch f b ≡ Call.WriteSync g d y = sym k ∙ l.0 in absurd (cc)
+read-no-write u true f b g d y (inl k) l = let e : Call.Read f b ≡ Call.Put g d y = sym k ∙ l.0 in absurd (cc)
+read-no-write u true f b g d y (inr k) l = let e : Call.Fetch f b ≡ Call.Put g d y = sym k ∙ l.0 in absurd (cc)
 
 pub read-no-sync : (u : UnderWay) (f b g : ℕ) → IsRead u.call f b → IsSync u g → ⊥
 read-no-sync u f b g (inl k) (of_sync l) = let e : Call.Read f b ≡ Call.Sync g = sym k ∙ l in absurd (cc)
-read-no-sync u f b g (inl k) (of_put d y l w) = let e : Call.Read f b ≡ Call.WriteSync g d y = sym k ∙ l in absurd (cc)
+read-no-sync u f b g (inl k) (of_put d y l w) = let e : Call.Read f b ≡ Call.Put g d y = sym k ∙ l in absurd (cc)
 read-no-sync u f b g (inr k) (of_sync l) = let e : Call.Fetch f b ≡ Call.Sync g = sym k ∙ l in absurd (cc)
-read-no-sync u f b g (inr k) (of_put d y l w) = let e : Call.Fetch f b ≡ Call.WriteSync g d y = sym k ∙ l in absurd (cc)
+read-no-sync u f b g (inr k) (of_put d y l w) = let e : Call.Fetch f b ≡ Call.Put g d y = sym k ∙ l in absurd (cc)
 
 pub write-no-sync : (u : UnderWay) (s : Bool) (f b g : ℕ) (x : List ℕ) → IsWrite u s f b x → IsSync u g → ⊥
 write-no-sync u false f b g x k (of_sync l) = let e : Call.Write f b x ≡ Call.Sync g = sym k ∙ l in absurd (cc)
-write-no-sync u false f b g x k (of_put d y l w) = let e : Call.Write f b x ≡ Call.WriteSync g d y = sym k ∙ l in absurd (cc)
-write-no-sync u true f b g x k (of_sync l) = let e : Call.WriteSync f b x ≡ Call.Sync g = sym k.0 ∙ l in absurd (cc)
+write-no-sync u false f b g x k (of_put d y l w) = let e : Call.Write f b x ≡ Call.Put g d y = sym k ∙ l in absurd (cc)
+write-no-sync u true f b g x k (of_sync l) = let e : Call.Put f b x ≡ Call.Sync g = sym k.0 ∙ l in absurd (cc)
 write-no-sync u true f b g x k (of_put d y l w) = let e : true ≡ false = sym w ∙ k.1 in absurd (cc)
 
 pub needs-no-read : (u : UnderWay) (f b : ℕ) → needs_packet u.call ≡ true → IsRead u.call f b → ⊥
@@ -382,7 +382,7 @@ delayed-dirty t file block body =
     let dirty = dirty-any file block t.client.number body t.client.dirty (dirty_at file block t.client.dirty) refl in rw dirty refl
 
 -- a put whose write was delayed waits, since its file is not clean
-put-waits : (t : ClientStep) (u : UnderWay) (file block : ℕ) (body : List ℕ) → IsSettling t u → u.call ≡ Call.WriteSync file block body
+put-waits : (t : ClientStep) (u : UnderWay) (file block : ℕ) (body : List ℕ) → IsSettling t u → u.call ≡ Call.Put file block body
     → Settled (marks_written (delays t file block body) u)
 unfolding marks_written after_write
 put-waits t u file block body is put =

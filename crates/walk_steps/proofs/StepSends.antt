@@ -103,9 +103,6 @@ pub record Gives (who : Who) (first now : ℕ) (ticket : Option Ticket) (t : Cli
   pub next : t.client.xid ≡ first + length t.sends
 
 module _ (who : Who) (first now : ℕ) (ticket : Option Ticket) where
-  G : ClientStep → Type 0
-  G = Gives who first now ticket
-
   like : (t u : ClientStep) → u.client.who ≡ t.client.who → u.client.now ≡ t.client.now → u.client.ticket ≡ t.client.ticket → u.client.xid ≡ t.client.xid
       → u.sends ≡ t.sends → Gives who first now ticket t → Gives who first now ticket u
   like t u same time asking xid sends g = record {

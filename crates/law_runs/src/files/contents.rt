@@ -1,6 +1,7 @@
 //! One content for each revision.
 
-ghost use Rattle.nq_model.specs.laws.RevisionsHaveOneContent.{CleanBlocksHaveTheirRevisionInEveryRun, DoneRequestsAreChangesInEveryRun, FilesAreTheirHistoryInEveryRun, PushesCarryTheirLastWriteInEveryRun};
+ghost use Rattle.nq_model.specs.laws.RevisionsHaveOneContent.{CleanBlocksHaveTheirRevisionInEveryRun, DoneRequestsAreChangesInEveryRun};
+ghost use Rattle.nq_model.specs.laws.RevisionsHaveOneContent.{FilesAreTheirHistoryInEveryRun, PushesCarryTheirLastWriteInEveryRun};
 ghost use Rattle.law_runs.specs.ContentsMet.{IsContentSometime};
 
 /// After every schedule within skew, over all crashes, the revision of each kept file is the number of its changes in the

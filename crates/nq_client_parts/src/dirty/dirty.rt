@@ -1,6 +1,7 @@
 //! The delayed writes of a client.
 
-ghost use Rattle.std.specs.Prelude.{◌≡◌, ◌≤◌, ◌+◌, ◌↔◌, [], None, false, true, length, is_some, slice_get, option_copied, option_map, IsTrue, IsSome, IfSome, IfNone, IsOk, IfOk, OnOk, OnErr};
+ghost use Rattle.std.specs.Prelude.{◌≡◌, ◌≤◌, ◌+◌, ◌↔◌, [], None, false, true, length, is_some, slice_get, option_copied, option_map, IsTrue, IsSome, IfSome};
+ghost use Rattle.std.specs.Prelude.{IfNone, IsOk, IfOk, OnOk, OnErr};
 ghost use Rattle.nq_model.specs.protocol.Client.{is_push_of, push_passes, dirty_at, first_dirty, drop_dirty, other_dirty, is_clean_in};
 ghost use Rattle.nq_model.specs.protocol.Hear.{all_dirty_in, loss_of, losses_in, other_push};
 ghost use Rattle.nq_model.specs.protocol.Profile.{most_dirty};

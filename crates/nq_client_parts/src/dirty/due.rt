@@ -9,7 +9,7 @@ ghost use Rattle.nq_model.specs.protocol.Send.{ending_in, is_to_push_in, is_to_r
 
 use crate::dirty::dirty::Dirty;
 use crate::holding::Held;
-use crate::leases::{Leases, Row};
+use crate::leases::{HeldLease, Leases};
 use crate::notices::Notices;
 use nq_base::{FileId, Mode, Ticks};
 
@@ -17,7 +17,7 @@ use nq_base::{FileId, Mode, Ticks};
 const RENEWAL: u64 = 3;
 
 /// Whether a lease is a writing one that is about to end over a file with delayed writes.
-fn is_to_push(row: &Row, now: Ticks, dirty: &Dirty) -> bool
+fn is_to_push(row: &HeldLease, now: Ticks, dirty: &Dirty) -> bool
     requires { now < 2 ^ 62 }
     ensures { result ≡ is_to_push_in now dirty.now.dirty dirty.now.push (lease_in row.now) }
 {
@@ -31,7 +31,7 @@ fn is_to_push(row: &Row, now: Ticks, dirty: &Dirty) -> bool
 }
 
 /// Whether a lease is to be renewed: its file is clean and no notice waits for it.
-fn is_to_renew(row: &Row, now: Ticks, notices: &Notices, dirty: &Dirty) -> bool
+fn is_to_renew(row: &HeldLease, now: Ticks, notices: &Notices, dirty: &Dirty) -> bool
     ensures { result ≡ is_to_renew_in now notices.now.items dirty.now.dirty dirty.now.push (lease_in row.now) }
 {
     let file = row.lease.file;
@@ -41,7 +41,7 @@ fn is_to_renew(row: &Row, now: Ticks, notices: &Notices, dirty: &Dirty) -> bool
 }
 
 /// The least file whose delayed writes are to be pushed before its lease ends.
-fn ending(rows: &[Row], now: Ticks, dirty: &Dirty) -> Option<FileId>
+fn ending(rows: &[HeldLease], now: Ticks, dirty: &Dirty) -> Option<FileId>
     requires ascends { Ascends file_of_row rows.now }
     requires time { now < 2 ^ 62 }
     ensures { result ≡ ending_in now (map lease_in rows.now) dirty.now.dirty dirty.now.push }
@@ -55,7 +55,7 @@ fn ending(rows: &[Row], now: Ticks, dirty: &Dirty) -> Option<FileId>
 }
 
 /// The least file whose lease is to be renewed.
-fn renewed(rows: &[Row], now: Ticks, notices: &Notices, dirty: &Dirty) -> Option<FileId>
+fn renewed(rows: &[HeldLease], now: Ticks, notices: &Notices, dirty: &Dirty) -> Option<FileId>
     requires { Ascends file_of_row rows.now }
     ensures { result ≡ renewed_in now (map lease_in rows.now) notices.now.items dirty.now.dirty dirty.now.push }
 {

@@ -1,6 +1,7 @@
 //! Delayed writes on an `IndexMap`: it keeps the order in which blocks became dirty.
 
-ghost use Rattle.std.specs.Prelude.{◌≡◌, ◌≤◌, ◌<◌, ◌+◌, ◌==◌, ◌++◌, not, false, length, filter, map, is_some, slice_get, option_copied, IsTrue, IsSome, IsNone, IsOk, OnOk, IfSome, IfNone};
+ghost use Rattle.std.specs.Prelude.{◌≡◌, ◌≤◌, ◌<◌, ◌+◌, ◌==◌, ◌++◌, not, false, length, filter, map, is_some, slice_get, option_copied, IsTrue, IsSome, IsNone};
+ghost use Rattle.std.specs.Prelude.{IsOk, OnOk, IfSome, IfNone};
 ghost use Rattle.std.specs.List.{find};
 ghost use Rattle.std.specs.Option.{option_map};
 ghost use Rattle.indexmap.specs.IndexMap.{keys, spare};

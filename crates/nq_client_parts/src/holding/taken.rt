@@ -21,7 +21,7 @@ pub enum Take {
 }
 
 /// What is held after a grant, and how it follows on what was held. It must be taken apart: it cannot be dropped.
-pub struct Taken {
+pub struct GrantTaken {
     /// The lease that was granted.
     pub held: Held,
     /// How it follows on what was held.
@@ -46,13 +46,13 @@ impl Held {
     ghost use Rattle.nq_client_parts.specs.Takes.{taking};
 
     /// Takes a grant whose request was first sent at `sent`, by the client's clock: from that moment its term counts.
-    pub fn take(self, file: FileId, grant: &Grant, sent: Ticks) -> Taken
+    pub fn take_grant(self, file: FileId, grant: &Grant, sent: Ticks) -> GrantTaken
         requires { sent + grant.now.term < 2 ^ 64 }
         ensures held { lease_of result.held ≡ Some (granted_lease file grant.now sent) }
         ensures how { result.how ≡ taking grant.now (lease_of self) }
     {
         let how = self.follows(grant);
-        Taken {
+        GrantTaken {
             held: granted(file, grant, sent),
             how,
         }

@@ -5,12 +5,12 @@ ghost use Rattle.nq_command.specs.Lines.{NamesNoFile, Says};
 
 use nq_base::{Call, Name};
 use nq_script::parse_call;
-use nq_script::words::{Words, is};
+use nq_script::words::{WordCursor, is};
 use std::alloc::Global;
 
 /// What a line at a prompt says.
 #[derive(Drop)]
-pub enum Line<'a> {
+pub enum PromptLine<'a> {
     /// Nothing stands in it.
     Empty,
     /// Say what there is to say.
@@ -31,46 +31,46 @@ pub enum Line<'a> {
 
 /// What this line says, which has no end of line: the words of a call of version 2, `store PATH NAME`, `get NAME PATH`, `help`, `quit`,
 /// `end`, or nothing. One blank stands between two words.
-pub fn line_of(alloc: Global, text: &[u8]) -> Line<'_>
+pub fn line_of(alloc: Global, text: &[u8]) -> PromptLine<'_>
     ensures { Says result text.now }
 {
     if text.is_empty() {
-        Line::Empty
+        PromptLine::Empty
     } else if is(text, b"help") {
-        Line::Help
+        PromptLine::Help
     } else if is(text, b"quit") {
-        Line::Quit
+        PromptLine::Quit
     } else if is(text, b"end") {
-        Line::End
+        PromptLine::End
     } else {
         match parse_call(alloc, text, 2) {
-            Ok(call) => Line::Call(call),
+            Ok(call) => PromptLine::Call(call),
             Err(_) => match file_line(text) {
                 Some(line) => line,
-                None => Line::Unknown,
+                None => PromptLine::Unknown,
             },
         }
     }
 }
 
 /// What a line says that names a file of the machine.
-fn file_line(text: &[u8]) -> Option<Line<'_>>
+fn file_line(text: &[u8]) -> Option<PromptLine<'_>>
     ensures says { IfSome result (λ line. Says line text.now) }
     ensures none { IsNone result → NamesNoFile text.now }
 {
-    let mut words = Words::new(text);
+    let mut words = WordCursor::new(text);
     let verb = words.next()?;
     let first = words.next()?;
     let second = words.next()?;
     if !words.is_empty() {
         None
     } else if is(verb, b"store") {
-        Some(Line::Store {
+        Some(PromptLine::Store {
             path: first,
             name: Name::new(second)?,
         })
     } else if is(verb, b"get") {
-        Some(Line::Get {
+        Some(PromptLine::Get {
             name: Name::new(first)?,
             path: second,
         })

@@ -3,7 +3,7 @@
 ghost use Rattle.std.specs.Prelude.{◌≡◌, option_map};
 ghost use Rattle.nq_command.specs.Wrongs.{fields_of, first_wrong, wrong_of, wrong_said, wrong_word, wrong_words};
 
-use nq_script::words::{Words, is, name, number32};
+use nq_script::words::{WordCursor, is, name, number32};
 
 /// What is wrong with a line.
 #[derive(Clone, Copy)]
@@ -88,7 +88,7 @@ fn wrong_word(field: Field, word: &[u8]) -> Option<Wrong>
 pub fn wrong_of(text: &[u8]) -> Option<Wrong>
     ensures { result ≡ wrong_of text.now }
 {
-    let mut words = Words::new(text);
+    let mut words = WordCursor::new(text);
     let Some(verb) = words.next() else {
         return Some(Wrong::Verb);
     };
@@ -100,7 +100,7 @@ pub fn wrong_of(text: &[u8]) -> Option<Wrong>
 
 /// What is wrong with the words behind a verb.
 #[tactic(auto, unfolding(crate::specs::Wrongs::wrong_words))]
-fn wrong_words(fields: &[Field], words: &mut Words<'_>) -> Option<Wrong>
+fn wrong_words(fields: &[Field], words: &mut WordCursor<'_>) -> Option<Wrong>
     ensures { result ≡ wrong_words fields.now words.old }
 {
     for field in fields {

@@ -59,7 +59,7 @@ pub struct Page {
 
 /// What a reply to a READDIRLOOK says.
 #[derive(Drop)]
-pub enum Told {
+pub enum PageTold {
     /// A page.
     Page(Page),
     /// The client is to ask again later.

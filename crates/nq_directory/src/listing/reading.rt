@@ -4,12 +4,14 @@ ghost use Rattle.std.specs.Prelude.{◌≡◌, ◌≤◌, ◌+◌, [], length, o
 ghost use Rattle.nq_xdr.specs.Lent.{lent_message, lent_outcome};
 ghost use Rattle.nq_directory.specs.Lent.{answer_of, answers_of, lent_call, listing_of};
 ghost use Rattle.nq_directory.specs.Messages.{most_names};
-ghost use Rattle.nq_directory.specs.Reading.{answer_at, call_as, call_in, count_at, dir_evicted_in, dir_tag_at, dir_tag_by, dir_vacated_in, end_at, entries_at, entry_at, page_alone, page_at, prefix_at, read_dir_at, read_dir_in, results_in, results_of, told_at, told_by, told_for, told_in};
+ghost use Rattle.nq_directory.specs.Reading.{answer_at, call_as, call_in, count_at, dir_evicted_in, dir_tag_at, dir_tag_by, dir_vacated_in, end_at, entries_at};
+ghost use Rattle.nq_directory.specs.Reading.{entry_at, page_alone, page_at, prefix_at, read_dir_at, read_dir_in, results_in, results_of, told_at, told_by};
+ghost use Rattle.nq_directory.specs.Reading.{told_for, told_in};
 ghost use Rattle.nq_xdr.specs.Reading.{Gives};
 
 use crate::listing::messages::{
-    DIR_EVICTED_PROCEDURE, DIR_VACATED_PROCEDURE, DirTag, LATER_STATUS, MOST_NAMES, Page,
-    READ_DIR_PROCEDURE, ReadDir, Told,
+    DIR_EVICTED_PROCEDURE, DIR_VACATED_PROCEDURE, DirTag, LATER_STATUS, MOST_NAMES, Page, PageTold,
+    READ_DIR_PROCEDURE, ReadDir,
 };
 use crate::{FileName, Prefix};
 use nq_base::{FileId, NoMemory};
@@ -75,7 +77,7 @@ pub fn read_told(
     xid: u32,
     inc: u32,
     datagram: &[u8],
-) -> Result<Option<Told>, NoMemory>
+) -> Result<Option<PageTold>, NoMemory>
     ensures { IfOk result (λ t. answers_of t ≡ told_in xid inc datagram.now) }
 {
     let Some(results) = results_of(xid, datagram) else {
@@ -86,7 +88,7 @@ pub fn read_told(
 }
 
 /// What results tell this incarnation, with room for the names of a page.
-fn told_to(inc: u32, results: &[u8], names: Vec<FileName>) -> Option<Told>
+fn told_to(inc: u32, results: &[u8], names: Vec<FileName>) -> Option<PageTold>
     requires empty { names.items ≡ [] }
     requires room { most_names ≤ vec_capacity names }
     ensures { answers_of result ≡ told_for inc (told_at results.now) }
@@ -236,7 +238,7 @@ fn page(reader: &mut Reader, names: Vec<FileName>) -> Result<Page, Garbage>
 
 /// A page with nothing behind it.
 #[tactic(auto, unfolding(crate::specs::Reading::page_alone))]
-fn page_alone(reader: Reader, names: Vec<FileName>) -> Result<Told, Garbage>
+fn page_alone(reader: Reader, names: Vec<FileName>) -> Result<PageTold, Garbage>
     requires empty { names.items ≡ [] }
     requires room { most_names ≤ vec_capacity names }
     ensures { Gives answer_of result (page_alone reader.entry) }
@@ -244,12 +246,12 @@ fn page_alone(reader: Reader, names: Vec<FileName>) -> Result<Told, Garbage>
     let mut reader = reader;
     let page = page(&mut reader, names)?;
     end(reader)?;
-    Ok(Told::Page(page))
+    Ok(PageTold::Page(page))
 }
 
 /// What stands behind a status.
 #[tactic(auto, unfolding(crate::specs::Reading::answer_at, crate::specs::Reading::wait_alone))]
-fn answer(status: u32, reader: Reader, names: Vec<FileName>) -> Result<Told, Garbage>
+fn answer(status: u32, reader: Reader, names: Vec<FileName>) -> Result<PageTold, Garbage>
     requires empty { names.items ≡ [] }
     requires room { most_names ≤ vec_capacity names }
     ensures { Gives answer_of result (answer_at status reader.entry) }
@@ -261,12 +263,12 @@ fn answer(status: u32, reader: Reader, names: Vec<FileName>) -> Result<Told, Gar
         return Err(Garbage);
     }
     end(reader)?;
-    Ok(Told::Later)
+    Ok(PageTold::Later)
 }
 
 /// The incarnation that a reply is for, and what it tells.
 #[tactic(auto, unfolding(crate::specs::Reading::told_at))]
-fn told(results: &[u8], names: Vec<FileName>) -> Result<(u32, Told), Garbage>
+fn told(results: &[u8], names: Vec<FileName>) -> Result<(u32, PageTold), Garbage>
     requires empty { names.items ≡ [] }
     requires room { most_names ≤ vec_capacity names }
     ensures { Gives (λ t. (t.0, answer_of t.1)) result (told_at results.now) }

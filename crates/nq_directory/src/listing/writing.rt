@@ -2,7 +2,8 @@
 
 ghost use Rattle.std.specs.Prelude.{◌≡◌, ◌+◌, ◌≤◌, ◌++◌, List, ℕ, length, All, IfOk, IfSome, OnOk};
 ghost use Rattle.nq_base.specs.Name.{IsName};
-ghost use Rattle.nq_directory.specs.Messages.{answer_bytes, dir_evicted, dir_evicted_bytes, dir_tag_arguments, dir_vacated_bytes, entries_bytes, entry_bytes, front_bytes, head_of, most_names, page, read_dir_arguments, read_dir_bytes, wait, IsDirTag, IsEntry, IsReadDir};
+ghost use Rattle.nq_directory.specs.Messages.{answer_bytes, dir_evicted, dir_evicted_bytes, dir_tag_arguments, dir_vacated_bytes, entries_bytes, entry_bytes};
+ghost use Rattle.nq_directory.specs.Messages.{front_bytes, head_of, most_names, page, read_dir_arguments, read_dir_bytes, wait, IsDirTag, IsEntry, IsReadDir};
 ghost use Rattle.nq_directory.specs.Prefix.{IsPrefix};
 ghost use Rattle.nq_xdr.specs.Message.{call_with, null, reply_with, spelling};
 ghost use Rattle.nq_wire.specs.Parts.{grant_bytes, optional, IsGrant, IsTag, IsWho};

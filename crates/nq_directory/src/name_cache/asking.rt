@@ -9,9 +9,9 @@ ghost use Rattle.nq_directory.specs.NameCacheNames.{Request, list_of};
 
 use crate::FileName;
 use crate::listing::{
-    DirTag, Page, Told, dir_vacated_bytes, read_dir_bytes, read_dir_evicted, read_told,
+    DirTag, Page, PageTold, dir_vacated_bytes, read_dir_bytes, read_dir_evicted, read_told,
 };
-use crate::name_cache::cache::{Asked, NameCache};
+use crate::name_cache::cache::{AskedPage, NameCache};
 use crate::name_cache::listed::{Listed, list_of};
 use nq_base::{FileId, Grant, NoMemory, Ticks};
 use std::alloc::Global;
@@ -37,13 +37,13 @@ impl NameCache {
         ensures refused { OnErr result (self.new ≡ self.old) }
     {
         match self.read_answer(alloc, datagram)? {
-            Some(said) => self.take(alloc, said, term, now),
+            Some(said) => self.take_told(alloc, said, term, now),
             None => self.read_notice(alloc, datagram),
         }
     }
 
     /// What a datagram tells as the reply to the request under way.
-    fn read_answer(&self, alloc: Global, datagram: &[u8]) -> Result<Option<Told>, NoMemory>
+    fn read_answer(&self, alloc: Global, datagram: &[u8]) -> Result<Option<PageTold>, NoMemory>
         ensures { IfOk result (λ t. answers_of t ≡ answer_in self.now self.now.asked datagram.now) }
     {
         match &self.asked {
@@ -53,20 +53,21 @@ impl NameCache {
     }
 
     /// Takes in the reply to the request under way.
-    fn take(
+    fn take_told(
         &mut self,
         alloc: Global,
-        said: Told,
+        said: PageTold,
         term: u32,
         now: Ticks,
     ) -> Result<Option<Vec<u8>>, NoMemory>
         requires { now < 2 ^ 62 }
-        ensures told { IfOk result (λ o. (r : Request) → self.old.asked ≡ Some r → record { names = self.new; sends = option_map (λ v. v.items) o } ≡ told self.old r (answer_of said) term now) }
+        ensures told { IfOk result (λ o. (r : Request) → self.old.asked ≡ Some r
+            → record { names = self.new; sends = option_map (λ v. v.items) o } ≡ told self.old r (answer_of said) term now) }
         ensures refused { OnErr result (self.new ≡ self.old) }
     {
         match said {
-            Told::Page(page) => self.take_listing(alloc, page, term, now),
-            Told::Later => {
+            PageTold::Page(page) => self.take_listing(alloc, page, term, now),
+            PageTold::Later => {
                 self.asked = None;
                 Ok(None)
             }
@@ -83,7 +84,8 @@ impl NameCache {
         now: Ticks,
     ) -> Result<Option<Vec<u8>>, NoMemory>
         requires { now < 2 ^ 62 }
-        ensures taken { IfOk result (λ o. (r : Request) → self.old.asked ≡ Some r → record { names = self.new; sends = option_map (λ v. v.items) o } ≡ takes_page self.old r (listing_of page) page.grant term now) }
+        ensures taken { IfOk result (λ o. (r : Request) → self.old.asked ≡ Some r
+            → record { names = self.new; sends = option_map (λ v. v.items) o } ≡ takes_page self.old r (listing_of page) page.grant term now) }
         ensures refused { OnErr result (self.new ≡ self.old) }
     {
         let Page { names, more, grant } = page;
@@ -128,7 +130,9 @@ impl NameCache {
         now: Ticks,
     ) -> Result<Option<Vec<u8>>, NoMemory>
         requires { now < 2 ^ 62 }
-        ensures taken { IfOk result (λ o. (r : Request) → self.old.asked ≡ Some r → record { names = self.new; sends = option_map (λ v. v.items) o } ≡ page_taken self.old r names.now grant.now (option_map (λ v. v.items) next) now) }
+        ensures taken { IfOk result (λ o. (r : Request) → self.old.asked ≡ Some r
+            → record { names = self.new; sends = option_map (λ v. v.items) o }
+            ≡ page_taken self.old r names.now grant.now (option_map (λ v. v.items) next) now) }
         ensures refused { OnErr result (self.new ≡ self.old) }
     {
         self.lists.reserve(1)?;
@@ -140,7 +144,7 @@ impl NameCache {
             self.asked = None;
             return Ok(None);
         }
-        let Some(Asked { after, part, .. }) = self.asked.take() else {
+        let Some(AskedPage { after, part, .. }) = self.asked.take() else {
             return Ok(None);
         };
         match next {

@@ -21,7 +21,7 @@ const MOST_LISTS: usize = 16;
 
 /// A request for a page of a list. Clauses see it as the definitions do.
 #[derive(Drop)]
-pub(crate) struct Asked {
+pub(crate) struct AskedPage {
     pub(crate) xid: u32,
     pub(crate) after: FileId,
     pub(crate) sent: Ticks,
@@ -29,7 +29,7 @@ pub(crate) struct Asked {
     pub(crate) part: Listed,
 }
 
-impl Model for Asked {
+impl Model for AskedPage {
     ghost use Rattle.std.specs.Prelude.{◌<◌, ◌^◌};
     ghost use Rattle.nq_directory.specs.NameCacheNames.{Request};
 
@@ -48,7 +48,7 @@ pub struct NameCache {
     /// The number of the next message.
     pub(crate) next: u32,
     pub(crate) lists: Vec<Listed>,
-    pub(crate) asked: Option<Asked>,
+    pub(crate) asked: Option<AskedPage>,
 }
 
 impl Model for NameCache {
@@ -119,7 +119,8 @@ impl NameCache {
         now: Ticks,
     ) -> Result<Vec<u8>, NoMemory>
         requires { now < 2 ^ 62 }
-        ensures asks { IfOk result (λ v. record { names = self.new; sends = Some v.items } ≡ asks_behind (cleared prefix.now self.old) (empty_list prefix.now) 0 term now) }
+        ensures asks { IfOk result (λ v. record { names = self.new; sends = Some v.items }
+            ≡ asks_behind (cleared prefix.now self.old) (empty_list prefix.now) 0 term now) }
         ensures refused { OnErr result (self.new ≡ self.old) }
     {
         let part = Listed::new(alloc, *prefix);
@@ -146,9 +147,12 @@ impl NameCache {
     /// The page of a list behind an id is asked for.
     pub(crate) fn ask(&mut self, part: Listed, after: FileId, sent: Ticks)
         requires { sent < 2 ^ 62 }
-        ensures { self.new ≡ record self.old { next = number_after self.old.next; asked = Some (record { xid = self.old.next; after = after; sent = sent; part = part }) } }
+        ensures { self.new ≡ record self.old {
+          next = number_after self.old.next;
+          asked = Some (record { xid = self.old.next; after = after; sent = sent; part = part });
+        } }
     {
-        self.asked = Some(Asked {
+        self.asked = Some(AskedPage {
             xid: self.next,
             after,
             sent,

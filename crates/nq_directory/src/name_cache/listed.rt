@@ -13,7 +13,7 @@ ghost use Rattle.nq_directory.specs.NameCacheNames.{empty_list, found_as, list_o
 use crate::name_cache::found::Found;
 use crate::{DirNames, FileName, Prefix};
 use nq_base::{FileId, Grant, Mode, Name, NoMemory, Tag, Ticks};
-use nq_client_parts::holding::{Held, Take, Taken};
+use nq_client_parts::holding::{GrantTaken, Held, Take};
 use std::alloc::Global;
 use std::marker::Model;
 use std::mem;
@@ -107,7 +107,7 @@ impl Listed {
         let _term = grant.term;
         self.names.extend(names)?;
         let held = mem::replace(&mut self.held, Held::Nothing);
-        let Taken { held, how } = held.take(FileId(0), grant, sent);
+        let GrantTaken { held, how } = held.take_grant(FileId(0), grant, sent);
         if !is_on(how, grant.mode) {
             return Ok(false);
         }

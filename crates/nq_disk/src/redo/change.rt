@@ -18,7 +18,8 @@ pub(crate) fn put_synced<D: Disk>(disk: &mut D, count: u32, bytes: &[u8]) -> Res
     ensures settles { OnOk result (IsAllThatIsLeft (D.told disk.new) (D.may_leave disk.new)) }
     ensures cause { Counts result (D.faults disk.old) (D.faults disk.new) }
     ensures follows { D.follows disk.old disk.new }
-    ensures leaves { ForSome (D.told disk.old) (λ old. Only old (D.may_leave disk.old) → Each (D.leaves disk.old disk.new) (Settling (ranges_in count bytes.now) old)) }
+    ensures leaves { ForSome (D.told disk.old) (λ old. Only old (D.may_leave disk.old)
+        → Each (D.leaves disk.old disk.new) (Settling (ranges_in count bytes.now) old)) }
 {
     put_ranges(disk, count, bytes)?;
     disk.sync()
@@ -32,10 +33,12 @@ pub(crate) fn settle<D: Disk>(
     bytes: &[u8],
 ) -> Result<(), DiskFault>
     requires { IsArea area }
-    ensures settled { OnOk result (ForSome (D.told disk.old) (λ old. Only old (D.may_leave disk.old) → IsOpen area old → ranges_in count bytes.now ≡ ranges_of (record_of area old) → Settled area (found area old) (D.told disk.new) (D.may_leave disk.new))) }
+    ensures settled { OnOk result (ForSome (D.told disk.old) (λ old. Only old (D.may_leave disk.old) → IsOpen area old
+        → ranges_in count bytes.now ≡ ranges_of (record_of area old) → Settled area (found area old) (D.told disk.new) (D.may_leave disk.new))) }
     ensures cause { Counts result (D.faults disk.old) (D.faults disk.new) }
     ensures follows { D.follows disk.old disk.new }
-    ensures leaves { ForSome (D.told disk.old) (λ old. Only old (D.may_leave disk.old) → IsOpen area old → ranges_in count bytes.now ≡ ranges_of (record_of area old) → Each (D.leaves disk.old disk.new) (OpensAs area old)) }
+    ensures leaves { ForSome (D.told disk.old) (λ old. Only old (D.may_leave disk.old) → IsOpen area old
+        → ranges_in count bytes.now ≡ ranges_of (record_of area old) → Each (D.leaves disk.old disk.new) (OpensAs area old)) }
 {
     put_synced(disk, count, bytes)?;
     write_synced(disk, area.place, &[0])
@@ -48,7 +51,8 @@ pub(crate) fn stage<D: Disk>(disk: &mut D, area: Area, body: &[u8]) -> Result<()
     ensures settles { OnOk result (IsAllThatIsLeft (D.told disk.new) (D.may_leave disk.new)) }
     ensures cause { Counts result (D.faults disk.old) (D.faults disk.new) }
     ensures follows { D.follows disk.old disk.new }
-    ensures leaves { ForSome (D.told disk.old) (λ old. length body.now + 1 ≤ area.size → Each (D.may_leave disk.old) (IsClosed area) → Each (D.leaves disk.old disk.new) (λ image. OpensAsOne area (D.may_leave disk.old) image ⊎ OpensAs area (staged area body.now old) image)) }
+    ensures leaves { ForSome (D.told disk.old) (λ old. length body.now + 1 ≤ area.size → Each (D.may_leave disk.old) (IsClosed area)
+        → Each (D.leaves disk.old disk.new) (λ image. OpensAsOne area (D.may_leave disk.old) image ⊎ OpensAs area (staged area body.now old) image)) }
 {
     write_synced(disk, area.place + 1, body)?;
     write_synced(disk, area.place, &[1])
@@ -63,10 +67,14 @@ pub(crate) fn change<D: Disk>(
     bytes: &[u8],
 ) -> Result<(), DiskFault>
     requires { IsArea area }
-    ensures settled { OnOk result (ForSome (D.told disk.old) (λ old. IsOpen area (staged area body.now old) → ranges_in count bytes.now ≡ ranges_of (record_of area (staged area body.now old)) → Settled area (found area (staged area body.now old)) (D.told disk.new) (D.may_leave disk.new))) }
+    ensures settled { OnOk result (ForSome (D.told disk.old) (λ old. IsOpen area (staged area body.now old)
+        → ranges_in count bytes.now ≡ ranges_of (record_of area (staged area body.now old))
+        → Settled area (found area (staged area body.now old)) (D.told disk.new) (D.may_leave disk.new))) }
     ensures cause { Counts result (D.faults disk.old) (D.faults disk.new) }
     ensures follows { D.follows disk.old disk.new }
-    ensures leaves { ForSome (D.told disk.old) (λ old. length body.now + 1 ≤ area.size → Each (D.may_leave disk.old) (IsClosed area) → IsOpen area (staged area body.now old) → ranges_in count bytes.now ≡ ranges_of (record_of area (staged area body.now old)) → Each (D.leaves disk.old disk.new) (λ image. OpensAsOne area (D.may_leave disk.old) image ⊎ OpensAs area (staged area body.now old) image)) }
+    ensures leaves { ForSome (D.told disk.old) (λ old. length body.now + 1 ≤ area.size → Each (D.may_leave disk.old) (IsClosed area)
+        → IsOpen area (staged area body.now old) → ranges_in count bytes.now ≡ ranges_of (record_of area (staged area body.now old))
+        → Each (D.leaves disk.old disk.new) (λ image. OpensAsOne area (D.may_leave disk.old) image ⊎ OpensAs area (staged area body.now old) image)) }
 {
     stage(disk, area, body)?;
     settle(disk, area, count, bytes)

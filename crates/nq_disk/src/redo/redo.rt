@@ -46,12 +46,14 @@ impl<D: Disk> Redo<D> {
     /// `BadField` exactly where the gate is open and a field is wrong, `Failed` only where the disk failed, and want of memory.
     pub fn open(alloc: Global, disk: D, area: Area) -> Result<Redo<D>, RedoOpen<D>>
         requires { IsArea area }
-        ensures opens { ForSome (D.told disk) (λ old. area.place + area.size ≤ length old → Opens area result old (D.told (disk_in result)) (D.may_leave (disk_in result))) }
+        ensures opens { ForSome (D.told disk) (λ old. area.place + area.size ≤ length old
+            → Opens area result old (D.told (disk_in result)) (D.may_leave (disk_in result))) }
         ensures again { ForSome (D.told disk) (λ old. IsClosed area old → D.told (disk_in result) ≡ Some old) }
         ensures area { IfOk result (λ redo. redo.area ≡ area) }
         ensures cause { CountsOpen result (D.faults disk) (D.faults (disk_in result)) }
         ensures follows { D.follows disk (disk_in result) }
-        ensures leaves { ForSome (D.told disk) (λ old. area.place + area.size ≤ length old → Each (D.leaves disk (disk_in result)) (OpensAsOne area (D.may_leave disk))) }
+        ensures leaves { ForSome (D.told disk) (λ old. area.place + area.size ≤ length old
+            → Each (D.leaves disk (disk_in result)) (OpensAsOne area (D.may_leave disk))) }
     {
         let mut disk = disk;
         match open_on(alloc, &mut disk, area) {
@@ -71,11 +73,16 @@ impl<D: Disk> Redo<D> {
     /// Only where the disk failed. The record has to be opened again then.
     pub fn apply(&mut self, batch: &Batch) -> Result<(), DiskFault>
         requires { IsArea self.old.area }
-        ensures applied { OnOk result (ForSome (D.told self.old.disk) (λ old. Each (D.may_leave self.old.disk) (IsClosed self.old.area) → IsFit self.old.area (length old) batch.now → Settled self.old.area (after self.old.area batch.now old) (D.told self.new.disk) (D.may_leave self.new.disk))) }
+        ensures applied { OnOk result (ForSome (D.told self.old.disk) (λ old. Each (D.may_leave self.old.disk) (IsClosed self.old.area)
+            → IsFit self.old.area (length old) batch.now
+            → Settled self.old.area (after self.old.area batch.now old) (D.told self.new.disk) (D.may_leave self.new.disk))) }
         ensures same { self.new.area ≡ self.old.area }
         ensures cause { Counts result (D.faults self.old.disk) (D.faults self.new.disk) }
         ensures follows { D.follows self.old.disk self.new.disk }
-        ensures whole { ForSome (D.told self.old.disk) (λ old. Each (D.may_leave self.old.disk) (IsClosed self.old.area) → IsFit self.old.area (length old) batch.now → Each (D.leaves self.old.disk self.new.disk) (λ image. OpensAsOne self.old.area (D.may_leave self.old.disk) image ⊎ OpensAfter self.old.area batch.now old image)) }
+        ensures whole { ForSome (D.told self.old.disk) (λ old. Each (D.may_leave self.old.disk) (IsClosed self.old.area)
+            → IsFit self.old.area (length old) batch.now
+            → Each (D.leaves self.old.disk self.new.disk) (λ image. OpensAsOne self.old.area (D.may_leave self.old.disk) image
+            ⊎ OpensAfter self.old.area batch.now old image)) }
     {
         change(
             &mut self.disk,

@@ -53,11 +53,13 @@ fn read_record<D: Disk>(disk: &mut D, area: Area, content: &mut [u8]) -> Result<
 fn replay<D: Disk>(disk: &mut D, area: Area, len: u64, content: &[u8]) -> Result<(), OpenFault>
     requires area { IsArea area }
     requires whole { length content.now ≡ area.size }
-    ensures opens { ForSome (D.told disk.old) (λ old. Only old (D.may_leave disk.old) → area.place + area.size ≤ length old → len ≡ length old → content.now ≡ record_of area old → OpensOn area result old (D.told disk.new) (D.may_leave disk.new)) }
+    ensures opens { ForSome (D.told disk.old) (λ old. Only old (D.may_leave disk.old) → area.place + area.size ≤ length old → len ≡ length old
+        → content.now ≡ record_of area old → OpensOn area result old (D.told disk.new) (D.may_leave disk.new)) }
     ensures quiet { slice_index content.now 0 ≢ 1 → D.told disk.new ≡ D.told disk.old }
     ensures cause { CountsFault result (D.faults disk.old) (D.faults disk.new) }
     ensures follows { D.follows disk.old disk.new }
-    ensures leaves { ForSome (D.told disk.old) (λ old. Only old (D.may_leave disk.old) → area.place + area.size ≤ length old → len ≡ length old → content.now ≡ record_of area old → Each (D.leaves disk.old disk.new) (OpensAs area old)) }
+    ensures leaves { ForSome (D.told disk.old) (λ old. Only old (D.may_leave disk.old) → area.place + area.size ≤ length old → len ≡ length old
+        → content.now ≡ record_of area old → Each (D.leaves disk.old disk.new) (OpensAs area old)) }
 {
     if content[0] != 1 {
         return Ok(());
@@ -78,7 +80,8 @@ fn open_with<D: Disk>(disk: &mut D, area: Area, content: &mut [u8]) -> Result<()
     ensures again { ForSome (D.told disk.old) (λ old. IsClosed area old → D.told disk.new ≡ Some old) }
     ensures cause { CountsFault result (D.faults disk.old) (D.faults disk.new) }
     ensures follows { D.follows disk.old disk.new }
-    ensures leaves { ForSome (D.told disk.old) (λ old. area.place + area.size ≤ length old → Each (D.leaves disk.old disk.new) (OpensAsOne area (D.may_leave disk.old))) }
+    ensures leaves { ForSome (D.told disk.old) (λ old. area.place + area.size ≤ length old
+        → Each (D.leaves disk.old disk.new) (OpensAsOne area (D.may_leave disk.old))) }
 {
     let len = read_record(disk, area, content)?;
     replay(disk, area, len, content)
@@ -91,7 +94,8 @@ pub(crate) fn open_on<D: Disk>(alloc: Global, disk: &mut D, area: Area) -> Resul
     ensures again { ForSome (D.told disk.old) (λ old. IsClosed area old → D.told disk.new ≡ Some old) }
     ensures cause { CountsFault result (D.faults disk.old) (D.faults disk.new) }
     ensures follows { D.follows disk.old disk.new }
-    ensures leaves { ForSome (D.told disk.old) (λ old. area.place + area.size ≤ length old → Each (D.leaves disk.old disk.new) (OpensAsOne area (D.may_leave disk.old))) }
+    ensures leaves { ForSome (D.told disk.old) (λ old. area.place + area.size ≤ length old
+        → Each (D.leaves disk.old disk.new) (OpensAsOne area (D.may_leave disk.old))) }
 {
     match vec![in alloc; 0; area.size as usize] {
         Ok(mut content) => open_with(disk, area, &mut content),

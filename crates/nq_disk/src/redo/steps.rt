@@ -44,7 +44,8 @@ pub(crate) fn put_ranges<D: Disk>(disk: &mut D, count: u32, bytes: &[u8]) -> Res
     ensures tells { TellsOn (D.told disk.old) (D.told disk.new) }
     ensures cause { Counts result (D.faults disk.old) (D.faults disk.new) }
     ensures follows { D.follows disk.old disk.new }
-    ensures leaves { ForSome (D.told disk.old) (λ old. Only old (D.may_leave disk.old) → Each (D.leaves disk.old disk.new) (Settling (ranges_in count bytes.now) old)) }
+    ensures leaves { ForSome (D.told disk.old) (λ old. Only old (D.may_leave disk.old)
+        → Each (D.leaves disk.old disk.new) (Settling (ranges_in count bytes.now) old)) }
 {
     let mut rest = bytes;
     for _turn in 0..count {

@@ -78,7 +78,8 @@ fn tell_stop<K: Sink>(
     due: Ending,
     out: &mut K,
 ) -> Ending
-    ensures { TellsSo due (answers_text log.now.entries ++ (front.now ++ (decimal number ++ back.now))) result (K.held out.old) (K.held out.new) (K.faults out.old) (K.faults out.new) }
+    ensures { TellsSo due (answers_text log.now.entries ++ (front.now ++ (decimal number ++ back.now))) result (K.held out.old) (K.held out.new)
+        (K.faults out.old) (K.faults out.new) }
 {
     match text_behind(alloc, log, front, number, back) {
         Ok(text) => tell_so(out, &text, due),

@@ -129,7 +129,7 @@ fn tick_to(
     if reading <= client.time() {
         return Ok(None);
     }
-    made(client.tick(reading, out, log))
+    heard(client.tick(reading, out, log))
 }
 
 /// Receives once, and gives a client the datagram that came.
@@ -192,7 +192,7 @@ fn take_in(
     match sender {
         Party::Client(_) => Ok(None),
         Party::Server => {
-            let made = made(client.receive(*next, datagram, out, log));
+            let made = heard(client.receive(*next, datagram, out, log));
             if made.is_ok() {
                 *next = next.saturating_add(1);
             }
@@ -202,7 +202,7 @@ fn take_in(
 }
 
 /// The answer that a turn brings where a client has taken something so.
-fn made(how: Heard) -> Result<Option<Answer>, Fault>
+fn heard(how: Heard) -> Result<Option<Answer>, Fault>
     ensures { result ≡ goes_on how }
 {
     match how {

@@ -4,7 +4,7 @@ use nq_base::Who;
 
 /// How the service is used: by whom, and within which bounds.
 #[derive(Clone, Copy)]
-pub struct Plan {
+pub struct UsePlan {
     /// The host and its incarnation.
     pub who: Who,
     /// The most turns for attaching, and for each call.

@@ -12,7 +12,7 @@ use crate::answers::Stop;
 use crate::calls::cut_line;
 use crate::user::aims::Aim;
 use crate::user::calling::{run_call, send_out};
-use crate::user::plan::Plan;
+use crate::user::plan::UsePlan;
 use crate::user::session::Session;
 use crate::user::turning::take_turns;
 use nq_base::ending::Fault;
@@ -39,7 +39,7 @@ pub(crate) struct Ran {
 /// turns. The client is stopped in the end.
 pub(crate) fn run<L: Link, C: Clock>(
     alloc: Global,
-    plan: Plan,
+    plan: UsePlan,
     text: &[u8],
     link: &mut L,
     clock: &mut C,

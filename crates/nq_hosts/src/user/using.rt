@@ -9,7 +9,7 @@ ghost use Rattle.nq_hosts.specs.Using.{EndsBy, Uses, UsesText};
 
 use crate::answers::{tell_bytes, tell_end, tell_script};
 use crate::calls::find_fault;
-use crate::user::plan::Plan;
+use crate::user::plan::UsePlan;
 use crate::user::running::{Ran, run};
 use nq_base::ending::Ending;
 use nq_clock::Clock;
@@ -33,7 +33,7 @@ use std::alloc::Global;
 /// - `NoAnswer` where all the turns were taken since a call began, and none ended it; prints the answers and `noanswer line N`.
 pub fn client<S: Source, K: Sink, L: Link, C: Clock>(
     alloc: Global,
-    plan: Plan,
+    plan: UsePlan,
     input: &mut S,
     out: &mut K,
     link: &mut L,
@@ -59,7 +59,7 @@ pub fn client<S: Source, K: Sink, L: Link, C: Clock>(
 /// Runs the calls of a text that was read and tells what came of them, or tells which of its lines spells none.
 fn use_text<K: Sink, L: Link, C: Clock>(
     alloc: Global,
-    plan: Plan,
+    plan: UsePlan,
     text: &[u8],
     out: &mut K,
     link: &mut L,

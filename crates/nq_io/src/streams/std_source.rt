@@ -88,7 +88,8 @@ impl<R: Read> Source for StdSource<R> {
         requires { 0 < length out.old }
 
         // As of any source.
-        ensures reads { Reads result out.old out.new (told_where self.old.tells (R.remaining self.old.reader)) (told_where self.new.tells (R.remaining self.new.reader)) }
+        ensures reads { Reads result out.old out.new (told_where self.old.tells (R.remaining self.old.reader))
+            (told_where self.new.tells (R.remaining self.new.reader)) }
         ensures cause { CountsRead result self.old.faults self.new.faults }
 
         // Of this one.

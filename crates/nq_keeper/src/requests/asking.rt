@@ -3,7 +3,8 @@
 ghost use Rattle.std.specs.Prelude.{is_some};
 ghost use Rattle.nq_keeper.specs.Asking.{Asks};
 ghost use Rattle.nq_model.specs.protocol.Change.{row_of_found, heads_of, space_of};
-ghost use Rattle.nq_model.specs.protocol.Decided.{effect_of_create, effect_of_write, effect_of_write_recovering, effect_of_resize, effect_of_remove, effect_of, no_effect};
+ghost use Rattle.nq_model.specs.protocol.Decided.{effect_of_create, effect_of_write, effect_of_write_recovering, effect_of_resize, effect_of_remove, effect_of};
+ghost use Rattle.nq_model.specs.protocol.Decided.{no_effect};
 ghost use Rattle.nq_model.specs.protocol.Kept.{find_file, find_name, blocks_in_all};
 ghost use Rattle.nq_keeper.specs.RequestsCapped.{capped};
 
@@ -22,7 +23,8 @@ struct Numbers {
 
 /// A decision for which nothing of what is kept is asked.
 fn unasked<K: Keeper>(keeper: &mut K, verdict: Verdict) -> Result<Effect, KeepFault>
-    ensures { Asks (λ kept. capped (no_effect verdict)) result (K.content keeper.old) (K.content keeper.new) (K.faults keeper.old) (K.faults keeper.new) (K.follows keeper.old keeper.new) (K.leaves keeper.old keeper.new) }
+    ensures { Asks (λ kept. capped (no_effect verdict)) result (K.content keeper.old) (K.content keeper.new) (K.faults keeper.old) (K.faults keeper.new)
+        (K.follows keeper.old keeper.new) (K.leaves keeper.old keeper.new) }
 {
     keeper.pause();
     Ok(effects::none(verdict))
@@ -30,7 +32,8 @@ fn unasked<K: Keeper>(keeper: &mut K, verdict: Verdict) -> Result<Effect, KeepFa
 
 /// Reads the server's numbers, and how much is kept.
 fn read_numbers<K: Keeper>(keeper: &mut K) -> Result<Numbers, KeepFault>
-    ensures { Asks (λ kept. record { heads = heads_of kept; space = space_of kept }) result (K.content keeper.old) (K.content keeper.new) (K.faults keeper.old) (K.faults keeper.new) (K.follows keeper.old keeper.new) (K.leaves keeper.old keeper.new) }
+    ensures { Asks (λ kept. record { heads = heads_of kept; space = space_of kept }) result (K.content keeper.old) (K.content keeper.new) (K.faults keeper.old)
+        (K.faults keeper.new) (K.follows keeper.old keeper.new) (K.leaves keeper.old keeper.new) }
 {
     let heads = keeper.heads()?;
     let space = keeper.space()?;
@@ -43,7 +46,9 @@ pub(crate) fn create<K: Keeper>(
     name: &Name,
     blocks: u32,
 ) -> Result<Effect, KeepFault>
-    ensures { Asks (λ kept. capped (effect_of_create (space_of kept) (heads_of kept) (is_some (find_name name.now kept.files)) name.now blocks)) result (K.content keeper.old) (K.content keeper.new) (K.faults keeper.old) (K.faults keeper.new) (K.follows keeper.old keeper.new) (K.leaves keeper.old keeper.new) }
+    ensures { Asks (λ kept. capped (effect_of_create (space_of kept) (heads_of kept) (is_some (find_name name.now kept.files)) name.now blocks)) result
+        (K.content keeper.old) (K.content keeper.new) (K.faults keeper.old) (K.faults keeper.new) (K.follows keeper.old keeper.new)
+        (K.leaves keeper.old keeper.new) }
 {
     let found = keeper.by_name(name)?;
     let numbers = read_numbers(keeper)?;
@@ -62,7 +67,9 @@ pub(crate) fn write<K: Keeper>(
     base: Option<PushBase>,
     body: Block,
 ) -> Result<Effect, KeepFault>
-    ensures { Asks (λ kept. capped (effect_of_write boot conflict held (row_of_found (find_file file kept.files)) block base body)) result (K.content keeper.old) (K.content keeper.new) (K.faults keeper.old) (K.faults keeper.new) (K.follows keeper.old keeper.new) (K.leaves keeper.old keeper.new) }
+    ensures { Asks (λ kept. capped (effect_of_write boot conflict held (row_of_found (find_file file kept.files)) block base body)) result
+        (K.content keeper.old) (K.content keeper.new) (K.faults keeper.old) (K.faults keeper.new) (K.follows keeper.old keeper.new)
+        (K.leaves keeper.old keeper.new) }
 {
     let row = keeper.file(file)?;
     Ok(effects::write(boot, conflict, held, row, block, base, body))
@@ -75,7 +82,9 @@ pub(crate) fn resize<K: Keeper>(
     file: FileId,
     blocks: u32,
 ) -> Result<Effect, KeepFault>
-    ensures { Asks (λ kept. capped (effect_of_resize (blocks_in_all kept.files) conflict (row_of_found (find_file file kept.files)) blocks)) result (K.content keeper.old) (K.content keeper.new) (K.faults keeper.old) (K.faults keeper.new) (K.follows keeper.old keeper.new) (K.leaves keeper.old keeper.new) }
+    ensures { Asks (λ kept. capped (effect_of_resize (blocks_in_all kept.files) conflict (row_of_found (find_file file kept.files)) blocks)) result
+        (K.content keeper.old) (K.content keeper.new) (K.faults keeper.old) (K.faults keeper.new) (K.follows keeper.old keeper.new)
+        (K.leaves keeper.old keeper.new) }
 {
     let row = keeper.file(file)?;
     let space = keeper.space()?;
@@ -88,7 +97,8 @@ pub(crate) fn remove<K: Keeper>(
     conflict: bool,
     file: FileId,
 ) -> Result<Effect, KeepFault>
-    ensures { Asks (λ kept. capped (effect_of_remove conflict (row_of_found (find_file file kept.files)))) result (K.content keeper.old) (K.content keeper.new) (K.faults keeper.old) (K.faults keeper.new) (K.follows keeper.old keeper.new) (K.leaves keeper.old keeper.new) }
+    ensures { Asks (λ kept. capped (effect_of_remove conflict (row_of_found (find_file file kept.files)))) result (K.content keeper.old) (K.content keeper.new)
+        (K.faults keeper.old) (K.faults keeper.new) (K.follows keeper.old keeper.new) (K.leaves keeper.old keeper.new) }
 {
     let row = keeper.file(file)?;
     Ok(effects::remove(conflict, row))
@@ -103,7 +113,8 @@ fn write_recovering<K: Keeper>(
     base: Option<PushBase>,
     body: Block,
 ) -> Result<Effect, KeepFault>
-    ensures { Asks (λ kept. capped (effect_of_write_recovering opened (row_of_found (find_file file kept.files)) block base body)) result (K.content keeper.old) (K.content keeper.new) (K.faults keeper.old) (K.faults keeper.new) (K.follows keeper.old keeper.new) (K.leaves keeper.old keeper.new) }
+    ensures { Asks (λ kept. capped (effect_of_write_recovering opened (row_of_found (find_file file kept.files)) block base body)) result (K.content keeper.old)
+        (K.content keeper.new) (K.faults keeper.old) (K.faults keeper.new) (K.follows keeper.old keeper.new) (K.leaves keeper.old keeper.new) }
 {
     match base {
         None => unasked(keeper, Verdict::TryLater),
@@ -117,7 +128,8 @@ fn while_recovering<K: Keeper>(
     request: Request,
     opened: u32,
 ) -> Result<Effect, KeepFault>
-    ensures { Asks (λ kept. capped (effect_of kept (Gate.Recovering opened) request)) result (K.content keeper.old) (K.content keeper.new) (K.faults keeper.old) (K.faults keeper.new) (K.follows keeper.old keeper.new) (K.leaves keeper.old keeper.new) }
+    ensures { Asks (λ kept. capped (effect_of kept (Gate.Recovering opened) request)) result (K.content keeper.old) (K.content keeper.new) (K.faults keeper.old)
+        (K.faults keeper.new) (K.follows keeper.old keeper.new) (K.leaves keeper.old keeper.new) }
 {
     match request {
         Request::Attach { .. } => unasked(keeper, Verdict::Done),
@@ -140,7 +152,8 @@ fn while_serving<K: Keeper>(
     conflict: bool,
     writing_row: bool,
 ) -> Result<Effect, KeepFault>
-    ensures { Asks (λ kept. capped (effect_of kept (Gate.Serving boot conflict writing_row) request)) result (K.content keeper.old) (K.content keeper.new) (K.faults keeper.old) (K.faults keeper.new) (K.follows keeper.old keeper.new) (K.leaves keeper.old keeper.new) }
+    ensures { Asks (λ kept. capped (effect_of kept (Gate.Serving boot conflict writing_row) request)) result (K.content keeper.old) (K.content keeper.new)
+        (K.faults keeper.old) (K.faults keeper.new) (K.follows keeper.old keeper.new) (K.leaves keeper.old keeper.new) }
 {
     match request {
         Request::Attach { .. } => unasked(keeper, Verdict::Done),
@@ -164,7 +177,8 @@ pub(crate) fn effect<K: Keeper>(
     request: Request,
     gate: Gate,
 ) -> Result<Effect, KeepFault>
-    ensures { Asks (λ kept. capped (effect_of kept gate request)) result (K.content keeper.old) (K.content keeper.new) (K.faults keeper.old) (K.faults keeper.new) (K.follows keeper.old keeper.new) (K.leaves keeper.old keeper.new) }
+    ensures { Asks (λ kept. capped (effect_of kept gate request)) result (K.content keeper.old) (K.content keeper.new) (K.faults keeper.old)
+        (K.faults keeper.new) (K.follows keeper.old keeper.new) (K.leaves keeper.old keeper.new) }
 {
     match gate {
         Gate::Recovering { opened } => while_recovering(keeper, request, opened),

@@ -1,55 +1,21 @@
 //! Requests that are decided once.
 
-ghost use Rattle.std.specs.Prelude.{◌≡◌, ◌<◌, All, IfNone, IfSome, Some, None, true};
+ghost use Rattle.std.specs.Prelude.{◌≡◌, ◌<◌, IfNone, IfSome, Some, None, true};
 ghost use Rattle.std.specs.Option.{ForSome};
-ghost use Rattle.nq_base.specs.Block.{filled};
 ghost use Rattle.nq_base.specs.declared.Request.{Request as Asked};
-ghost use Rattle.nq_model.specs.protocol.Change.{Fits, IsBody, IsChangeWithin};
-ghost use Rattle.nq_model.specs.protocol.Decided.{HasText, decided, decided_before, no_effect, change_of, change_with, fresh_decided, is_decided_once, sequence_decided, attach_decided, if_fresh, effect_of, row_with};
+ghost use Rattle.nq_model.specs.protocol.Change.{Fits, IsChangeWithin};
+ghost use Rattle.nq_model.specs.protocol.Decided.{decided, decided_before, no_effect, change_of, change_with, fresh_decided, is_decided_once, sequence_decided};
+ghost use Rattle.nq_model.specs.protocol.Decided.{attach_decided, if_fresh, effect_of, row_with};
 ghost use Rattle.nq_model.specs.protocol.Kept.{can_be_kept, host_row};
 ghost use Rattle.nq_model.specs.protocol.Message.{asker};
 ghost use Rattle.nq_model.specs.protocol.Profile.{most_hosts};
 ghost use Rattle.nq_keeper.specs.RequestsCapped.{capped};
 ghost use Rattle.nq_keeper.specs.Deciding.{Decides, IsOfHost, IsOfSequence, Gives, LeavesGiven};
 
+use crate::requests::for_proofs::has_text;
 use crate::requests::{asking, effects};
 use crate::{KeepFault, Keeper, can_be_kept};
-use nq_base::{Block, Decided, Effect, Gate, Request, Seen, Seq, Verdict, Who};
-
-/// Bytes are numbers below 256.
-fn are_bytes(bytes: &[u8])
-    ensures { All (λ byte. byte < 256) bytes.now }
-{
-    let _count = bytes.len();
-}
-
-/// So are those of a block that repeats a word.
-fn is_fill(_value: u32)
-    ensures { All (λ byte. byte < 256) (filled _value) }
-{}
-
-/// A block has 4096 bytes.
-fn is_body(block: &Block)
-    ensures { IsBody block.now }
-{
-    match block.seen() {
-        Seen::Filled(value) => is_fill(value),
-        Seen::Bytes(bytes) => are_bytes(bytes),
-    }
-}
-
-/// The name and the body of a request are such as there can be.
-fn has_text(request: &Request)
-    ensures { HasText request.now }
-{
-    match request {
-        Request::Create { name, .. } => {
-            let _bytes = name.as_bytes();
-        }
-        Request::Write { body, .. } => is_body(body),
-        _ => {}
-    }
-}
+use nq_base::{Decided, Effect, Gate, Request, Seq, Verdict, Who};
 
 /// Keeps an effect with the row of the host that asked, in one change, where that row can be kept.
 fn conclude<K: Keeper>(
@@ -61,7 +27,9 @@ fn conclude<K: Keeper>(
     requires host { who.host < most_hosts }
     requires fits { ForSome (K.content keeper.old) (λ kept. Fits kept (change_with who seq effect)) }
     requires within { ForSome (K.content keeper.old) (λ kept. can_be_kept (row_with who seq effect) ≡ true → IsChangeWithin kept (change_with who seq effect)) }
-    ensures { Decides (λ kept. fresh_decided who seq effect) (λ kept. if_fresh (fresh_decided who seq effect) (change_with who seq effect)) result (K.content keeper.old) (K.content keeper.new) (K.faults keeper.old) (K.faults keeper.new) (K.follows keeper.old keeper.new) (K.leaves keeper.old keeper.new) }
+    ensures { Decides (λ kept. fresh_decided who seq effect) (λ kept. if_fresh (fresh_decided who seq effect) (change_with who seq effect)) result
+        (K.content keeper.old) (K.content keeper.new) (K.faults keeper.old) (K.faults keeper.new) (K.follows keeper.old keeper.new)
+        (K.leaves keeper.old keeper.new) }
 {
     let row = effects::row_after(&who, seq, &effect);
     if !can_be_kept(&row) {
@@ -88,7 +56,10 @@ fn decide_fresh<K: Keeper>(
     requires host { who.host < most_hosts }
     requires asked { IsOfSequence who seq request }
     requires later { ForSome (K.content keeper.old) (λ kept. decided_before who seq (host_row kept who.host) ≡ None) }
-    ensures { Decides (λ kept. fresh_decided who seq (effect_of kept gate request)) (λ kept. if_fresh (fresh_decided who seq (effect_of kept gate request)) (change_with who seq (effect_of kept gate request))) result (K.content keeper.old) (K.content keeper.new) (K.faults keeper.old) (K.faults keeper.new) (K.follows keeper.old keeper.new) (K.leaves keeper.old keeper.new) }
+    ensures { Decides (λ kept. fresh_decided who seq (effect_of kept gate request))
+        (λ kept. if_fresh (fresh_decided who seq (effect_of kept gate request)) (change_with who seq (effect_of kept gate request))) result
+        (K.content keeper.old) (K.content keeper.new) (K.faults keeper.old) (K.faults keeper.new) (K.follows keeper.old keeper.new)
+        (K.leaves keeper.old keeper.new) }
 {
     has_text(&request);
     let effect = asking::effect(keeper, request, gate)?;
@@ -105,7 +76,10 @@ fn decide_sequence<K: Keeper>(
 ) -> Result<Decided, KeepFault>
     requires host { who.host < most_hosts }
     requires asked { IsOfSequence who seq request }
-    ensures { Decides (λ kept. sequence_decided who seq (host_row kept who.host) (effect_of kept gate request)) (λ kept. if_fresh (sequence_decided who seq (host_row kept who.host) (effect_of kept gate request)) (change_with who seq (effect_of kept gate request))) result (K.content keeper.old) (K.content keeper.new) (K.faults keeper.old) (K.faults keeper.new) (K.follows keeper.old keeper.new) (K.leaves keeper.old keeper.new) }
+    ensures { Decides (λ kept. sequence_decided who seq (host_row kept who.host) (effect_of kept gate request))
+        (λ kept. if_fresh (sequence_decided who seq (host_row kept who.host) (effect_of kept gate request))
+        (change_with who seq (effect_of kept gate request))) result (K.content keeper.old) (K.content keeper.new) (K.faults keeper.old) (K.faults keeper.new)
+        (K.follows keeper.old keeper.new) (K.leaves keeper.old keeper.new) }
 {
     let line = keeper.host(who.host)?;
     match effects::said_before(&who, seq, &line) {
@@ -117,7 +91,9 @@ fn decide_sequence<K: Keeper>(
 /// Decides an ATTACH: a later incarnation begins the row of its host anew.
 fn attach<K: Keeper>(keeper: &mut K, who: Who) -> Result<Decided, KeepFault>
     requires { who.host < most_hosts }
-    ensures { Decides (λ kept. attach_decided who (host_row kept who.host)) (λ kept. if_fresh (attach_decided who (host_row kept who.host)) (change_with who 0 (no_effect Verdict.Done))) result (K.content keeper.old) (K.content keeper.new) (K.faults keeper.old) (K.faults keeper.new) (K.follows keeper.old keeper.new) (K.leaves keeper.old keeper.new) }
+    ensures { Decides (λ kept. attach_decided who (host_row kept who.host))
+        (λ kept. if_fresh (attach_decided who (host_row kept who.host)) (change_with who 0 (no_effect Verdict.Done))) result (K.content keeper.old)
+        (K.content keeper.new) (K.faults keeper.old) (K.faults keeper.new) (K.follows keeper.old keeper.new) (K.leaves keeper.old keeper.new) }
 {
     let line = keeper.host(who.host)?;
     if effects::is_later(&who, &line) {
@@ -154,7 +130,8 @@ fn asked_by(request: &Request) -> (Who, Option<Seq>)
 pub fn decide<K: Keeper>(keeper: &mut K, request: Request, gate: Gate) -> Result<Decided, KeepFault>
     requires once { is_decided_once request ≡ true }
     requires host { IsOfHost request }
-    ensures gives { Gives (λ kept. decided kept gate request) (λ kept. change_of kept gate request) result (K.content keeper.old) (K.content keeper.new) (K.faults keeper.old) (K.faults keeper.new) }
+    ensures gives { Gives (λ kept. decided kept gate request) (λ kept. change_of kept gate request) result (K.content keeper.old) (K.content keeper.new)
+        (K.faults keeper.old) (K.faults keeper.new) }
     ensures follows { K.follows keeper.old keeper.new }
     ensures leaves { LeavesGiven (λ kept. change_of kept gate request) (K.content keeper.old) (K.leaves keeper.old keeper.new) }
 {

@@ -2,7 +2,8 @@
 
 ghost use Rattle.std.specs.Prelude.{◌≡◌, ◌<◌, nat_lt};
 ghost use Rattle.nq_model.specs.protocol.Change.{raised_row};
-ghost use Rattle.nq_model.specs.protocol.Decided.{decided_before, change_with, no_effect, creation, block_write, length_change, removal, row_with, effect_of_create, effect_of_push, effect_of_write_in, effect_of_write, effect_of_resize, effect_of_remove};
+ghost use Rattle.nq_model.specs.protocol.Decided.{decided_before, change_with, no_effect, creation, block_write, length_change, removal, row_with};
+ghost use Rattle.nq_model.specs.protocol.Decided.{effect_of_create, effect_of_push, effect_of_write_in, effect_of_write, effect_of_resize, effect_of_remove};
 ghost use Rattle.nq_keeper.specs.RequestsCapped.{capped};
 
 use crate::raised;
@@ -43,7 +44,7 @@ pub(crate) fn none(verdict: Verdict) -> Effect
 
 /// A file is made.
 #[tactic(auto, unfolding(nq_model::specs::protocol::Decided::creation, crate::specs::RequestsCapped::capped, crate::specs::Capped::capped_row))]
-fn made(heads: &Heads, name: &Name, blocks: u32) -> Effect
+fn created(heads: &Heads, name: &Name, blocks: u32) -> Effect
     requires { heads.now.next < 2147483648 }
     ensures { result ≡ capped (creation heads.now name.now blocks) }
 {
@@ -151,7 +152,7 @@ pub(crate) fn create(
     if space.files >= MOST_FILES || space.blocks > MOST_BLOCKS - blocks || heads.next >= MOST_IDS {
         return none(Verdict::NoSpace);
     }
-    made(heads, name, blocks)
+    created(heads, name, blocks)
 }
 
 /// A push of a block that the file has. It is stored where its sender holds a writing lease, and it rests on this boot

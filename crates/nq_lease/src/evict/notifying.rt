@@ -32,7 +32,8 @@ pub enum NoticeTo {
 /// Adds the notice to the holder of a row, with this number.
 fn tell(alloc: Global, row: &Row, xid: u32, out: &mut Outbox) -> Result<(), NoMemory>
     ensures first { out.new.first ≡ out.old.first }
-    ensures told { OnOk result (out.new.datagrams ≡ out.old.datagrams ++ sent (to_host row.now.who.host (call xid (Asks.Evicted row.now.who row.now.file row.now.tag))) ∷ []) }
+    ensures told { OnOk result (out.new.datagrams ≡ out.old.datagrams
+        ++ sent (to_host row.now.who.host (call xid (Asks.Evicted row.now.who row.now.file row.now.tag))) ∷ []) }
     ensures fits { OnOk result (FitsMessage (call xid (Asks.Evicted row.now.who row.now.file row.now.tag))) }
     ensures refused { OnErr result (out.new.datagrams ≡ out.old.datagrams) }
 {

@@ -2,7 +2,8 @@
 
 ghost use Rattle.std.specs.Prelude.{◌≡◌, ◌+◌, ◌^◌, ◌<◌, ◌≤◌, Some, None, IsSome, length, false};
 ghost use Rattle.std.specs.Option.{ForSome};
-ghost use Rattle.nq_model.specs.protocol.Ask.{ask as asked_of, ask_freely as asked_freely, ask_for, put_off as told_to_wait, with_waiting, begin as begun, share_again as shares_again, granted as grants};
+ghost use Rattle.nq_model.specs.protocol.Ask.{ask as asked_of, ask_freely as asked_freely, ask_for, put_off as told_to_wait, with_waiting, begin as begun};
+ghost use Rattle.nq_model.specs.protocol.Ask.{share_again as shares_again, granted as grants};
 ghost use Rattle.nq_base.specs.declared.Asked.{Asked};
 ghost use Rattle.nq_model.specs.protocol.Profile.{most_rows};
 ghost use Rattle.nq_model.specs.protocol.Table.{after_draw, put_row, find_row, caches};
@@ -152,7 +153,8 @@ fn ask_freely(table: &mut Table, question: &Question, own: &Option<Row>) -> Aske
 /// times below 2^62; at a later one no lease is given, and the table stays as it is.
 pub fn ask(table: &mut Table, question: &Question) -> Asked
     requires drawn { table.old.drawn < 2 ^ 63 }
-    requires shared { ForSome (find_row question.now.file question.now.who.host table.old.rows) (λ row. caches row.mode ≡ false → (question.now.time < row.until) × (row.until < question.now.time + 2 ^ 32)) }
+    requires shared { ForSome (find_row question.now.file question.now.who.host table.old.rows) (λ row. caches row.mode ≡ false
+        → (question.now.time < row.until) × (row.until < question.now.time + 2 ^ 32)) }
     ensures table { question.now.time < 2 ^ 62 → table.new ≡ (asked_of table.old question.now).table }
     ensures asked { question.now.time < 2 ^ 62 → result ≡ (asked_of table.old question.now).asked }
     ensures late { 2 ^ 62 ≤ question.now.time → (table.new ≡ table.old) × (result ≡ Asked.NoLease) }

@@ -1,6 +1,7 @@
 //! The packets of a world.
 
-ghost use Rattle.std.specs.Prelude.{◌≡◌, ◌+◌, ◌≤◌, [], ◌∷◌, ◌++◌, length, slice_get, vec_len, vec_capacity, Some, IsOk, IfOk, OnOk, OnErr, IsNone, IfSome, IsTrue, ◌↔◌};
+ghost use Rattle.std.specs.Prelude.{◌≡◌, ◌+◌, ◌≤◌, [], ◌∷◌, ◌++◌, length, slice_get, vec_len, vec_capacity, Some, IsOk, IfOk, OnOk, OnErr, IsNone, IfSome};
+ghost use Rattle.std.specs.Prelude.{IsTrue, ◌↔◌};
 
 use crate::net::runs::Run;
 use crate::net::{NoMemory, Party};

@@ -1,6 +1,6 @@
 //! A word of four bytes that is repeated within a datagram.
 
-ghost use Rattle.std.specs.Prelude.{◌≡◌, ℕ, ◌+◌, ◌-◌, ◌*◌, ◌^◌, ◌<◌, ◌≤◌, ◌++◌, List, length, take, drop, vec_len, vec_capacity};
+ghost use Rattle.std.specs.Prelude.{◌≡◌, ℕ, ◌+◌, ◌-◌, ◌*◌, ◌^◌, ◌<◌, ◌≤◌, ◌++◌, ◌==◌, ◌&&◌, true, List, length, take, drop, get_or, vec_len, vec_capacity};
 ghost use Rattle.nq_xdr.specs.Words.{repeats};
 ghost use Rattle.nq_link.specs.Runs.{IsRepeated};
 
@@ -48,12 +48,13 @@ fn first_before(bytes: &[u8], place: usize) -> usize
     ensures before { result ≤ place }
     ensures same { IsRepeated bytes.now result (place - result) }
 {
-    let far = first_by(bytes, place, 512);
-    let near = first_by(bytes, far, 64);
+    let far = first_by(bytes, place, 256);
+    let near = first_by(bytes, far, 32);
     first_by(bytes, near, 4)
 }
 
 /// How far back from a place the bytes are the same as four bytes further on, in steps of so many.
+#[inline(always)]
 fn first_by(bytes: &[u8], place: usize, step: usize) -> usize
     requires within { place + 4 ≤ length bytes.now }
     requires step { 1 ≤ step }
@@ -61,7 +62,7 @@ fn first_by(bytes: &[u8], place: usize, step: usize) -> usize
     ensures same { IsRepeated bytes.now result (place - result) }
 {
     let mut at = place;
-    while at >= step && bytes[at - step..at] == bytes[at + 4 - step..at + 4] {
+    while at >= step && goes_on(bytes, at - step, step) {
         at -= step;
     }
     at
@@ -75,12 +76,13 @@ fn last_behind(bytes: &[u8], place: usize) -> usize
     ensures within { result ≤ length bytes.now }
     ensures same { IsRepeated bytes.now (place - 4) (result - place) }
 {
-    let far = last_by(bytes, place, 512);
-    let near = last_by(bytes, far, 64);
+    let far = last_by(bytes, place, 256);
+    let near = last_by(bytes, far, 32);
     last_by(bytes, near, 4)
 }
 
 /// How far on from a place the bytes are the same as four bytes before, in steps of so many.
+#[inline(always)]
 fn last_by(bytes: &[u8], place: usize, step: usize) -> usize
     requires before { 4 ≤ place }
     requires within { place ≤ length bytes.now }
@@ -90,10 +92,39 @@ fn last_by(bytes: &[u8], place: usize, step: usize) -> usize
     ensures same { IsRepeated bytes.now (place - 4) (result - place) }
 {
     let mut end = place;
-    while bytes.len() - end >= step && bytes[end - 4..end + step - 4] == bytes[end..end + step] {
+    while bytes.len() - end >= step && goes_on(bytes, end - 4, step) {
         end += step;
     }
     end
+}
+
+/// Whether so many bytes from a place on are the same as those four places further on.
+#[inline(always)]
+fn goes_on(bytes: &[u8], place: usize, count: usize) -> bool
+    requires { place + count + 4 ≤ length bytes.now }
+    ensures { result ≡ true → IsRepeated bytes.now place count }
+{
+    // It ends at no difference, so that the compiler compares many bytes at once.
+    let mut same = true;
+    for at in place..place + count {
+        same = both(same, is_again(bytes, at));
+    }
+    same
+}
+
+/// Whether the byte at a place is the one four bytes behind it.
+fn is_again(bytes: &[u8], at: usize) -> bool
+    requires { at + 4 < length bytes.now }
+    ensures { result ≡ (get_or bytes.now at 0 == get_or bytes.now (at + 4) 0) }
+{
+    bytes[at] == bytes[at + 4]
+}
+
+/// Whether both are so. It looks at both.
+fn both(one: bool, other: bool) -> bool
+    ensures { result ≡ (one && other) }
+{
+    one & other
 }
 
 /// The word at a place as a run, which goes on to the last whole word of it before an end.

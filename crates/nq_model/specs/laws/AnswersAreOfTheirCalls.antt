@@ -5,7 +5,7 @@ use Rattle.nq_base.specs.declared.Entry.TheVariants.{A}
 use Rattle.nq_base.specs.declared.Said.{Said}
 use Rattle.nq_base.specs.declared.Said.TheVariants.{Ok, OkValue, OkBy, Lost, DirtyFull}
 use Rattle.nq_base.specs.declared.Told.{Told}
-use Rattle.nq_base.specs.declared.Told.TheVariants.{Create, Lookup, Attr, Write, WriteSync, Sync, Resize, Remove}
+use Rattle.nq_base.specs.declared.Told.TheVariants.{Create, Lookup, Attr, Write, Put, Sync, Resize, Remove}
 use Rattle.nq_model.specs.laws.Bounds.{InEveryRun}
 use Rattle.nq_model.specs.laws.Journal.{Throughout, IsOpen, call_of}
 use Rattle.nq_model.specs.laws.Legal.{IsReading}
@@ -21,7 +21,7 @@ IsNaming other = ⊥
 -- the call is a `write`, `put`, `sync`, `resize` or `remove`
 abbrev pub IsChanging : Option Told → Type 0
 IsChanging (Some (Write file block value)) = ⊤
-IsChanging (Some (WriteSync file block value)) = ⊤
+IsChanging (Some (Put file block value)) = ⊤
 IsChanging (Some (Sync file)) = ⊤
 IsChanging (Some (Resize file blocks)) = ⊤
 IsChanging (Some (Remove file)) = ⊤
@@ -30,7 +30,7 @@ IsChanging other = ⊥
 -- the call is a `write` or `put`
 abbrev pub IsWriting : Option Told → Type 0
 IsWriting (Some (Write file block value)) = ⊤
-IsWriting (Some (WriteSync file block value)) = ⊤
+IsWriting (Some (Put file block value)) = ⊤
 IsWriting other = ⊥
 
 -- the form of an answer is one that the call can have: `ok` alone and `lost` to a call that changes or syncs a file, `ok` with a

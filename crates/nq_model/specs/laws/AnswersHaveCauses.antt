@@ -6,7 +6,7 @@ use Rattle.nq_base.specs.declared.Event.{Event}
 use Rattle.nq_base.specs.declared.Said.{Said}
 use Rattle.nq_base.specs.declared.Said.TheVariants.{NoEntry, Exists, NoSpace, Range}
 use Rattle.nq_base.specs.declared.Told.{Told}
-use Rattle.nq_base.specs.declared.Told.TheVariants.{Create, Lookup, Read, Fetch, Write, WriteSync, Resize}
+use Rattle.nq_base.specs.declared.Told.TheVariants.{Create, Lookup, Read, Fetch, Write, Put, Resize}
 use Rattle.nq_base.specs.declared.Who.{Who}
 use Rattle.nq_model.specs.laws.AnswersTellWhatWas.{Meanwhile}
 use Rattle.nq_model.specs.laws.Bounds.{InEveryRun}
@@ -77,7 +77,7 @@ IsAnsweredSo head events who q Range (Some (Resize file blocks)) = IsNoLength bl
 IsAnsweredSo head events who q Range (Some (Read file block)) = HadNoBlock head events who q file block
 IsAnsweredSo head events who q Range (Some (Fetch file block)) = HadNoBlock head events who q file block
 IsAnsweredSo head events who q Range (Some (Write file block value)) = HadNoBlock head events who q file block
-IsAnsweredSo head events who q Range (Some (WriteSync file block value)) = HadNoBlock head events who q file block
+IsAnsweredSo head events who q Range (Some (Put file block value)) = HadNoBlock head events who q file block
 IsAnsweredSo head events who q Range other = ⊥
 IsAnsweredSo head events who q other told = ⊤
 

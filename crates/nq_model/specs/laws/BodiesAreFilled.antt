@@ -18,7 +18,7 @@ IsFilled body = body ≡ filled (value_of body)
 -- a call brings a filled body, or none
 abbrev pub BringsFilled : Call → Type 0
 BringsFilled (Call.Write file block body) = IsFilled body
-BringsFilled (Call.WriteSync file block body) = IsFilled body
+BringsFilled (Call.Put file block body) = IsFilled body
 BringsFilled other = ⊤
 
 -- where an event is a call, it brings a filled body or none; so it is with each line of a schedule's text

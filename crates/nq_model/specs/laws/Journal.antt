@@ -12,7 +12,7 @@ use Rattle.nq_base.specs.declared.Entry.{Entry}
 use Rattle.nq_base.specs.declared.Entry.TheVariants.{C, W, R, S, L, Z, A}
 use Rattle.nq_base.specs.declared.Said.TheVariants.{OkBy}
 use Rattle.nq_base.specs.declared.Told.{Told}
-use Rattle.nq_base.specs.declared.Told.TheVariants.{Read, Fetch, Write, WriteSync, Attr, Sync, Resize, Remove}
+use Rattle.nq_base.specs.declared.Told.TheVariants.{Read, Fetch, Write, Put, Attr, Sync, Resize, Remove}
 use Rattle.nq_base.specs.declared.Who.{Who}
 use Rattle.nq_model.specs.protocol.Table.{same_who}
 
@@ -80,7 +80,7 @@ SpeaksOf file (Some (Attr f)) = f ≡ file
 SpeaksOf file (Some (Read f block)) = f ≡ file
 SpeaksOf file (Some (Fetch f block)) = f ≡ file
 SpeaksOf file (Some (Write f block value)) = f ≡ file
-SpeaksOf file (Some (WriteSync f block value)) = f ≡ file
+SpeaksOf file (Some (Put f block value)) = f ≡ file
 SpeaksOf file (Some (Sync f)) = f ≡ file
 SpeaksOf file (Some (Resize f blocks)) = f ≡ file
 SpeaksOf file (Some (Remove f)) = f ≡ file

@@ -4,7 +4,7 @@ use Rattle.nq_base.specs.declared.Entry.{Entry}
 use Rattle.nq_base.specs.declared.Entry.TheVariants.{C, W, R, S, L, A}
 use Rattle.nq_base.specs.declared.Said.TheVariants.{OkBy}
 use Rattle.nq_base.specs.declared.Told.{Told}
-use Rattle.nq_base.specs.declared.Told.TheVariants.{Read, Fetch, Write, WriteSync, Attr, Sync, Resize, Remove}
+use Rattle.nq_base.specs.declared.Told.TheVariants.{Read, Fetch, Write, Put, Attr, Sync, Resize, Remove}
 use Rattle.nq_base.specs.declared.Who.{Who}
 use Rattle.nq_model.specs.protocol.Table.{same_who}
 
@@ -51,7 +51,7 @@ speaks_of file (Some (Attr f)) = f == file
 speaks_of file (Some (Read f block)) = f == file
 speaks_of file (Some (Fetch f block)) = f == file
 speaks_of file (Some (Write f block value)) = f == file
-speaks_of file (Some (WriteSync f block value)) = f == file
+speaks_of file (Some (Put f block value)) = f == file
 speaks_of file (Some (Sync f)) = f == file
 speaks_of file (Some (Resize f blocks)) = f == file
 speaks_of file (Some (Remove f)) = f == file

@@ -5,7 +5,7 @@ use Rattle.nq_base.specs.declared.Entry.TheVariants.{W, R, Z, A}
 use Rattle.nq_base.specs.declared.Said.{Said}
 use Rattle.nq_base.specs.declared.Said.TheVariants.{Ok, OkValue, OkBy}
 use Rattle.nq_base.specs.declared.Told.{Told}
-use Rattle.nq_base.specs.declared.Told.TheVariants.{Read, Fetch, Write, WriteSync, Resize, Remove}
+use Rattle.nq_base.specs.declared.Told.TheVariants.{Read, Fetch, Write, Put, Resize, Remove}
 use Rattle.nq_base.specs.declared.Who.{Who}
 use Rattle.nq_model.specs.laws.Bounds.{InEveryRun}
 use Rattle.nq_model.specs.laws.Journal.{Exists, Throughout, Somewhere, IsOpen, call_of}
@@ -30,7 +30,7 @@ IsResizeOfCall who q file to other = ⊥
 -- Z with that length; to a `read` or `fetch` an R with that value, from the cache or in the packet that the answer names
 abbrev pub HasDeed : (before : List Entry) (who : Who) (q : ℕ) → Said → Option Told → Type 0
 HasDeed before who q Ok (Some (Write file block value)) = Somewhere (IsWriteOfCall who q file block value) before
-HasDeed before who q Ok (Some (WriteSync file block value)) = Somewhere (IsWriteOfCall who q file block value) before
+HasDeed before who q Ok (Some (Put file block value)) = Somewhere (IsWriteOfCall who q file block value) before
 HasDeed before who q Ok (Some (Resize file blocks)) = Exists (IsResizeOfCall who q file blocks) before
 HasDeed before who q Ok (Some (Remove file)) = Exists (IsResizeOfCall who q file 0) before
 HasDeed before who q (OkValue value) (Some (Read file block)) = Exists (IsReadOfCall who q file block value None) before

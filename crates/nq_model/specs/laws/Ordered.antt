@@ -4,7 +4,7 @@ use Rattle.nq_base.specs.declared.Entry.{Entry}
 use Rattle.nq_base.specs.declared.Entry.TheVariants.{C, W, R, Z, A}
 use Rattle.nq_base.specs.declared.Said.TheVariants.{Busy}
 use Rattle.nq_base.specs.declared.Told.{Told}
-use Rattle.nq_base.specs.declared.Told.TheVariants.{Write, WriteSync, Resize, Remove}
+use Rattle.nq_base.specs.declared.Told.TheVariants.{Write, Put, Resize, Remove}
 use Rattle.nq_base.specs.declared.Who.{Who}
 use Rattle.nq_model.specs.laws.Journal.{Each, Exists, Throughout, AtEachPlace, IsCall, IsAnswer, IsOpen, call_of, IsCounted}
 use Rattle.nq_model.specs.laws.Legal.{IsCountedBy}
@@ -41,7 +41,7 @@ pub record IsCallInOrder (after before : List Entry) (who : Who) (q : ℕ) : Typ
 -- the call is a `write` or `put` of this value to this block
 abbrev pub Writes : (file block value : ℕ) → Option Told → Type 0
 Writes file block value (Some (Write f b v)) = (f ≡ file) × (b ≡ block) × (v ≡ value)
-Writes file block value (Some (WriteSync f b v)) = (f ≡ file) × (b ≡ block) × (v ≡ value)
+Writes file block value (Some (Put f b v)) = (f ≡ file) × (b ≡ block) × (v ≡ value)
 Writes file block value other = ⊥
 
 -- where the entry is a write of the incarnation, it stands before the C of call q

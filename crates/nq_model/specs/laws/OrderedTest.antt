@@ -4,7 +4,7 @@ use Rattle.nq_base.specs.declared.Entry.{Entry}
 use Rattle.nq_base.specs.declared.Entry.TheVariants.{C, W, R, Z, A}
 use Rattle.nq_base.specs.declared.Said.TheVariants.{Busy}
 use Rattle.nq_base.specs.declared.Told.{Told}
-use Rattle.nq_base.specs.declared.Told.TheVariants.{Write, WriteSync, Resize, Remove}
+use Rattle.nq_base.specs.declared.Told.TheVariants.{Write, Put, Resize, Remove}
 use Rattle.nq_base.specs.declared.Who.{Who}
 use Rattle.nq_model.specs.laws.Journal.{call_of}
 use Rattle.nq_model.specs.laws.JournalTest.{each, exists, throughout, at_each_place, is_call, is_answer, is_open, is_counted}
@@ -32,7 +32,7 @@ is_call_in_order after before who q =
 
 abbrev pub writes : (file block value : ℕ) → Option Told → Bool
 writes file block value (Some (Write f b v)) = (f == file) && (b == block) && (v == value)
-writes file block value (Some (WriteSync f b v)) = (f == file) && (b == block) && (v == value)
+writes file block value (Some (Put f b v)) = (f == file) && (b == block) && (v == value)
 writes file block value other = false
 
 abbrev pub is_before_call : (who : Who) (q : ℕ) → Entry → (before : List Entry) → Bool

@@ -6,7 +6,7 @@ use Rattle.nq_base.specs.declared.Loss.{Loss}
 use Rattle.nq_base.specs.declared.Said.TheVariants.{Lost, Busy}
 use Rattle.nq_base.specs.declared.Span.{Span}
 use Rattle.nq_base.specs.declared.Told.{Told}
-use Rattle.nq_base.specs.declared.Told.TheVariants.{Write, WriteSync, Sync, Resize, Remove}
+use Rattle.nq_base.specs.declared.Told.TheVariants.{Write, Put, Sync, Resize, Remove}
 use Rattle.nq_base.specs.declared.Who.{Who}
 use Rattle.nq_model.specs.laws.Journal.{Exists, AtEachPlace, IsAnswer, call_of, SpeaksOf}
 
@@ -30,7 +30,7 @@ Names whole who loss other = ⊥
 -- the call is a `write`, `put`, `sync`, `resize` or `remove` of a file
 abbrev pub IsReporting : (file : ℕ) → Told → Type 0
 IsReporting file (Write f block value) = f ≡ file
-IsReporting file (WriteSync f block value) = f ≡ file
+IsReporting file (Put f block value) = f ≡ file
 IsReporting file (Sync f) = f ≡ file
 IsReporting file (Resize f blocks) = f ≡ file
 IsReporting file (Remove f) = f ≡ file

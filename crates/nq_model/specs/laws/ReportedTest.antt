@@ -6,7 +6,7 @@ use Rattle.nq_base.specs.declared.Loss.{Loss}
 use Rattle.nq_base.specs.declared.Said.TheVariants.{Lost, Busy}
 use Rattle.nq_base.specs.declared.Span.{Span}
 use Rattle.nq_base.specs.declared.Told.{Told}
-use Rattle.nq_base.specs.declared.Told.TheVariants.{Write, WriteSync, Sync, Resize, Remove}
+use Rattle.nq_base.specs.declared.Told.TheVariants.{Write, Put, Sync, Resize, Remove}
 use Rattle.nq_base.specs.declared.Who.{Who}
 use Rattle.nq_model.specs.laws.Journal.{call_of}
 use Rattle.nq_model.specs.laws.JournalTest.{exists, at_each_place, is_answer, speaks_of}
@@ -22,7 +22,7 @@ names whole who loss other = false
 
 abbrev pub is_reporting : (file : ℕ) → Told → Bool
 is_reporting file (Write f block value) = f == file
-is_reporting file (WriteSync f block value) = f == file
+is_reporting file (Put f block value) = f == file
 is_reporting file (Sync f) = f == file
 is_reporting file (Resize f blocks) = f == file
 is_reporting file (Remove f) = f == file

@@ -4,7 +4,7 @@ use Rattle.nq_base.specs.declared.Entry.{Entry}
 use Rattle.nq_base.specs.declared.Entry.TheVariants.{W, L, Z, A}
 use Rattle.nq_base.specs.declared.Said.TheVariants.{Ok, OkValue, OkBy}
 use Rattle.nq_base.specs.declared.Told.{Told}
-use Rattle.nq_base.specs.declared.Told.TheVariants.{WriteSync, Sync, Resize, Remove}
+use Rattle.nq_base.specs.declared.Told.TheVariants.{Put, Sync, Resize, Remove}
 use Rattle.nq_base.specs.declared.Who.{Who}
 use Rattle.nq_model.specs.laws.Journal.{Each, Exists, Throughout, Somewhere, IsOpen, call_of, IsWriteBy, IsThrough, IsStored, Loses, since_cut, last_value}
 use Rattle.nq_model.specs.laws.JournalTest.{is_write_on, is_through, is_stored}
@@ -52,7 +52,7 @@ IsSettledResize whole answered who q file other before = ⊥
 -- `resize` or `remove`: its Z stands before the answer, and each such write is covered by an S before that Z, or by an L so
 -- named
 abbrev pub IsKept : (whole before : List Entry) (who : Who) (q : ℕ) → Option Told → Type 0
-IsKept whole before who q (Some (WriteSync file block value)) = Somewhere (IsPutKept before who q) before
+IsKept whole before who q (Some (Put file block value)) = Somewhere (IsPutKept before who q) before
 IsKept whole before who q (Some (Sync file)) = AreStoredOrTold whole whole before who file
 IsKept whole before who q (Some (Resize file blocks)) = Somewhere (IsSettledResize whole before who q file) before
 IsKept whole before who q (Some (Remove file)) = Somewhere (IsSettledResize whole before who q file) before

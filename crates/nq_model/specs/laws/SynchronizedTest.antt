@@ -4,7 +4,7 @@ use Rattle.nq_base.specs.declared.Entry.{Entry}
 use Rattle.nq_base.specs.declared.Entry.TheVariants.{W, L, Z, A}
 use Rattle.nq_base.specs.declared.Said.TheVariants.{Ok, OkValue, OkBy}
 use Rattle.nq_base.specs.declared.Told.{Told}
-use Rattle.nq_base.specs.declared.Told.TheVariants.{WriteSync, Sync, Resize, Remove}
+use Rattle.nq_base.specs.declared.Told.TheVariants.{Put, Sync, Resize, Remove}
 use Rattle.nq_base.specs.declared.Who.{Who}
 use Rattle.nq_model.specs.laws.Journal.{call_of}
 use Rattle.nq_model.specs.laws.JournalTest.{each, exists, throughout, somewhere, is_open, is_write_by, is_through, is_stored, loss_covers}
@@ -37,7 +37,7 @@ is_settled_resize whole answered who q file (Z by n f from to) before =
 is_settled_resize whole answered who q file other before = false
 
 abbrev pub is_kept : (whole before : List Entry) (who : Who) (q : ℕ) → Option Told → Bool
-is_kept whole before who q (Some (WriteSync file block value)) = somewhere (is_put_kept before who q) before
+is_kept whole before who q (Some (Put file block value)) = somewhere (is_put_kept before who q) before
 is_kept whole before who q (Some (Sync file)) = are_stored_or_told whole whole before who file
 is_kept whole before who q (Some (Resize file blocks)) = somewhere (is_settled_resize whole before who q file) before
 is_kept whole before who q (Some (Remove file)) = somewhere (is_settled_resize whole before who q file) before

@@ -3,7 +3,7 @@ use Rattle.std.specs.Prelude.{ℕ, ◌+◌, true, false, not, ◌||◌, List, []
 use Rattle.nq_base.specs.Calls.{told}
 use Rattle.nq_base.specs.declared.Answer.{Answer}
 use Rattle.nq_base.specs.declared.Call.{Call}
-use Rattle.nq_base.specs.declared.Call.TheVariants.{Write, WriteSync, Sync, Resize, Remove}
+use Rattle.nq_base.specs.declared.Call.TheVariants.{Write, Put, Sync, Resize, Remove}
 use Rattle.nq_base.specs.declared.Entry.{Entry}
 use Rattle.nq_base.specs.declared.Loss.{Loss}
 use Rattle.nq_base.specs.declared.Request.{Request}
@@ -18,7 +18,7 @@ use Rattle.nq_model.specs.protocol.Settle.{names_losses, settle}
 -- the file whose losses a call is told, if it changes or syncs one
 abbrev pub changed_file : Call → Option ℕ
 changed_file (Write file block body) = Some file
-changed_file (WriteSync file block body) = Some file
+changed_file (Put file block body) = Some file
 changed_file (Sync file) = Some file
 changed_file (Resize file blocks) = Some file
 changed_file (Remove file) = Some file

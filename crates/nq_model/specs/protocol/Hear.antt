@@ -3,7 +3,7 @@ use Rattle.std.specs.Prelude.{ℕ, ◌+◌, ◌==◌, Bool, true, false, not, �
 use Rattle.std.specs.Prelude.{if◌then◌else◌}
 use Rattle.nq_base.specs.declared.Answer.{Answer}
 use Rattle.nq_base.specs.declared.Call.{Call}
-use Rattle.nq_base.specs.declared.Call.TheVariants.{WriteSync, Sync, Resize, Remove}
+use Rattle.nq_base.specs.declared.Call.TheVariants.{Put, Sync, Resize, Remove}
 use Rattle.nq_base.specs.declared.Entry.{Entry}
 use Rattle.nq_base.specs.declared.Grant.{Grant}
 use Rattle.nq_base.specs.declared.Loss.{Loss}
@@ -99,7 +99,7 @@ abbrev pub waits_for : (file : ℕ) (written : Bool) → Call → Bool
 waits_for file written (Sync f) = f == file
 waits_for file written (Resize f blocks) = f == file
 waits_for file written (Remove f) = f == file
-waits_for file written (WriteSync f block body) = f == file && written
+waits_for file written (Put f block body) = f == file && written
 waits_for file written other = false
 
 -- a call that waits until the file is clean is answered with its losses

@@ -2,7 +2,7 @@
 use Rattle.std.specs.Prelude.{ℕ, ◌+◌, Bool, true, false, not, ◌&&◌, ◌||◌, List, [], ◌∷◌, ◌++◌, Option, Some, None, map, filter, nat_lt, nat_le}
 use Rattle.std.specs.Prelude.{is_some, if◌then◌else◌}
 use Rattle.nq_base.specs.declared.Call.{Call}
-use Rattle.nq_base.specs.declared.Call.TheVariants.{Create, Lookup, Attr, Read, Fetch, Write, WriteSync, Sync, Resize, Remove}
+use Rattle.nq_base.specs.declared.Call.TheVariants.{Create, Lookup, Attr, Read, Fetch, Write, Put, Sync, Resize, Remove}
 use Rattle.nq_base.specs.declared.Mode.{Mode}
 use Rattle.nq_base.specs.declared.Push.{Push}
 use Rattle.nq_base.specs.declared.PushBase.{PushBase}
@@ -187,7 +187,7 @@ next_of_call t u may_ask (Read file block) =
     asks t may_ask (Request.Read t.client.who u.q file block (read_want t.client file))
 next_of_call t u may_ask (Fetch file block) = asks t may_ask (Request.Read t.client.who u.q file block None)
 next_of_call t u may_ask (Write file block body) = if may_ask then next_write t u file block body else t
-next_of_call t u may_ask (WriteSync file block body) = next_put t u.written may_ask file block body
+next_of_call t u may_ask (Put file block body) = next_put t u.written may_ask file block body
 next_of_call t u may_ask (Sync file) = pushes t file
 next_of_call t u may_ask (Resize file blocks) =
     next_change t may_ask file (Request.Resize t.client.who t.client.seq u.q file blocks)

@@ -4,7 +4,7 @@ use Rattle.nq_base.specs.Block.{value_of}
 use Rattle.nq_base.specs.Lists.{LossList}
 use Rattle.nq_base.specs.declared.Answer.{Answer}
 use Rattle.nq_base.specs.declared.Call.{Call}
-use Rattle.nq_base.specs.declared.Call.TheVariants.{Read, Fetch, Write, WriteSync, Sync}
+use Rattle.nq_base.specs.declared.Call.TheVariants.{Read, Fetch, Write, Put, Sync}
 use Rattle.nq_base.specs.declared.Entry.{Entry}
 use Rattle.nq_base.specs.declared.Push.{Push}
 use Rattle.nq_base.specs.declared.Said.{Said}
@@ -229,7 +229,7 @@ abbrev pub settle_call : ClientStep → UnderWay → Call → ClientStep
 settle_call t u (Read file block) = settle_read t u file block (lease_on file t.client.leases)
 settle_call t u (Fetch file block) = settle_read t u file block (lease_on file t.client.leases)
 settle_call t u (Write file block body) = settle_write t u false file block body (lease_on file t.client.leases)
-settle_call t u (WriteSync file block body) = settle_put t u u.written file block body
+settle_call t u (Put file block body) = settle_put t u u.written file block body
 settle_call t u (Sync file) = settle_sync t u file
 settle_call t u other = t
 

@@ -1,6 +1,7 @@
 //! What hosts keep of names, as events change it.
 
-ghost use Rattle.std.specs.Prelude.{◌≡◌, ◌<◌, ◌^◌, ◌≤◌, ◌↔◌, ◌&&◌, not, true, [], ◌++◌, List, length, Some, option_map, slice_get, slice_set, vec_len, IsTrue, IfOk, OnErr, OnOk};
+ghost use Rattle.std.specs.Prelude.{◌≡◌, ◌<◌, ◌^◌, ◌≤◌, ◌↔◌, ◌&&◌, not, true, [], ◌++◌, List, length, Some, option_map, slice_get, slice_set, vec_len, IsTrue};
+ghost use Rattle.std.specs.Prelude.{IfOk, OnErr, OnOk};
 ghost use Rattle.nq_base.specs.declared.Event.{Event};
 ghost use Rattle.nq_model.specs.protocol.Client.{Client};
 ghost use Rattle.nq_model.specs.protocol.World.{World};
@@ -122,7 +123,8 @@ impl Around {
         requires early { now < 2 ^ 62 }
         requires settled { self.old.due ≡ [] }
         requires there { host < length self.old.sides }
-        ensures asks { OnOk result ((n : Names) → slice_get self.old.sides host ≡ Some n → self.new ≡ asked_as self.old host (lists_dir n prefix.now term now)) }
+        ensures asks { OnOk result ((n : Names) → slice_get self.old.sides host ≡ Some n
+            → self.new ≡ asked_as self.old host (lists_dir n prefix.now term now)) }
         ensures gone { self.new.gone ≡ self.old.gone }
         ensures refused { OnErr result (self.new ≡ self.old) }
     {

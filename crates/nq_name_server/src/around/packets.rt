@@ -73,7 +73,8 @@ pub(crate) fn push(
     is: Option<u64>,
 ) -> Result<(), NoMemory>
     requires { length packets.old.datagrams ≡ length inner.old.items }
-    ensures sent { OnOk result (travelling packets.new.datagrams inner.new.items ≡ travelling packets.old.datagrams inner.old.items ++ record { sender = sender; to = to; bytes = bytes.now; is = is } ∷ []) }
+    ensures sent { OnOk result (travelling packets.new.datagrams inner.new.items ≡ travelling packets.old.datagrams inner.old.items
+        ++ record { sender = sender; to = to; bytes = bytes.now; is = is } ∷ []) }
     ensures refused { OnErr result ((packets.new.datagrams ≡ packets.old.datagrams) × (inner.new.items ≡ inner.old.items)) }
     ensures together { length packets.new.datagrams ≡ length inner.new.items }
 {

@@ -9,7 +9,7 @@ pub struct Chart {
     /// The parties, from left to right.
     pub columns: Vec<Column>,
     /// The moments, from the first one down.
-    pub rows: Vec<Row>,
+    pub rows: Vec<ChartRow>,
     /// The packets.
     pub packets: Vec<Packet>,
     /// The spans of time beside the parties.
@@ -34,7 +34,7 @@ pub enum Side {
 
 /// A moment.
 #[derive(Drop)]
-pub struct Row {
+pub struct ChartRow {
     /// How the moment is named at the edge of the chart.
     pub name: String,
     /// For each party what its clock shows, where that is to be told.

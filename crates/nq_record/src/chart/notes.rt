@@ -1,6 +1,6 @@
 //! The moments: their names, clocks and notes.
 
-use crate::chart::chart::{Chart, Note, Row, Side, Sign};
+use crate::chart::chart::{Chart, ChartRow, Note, Side, Sign};
 use crate::chart::columns::Post;
 use crate::chart::frame::clock_at;
 use crate::chart::layout::Layout;
@@ -32,7 +32,7 @@ pub(crate) fn names(page: &mut Page, chart: &Chart, layout: &Layout) {
 }
 
 /// The name of a moment, over a thin line.
-fn name(page: &mut Page, width: u64, row: &Row, step: Step) {
+fn name(page: &mut Page, width: u64, row: &ChartRow, step: Step) {
     page.put_within(
         "<path class=\"r\" d=\"M0 #H#\"/><text class=\"d\" x=\"8\" y=\"#\">",
         &[step.top, width, step.arrive.saturating_add(12)],
@@ -42,7 +42,7 @@ fn name(page: &mut Page, width: u64, row: &Row, step: Step) {
 }
 
 /// What the clocks show.
-fn clocks(page: &mut Page, row: &Row, step: Step) {
+fn clocks(page: &mut Page, row: &ChartRow, step: Step) {
     for (place, shown) in row.clocks.iter().enumerate() {
         if let Some(time) = shown {
             clock(page, place, *time, step);
@@ -70,7 +70,7 @@ pub(crate) fn notes(page: &mut Page, chart: &Chart, layout: &Layout) {
 }
 
 /// The dot on the line of the party that acts.
-fn dot(page: &mut Page, row: &Row, post: Post, step: Step) {
+fn dot(page: &mut Page, row: &ChartRow, post: Post, step: Step) {
     let class = match row.notes.first() {
         Some(note) => class(note.sign),
         None => "d",
@@ -83,7 +83,7 @@ fn dot(page: &mut Page, row: &Row, post: Post, step: Step) {
 }
 
 /// The notes on a side, one below the other.
-fn side_notes(page: &mut Page, row: &Row, side: Side, post: Post, step: Step) {
+fn side_notes(page: &mut Page, row: &ChartRow, side: Side, post: Post, step: Step) {
     let mut y = step.arrive.saturating_add(12);
     for shown in &row.notes {
         if shown.side == side {

@@ -1,6 +1,6 @@
 //! Where the moments stand.
 
-use crate::chart::chart::{Chart, Row, Side};
+use crate::chart::chart::{Chart, ChartRow, Side};
 use crate::chart::style::LINE;
 use crate::making::Maker;
 
@@ -47,13 +47,13 @@ impl Steps {
 }
 
 /// How high the notes of a row are, in pixels.
-fn height(row: &Row) -> u64 {
+fn height(row: &ChartRow) -> u64 {
     let lines = lines(row, Side::Left).max(lines(row, Side::Right)).max(1);
     lines.saturating_mul(LINE).saturating_add(4)
 }
 
 /// How many notes of a row stand on a side.
-fn lines(row: &Row, side: Side) -> u64 {
+fn lines(row: &ChartRow, side: Side) -> u64 {
     let mut lines = 0u64;
     for note in &row.notes {
         if note.side == side {

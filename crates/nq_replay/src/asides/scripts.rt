@@ -41,7 +41,8 @@ struct PlainText<A> {
 /// follow.
 pub fn read_script<A: AsideLine>(alloc: Global, text: &[u8]) -> Result<MixedScript<A>, ScriptFault>
     requires { length text.now < 2 ^ 31 }
-    ensures found { Answers result (λ s. SpellsMixed A.said s.script.head (mixed s.asides.items s.script.lines) text.now) (λ number. FirstBadMixed A.said text.now number) }
+    ensures found { Answers result (λ s. SpellsMixed A.said s.script.head (mixed s.asides.items s.script.lines) text.now)
+        (λ number. FirstBadMixed A.said text.now number) }
     ensures only { (head : Head) (lines : List (MixedLine A)) → SpellsMixed A.said head lines text.now
         → Answers result (λ s. (s.script.head ≡ head) × (mixed s.asides.items s.script.lines ≡ lines)) (λ number. ⊥) }
     ensures bad { (number : ℕ) → FirstBadMixed A.said text.now number → Answers result (λ s. ⊥) (λ place. place ≡ number) }
@@ -53,7 +54,8 @@ pub fn read_script<A: AsideLine>(alloc: Global, text: &[u8]) -> Result<MixedScri
 /// Reads the head, and behind it the lines.
 fn read_whole<A: AsideLine>(alloc: Global, text: &[u8]) -> Result<MixedScript<A>, ScriptFault>
     requires { length text.now < 2 ^ 31 }
-    ensures found { Answers result (λ s. SpellsMixed A.said s.script.head (mixed s.asides.items s.script.lines) text.now) (λ number. FirstBadMixed A.said text.now number) }
+    ensures found { Answers result (λ s. SpellsMixed A.said s.script.head (mixed s.asides.items s.script.lines) text.now)
+        (λ number. FirstBadMixed A.said text.now number) }
     ensures ready { Answers result (λ s. IsReadyMixed A.fits s.script s.asides.items) (λ number. Unit {0}) }
 {
     let out = parse_head(alloc, text)?;
@@ -71,7 +73,8 @@ fn read_plain<A: AsideLine>(
     plain: PlainText<A>,
 ) -> Result<MixedScript<A>, ScriptFault>
     requires { length plain.bytes.items < 2 ^ 31 }
-    ensures found { Answers result (λ s. SpellsSchedule s.script.head s.script.lines plain.bytes.items × (s.asides.items ≡ plain.asides.items)) (λ number. FirstBadLine plain.bytes.items number) }
+    ensures found { Answers result (λ s. SpellsSchedule s.script.head s.script.lines plain.bytes.items
+        × (s.asides.items ≡ plain.asides.items)) (λ number. FirstBadLine plain.bytes.items number) }
     ensures first { Answers result (λ s. s.script.first ≡ length (head_lines s.script.head) + 1) (λ number. Unit {0}) }
 {
     let PlainText { bytes, asides } = plain;

@@ -27,7 +27,7 @@ fn note_of<W: OuterWorld>(delivered: &mut Delivered, event: &W::Event)
 }
 
 /// Gives an event to a world, and notes which packet was delivered.
-pub(crate) fn take<W: OuterWorld>(
+pub(crate) fn take_event<W: OuterWorld>(
     world: &mut W,
     delivered: &mut Delivered,
     event: &W::Event,
@@ -64,7 +64,7 @@ pub(crate) fn take_plainly<W: OuterWorld>(
     ensures keeps { W.goes_on result world.old world.new }
 {
     let event = W::of_schedule(event);
-    take(world, delivered, &event)
+    take_event(world, delivered, &event)
 }
 
 /// Gives an event so many times.
@@ -80,7 +80,7 @@ pub(crate) fn take_times<W: OuterWorld>(
     ensures keeps { W.goes_on result world.old world.new }
 {
     for turn in 0..times {
-        match take(world, delivered, event) {
+        match take_event(world, delivered, event) {
             Stepped::Done => {}
             other => return other,
         }

@@ -81,7 +81,8 @@ pub trait OuterWorld {
     ghost goes_nowhere: { (w : Self) → goes_on Stepped.Done w w };
 
     /// What goes on behind one that went on, goes on.
-    ghost goes_further: { (said : Stepped) (first second last : Self) → goes_on Stepped.Done first second → goes_on said second last → goes_on said first last };
+    ghost goes_further: { (said : Stepped) (first second last : Self) → goes_on Stepped.Done first second → goes_on said second last
+        → goes_on said first last };
 
     /// Only a fault of the keeper says something of the keeper.
     ghost goes_still: { (said : Stepped) (first last : Self) → IsNoFault said → goes_on Stepped.Done first last → goes_on said first last };
@@ -99,11 +100,14 @@ pub trait OuterWorld {
     ghost acts_later: { (first last : Self) (aside : Self.Aside) → goes_on Stepped.Done first last → can_act first aside → can_act last aside };
 
     /// An event that was taken is one more, if it is of a schedule.
-    ghost one_more: { (moment : Moment) (event : Self.Event) → rules.scheduled (rules.more moment event) ≡ with_event (rules.in_schedule event) (rules.scheduled moment) };
+    ghost one_more: { (moment : Moment) (event : Self.Event)
+        → rules.scheduled (rules.more moment event) ≡ with_event (rules.in_schedule event) (rules.scheduled moment) };
 
     /// An aside is no event of a schedule.
-    ghost acts_beside: { (head : Head) (aside : Self.Aside) (moment next : Moment) → rules.aside head aside moment ≡ took next → rules.scheduled next ≡ rules.scheduled moment };
+    ghost acts_beside: { (head : Head) (aside : Self.Aside) (moment next : Moment) → rules.aside head aside moment ≡ took next
+        → rules.scheduled next ≡ rules.scheduled moment };
 
     /// A delivery that is taken is that of a packet that travels.
-    ghost was_sent: { (head : Head) (moment : Moment) (event : Self.Event) (packet : ℕ) → packet_of (rules.in_schedule event) ≡ Some packet → rules.answer head moment event ≡ done → packet < rules.sent head moment };
+    ghost was_sent: { (head : Head) (moment : Moment) (event : Self.Event) (packet : ℕ) → packet_of (rules.in_schedule event) ≡ Some packet
+        → rules.answer head moment event ≡ done → packet < rules.sent head moment };
 }

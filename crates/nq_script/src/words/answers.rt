@@ -6,7 +6,7 @@ ghost use Rattle.nq_script.specs.WordsReading.{Takes};
 ghost use Rattle.nq_script.specs.ReadingAnswers.{span_of, lost_at, by_at, value_at, ok_at, bare_of, bare_at, said_at};
 ghost use Rattle.nq_script.specs.Forms.{said_words, FitsSaid};
 
-use crate::words::cursor::{Words, cut, is, number32, number64};
+use crate::words::cursor::{WordCursor, cut, is, number32, number64};
 use nq_base::{BlockNo, NoMemory, Number, Said, Span, Spans};
 use std::alloc::Global;
 
@@ -24,7 +24,7 @@ fn span_of(word: &[u8]) -> Option<Span>
 }
 
 // Takes spans to the end of the line.
-fn take_lost(alloc: Global, words: &mut Words<'_>) -> Result<Option<Said>, NoMemory>
+fn take_lost(alloc: Global, words: &mut WordCursor<'_>) -> Result<Option<Said>, NoMemory>
     ensures { IfOk result (λ said. Takes plain_said said words.new (lost_at words.old)) }
 {
     let mut spans = Spans::new(alloc)?;
@@ -39,7 +39,7 @@ fn take_lost(alloc: Global, words: &mut Words<'_>) -> Result<Option<Said>, NoMem
 
 // Takes the packet that brought a value.
 #[tactic(auto, unfolding(crate::specs::ReadingAnswers::by_at))]
-fn take_by(words: &mut Words<'_>, value: u32) -> Option<Said>
+fn take_by(words: &mut WordCursor<'_>, value: u32) -> Option<Said>
     ensures { Takes plain_said result words.new (by_at value words.old) }
 {
     let by = words.next()?;
@@ -53,7 +53,7 @@ fn take_by(words: &mut Words<'_>, value: u32) -> Option<Said>
 
 // Takes a value, and the packet that brought it, where one did.
 #[tactic(auto, unfolding(crate::specs::ReadingAnswers::value_at))]
-fn take_value(words: &mut Words<'_>) -> Option<Said>
+fn take_value(words: &mut WordCursor<'_>) -> Option<Said>
     ensures { Takes plain_said result words.new (value_at words.old) }
 {
     let value = words.u32()?;
@@ -66,7 +66,7 @@ fn take_value(words: &mut Words<'_>) -> Option<Said>
 
 // Takes what stands behind the word `ok`.
 #[tactic(auto, unfolding(crate::specs::ReadingAnswers::ok_at))]
-fn take_ok(words: &mut Words<'_>) -> Option<Said>
+fn take_ok(words: &mut WordCursor<'_>) -> Option<Said>
     ensures { Takes plain_said result words.new (ok_at words.old) }
 {
     if words.is_empty() {
@@ -101,7 +101,7 @@ fn bare_of(word: &[u8]) -> Option<Said>
 }
 
 /// Takes the words of an answer.
-pub fn take_said(alloc: Global, words: &mut Words<'_>) -> Result<Option<Said>, NoMemory>
+pub fn take_said(alloc: Global, words: &mut WordCursor<'_>) -> Result<Option<Said>, NoMemory>
     ensures step { IfOk result (λ said. Takes plain_said said words.new (said_at words.old)) }
     ensures found { IfOk result (λ said. IfSome said (λ s. (words.old ≡ said_words s ++ words.new) × FitsSaid s)) }
 {
@@ -110,7 +110,7 @@ pub fn take_said(alloc: Global, words: &mut Words<'_>) -> Result<Option<Said>, N
 
 // Takes the first word of an answer, and what follows it.
 #[tactic(auto, unfolding(crate::specs::ReadingAnswers::said_at, crate::specs::ReadingAnswers::bare_at))]
-fn said_at(alloc: Global, words: &mut Words<'_>) -> Result<Option<Said>, NoMemory>
+fn said_at(alloc: Global, words: &mut WordCursor<'_>) -> Result<Option<Said>, NoMemory>
     ensures { IfOk result (λ said. Takes plain_said said words.new (said_at words.old)) }
 {
     let Some(word) = words.next() else {

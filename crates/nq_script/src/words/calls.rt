@@ -6,7 +6,7 @@ ghost use Rattle.nq_script.specs.WordsReading.{Takes, words_of};
 ghost use Rattle.nq_script.specs.ReadingCalls.{create_at, has_told, put_at, resize_at, told_at, told_by, told_in, verb_of, write_at};
 ghost use Rattle.nq_script.specs.Forms.{told_words, FitsTold, HasTold, SpellsTold};
 
-use crate::words::cursor::{Words, is};
+use crate::words::cursor::{WordCursor, is};
 use nq_base::{FileId, Told};
 
 // What a call asks for.
@@ -55,7 +55,7 @@ fn verb_of(word: &[u8]) -> Option<Verb>
 }
 
 /// Takes the words of a call.
-pub fn take_told(words: &mut Words<'_>) -> Option<Told>
+pub fn take_told(words: &mut WordCursor<'_>) -> Option<Told>
     ensures step { Takes (λ told. told) result words.new (told_at words.old) }
     ensures found { IfSome result (λ told. (words.old ≡ told_words told ++ words.new) × FitsTold told) }
 {
@@ -64,7 +64,7 @@ pub fn take_told(words: &mut Words<'_>) -> Option<Told>
 
 // Takes a verb, and what it names.
 #[tactic(auto, unfolding(crate::specs::ReadingCalls::told_at))]
-fn told_at(words: &mut Words<'_>) -> Option<Told>
+fn told_at(words: &mut WordCursor<'_>) -> Option<Told>
     ensures { Takes (λ told. told) result words.new (told_at words.old) }
 {
     let verb = verb_of(words.next()?)?;
@@ -73,7 +73,7 @@ fn told_at(words: &mut Words<'_>) -> Option<Told>
 
 // Takes what such a call names.
 #[tactic(auto, unfolding(crate::specs::ReadingCalls::lookup_at, crate::specs::ReadingCalls::attr_at, crate::specs::ReadingCalls::read_at, crate::specs::ReadingCalls::fetch_at, crate::specs::ReadingCalls::sync_at, crate::specs::ReadingCalls::remove_at))]
-fn take_asked(words: &mut Words<'_>, verb: Verb) -> Option<Told>
+fn take_asked(words: &mut WordCursor<'_>, verb: Verb) -> Option<Told>
     ensures { Takes (λ told. told) result words.new (told_by verb words.old) }
 {
     match verb {
@@ -110,7 +110,7 @@ fn take_asked(words: &mut Words<'_>, verb: Verb) -> Option<Told>
 
 // Takes what `create` names.
 #[tactic(auto, unfolding(crate::specs::ReadingCalls::create_at))]
-fn take_create(words: &mut Words<'_>) -> Option<Told>
+fn take_create(words: &mut WordCursor<'_>) -> Option<Told>
     ensures { Takes (λ told. told) result words.new (create_at words.old) }
 {
     let name = words.name()?;
@@ -120,7 +120,7 @@ fn take_create(words: &mut Words<'_>) -> Option<Told>
 
 // Takes what `write` names.
 #[tactic(auto, unfolding(crate::specs::ReadingCalls::write_at))]
-fn take_write(words: &mut Words<'_>) -> Option<Told>
+fn take_write(words: &mut WordCursor<'_>) -> Option<Told>
     ensures { Takes (λ told. told) result words.new (write_at words.old) }
 {
     let (file, block) = words.place()?;
@@ -130,17 +130,17 @@ fn take_write(words: &mut Words<'_>) -> Option<Told>
 
 // Takes what `put` names.
 #[tactic(auto, unfolding(crate::specs::ReadingCalls::put_at))]
-fn take_put(words: &mut Words<'_>) -> Option<Told>
+fn take_put(words: &mut WordCursor<'_>) -> Option<Told>
     ensures { Takes (λ told. told) result words.new (put_at words.old) }
 {
     let (file, block) = words.place()?;
     let value = words.u32()?;
-    Some(Told::WriteSync { file, block, value })
+    Some(Told::Put { file, block, value })
 }
 
 // Takes what `resize` names.
 #[tactic(auto, unfolding(crate::specs::ReadingCalls::resize_at))]
-fn take_resize(words: &mut Words<'_>) -> Option<Told>
+fn take_resize(words: &mut WordCursor<'_>) -> Option<Told>
     ensures { Takes (λ told. told) result words.new (resize_at words.old) }
 {
     let file = FileId(words.u32()?);
@@ -173,7 +173,7 @@ pub fn read_told(text: &[u8], version: u32) -> Option<Told>
 fn told_in(text: &[u8], version: u32) -> Option<Told>
     ensures { result ≡ told_in version (words_of text.now) }
 {
-    let mut words = Words::new(text);
+    let mut words = WordCursor::new(text);
     let told = take_told(&mut words)?;
     if words.is_empty() && has_told(version, &told) {
         Some(told)

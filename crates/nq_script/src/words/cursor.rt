@@ -4,7 +4,8 @@ ghost use Rattle.std.specs.Prelude.{◌≡◌, ◌^◌, ◌<◌, ◌≤◌, [], 
 ghost use Rattle.std.specs.Fmt.{decimal};
 ghost use Rattle.std.specs.Str.{bytes_eq};
 ghost use Rattle.nq_base.specs.Name.{IsName};
-ghost use Rattle.nq_script.specs.WordsReading.{cut, words_of, Takes, is_done, word_at, with_digit, digits_after, is_plain, u64_of, u32_of, number_of, name_of, u64_at, u32_at, name_at, who_at, place_at, tag_at};
+ghost use Rattle.nq_script.specs.WordsReading.{cut, words_of, Takes, is_done, word_at, with_digit, digits_after, is_plain, u64_of, u32_of, number_of, name_of};
+ghost use Rattle.nq_script.specs.WordsReading.{u64_at, u32_at, name_at, who_at, place_at, tag_at};
 ghost use Rattle.nq_script.specs.Forms.{FitsWho};
 
 use nq_base::{BlockNo, FileId, Host, Inc, Name, Tag, Who};
@@ -98,11 +99,11 @@ pub fn name(word: &[u8]) -> Option<Name>
 
 /// The words of a line that are left, of which clauses see the list.
 #[derive(Drop)]
-pub struct Words<'a> {
+pub struct WordCursor<'a> {
     rest: Option<&'a [u8]>,
 }
 
-impl<'a> Model for Words<'a> {
+impl<'a> Model for WordCursor<'a> {
     ghost use Rattle.std.specs.Prelude.{ℕ, List, option_map};
     ghost use Rattle.nq_script.specs.WordsReading.{words_left};
 
@@ -111,12 +112,12 @@ impl<'a> Model for Words<'a> {
     ghost view = { λ w. words_left (option_map (λ line. line.now) w.rest) };
 }
 
-impl<'a> Words<'a> {
+impl<'a> WordCursor<'a> {
     /// The words of a line.
-    pub fn new(line: &'a [u8]) -> Words<'a>
+    pub fn new(line: &'a [u8]) -> WordCursor<'a>
         ensures { result ≡ words_of line.now }
     {
-        Words { rest: Some(line) }
+        WordCursor { rest: Some(line) }
     }
 
     /// Takes the next word.

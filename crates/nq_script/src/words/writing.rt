@@ -6,16 +6,15 @@ ghost use Rattle.std.specs.List.{AllByRecursion, flat_map};
 ghost use Rattle.nq_script.specs.Forms.{FitsSpan, FitsTold, FitsSaid, span_word, told_words, said_words};
 ghost use Rattle.nq_script.specs.Words.{joined, spaced};
 
+use itoa::Buffer;
 use nq_base::{BlockNo, FileId, NoMemory, Said, Span, Spans, Told};
 
 /// Appends the digits of a number.
 pub fn push_digits(out: &mut Vec<u8>, number: u64) -> Result<(), NoMemory>
     ensures { OnOk result (out.new.items ≡ out.old.items ++ decimal number) }
 {
-    if number >= 10 {
-        push_digits(out, number / 10)?;
-    }
-    out.push(b'0' + (number % 10) as u8)?;
+    let mut digits = Buffer::new();
+    out.extend_from_slice(digits.format(number).as_bytes())?;
     Ok(())
 }
 
@@ -88,7 +87,7 @@ pub fn push_told(out: &mut Vec<u8>, told: &Told) -> Result<(), NoMemory>
             b"write",
             &[u64::from(file.0), u64::from(block.0), u64::from(*value)],
         ),
-        Told::WriteSync { file, block, value } => push_command(
+        Told::Put { file, block, value } => push_command(
             out,
             b"put",
             &[u64::from(file.0), u64::from(block.0), u64::from(*value)],

@@ -45,7 +45,8 @@ pub fn serve_image<D: Disk + Drop, L: Link, C: Clock, W: Watcher<L> + Greeter + 
     requires few { turns < 2 ^ 60 }
     requires long { 5 ≤ longest }
     requires short { longest ≤ 600 }
-    ensures serves { IfOk result (λ left. ServesImage D.told D.faults D.may_leave D.follows D.leaves (extension_told W.owns W.replies) longest turns disk left.end left.left
+    ensures serves { IfOk result (λ left. ServesImage D.told D.faults D.may_leave D.follows D.leaves
+        (extension_told W.owns W.replies) longest turns disk left.end left.left
         (clock_told C.floor C.readings C.reads clock.old) (clock_told C.floor C.readings C.reads clock.new)
         (link_told L.sent L.waiting L.faults L.receives link.old)
         (link_told L.sent L.waiting L.faults L.receives link.new)) }

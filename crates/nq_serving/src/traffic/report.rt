@@ -22,12 +22,12 @@ pub struct Report<S, G> {
     gauge: G,
     every: Option<u64>,
     last: u64,
-    told: Told,
+    told: EntryCounts,
 }
 
 /// What the journals of the turns told.
 #[derive(Drop)]
-struct Told {
+struct EntryCounts {
     grants: u64,
     fences: u64,
     stored: u64,
@@ -51,7 +51,7 @@ impl<S, G> Report<S, G> {
             gauge,
             every,
             last: 0,
-            told: Told {
+            told: EntryCounts {
                 grants: 0,
                 fences: 0,
                 stored: 0,
@@ -61,7 +61,7 @@ impl<S, G> Report<S, G> {
     }
 }
 
-impl Told {
+impl EntryCounts {
     /// Counts an entry.
     fn note(&mut self, entry: &Entry) {
         match entry {
@@ -107,7 +107,7 @@ fn line_of(
     alloc: Global,
     standing: &Standing,
     counts: &Counts,
-    told: &Told,
+    told: &EntryCounts,
 ) -> Result<String, NoMemory> {
     let mut line = String::new(alloc);
     push_count(alloc, &mut line, "after seconds", standing.now.0)?;

@@ -15,7 +15,7 @@ pub(crate) const MOST: usize = 1024;
 pub(crate) type Entries = LruCache<Written, Block>;
 
 /// Puts a body in front. An older one of its write goes, and the oldest where there would be too many.
-pub(crate) fn put(entries: &mut Entries, written: Written, body: Block) -> Result<(), NoMemory>
+pub(crate) fn put_body(entries: &mut Entries, written: Written, body: Block) -> Result<(), NoMemory>
     requires { entries.old.cap ≡ most_bodies }
     ensures put { OnOk result (entries.new.entries ≡ with_body written body entries.old.entries) }
     ensures refused { OnErr result (entries.new ≡ entries.old) }

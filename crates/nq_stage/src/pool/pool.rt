@@ -5,7 +5,7 @@ ghost use Rattle.nq_stage.specs.Answering.{Answers, Rebuilds, Stages, answered_a
 ghost use Rattle.nq_stage.specs.Bodies.{most_bodies};
 ghost use Rattle.nq_stage.specs.Lent.{lent_stage, lent_stages};
 
-use crate::pool::entries::{Entries, MOST, clear, put, read};
+use crate::pool::entries::{Entries, MOST, clear, put_body, read};
 use crate::{
     Commit, LentStage, read_commit, read_stage, staged_bytes, unstaged_bytes, write_bytes,
 };
@@ -90,7 +90,7 @@ impl Pool {
         let Some(stage) = stage_from(sender, datagram) else {
             return Staging::NotStage;
         };
-        match self.take(alloc, stage) {
+        match self.take_stage(alloc, stage) {
             Ok(reply) => Staging::Reply(reply),
             Err(_) => Staging::Memory,
         }
@@ -114,14 +114,14 @@ impl Pool {
     }
 
     /// Keeps the body of a STAGE, and gives the reply.
-    fn take(&mut self, alloc: Global, stage: LentStage<'_>) -> Result<Vec<u8>, NoMemory>
+    fn take_stage(&mut self, alloc: Global, stage: LentStage<'_>) -> Result<Vec<u8>, NoMemory>
         requires { length stage.body.now ≡ 4096 }
         ensures taken { IfOk result (λ v. (v.items, self.new) ≡ staged self.old (lent_stage stage.entry)) }
         ensures refused { OnErr result (self.new ≡ self.old) }
     {
         let reply = staged_bytes(alloc, stage.xid, stage.written.inc, self.boot)?;
         let body = Block::from_bytes(alloc, stage.body)?.unwrap();
-        put(&mut self.entries, stage.written, body)?;
+        put_body(&mut self.entries, stage.written, body)?;
         Ok(reply)
     }
 

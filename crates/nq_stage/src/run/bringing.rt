@@ -16,7 +16,7 @@ fn call_brings(call: &Call)
     ensures { BringsBlock call.now }
 {
     match call {
-        Call::Write { file, block, body } | Call::WriteSync { file, block, body } => {
+        Call::Write { file, block, body } | Call::Put { file, block, body } => {
             is_word(file.0);
             is_word(block.0);
             let _bytes = body.seen();

@@ -263,7 +263,8 @@ impl Around {
     /// Makes a packet of a host due, through that host's side.
     #[tactic(auto, using(crate::proofs::Sending::due_passed))]
     fn pass_client(&mut self, host: Host, to: Party, bytes: Vec<u8>) -> Result<(), NoMemory>
-        ensures prepared { OnOk result (self.new ≡ prepared_from self.old (record { sender = Party.Client host; to = to; bytes = bytes.items }) (Party.Client host)) }
+        ensures prepared { OnOk result (self.new
+            ≡ prepared_from self.old (record { sender = Party.Client host; to = to; bytes = bytes.items }) (Party.Client host)) }
         ensures refused { OnErr result (self.new ≡ self.old) }
     {
         let number = self.gone;
@@ -290,7 +291,7 @@ impl Around {
     }
 
     /// This packet goes out next.
-    pub(crate) fn put(&mut self, packet: Outgoing)
+    pub(crate) fn put_packet(&mut self, packet: Outgoing)
         ensures { self.new ≡ record self.old { due = Some packet } }
     {
         self.due = Some(packet);

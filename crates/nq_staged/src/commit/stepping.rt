@@ -3,7 +3,8 @@
 ghost use Rattle.std.specs.Prelude.{◌≡◌, ◌<◌, ◌≤◌, List, Option, None, length, reverse, nat_lt, OnOk, if◌then◌else◌};
 ghost use Rattle.nq_base.specs.declared.Event.{Event};
 ghost use Rattle.nq_staged.specs.Around.{renewed_around};
-ghost use Rattle.nq_staged.specs.Worlds.{CanComeOutside, IsLeft, IsOfOffers, IsReady, IsTested, Leads, PlaysOutside, Reaches, RunsInner, StepsOutside, stepped_outside, tested_outside};
+ghost use Rattle.nq_staged.specs.Worlds.{CanComeOutside, IsLeft, IsOfOffers, IsReady, IsTested, Leads, PlaysOutside, Reaches, RunsInner, StepsOutside};
+ghost use Rattle.nq_staged.specs.Worlds.{stepped_outside, tested_outside};
 ghost use Rattle.nq_model.specs.protocol.Kept.{Kept};
 ghost use Rattle.nq_model.specs.protocol.SkewBroken.{skew_broken};
 ghost use Rattle.nq_model.specs.protocol.Stepped.{most_events, no_packet, tested_room, tested_skew};
@@ -18,7 +19,7 @@ ghost use Rattle.nq_world.specs.declared.Stepped.{Stepped};
 
 use crate::commit::around::Around;
 use crate::commit::copying::copied;
-use crate::commit::taking::Taken;
+use crate::commit::taking::PacketTaken;
 use crate::commit::world::StagedWorld;
 use nq_base::{Event, Host, NoMemory};
 use nq_keeper::Keeper;
@@ -30,12 +31,13 @@ impl<K: Keeper> StagedWorld<K> {
     pub(crate) fn step_settled(&mut self, event: &StagedEvent) -> Stepped
         requires can { CanComeOutside (length self.old.inner.clients) self.old.inner.skew.window event.now }
         requires settled { self.old.around.due ≡ None }
-        ensures steps { (head : Head) (events : List StagedEvent) → IsReady self.old → PlaysOutside head events self.old (K.content self.old.inner.server.keeper)
+        ensures steps { (head : Head) (events : List StagedEvent) → IsReady self.old
+            → PlaysOutside head events self.old (K.content self.old.inner.server.keeper)
             → StepsOutside head events event.now result self.new (K.content self.old.inner.server.keeper) (K.content self.new.inner.server.keeper) }
         ensures goes { GoesOn K.faults K.follows result self.old.inner self.new.inner }
     {
         match self.test(event) {
-            Stepped::Done => self.take(event),
+            Stepped::Done => self.take_event(event),
             refused => refused,
         }
     }
@@ -117,11 +119,12 @@ impl<K: Keeper> StagedWorld<K> {
     }
 
     /// Takes in an event that passed the tests, and counts it.
-    fn take(&mut self, event: &StagedEvent) -> Stepped
+    fn take_event(&mut self, event: &StagedEvent) -> Stepped
         requires settled { self.old.around.due ≡ None }
         requires few { self.old.events < most_events }
         requires can { CanComeOutside (length self.old.inner.clients) self.old.inner.skew.window event.now }
-        ensures steps { (head : Head) (events : List StagedEvent) → IsReady self.old → PlaysOutside head events self.old (K.content self.old.inner.server.keeper)
+        ensures steps { (head : Head) (events : List StagedEvent) → IsReady self.old
+            → PlaysOutside head events self.old (K.content self.old.inner.server.keeper)
             → IsLeft (stepped_outside head events event.now)
             → StepsOutside head events event.now result self.new (K.content self.old.inner.server.keeper) (K.content self.new.inner.server.keeper) }
         ensures goes { GoesOn K.faults K.follows result self.old.inner self.new.inner }
@@ -141,7 +144,8 @@ impl<K: Keeper> StagedWorld<K> {
         requires settled { self.old.around.due ≡ None }
         ensures leads { (head : Head) (events : List StagedEvent) → IsReady self.old → Reaches head events self.old (K.content self.old.inner.server.keeper)
             → IsLeft (stepped_outside head events event.now)
-            → Leads head events event.now result (K.content self.old.inner.server.keeper) (K.content self.new.inner.server.keeper) (λ es kept. Reaches head es self.new kept) }
+            → Leads head events event.now result (K.content self.old.inner.server.keeper) (K.content self.new.inner.server.keeper)
+            (λ es kept. Reaches head es self.new kept) }
         ensures goes { GoesOn K.faults K.follows result self.old.inner self.new.inner }
         ensures count { self.new.events ≡ self.old.events }
     {
@@ -159,7 +163,8 @@ impl<K: Keeper> StagedWorld<K> {
         requires settled { self.old.around.due ≡ None }
         ensures leads { (head : Head) (events : List StagedEvent) → IsReady self.old → Reaches head events self.old (K.content self.old.inner.server.keeper)
             → IsLeft (stepped_outside head events (StagedEvent.Plain event.now))
-            → Leads head events (StagedEvent.Plain event.now) result (K.content self.old.inner.server.keeper) (K.content self.new.inner.server.keeper) (λ es kept. Reaches head es self.new kept) }
+            → Leads head events (StagedEvent.Plain event.now) result (K.content self.old.inner.server.keeper) (K.content self.new.inner.server.keeper)
+            (λ es kept. Reaches head es self.new kept) }
         ensures goes { GoesOn K.faults K.follows result self.old.inner self.new.inner }
         ensures count { self.new.events ≡ self.old.events }
     {
@@ -191,7 +196,8 @@ impl<K: Keeper> StagedWorld<K> {
         requires { self.old.around.due ≡ None }
         ensures leads { (head : Head) (events : List StagedEvent) → IsReady self.old → Reaches head events self.old (K.content self.old.inner.server.keeper)
             → IsLeft (stepped_outside head events (StagedEvent.Plain (Event.Deliver number)))
-            → Leads head events (StagedEvent.Plain (Event.Deliver number)) result (K.content self.old.inner.server.keeper) (K.content self.new.inner.server.keeper) (λ es kept. Reaches head es self.new kept) }
+            → Leads head events (StagedEvent.Plain (Event.Deliver number)) result (K.content self.old.inner.server.keeper)
+            (K.content self.new.inner.server.keeper) (λ es kept. Reaches head es self.new kept) }
         ensures goes { GoesOn K.faults K.follows result self.old.inner self.new.inner }
         ensures count { self.new.events ≡ self.old.events }
     {
@@ -199,12 +205,12 @@ impl<K: Keeper> StagedWorld<K> {
             return Stepped::NoPacket;
         }
         match self.around.take_in(number) {
-            Taken::Beside => Stepped::Done,
-            Taken::Inner { number, commit } => {
+            PacketTaken::Beside => Stepped::Done,
+            PacketTaken::Inner { number, commit } => {
                 let event = Event::Deliver(number);
                 self.run(&event, commit)
             }
-            Taken::Memory => Stepped::Memory,
+            PacketTaken::Memory => Stepped::Memory,
         }
     }
 

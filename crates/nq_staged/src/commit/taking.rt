@@ -21,7 +21,7 @@ use std::alloc::Global;
 
 /// What comes of a packet that is taken in.
 #[derive(Clone, Copy)]
-pub(crate) enum Taken {
+pub(crate) enum PacketTaken {
     /// It is no event of the inner world, and was taken in.
     Beside,
     /// It is the delivery of the inner packet of this number, which is to be run.
@@ -37,19 +37,19 @@ pub(crate) enum Taken {
 
 impl Around {
     /// Takes in the packet of a number, which travels.
-    pub(crate) fn take_in(&mut self, number: u64) -> Taken
+    pub(crate) fn take_in(&mut self, number: u64) -> PacketTaken
         requires there { number < length self.old.sent }
         requires settled { self.old.due ≡ None }
         ensures { IfSome (slice_get self.old.sent number) (λ p. IsTakenIn result p.stands self.old self.new (λ w ran. takes (over w ran self.old) p p.to)) }
     {
         match self.read(number) {
-            Ok(packet) => self.take(&packet),
-            Err(NoMemory::Memory) => Taken::Memory,
+            Ok(packet) => self.take_packet(&packet),
+            Err(NoMemory::Memory) => PacketTaken::Memory,
         }
     }
 
     /// Takes in a packet.
-    fn take(&mut self, packet: &Outgoing) -> Taken
+    fn take_packet(&mut self, packet: &Outgoing) -> PacketTaken
         requires { self.old.due ≡ None }
         ensures { IsTakenIn result packet.now.stands self.old self.new (λ w ran. takes (over w ran self.old) packet.now packet.now.to) }
     {
@@ -59,7 +59,7 @@ impl Around {
                 Party::Client(host) => self.serve(host, packet),
             },
             Party::Client(host) => match packet.stands {
-                Some(number) => Taken::Inner {
+                Some(number) => PacketTaken::Inner {
                     number,
                     commit: false,
                 },
@@ -70,70 +70,72 @@ impl Around {
 
     /// The server takes in a packet of a host: a STAGE is given to the pool.
     #[tactic(auto, using(crate::proofs::TakenIn::stage_taken))]
-    fn serve(&mut self, host: Host, packet: &Outgoing) -> Taken
+    fn serve(&mut self, host: Host, packet: &Outgoing) -> PacketTaken
         requires { self.old.due ≡ None }
-        ensures { IsTakenIn result packet.now.stands self.old self.new (λ w ran. served_stage (over w ran self.old) host packet.now (own_stage host packet.now.bytes)) }
+        ensures { IsTakenIn result packet.now.stands self.old self.new
+            (λ w ran. served_stage (over w ran self.old) host packet.now (own_stage host packet.now.bytes)) }
     {
         let Some(staged) = self.counts.staged.checked_add(1) else {
-            return Taken::Memory;
+            return PacketTaken::Memory;
         };
         match self.pool.stage(self.alloc, host, &packet.bytes) {
             Staging::Reply(reply) => {
                 self.counts.staged = staged;
-                self.put(reply_to(host, reply));
-                Taken::Beside
+                self.put_packet(reply_to(host, reply));
+                PacketTaken::Beside
             }
             Staging::NotStage => self.serve_commit(host, packet),
-            Staging::Memory => Taken::Memory,
+            Staging::Memory => PacketTaken::Memory,
         }
     }
 
     /// The server takes in a packet of a host that is no STAGE: a COMMIT is given to the pool.
-    fn serve_commit(&mut self, host: Host, packet: &Outgoing) -> Taken
+    fn serve_commit(&mut self, host: Host, packet: &Outgoing) -> PacketTaken
         requires { self.old.due ≡ None }
-        ensures { IsTakenIn result packet.now.stands self.old self.new (λ w ran. served_commit (over w ran self.old) host packet.now (own_commit host packet.now.bytes)) }
+        ensures { IsTakenIn result packet.now.stands self.old self.new
+            (λ w ran. served_commit (over w ran self.old) host packet.now (own_commit host packet.now.bytes)) }
     {
         let Some(unstaged) = self.counts.unstaged.checked_add(1) else {
-            return Taken::Memory;
+            return PacketTaken::Memory;
         };
         match self.pool.rebuild(self.alloc, host, &packet.bytes) {
             Rebuilt::Write(_write) => self.rebuilt(packet.stands),
             Rebuilt::Unstaged(reply) => {
                 self.counts.unstaged = unstaged;
                 self.due = Some(reply_to(host, reply));
-                Taken::Beside
+                PacketTaken::Beside
             }
             Rebuilt::NotCommit => delivery(packet.stands),
-            Rebuilt::Memory => Taken::Memory,
+            Rebuilt::Memory => PacketTaken::Memory,
         }
     }
 
     /// A COMMIT was rebuilt that stands for this inner packet. One that stands for none is counted alone.
-    fn rebuilt(&mut self, stands: Option<u64>) -> Taken
+    fn rebuilt(&mut self, stands: Option<u64>) -> PacketTaken
         requires { self.old.due ≡ None }
         ensures { IsTakenIn result stands self.old self.new (λ w ran. inner_delivery (running true w ran self.old) stands) }
     {
         if let Some(number) = stands {
-            return Taken::Inner {
+            return PacketTaken::Inner {
                 number,
                 commit: true,
             };
         }
         let Some(commits) = self.counts.commits.checked_add(1) else {
-            return Taken::Memory;
+            return PacketTaken::Memory;
         };
         self.counts.commits = commits;
-        Taken::Beside
+        PacketTaken::Beside
     }
 
     /// A host's side takes in a packet that stands for no inner one.
-    fn hear(&mut self, host: Host, packet: &Outgoing) -> Taken
+    fn hear(&mut self, host: Host, packet: &Outgoing) -> PacketTaken
         requires { self.old.due ≡ None }
         ensures { IsTakenIn result None self.old self.new (λ w ran. heard_by (over w ran self.old) host packet.now (slice_get self.old.sides host)) }
     {
         let place = host.0 as usize;
         if place >= self.sides.len() {
-            return Taken::Beside;
+            return PacketTaken::Beside;
         }
         let side = &mut self.sides[place];
         let last = side.last;
@@ -145,10 +147,10 @@ impl Around {
                     bytes: write,
                     stands: last,
                 });
-                Taken::Beside
+                PacketTaken::Beside
             }
-            HeardStage::Acknowledged | HeardStage::Other => Taken::Beside,
-            HeardStage::Memory => Taken::Memory,
+            HeardStage::Acknowledged | HeardStage::Other => PacketTaken::Beside,
+            HeardStage::Memory => PacketTaken::Memory,
         }
     }
 
@@ -164,7 +166,7 @@ impl Around {
         let stage = offer_at(&mut self.sides, self.alloc, host, dirty)?;
         match stage {
             Some(stage) => {
-                self.put(stage_from(host, stage));
+                self.put_packet(stage_from(host, stage));
                 Ok(())
             }
             None => Ok(()),
@@ -193,15 +195,15 @@ impl Around {
 }
 
 /// What comes of a packet that stands for this inner packet, or for none.
-fn delivery(stands: Option<u64>) -> Taken
+fn delivery(stands: Option<u64>) -> PacketTaken
     ensures { result ≡ taken_by stands }
 {
     match stands {
-        Some(number) => Taken::Inner {
+        Some(number) => PacketTaken::Inner {
             number,
             commit: false,
         },
-        None => Taken::Beside,
+        None => PacketTaken::Beside,
     }
 }
 
@@ -224,7 +226,8 @@ fn offer_at(
     host: Host,
     dirty: &Dirty,
 ) -> Result<Option<Vec<u8>>, NoMemory>
-    ensures offers { IfOk result (λ o. (option_map (λ v. v.items) o, sides.new.items) ≡ offers_at sides.old.items host dirty.now.dirty dirty.now.push (slice_get sides.old.items host)) }
+    ensures offers { IfOk result (λ o. (option_map (λ v. v.items) o, sides.new.items)
+        ≡ offers_at sides.old.items host dirty.now.dirty dirty.now.push (slice_get sides.old.items host)) }
     ensures refused { OnErr result (sides.new.items ≡ sides.old.items) }
 {
     let place = host.0 as usize;

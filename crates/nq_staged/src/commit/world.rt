@@ -80,7 +80,8 @@ fn no_events(alloc: Global) -> Schedule
 /// What stands around a world of so many hosts at first.
 fn around<K: Keeper>(alloc: Global, world: &World<K>, hosts: u32) -> Result<Around, NoMemory>
     requires { length world.now.clients ≡ hosts }
-    ensures { IfOk result (λ a. a ≡ new_around world.now.server.beside.table.boot (map (λ c. record { stager = new_stager c.client.who; last = None }) world.now.clients)) }
+    ensures { IfOk result (λ a. a ≡ new_around world.now.server.beside.table.boot
+        (map (λ c. record { stager = new_stager c.client.who; last = None }) world.now.clients)) }
 {
     let sides = sides_of(alloc, world, hosts)?;
     Around::new(alloc, world.boot(), sides)
@@ -138,9 +139,12 @@ impl<K: Keeper> StagedWorld<K> {
     ///
     /// `NoMemory` where memory is wanting; the world plays the same run then.
     pub fn sent(&mut self) -> Result<u64, NoMemory>
-        ensures same { (head : Head) (events : List StagedEvent) (told : Option Kept) → PlaysOutside head events self.old told → PlaysOutside head events self.new told }
-        ensures packets { IfOk result (λ packets. (head : Head) (events : List StagedEvent) (told : Option Kept) → PlaysOutside head events self.old told → packets ≡ length (outside_run head events).sent) }
-        ensures ready { (head : Head) (events : List StagedEvent) (told : Option Kept) → PlaysOutside head events self.old told → OnOk result (IsReady self.new) }
+        ensures same { (head : Head) (events : List StagedEvent) (told : Option Kept) → PlaysOutside head events self.old told
+            → PlaysOutside head events self.new told }
+        ensures packets { IfOk result (λ packets. (head : Head) (events : List StagedEvent) (told : Option Kept) → PlaysOutside head events self.old told
+            → packets ≡ length (outside_run head events).sent) }
+        ensures ready { (head : Head) (events : List StagedEvent) (told : Option Kept) → PlaysOutside head events self.old told
+            → OnOk result (IsReady self.new) }
         ensures inner { self.new.inner ≡ self.old.inner }
     {
         self.settle()?;

@@ -83,7 +83,7 @@ fn call_at(place: u32, number: u32) -> Call
         };
     }
     if place < 24 {
-        return Call::WriteSync {
+        return Call::Put {
             file,
             block,
             body: Block::fill(number),

@@ -12,11 +12,11 @@ use std::marker::Model;
 /// The random words of a storm, which follow from the number that it starts with (O'Neill, PCG32). Clauses see the
 /// state of the generator.
 #[derive(Drop)]
-pub struct Words {
+pub struct RandomWords {
     source: Lcg64Xsh32,
 }
 
-impl Model for Words {
+impl Model for RandomWords {
     ghost use Rattle.rand_pcg.specs.Lcg.{Lcg};
 
     ghost Value = { Lcg };
@@ -24,12 +24,12 @@ impl Model for Words {
     ghost view = { λ w. w.source };
 }
 
-impl Words {
+impl RandomWords {
     /// The words that follow from a number.
-    pub fn new(start: u64) -> Words
+    pub fn new(start: u64) -> RandomWords
         ensures { result ≡ pcg32_of_seed (pcg32_seed 16 start) }
     {
-        Words {
+        RandomWords {
             source: Lcg64Xsh32::seed_from_u64(start),
         }
     }

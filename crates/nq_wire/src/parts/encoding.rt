@@ -4,7 +4,8 @@ ghost use Rattle.std.specs.Prelude.{◌≡◌, ◌+◌, ◌≤◌, ◌++◌, len
 ghost use Rattle.nq_base.specs.Block.{filled};
 ghost use Rattle.nq_base.specs.Name.{IsName};
 ghost use Rattle.nq_xdr.specs.Item.{opaque, opaque_len};
-ghost use Rattle.nq_wire.specs.Parts.{head, tag_bytes, mode_number, want_bytes, grant_bytes, base_bytes, optional, optional_len, IsWho, IsTag, IsWant, IsGrant, IsPushBase};
+ghost use Rattle.nq_wire.specs.Parts.{head, tag_bytes, mode_number, want_bytes, grant_bytes, base_bytes, optional, optional_len, IsWho, IsTag, IsWant, IsGrant};
+ghost use Rattle.nq_wire.specs.Parts.{IsPushBase};
 
 use crate::PushBase;
 use nq_base::{Block, Grant, Mode, Name, Seen, Tag, Want, Who};

@@ -6,7 +6,8 @@ ghost use Rattle.nq_xdr.specs.Reading.{Gives};
 ghost use Rattle.nq_wire.specs.Least.{least_results};
 ghost use Rattle.nq_wire.specs.Reply.{IsResults};
 ghost use Rattle.nq_wire.specs.Lent.{lent_in};
-ghost use Rattle.nq_wire.specs.Reading.{found_at, created_at, attributes_at, block_at, written_at, lease_at, resized_at, results_at, answer_at, reply_at, reply_in};
+ghost use Rattle.nq_wire.specs.Reading.{found_at, created_at, attributes_at, block_at, written_at, lease_at, resized_at, results_at, answer_at, reply_at};
+ghost use Rattle.nq_wire.specs.Reading.{reply_in};
 
 use crate::fault::Garbage;
 use crate::lent::LentReply;

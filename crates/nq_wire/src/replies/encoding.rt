@@ -55,7 +55,7 @@ fn put_ok(inc: Inc, out: &mut Writer)
 /// Writes the results. There is room. It is inlined, so that a caller's reply that has no block needs no room for one.
 #[inline(always)]
 #[tactic(auto, unfolding(crate::specs::Reply::results))]
-fn put(reply: &Reply, out: &mut Writer)
+fn put_reply(reply: &Reply, out: &mut Writer)
     requires { results_len reply.now ≤ out.old.spare }
     ensures written { out.new.bytes ≡ out.old.bytes ++ results reply.now }
     ensures fits { IsReply reply.now }
@@ -114,7 +114,7 @@ pub fn encode_reply_into(reply: &Reply, out: &mut Writer) -> Result<(), NoMemory
     ensures spare { out.old.spare ≤ out.new.spare + results_len reply.now }
 {
     out.reserve(results_len(reply))?;
-    put(reply, out);
+    put_reply(reply, out);
     Ok(())
 }
 

@@ -5,7 +5,8 @@ ghost use Rattle.nq_base.specs.declared.Request.{Request};
 ghost use Rattle.nq_xdr.specs.Reading.{Gives};
 ghost use Rattle.nq_wire.specs.Least.{least_arguments};
 ghost use Rattle.nq_wire.specs.Request.{IsArguments};
-ghost use Rattle.nq_wire.specs.Reading.{lookup_at, create_at, get_attr_at, read_at, span_at, write_at, get_lease_at, vacated_at, evicted_at, resize_at, remove_at, arguments_at, asked_at, request_at, request_in};
+ghost use Rattle.nq_wire.specs.Reading.{lookup_at, create_at, get_attr_at, read_at, span_at, write_at, get_lease_at, vacated_at, evicted_at, resize_at};
+ghost use Rattle.nq_wire.specs.Reading.{remove_at, arguments_at, asked_at, request_at, request_in};
 
 use crate::fault::Garbage;
 use crate::parts::decoding::{

@@ -94,7 +94,7 @@ fn put_of_call(who: &Who, seq: u64, call: u64, out: &mut Writer)
 
 /// Writes the arguments, item by item. There is room.
 #[tactic(auto, unfolding(crate::specs::Request::arguments))]
-fn put(request: &Request, out: &mut Writer)
+fn put_request(request: &Request, out: &mut Writer)
     requires { arguments_len request.now ≤ out.old.spare }
     ensures written { out.new.bytes ≡ out.old.bytes ++ arguments request.now }
     ensures fits { IsRequest request.now }
@@ -186,7 +186,7 @@ pub fn encode_request_into(request: &Request, out: &mut Writer) -> Result<(), No
     ensures spare { out.old.spare ≤ out.new.spare + arguments_len request.now }
 {
     out.reserve(arguments_len(request))?;
-    put(request, out);
+    put_request(request, out);
     Ok(())
 }
 

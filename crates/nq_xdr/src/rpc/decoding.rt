@@ -7,7 +7,8 @@ ghost use Rattle.nq_xdr.specs.Lent.{lent_message, lent_outcome};
 ghost use Rattle.nq_xdr.specs.Message.{IsSpelled};
 ghost use Rattle.nq_xdr.specs.RpcFault.{IsMessageFault, IsDecodeFault};
 ghost use Rattle.nq_xdr.specs.Reading.{Gives};
-ghost use Rattle.nq_xdr.specs.RpcReading.{Decodes, behind_auth, call_at, ended, bounds_at, accepted_as, accepted_at, denied_as, denied_at, outcome_at, reply_at, message_at};
+ghost use Rattle.nq_xdr.specs.RpcReading.{Decodes, behind_auth, call_at, ended, bounds_at, accepted_as, accepted_at, denied_as, denied_at, outcome_at};
+ghost use Rattle.nq_xdr.specs.RpcReading.{reply_at, message_at};
 
 use crate::Reader;
 use crate::rpc::{

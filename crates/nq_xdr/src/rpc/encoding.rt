@@ -123,7 +123,7 @@ fn put_outcome(reply: &Outcome, out: &mut Writer)
 
 /// Writes a message. There is room.
 #[tactic(auto, unfolding(crate::specs::Message::spelling))]
-fn put(message: &Message, out: &mut Writer)
+fn put_message(message: &Message, out: &mut Writer)
     requires { spelling_len message.now ≤ out.old.spare }
     ensures written { out.new.bytes ≡ out.old.bytes ++ spelling message.now null null }
     ensures spare { out.old.spare ≤ out.new.spare + spelling_len message.now }
@@ -181,7 +181,7 @@ pub fn encode_into(message: &Message, out: &mut Writer) -> Result<(), NoMemory>
     ensures spare { out.old.spare ≤ out.new.spare + spelling_len message.now }
 {
     out.reserve(message_len(message))?;
-    put(message, out);
+    put_message(message, out);
     Ok(())
 }
 

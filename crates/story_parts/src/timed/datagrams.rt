@@ -7,7 +7,7 @@ use std::alloc::Global;
 
 /// What is written or read again and again.
 #[derive(Clone, Copy)]
-enum Kind {
+enum DatagramKind {
     Lookup,
     LookupReply,
     ReadReply,
@@ -17,9 +17,9 @@ enum Kind {
 /// way, or memory is wanting.
 pub(crate) fn often(alloc: Global, what: &str, way: &str, times: u32) -> Option<u64> {
     let kind = match what {
-        "lookup" => Kind::Lookup,
-        "lookup-reply" => Kind::LookupReply,
-        "read-reply" => Kind::ReadReply,
+        "lookup" => DatagramKind::Lookup,
+        "lookup-reply" => DatagramKind::LookupReply,
+        "read-reply" => DatagramKind::ReadReply,
         _ => return None,
     };
     let encodes = match way {
@@ -41,9 +41,9 @@ pub(crate) fn often(alloc: Global, what: &str, way: &str, times: u32) -> Option<
 }
 
 /// The datagram of this number.
-fn written(alloc: Global, kind: Kind, xid: u32) -> Option<Vec<u8>> {
+fn written(alloc: Global, kind: DatagramKind, xid: u32) -> Option<Vec<u8>> {
     let reply = match kind {
-        Kind::Lookup => {
+        DatagramKind::Lookup => {
             let who = Who {
                 host: Host(1),
                 inc: Inc(1),
@@ -51,12 +51,12 @@ fn written(alloc: Global, kind: Kind, xid: u32) -> Option<Vec<u8>> {
             let name = Name::new(b"a")?;
             return call_bytes(alloc, xid, &Request::Lookup { who, name }).ok();
         }
-        Kind::LookupReply => Reply::Lookup {
+        DatagramKind::LookupReply => Reply::Lookup {
             inc: Inc(1),
             file: FileId(1),
             blocks: 64,
         },
-        Kind::ReadReply => Reply::Read {
+        DatagramKind::ReadReply => Reply::Read {
             inc: Inc(1),
             rev: Rev(7),
             body: Block::fill(0x0102_0304),
@@ -75,12 +75,12 @@ fn ends(bytes: &[u8]) -> u64 {
 }
 
 /// A number that stands on what the datagram asks or answers.
-fn read(alloc: Global, kind: Kind, bytes: &[u8], room: &mut Spare) -> Option<u64> {
+fn read(alloc: Global, kind: DatagramKind, bytes: &[u8], room: &mut Spare) -> Option<u64> {
     room.reserve(alloc).ok()?;
     let procedure = match kind {
-        Kind::Lookup => return asked(&read_incoming(bytes, room)),
-        Kind::LookupReply => Procedure::Lookup,
-        Kind::ReadReply => Procedure::Read,
+        DatagramKind::Lookup => return asked(&read_incoming(bytes, room)),
+        DatagramKind::LookupReply => Procedure::Lookup,
+        DatagramKind::ReadReply => Procedure::Read,
     };
     let awaited = Awaited { xid: 1, procedure };
     match &read_heard(Some(awaited), bytes, room) {

@@ -1,4 +1,4 @@
-use Rattle.std.proofs.Common.{rules, ◌≡◌, ◌<◌, ◌≤◌, true, length, arith}
+use Rattle.std.proofs.Common.{rules, ◌≡◌, ◌<◌, true, arith}
 use Rattle.nq_check.proofs.Ranging.{apart_all, apart_first, apart_next}
 use Rattle.nq_check.proofs.apart.are_apart.Goals as goal
 

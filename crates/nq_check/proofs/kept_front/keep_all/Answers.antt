@@ -1,6 +1,6 @@
 use Rattle.std.proofs.Common.{rules, ◌≡◌, ◌+◌, true, length, refl, sym, ◌∙◌, arith}
 use Rattle.std.proofs.lemmas.Option.{slice_get_read}
-use Rattle.nq_rules.specs.declared.keys.Kind.TheVariants.{Delays}
+use Rattle.nq_rules.specs.declared.keys.KeyKind.TheVariants.{Delays}
 use Rattle.nq_check.specs.declared.rules.Rule.TheVariants.{Ordered, Synchronized}
 use Rattle.nq_check.proofs.Linking.{linked_next, none_linked}
 use Rattle.nq_check.proofs.MovesOn.{none_below, one_more}

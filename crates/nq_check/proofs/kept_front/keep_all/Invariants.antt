@@ -1,6 +1,6 @@
 use Rattle.nq_check.specs.Fronts.{KeepsBelow}
 use Rattle.nq_check.specs.Links.{IsLinked}
-use Rattle.nq_rules.specs.declared.keys.Kind.TheVariants.{Delays}
+use Rattle.nq_rules.specs.declared.keys.KeyKind.TheVariants.{Delays}
 use Rattle.nq_check.specs.declared.rules.Rule.TheVariants.{Synchronized}
 use Rattle.nq_check.proofs.kept_front.keep_all.Given as goal
 

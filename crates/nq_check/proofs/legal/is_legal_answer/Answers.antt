@@ -1,6 +1,6 @@
 use Rattle.std.proofs.Common.{length, refl, reverse, sym, ◌∙◌, ◌<◌, ◌≤◌, ◌+◌, ◌-◌, ap, take, arith}
 use Rattle.std.proofs.lemmas.Option.{slice_get_read}
-use Rattle.nq_rules.specs.declared.keys.Kind.TheVariants.{Reads}
+use Rattle.nq_rules.specs.declared.keys.KeyKind.TheVariants.{Reads}
 use Rattle.nq_check.proofs.Counts.{valued_linked, counts_within, number_first, number_last}
 use Rattle.nq_model.specs.laws.JournalTest.{number_of}
 use Rattle.nq_model.specs.laws.LegalTest.{is_counted_with}

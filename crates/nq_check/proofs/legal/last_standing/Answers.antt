@@ -1,6 +1,6 @@
 use Rattle.std.proofs.Common.{length, refl, reverse, take, sym, ◌∙◌, ◌<◌, ◌≤◌, ◌-◌, arith}
 use Rattle.std.proofs.lemmas.Option.{slice_get_read}
-use Rattle.nq_rules.specs.declared.keys.Kind.TheVariants.{Writes}
+use Rattle.nq_rules.specs.declared.keys.KeyKind.TheVariants.{Writes}
 use Rattle.nq_check.proofs.Standing.{none_more, passes_there, stands_linked}
 use Rattle.nq_model.specs.laws.StandsTest.{stands}
 use Rattle.nq_check.proofs.legal.last_standing.Goals as goal

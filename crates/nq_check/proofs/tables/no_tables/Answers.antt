@@ -1,4 +1,4 @@
-use Rattle.nq_rules.specs.declared.keys.Kind.TheVariants.{Calls, Reads, Writes, Covers, Cuts, Own, Grants, Stores}
+use Rattle.nq_rules.specs.declared.keys.KeyKind.TheVariants.{Calls, Reads, Writes, Covers, Cuts, Own, Grants, Stores}
 use Rattle.nq_check.proofs.tables.no_tables.Goals as goal
 
 pub returns : goal.returns

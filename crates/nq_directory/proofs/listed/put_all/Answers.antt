@@ -8,17 +8,17 @@ loop-entry-preserved c = record {
   same =
       c.loop-entry.invariant.same
       ∙ put-next c.args.more.now c.loop-entry.entry-index c.entry-item.result c.loop-entry.names.items c.loop-entry-test.true c.entry-item.is
-      ∙ ap (put_names (drop (c.loop-entry.entry-index + 1) c.args.more.now)) (sym c.put.ensures.items);
-  fronted = c.put.ensures.fronted;
+      ∙ ap (put_names (drop (c.loop-entry.entry-index + 1) c.args.more.now)) (sym c.put_entry.ensures.items);
+  fronted = c.put_entry.ensures.fronted;
   room =
-      let len = c.put.ensures.len in
-      let capacity = c.put.ensures.capacity in
+      let len = c.put_entry.ensures.len in
+      let capacity = c.put_entry.ensures.capacity in
       let before = c.loop-entry.invariant.room in
       let lt = c.loop-entry-test.true in
       omega arith;
   front_room =
-      let len = c.put.ensures.front_len in
-      let capacity = c.put.ensures.front_capacity in
+      let len = c.put_entry.ensures.front_len in
+      let capacity = c.put_entry.ensures.front_capacity in
       let before = c.loop-entry.invariant.front_room in
       let lt = c.loop-entry-test.true in
       omega arith;

@@ -2,7 +2,8 @@
 
 ghost use Rattle.std.specs.Prelude.{◌≡◌, ◌<◌, ◌≤◌, ◌^◌, ℕ, IfOk};
 ghost use Rattle.std.specs.Option.{ForSome};
-ghost use Rattle.nq_keeper.specs.Booting.{Opens, Starts, Finishes, LeavesThen, IsOfTerm, ended_at, heads_after_boot, last_boot, started_of, opened_by, start_fault};
+ghost use Rattle.nq_keeper.specs.Booting.{Opens, Starts, Finishes, LeavesThen, IsOfTerm, ended_at, heads_after_boot, last_boot, started_of, opened_by};
+ghost use Rattle.nq_keeper.specs.Booting.{start_fault};
 ghost use Rattle.nq_keeper.specs.Recovery.{IsTerm};
 ghost use Rattle.nq_keeper.specs.Keeping.{Commits, LeavesTwo};
 ghost use Rattle.nq_model.specs.protocol.Change.{AreHeadsWithin, Fits, IsChangeWithin, change_of_heads, heads_of};

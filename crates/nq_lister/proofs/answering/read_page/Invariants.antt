@@ -1,4 +1,4 @@
-use Rattle.std.proofs.Common.{Result, Ok}
+use Rattle.std.proofs.Common.{Ok}
 use Rattle.std.specs.Option.{ForSome}
 use Rattle.nq_lister.specs.Listing.{IsUpTo}
 use Rattle.nq_serving.specs.Extending.{ReadsOnly}

@@ -7,7 +7,7 @@ use Rattle.nq_model.specs.protocol.Message.{reply}
 use Rattle.nq_model.specs.protocol.Server.{to_host}
 use Rattle.nq_server.proofs.ConcludedSteps.{concluded, concluded-drop}
 use Rattle.nq_server.specs.Deciding.{Concludes, warnings}
-use Rattle.nq_server.specs.declared.received.Taken.TheVariants as took
+use Rattle.nq_server.specs.declared.received.EventTaken.TheVariants as took
 use Rattle.nq_server.specs.State.{beside_of, server_of}
 use Rattle.nq_server.proofs.deciding.conclude.Goals as goal
 

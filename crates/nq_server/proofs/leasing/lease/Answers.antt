@@ -2,7 +2,7 @@ use Rattle.std.proofs.Common.{Ok, refl, sym, subst}
 use Rattle.nq_model.specs.protocol.Ask.{ask}
 use Rattle.nq_model.specs.protocol.ServerStep.{leases}
 use Rattle.nq_server.proofs.LeasedSteps.{after-room, lease-later, lease-given}
-use Rattle.nq_server.specs.declared.received.Taken.TheVariants.{Done}
+use Rattle.nq_server.specs.declared.received.EventTaken.TheVariants.{Done}
 use Rattle.nq_server.specs.Leasing.{Does, MakesBeside, granted_in}
 use Rattle.nq_server.specs.State.{beside_of, server_of}
 use Rattle.nq_server.proofs.leasing.lease.Goals as goal

@@ -2,7 +2,7 @@ use Rattle.std.proofs.Common.{Ok, refl, sym, subst}
 use Rattle.nq_model.specs.protocol.Ask.{ask}
 use Rattle.nq_model.specs.protocol.ServerStep.{serves}
 use Rattle.nq_server.proofs.LeasedSteps.{after-room, next-same, read-later, read-given}
-use Rattle.nq_server.specs.declared.received.Taken.TheVariants.{Done}
+use Rattle.nq_server.specs.declared.received.EventTaken.TheVariants.{Done}
 use Rattle.nq_server.specs.Leasing.{Does, MakesBeside, file_asked, granted_in}
 use Rattle.nq_server.specs.State.{beside_of, server_of}
 use Rattle.nq_server.specs.Stepping.{next_of}

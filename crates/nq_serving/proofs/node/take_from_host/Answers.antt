@@ -34,8 +34,8 @@ returns-else-is_own-clause-takes g c =
     let at : Moment g.row.K.Denot = record { server = c.args.server.now; out = c.args.out.now; log = c.args.log.now } in
     let after : Moment g.row.K.Denot = record { server = c.receive.new.self; out = c.receive.new.out; log = c.receive.new.log } in
     subst (λ own. TakesOf g.K.Keeper.content g.K.Keeper.faults (extension_told g.E.Extension.owns g.E.Extension.replies) own c.args.host
-    c.args.datagram.now c.made.result at after) (sym c.if-is_own.false ∙ c.is_own.ensures.own)
-    record { how = c.receive.result; so = c.made.ensures; takes = c.receive.ensures.takes; spent = c.receive.ensures.spent }
+    c.args.datagram.now c.received.result at after) (sym c.if-is_own.false ∙ c.is_own.ensures.own)
+    record { how = c.receive.result; so = c.received.ensures; takes = c.receive.ensures.takes; spent = c.receive.ensures.spent }
 
 pub returns-else-is_own-clause-leaves : goal.returns-else-is_own-clause-leaves
 returns-else-is_own-clause-leaves g c =

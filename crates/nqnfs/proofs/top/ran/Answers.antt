@@ -1,4 +1,5 @@
+use Rattle.std.proofs.Common.{refl}
 use Rattle.nqnfs.proofs.top.ran.Goals as goal
 
 pub returns : goal.returns
-returns g c = record { never = λ nothing. c.run-ended.ensures.never (rw nothing tt) }
+returns g c = record { never = λ nothing. c.run-ended.ensures.never (rw nothing tt); known = λ usage. c.run-ended.ensures.known refl usage }

@@ -29,14 +29,14 @@ returns-in-Write c =
     ∙ settled-as t c.args.self.now.state.call c.in-Some.u (Call.Write c.in-Write.file c.in-Write.block c.in-Write.body) refl c.in-Some.is
     c.in-Write.is (sym c.is_for_call.ensures ∙ c.if-is_for_call.false)
 
-pub returns-in-WriteSync : goal.returns-in-WriteSync
-returns-in-WriteSync c =
+pub returns-in-Put : goal.returns-in-Put
+returns-in-Put c =
     let t = step_of c.args.self.now in
     let u = under_way c.in-Some.u in
     let e : t.client.call ≡ Some u = ap (option_map under_way) c.in-Some.is in
     c.settle_put.ensures
-    ∙ ap (λ (b : List ℕ). settles_put t u.q u.written u.through c.in-WriteSync.file c.in-WriteSync.block b)
-    (called-body t u (Call.WriteSync c.in-WriteSync.file c.in-WriteSync.block c.in-WriteSync.body) e c.in-WriteSync.is)
-    ∙ put-in-place t u c.in-WriteSync.file c.in-WriteSync.block c.in-WriteSync.body e
-    ∙ settled-as t c.args.self.now.state.call c.in-Some.u (Call.WriteSync c.in-WriteSync.file c.in-WriteSync.block c.in-WriteSync.body) refl
-    c.in-Some.is c.in-WriteSync.is (sym c.is_for_call.ensures ∙ c.if-is_for_call.false)
+    ∙ ap (λ (b : List ℕ). settles_put t u.q u.written u.through c.in-Put.file c.in-Put.block b)
+    (called-body t u (Call.Put c.in-Put.file c.in-Put.block c.in-Put.body) e c.in-Put.is)
+    ∙ put-in-place t u c.in-Put.file c.in-Put.block c.in-Put.body e
+    ∙ settled-as t c.args.self.now.state.call c.in-Some.u (Call.Put c.in-Put.file c.in-Put.block c.in-Put.body) refl
+    c.in-Some.is c.in-Put.is (sym c.is_for_call.ensures ∙ c.if-is_for_call.false)

@@ -13,10 +13,10 @@ vacates_lease-requires-clause-silent c =
 pub vacates_lease-requires-clause-clean : goal.vacates_lease-requires-clause-clean
 vacates_lease-requires-clause-clean c =
     subst (λ f. IsTrue (is_clean_in f c.args.self.now.state.dirty.dirty c.args.self.now.state.dirty.push))
-    (sym (of-file c.args.file c.args.self.now.state.notices.items c.in-Some.notice (sym c.take.ensures.found ∙ c.in-Some.is)))
+    (sym (of-file c.args.file c.args.self.now.state.notices.items c.in-Some.notice (sym c.take_notice.ensures.found ∙ c.in-Some.is)))
     c.requires.clean
 
 pub returns-in-Some-clause-step : goal.returns-in-Some-clause-step
 returns-in-Some-clause-step c =
     c.vacates_lease.ensures.step
-    ∙ vacated-taken (step_of c.args.self.now) c.args.file c.in-Some.notice c.take.new.self.items (sym c.in-Some.is ∙ c.take.ensures.found) c.take.ensures.items
+    ∙ vacated-taken (step_of c.args.self.now) c.args.file c.in-Some.notice c.take_notice.new.self.items (sym c.in-Some.is ∙ c.take_notice.ensures.found) c.take_notice.ensures.items

@@ -11,9 +11,9 @@ returns-in_default g c = record {
       let on = c.loop-turn.invariant.on head moment at in
       stops-here (play_event g.W.OuterWorld.rules head c.args.event.now on.reached)
       (repeated (c.args.times - (c.loop-turn.turn + 1)) (play_event g.W.OuterWorld.rules head c.args.event.now))
-      c.take.result _ _ _ (c.take.ensures.goes head on.reached on.here) c.in_default.not-Done (repeat-step c.args.times c.loop-turn.turn
+      c.take_event.result _ _ _ (c.take_event.ensures.goes head on.reached on.here) c.in_default.not-Done (repeat-step c.args.times c.loop-turn.turn
       (play_event g.W.OuterWorld.rules head c.args.event.now) on.reached _ c.loop-turn-test.true on.same);
-  keeps = g.met.W.OuterWorld.goes_further c.take.result c.args.world.now c.loop-turn.world c.take.new.world c.loop-turn.invariant.keeps c.take.ensures.keeps;
+  keeps = g.met.W.OuterWorld.goes_further c.take_event.result c.args.world.now c.loop-turn.world c.take_event.new.world c.loop-turn.invariant.keeps c.take_event.ensures.keeps;
 }
 
 pub loop-turn-preserved : goal.loop-turn-preserved
@@ -25,8 +25,8 @@ loop-turn-preserved g c = record {
       (c.in-Done.ensures.goes head on.reached on.here) (repeat-step c.args.times c.loop-turn.turn
       (play_event g.W.OuterWorld.rules head c.args.event.now) on.reached _
       c.loop-turn-test.true on.same);
-  keeps = g.met.W.OuterWorld.goes_further Stepped.Done c.args.world.now c.loop-turn.world c.take.new.world c.loop-turn.invariant.keeps c.in-Done.ensures.keeps;
+  keeps = g.met.W.OuterWorld.goes_further Stepped.Done c.args.world.now c.loop-turn.world c.take_event.new.world c.loop-turn.invariant.keeps c.in-Done.ensures.keeps;
 }
 
-pub take-requires : goal.take-requires
-take-requires g c = g.met.W.OuterWorld.comes_later c.args.world.now c.loop-turn.world c.args.event.now c.loop-turn.invariant.keeps c.requires
+pub take_event-requires : goal.take_event-requires
+take_event-requires g c = g.met.W.OuterWorld.comes_later c.args.world.now c.loop-turn.world c.args.event.now c.loop-turn.invariant.keeps c.requires

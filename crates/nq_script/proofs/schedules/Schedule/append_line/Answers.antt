@@ -1,15 +1,17 @@
-use Rattle.std.proofs.Common.{◌≡◌, Some, arith, length, refl}
+use Rattle.std.proofs.Common.{◌≡◌, ◌∙◌, Some, ap, arith, length, refl, option_map}
 use Rattle.std.specs.List.{slice_get}
-use Rattle.std.proofs.lemmas.Option.{slice_get_read}
+use Rattle.std.proofs.lemmas.Option.{slice_get_read, slice_get-map}
 use Rattle.std.proofs.lemmas.Result.{on_ok_weaker}
+use Rattle.nq_script.specs.Kept.{event_of}
 use Rattle.nq_script.proofs.schedules.Schedule.append_line.Goals as goal
 
-pub append_event_line-requires : goal.append_event_line-requires
-append_event_line-requires c =
+pub append_kept-requires : goal.append_kept-requires
+append_kept-requires c =
     let items = c.deref.result.now in
-    let read = slice_get_read items (length items) c.args.place c.in-Some.event.now refl c.in-Some.ensures.lookup.3.0 c.in-Some.ensures.lookup.1 in
-    let there : slice_get c.args.self.now c.args.place ≡ Some c.in-Some.event.now = cc in
-    record { has = c.requires.has c.in-Some.event.now there }
+    let read = slice_get_read items (length items) c.args.place c.in-Some.kept.now refl c.in-Some.ensures.lookup.3.0 c.in-Some.ensures.lookup.1 in
+    let there : slice_get c.args.self.now c.args.place ≡ Some (event_of c.in-Some.kept.now) =
+    slice_get-map event_of items c.args.place ∙ ap (option_map event_of) read in
+    record { has = c.requires.has (event_of c.in-Some.kept.now) there }
 
 pub unreachable-requires : goal.unreachable-requires
 unreachable-requires c =
@@ -19,6 +21,7 @@ unreachable-requires c =
 pub returns : goal.returns
 returns c =
     let items = c.deref.result.now in
-    let read = slice_get_read items (length items) c.args.place c.in-Some.event.now refl c.in-Some.ensures.lookup.3.0 c.in-Some.ensures.lookup.1 in
-    let there : slice_get c.args.self.now c.args.place ≡ Some c.in-Some.event.now = cc in
-    on_ok_weaker c.append_event_line.result (λ said. (c.in-Some.event.now, said.0, there, said.1, said.2)) c.append_event_line.ensures
+    let read = slice_get_read items (length items) c.args.place c.in-Some.kept.now refl c.in-Some.ensures.lookup.3.0 c.in-Some.ensures.lookup.1 in
+    let there : slice_get c.args.self.now c.args.place ≡ Some (event_of c.in-Some.kept.now) =
+    slice_get-map event_of items c.args.place ∙ ap (option_map event_of) read in
+    on_ok_weaker c.append_kept.result (λ said. (event_of c.in-Some.kept.now, said.0, there, said.1, said.2)) c.append_kept.ensures

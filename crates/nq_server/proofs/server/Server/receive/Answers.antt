@@ -17,15 +17,15 @@ returns-in-Ok-clause-takes g c =
     (is-said-taken
     step
     (g.K.Keeper.content c.self.inside.keeper)
-    (g.K.Keeper.content c.take.new.keeper)
+    (g.K.Keeper.content c.take_datagram.new.keeper)
     (g.K.Keeper.faults c.self.inside.keeper)
-    (g.K.Keeper.faults c.take.new.keeper)
+    (g.K.Keeper.faults c.take_datagram.new.keeper)
     (record { keeper = c.self.inside.keeper; beside = beside_of c.self.inside.state; taken = c.self.inside.taken })
-    (record { keeper = c.take.new.keeper; beside = beside_of c.take.new.state; taken = c.self.inside.taken + 1 })
+    (record { keeper = c.take_datagram.new.keeper; beside = beside_of c.take_datagram.new.state; taken = c.self.inside.taken + 1 })
     c.args.out.now
-    c.take.new.out
+    c.take_datagram.new.out
     c.args.log.now
-    c.take.new.log
+    c.take_datagram.new.log
     c.done.result
     c.in-Ok.taken
     c.done.ensures
@@ -33,7 +33,7 @@ returns-in-Ok-clause-takes g c =
     c.in-Ok.ensures.takes)
 
 pub returns-in-Ok-clause-leaves : goal.returns-in-Ok-clause-leaves
-returns-in-Ok-clause-leaves g c = rw (← c.read_incoming-incoming.ensures, ← c.self.view_is) c.take.ensures.leaves
+returns-in-Ok-clause-leaves g c = rw (← c.read_incoming-incoming.ensures, ← c.self.view_is) c.take_datagram.ensures.leaves
 
 pub returns-in-Err-clause-takes : goal.returns-in-Err-clause-takes
 returns-in-Err-clause-takes g c =
@@ -44,15 +44,15 @@ returns-in-Err-clause-takes g c =
     (is-said-not-taken
     step
     (g.K.Keeper.content c.self.inside.keeper)
-    (g.K.Keeper.content c.take.new.keeper)
+    (g.K.Keeper.content c.take_datagram.new.keeper)
     (g.K.Keeper.faults c.self.inside.keeper)
-    (g.K.Keeper.faults c.take.new.keeper)
+    (g.K.Keeper.faults c.take_datagram.new.keeper)
     (record { keeper = c.self.inside.keeper; beside = beside_of c.self.inside.state; taken = c.self.inside.taken })
-    (record { keeper = c.take.new.keeper; beside = beside_of c.take.new.state; taken = c.self.inside.taken })
+    (record { keeper = c.take_datagram.new.keeper; beside = beside_of c.take_datagram.new.state; taken = c.self.inside.taken })
     c.args.out.now
-    c.take.new.out
+    c.take_datagram.new.out
     c.args.log.now
-    c.take.new.log
+    c.take_datagram.new.log
     c.halted.result
     c.in-Err.fault
     c.halted.ensures
@@ -60,4 +60,4 @@ returns-in-Err-clause-takes g c =
     c.in-Err.ensures.takes)
 
 pub returns-in-Err-clause-leaves : goal.returns-in-Err-clause-leaves
-returns-in-Err-clause-leaves g c = rw (← c.read_incoming-incoming.ensures, ← c.self.view_is) c.take.ensures.leaves
+returns-in-Err-clause-leaves g c = rw (← c.read_incoming-incoming.ensures, ← c.self.view_is) c.take_datagram.ensures.leaves

@@ -3,7 +3,7 @@ use Rattle.nq_base.specs.declared.Call.{Call}
 use Rattle.nq_stage.specs.Theorem.{BringsBlock}
 use Rattle.nq_stage.proofs.run.bringing.call_brings.Goals as goal
 
-writes : (call : Call) (file block : ℕ) (body : List ℕ) → (call ≡ Call.Write file block body) ⊎ (call ≡ Call.WriteSync file block body)
+writes : (call : Call) (file block : ℕ) (body : List ℕ) → (call ≡ Call.Write file block body) ⊎ (call ≡ Call.Put file block body)
     → file < 2 ^ 32 → block < 2 ^ 32 → length body ≡ 4096 → BringsBlock call
 writes call file block body (inl is) few below size = subst BringsBlock (sym is) (few, below, size)
 writes call file block body (inr is) few below size = subst BringsBlock (sym is) (few, below, size)

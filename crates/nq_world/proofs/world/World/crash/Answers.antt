@@ -24,7 +24,7 @@ returns-clause-takes g c =
       has_room = c.in-Ok.ensures.room;
       same = c.in-Ok.ensures.datagrams;
       ends = subst (λ m. Ends m c.finish.result Party.Server
-          c.in-Ok.out.datagrams c.outbox.new.packets c.finish.new.packets i.events c.finish.new.events) c.made.ensures c.finish.ensures.ends;
+          c.in-Ok.out.datagrams c.outbox.new.packets c.finish.new.packets i.events c.finish.new.events) c.received.ensures c.finish.ensures.ends;
     }))
     c.requires.short
 

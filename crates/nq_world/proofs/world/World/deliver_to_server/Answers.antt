@@ -25,6 +25,6 @@ returns-clause-takes g c =
       has_room = c.in-Ok.ensures.room;
       same = c.in-Ok.ensures.datagrams;
       ends = subst (λ m. Ends m c.finish.result Party.Server
-          taken.new.out.datagrams c.outbox.new.packets c.finish.new.packets i.events c.finish.new.events) c.made.ensures c.finish.ensures.ends;
+          taken.new.out.datagrams c.outbox.new.packets c.finish.new.packets i.events c.finish.new.events) c.received.ensures c.finish.ensures.ends;
     }))
     c.requires.is

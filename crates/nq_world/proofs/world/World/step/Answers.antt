@@ -25,7 +25,7 @@ returns-in-Done-clause-steps g c = λ head events plays.
     subst (λ (v : WorldOver g.row.K.Denot). Answers event Stepped.Done v) c.self.view_is
     (λ earlier follows. c.in-Done.ensures.tests earlier follows
     ∙ ap (λ n. answer_of (stepped_seen i.events n (skew_broken (length i.skew.hosts) i.skew.window earlier) event)) c.len.ensures) in
-    c.take.ensures.takes head events plays
+    c.take_event.ensures.takes head events plays
     (answer-done (stepped head events event) (answers head events event c.args.self.now told Stepped.Done plays (tests events plays.shown.clocks)))
 
 pub returns-in_default : goal.returns-in_default

@@ -26,9 +26,9 @@ returns-in-Ok-follow-clause-takes g c =
       has_room = c.in-Ok.ensures.room;
       same = c.in-Ok.ensures.datagrams;
       ends = subst (λ m. Ends m c.finish.result Party.Server
-          taken.new.out.datagrams c.outbox.new.packets c.finish.new.packets i.events c.finish.new.events) c.made-ended.ensures c.finish.ensures.ends;
+          taken.new.out.datagrams c.outbox.new.packets c.finish.new.packets i.events c.finish.new.events) c.received-ended.ensures c.finish.ensures.ends;
     })
-    (subst (λ m. Clocks m Event.ServerTick i.skew skew) c.made-ended.ensures c.in-Ok-follow.ensures.clocks))
+    (subst (λ m. Clocks m Event.ServerTick i.skew skew) c.received-ended.ensures c.in-Ok-follow.ensures.clocks))
 
 pub returns-clause-takes : goal.returns-clause-takes
 returns-clause-takes g c =
