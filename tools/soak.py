@@ -28,6 +28,8 @@ KILLED, STEADY, IDLE = (0, 1), 2, 3
 # How many blocks the file of blocks has: one for each asker.
 ASKERS = 6
 PATIENCE = 120
+# For how many seconds nobody asks in the end.
+QUIET = 90
 NAMED = re.compile(r"lost: delayed writes came too late")
 
 
@@ -189,11 +191,8 @@ def ended(tries, folder, hosts):
     """Looks at all files when nobody kills any more, and at what is left of cut-off stores."""
     calm = random.Random()
     calm.random = lambda: 1.0
-    # All that were asked begin once more, and look at what their last starts left: also at bytes that another host replaced as it was killed.
-    for which in (*KILLED, STEADY):
-        hosts[which].ends()
-        hosts[which] = prompts.Host(tries.programs, which, folder)
-    time.sleep(15)
+    # Nobody asks for a while, so each host looks after the bytes that it stored: also after those that another host replaced as it was killed.
+    time.sleep(QUIET)
     for host in (*KILLED, STEADY):
         for name in tries.stores:
             if any(store.done for store in tries.stores[name]) and not tries.gets_one(calm, host, name, folder / f"last{host}{name}"):

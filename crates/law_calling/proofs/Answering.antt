@@ -1,5 +1,5 @@
 -- A call that is answered at once with a block is a read under a lease that runs.
-use Rattle.std.proofs.Common.{◌≡◌, ℕ, Bool, false, List, Option, Some, None, Result, Ok, Err, refl, sym, ap, ◌∙◌, inl, inr, subst}
+use Rattle.std.proofs.Common.{◌≡◌, ◌≤◌, ℕ, Bool, false, List, Option, Some, None, Result, Ok, Err, refl, sym, ap, ◌∙◌, inl, inr, subst, arith}
 use Rattle.std.proofs.lemmas.Bool.{and_parts}
 use Rattle.nq_base.specs.Entries.{EntryList}
 use Rattle.nq_base.specs.declared.Answer.{Answer}
@@ -20,7 +20,8 @@ use Rattle.walk_steps.proofs.SendCases.{send-moves}
 use Rattle.walk_steps.proofs.SettleCases.{settle-cases, IsRead}
 use Rattle.walk_steps.proofs.StepCases.{call-cases, unless-cached-cases}
 use Rattle.walk_steps.proofs.Tests.{is-below}
-use Rattle.law_calling.specs.ReadsRun.{ReadsRun, HoldsLease, file_read}
+use Rattle.law_calling.proofs.Times.{turn-time}
+use Rattle.law_calling.specs.ReadsRun.{ReadsRun, RunsBy, HoldsLease, file_read}
 
 -- whatever request is sent next, it gives no answer
 send-answer : (in_tick : Bool) (t : ClientStep) → (send_next in_tick t).answer ≡ t.answer
@@ -100,11 +101,16 @@ no-refusal (Err Fault.NoAnswer) refusal body is e = cc
 
 made : (call : Call) (file : ℕ) (body : List ℕ) (turn : Result (Option Answer) Fault) (refusal : Option Answer) (client client' : Counted)
     (log log' : EntryList) (link link' : LinkTold) → file_read call ≡ Some file → refusal ≡ refusal_of turn
-    → MakesUnless refusal call (Answer.Ok (Value.Body body)) client client' log log' link link' → HoldsLease client.client file
+    → MakesUnless refusal call (Answer.Ok (Value.Body body)) client client' log log' link link' → (refusal_of turn ≡ None) × HoldsLease client.client file
 made call file body turn (Some refusal) client client' log log' link link' reads is makes = absurd (no-refusal turn refusal body is makes.0)
 made call file body turn None client client' log log' link link' reads is makes =
-    called client.client call file body reads (at-once _ body makes.called.1)
+    (sym is, called client.client call file body reads (at-once _ body makes.called.1))
+
+-- a lease that runs at a time runs by each reading that is not above it
+by : (reading : ℕ) (c : Client) (file : ℕ) → reading ≤ c.now → HoldsLease c file → RunsBy reading c file
+by reading c file taken holds = record { holds = holds; taken_in = taken; runs = let runs = holds.runs in omega arith }
 
 pub reads-run : ReadsRun
 reads-run call file body next next' clock clock' link link' client client' log log' reads now =
-    made call file body now.turn now.refusal now.between client' now.noted log' now.heard link' reads now.refuses now.makes
+    let both = made call file body now.turn now.refusal now.between client' now.noted log' now.heard link' reads now.refuses now.makes in
+    by now.turns.stages.reading now.between.client file (turn-time now.turn _ _ _ _ _ _ now.turns.stages both.0) both.1

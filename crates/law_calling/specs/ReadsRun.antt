@@ -1,5 +1,5 @@
--- A read that is answered at once is answered under a lease that runs at the client's time directly behind the turn in which the clock was read.
-use Rattle.std.specs.Prelude.{◌≡◌, ◌<◌, ℕ, Bool, true, List, Option, Some, None}
+-- A read that is answered at once is answered under a lease that runs by the reading of the clock in the turn directly before it.
+use Rattle.std.specs.Prelude.{◌≡◌, ◌<◌, ◌≤◌, ℕ, Bool, true, List, Option, Some, None}
 use Rattle.nq_base.specs.Entries.{EntryList}
 use Rattle.nq_base.specs.declared.Answer.{Answer}
 use Rattle.nq_base.specs.declared.Call.{Call}
@@ -24,9 +24,15 @@ pub record HoldsLease (c : Client) (file : ℕ) : Type 0 where
   pub caches : caches lease.mode ≡ true
   pub runs : c.now < lease.expiry
 
--- a read of a file that is answered with a block, at once behind a turn
+-- likewise, and the lease runs by this reading of the clock, which the client has taken in
+pub record RunsBy (reading : ℕ) (c : Client) (file : ℕ) : Type 0 where
+  pub holds : HoldsLease c file
+  pub taken_in : reading ≤ c.now
+  pub runs : reading < holds.lease.expiry
+
+-- A read of a file that is answered with a block, at once behind a turn: the lease runs by the one reading of the clock that the turn made
 abbrev pub ReadsRun : Type 0
 ReadsRun = (call : Call) (file : ℕ) (body : List ℕ) (next next' : ℕ) (clock clock' : ClockTold) (link link' : LinkTold) (client client' : Counted)
     (log log' : EntryList) → file_read call ≡ Some file
     → (now : CallsNow call (Answer.Ok (Value.Body body)) next next' clock clock' link link' client client' log log')
-    → HoldsLease now.between.client file
+    → RunsBy now.turns.stages.reading now.between.client file

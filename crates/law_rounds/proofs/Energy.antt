@@ -1,5 +1,5 @@
 -- What may still happen to the rows that hosts wait for: each host may come to share its file, and each row that is to go may go.
-use Rattle.std.proofs.Common.{◌≡◌, ◌≤◌, ◌<◌, ℕ, ◌+◌, ◌==◌, ◌&&◌, ◌||◌, Bool, true, false, not, zero, suc, List, Option, Some, None, refl, sym}
+use Rattle.std.proofs.Common.{◌≡◌, ◌≤◌, ◌<◌, ℕ, ◌+◌, ◌*◌, ◌==◌, ◌&&◌, ◌||◌, Bool, true, false, not, zero, suc, List, Option, Some, None, refl, sym}
 use Rattle.std.proofs.Common.{ap, subst, arith}
 use Rattle.std.proofs.lemmas.Bool.Decides.{nat_tests}
 use Rattle.nq_base.specs.declared.Request.{Request}
@@ -57,6 +57,14 @@ sum-spread (suc n) much f g each one below less = by (λ other. sum-spread n muc
         let rest = again other in
         let here = each n (omega arith) in
         omega arith
+
+pub sum-most : (n most : ℕ) (f : ℕ → ℕ) → ((h : ℕ) → f h ≤ most) → sum_below n f ≤ n * most
+sum-most zero most f each = omega arith
+sum-most (suc n) most f each =
+    let here = each n in
+    let rest = sum-most n most f each in
+    let more : suc n * most ≡ most + n * most = grind arith in
+    omega arith
 
 -- ---- whether some host does
 
@@ -142,6 +150,13 @@ one-most false = omega arith
 sharing-most : (much : ℕ) (b : Bool) → unless_sharing much b ≤ much
 sharing-most much true = omega arith
 sharing-most much false = omega arith
+
+pub energy-most : (hosts : ℕ) (asks : ℕ → Option Request) (rows : List Row) → energy hosts asks rows ≤ hosts * (hosts + 2)
+energy-most hosts asks rows = sum-most hosts (hosts + 2) (λ h. host_energy hosts rows h (wish (asks h))) (λ h. by h (wish (asks h)))
+  where
+    by : (h : ℕ) (o : Option ℕ) → host_energy hosts rows h o ≤ hosts + 2
+    by h None = omega arith
+    by h (Some file) = let a = one-most (doomed_at hosts rows file h) in let b = sharing-most (hosts + 1) (shares_file rows file h) in omega arith
 
 -- who shares goes on to
 abbrev pub KeepSharing : (before after : List Row) → Type 0

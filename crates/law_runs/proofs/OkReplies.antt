@@ -199,6 +199,9 @@ refused-here who u Refusal.Fenced request before counted final h = absurd (uncou
 
 module _ (line : HostRow) (journal : List Entry) (c : Client) (number : ℕ) (ticket : Ticket) (r : Reply) (is : c.ticket ≡ Some ticket)
     (m : Mid All line journal (book_of (begun c))) (tells : (n : ℕ) → sequence_of ticket.request ≡ Some n → Tells line c.who n ticket.request r) where
+  t : ClientStep
+  t = spends (begun c)
+
   spent : Spent c.call All line journal (spends (begun c))
   unfolding spends
   spent = record {

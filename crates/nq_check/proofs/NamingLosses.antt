@@ -139,6 +139,12 @@ exists_also f g all (entry ∷ entries) h =
 
 -- ---- spans, one after another
 
+same_span : (a b : Span) → is_same_span a b ≡ true → (a.first ≡ b.first) × (a.last ≡ b.last)
+same_span a b h =
+    let p = and_parts (nat_eq a.block b.block && nat_eq a.first b.first) (nat_eq a.last b.last) h in
+    let q = and_parts (nat_eq a.block b.block) (nat_eq a.first b.first) p.0 in
+    (eqb-true a.first b.first q.1, eqb-true a.last b.last p.1)
+
 -- a span with a mark is none of those without
 not_again : (marks : List (Spot × ℕ)) (who : Who) (span : Span) → HasMark marks who span → (spans : List Span) → Each (HasNoMark marks who) spans
     → exists (is_same_span span) spans ≡ false

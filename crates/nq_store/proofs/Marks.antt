@@ -4,9 +4,10 @@ use Rattle.std.specs.List.{All}
 use Rattle.std.specs.Prelude.{slice_set}
 use Rattle.std.proofs.lemmas.Bool.{cases_eq, cases_lt}
 use Rattle.std.proofs.lemmas.List.{ext_get_or, get_or-set_other, get_or-set_same, get_or_past, length-set}
-use Rattle.std.proofs.lemmas.List.Elements.{All-append, All-head, All-tail, All-weaker}
+use Rattle.std.proofs.lemmas.List.Elements.{All-append, All-cons, All-head, All-nil, All-tail, All-weaker}
 use Rattle.nq_image.specs.Image.{no_marks}
 use Rattle.nq_image.specs.Standing.{AreDistinct, IsNoneOf, marks_with}
+use Rattle.nq_image.specs.Tables.{is_marked}
 use Rattle.nq_image.proofs.Agreeing.{all-front, all-rest}
 use Rattle.nq_image.proofs.Allotting.{all-given, apart-back, distinct-apart, distinct-behind, each-given, length-with}
 use Rattle.nq_image.proofs.Giving.{IsGiven}
@@ -29,8 +30,28 @@ length-all : (given : Bool) (blocks : List ℕ) (marks : List Bool) → length (
 length-all given [] marks = refl
 length-all given (block ∷ blocks) marks = length-all given blocks (slice_set marks block given) ∙ length-set marks block given
 
+set-free : (marks : List Bool) (block : ℕ) → is_marked (slice_set marks block false) block ≡ false
+set-free marks block = elim (cases_lt block (length marks)) [
+  | inl lt ↦ get_or-set_same marks block false false lt
+  | inr le ↦ get_or_past (slice_set marks block false) block false (omega (arith, le, length-set marks block false))
+]
+
+not-given : (marks : List Bool) (block k : ℕ) → IsGiven (slice_set marks block false) k → block ≢ k
+not-given marks block k given e =
+    let Given : ℕ → Type 0 = λ n. IsGiven (slice_set marks block false) n in
+    let here : is_marked (slice_set marks block false) block ≡ true = subst Given (sym e) given in
+    let never = set-free marks block in
+    absurd (cc)
+
 turned : (m n : ℕ) → m ≢ n → n ≢ m
 turned m n ne e = ne (sym e)
+
+pub unmarked : (blocks : List ℕ) (marks : List Bool) (k : ℕ) → IsGiven (marked_all false blocks marks) k → IsGiven marks k × IsNoneOf blocks k
+unmarked [] marks k given = (given, All-nil (λ other. other ≢ k))
+unmarked (block ∷ blocks) marks k given =
+    let more = unmarked blocks (slice_set marks block false) k given in
+    let ne = not-given marks block k more.0 in
+    (sym (get_or-set_other marks block k false false (turned block k ne)) ∙ more.0, All-cons (λ other. other ≢ k) block blocks ne more.1)
 
 pub unmark-keeps : (blocks : List ℕ) (marks : List Bool) (k : ℕ) → IsGiven marks k → IsNoneOf blocks k → IsGiven (marked_all false blocks marks) k
 unmark-keeps [] marks k given none = given

@@ -95,6 +95,9 @@ counts-as (Err Failed) before now so = so
 counts-as (Err Memory) before now so = so
 
 module _ (found : FoundOne) (may : List ℕ → Type 0) (old : List ℕ) (is : IsOldImage found may old) where
+  abbrev end : ℕ
+  end = block_place (blocks_in found.rows.slots)
+
   pub reach : block_place (blocks_in found.rows.slots) ≤ length old
   reach = let p = parts-of-one old found is.image in reaches-end (length old) (blocks_in found.rows.slots) p.long p.reaches
 

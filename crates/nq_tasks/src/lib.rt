@@ -5,6 +5,7 @@
 mod asks;
 mod inbox;
 mod listing;
+mod tasks;
 mod texts;
 mod waiting;
 mod work;

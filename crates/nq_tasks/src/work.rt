@@ -6,14 +6,14 @@ ghost use Rattle.nq_whole.specs.Heads.{most_bytes};
 
 use crate::asks::{Ask, Made};
 use crate::listing::{Listed, Listing};
+use crate::tasks::{Stepped, Task};
 use crate::texts::{AGAIN, NO_MEMORY, NOT_WHOLE};
 use nq_asks::AnswerKind;
 use nq_base::{Answer, Call, FileId, Name, NoMemory, Who};
 use nq_command::prompt::answer_text;
 use nq_directory::Prefix;
-use nq_script::parse_call;
 use nq_script::words::{WordCursor, is};
-use nq_whole::{Getting, GettingSays, MOST_BYTES, Storing, StoringSays, Tidying, TidyingSays};
+use nq_whole::{GettingSays, MOST_BYTES, Storing, StoringSays, Tidying, TidyingSays};
 use std::alloc::Global;
 use std::marker::Model;
 use std::mem;
@@ -23,36 +23,6 @@ const MOST_ANEW: u32 = 1000;
 
 /// The place of nobody.
 pub const NOBODY: usize = usize::MAX;
-
-/// What is done, call by call.
-#[derive(Drop)]
-enum Task {
-    /// A call.
-    Call(Call),
-    /// Storing a whole file.
-    Store(Storing),
-    /// Getting a whole file.
-    Get(Getting),
-    /// Tidying up behind a store that was cut off.
-    Tidy(Tidying),
-    /// Listing names, by a list that stands beside it. It makes no call.
-    List,
-}
-
-/// What a task says of an answer.
-#[derive(Clone, Copy)]
-enum Stepped {
-    /// A call has its answer.
-    Called,
-    /// Storing says this.
-    Stored(StoringSays),
-    /// Getting says this.
-    Got(GettingSays),
-    /// Tidying says this.
-    Tidied(TidyingSays),
-    /// A list makes no call, so this is no answer of its own.
-    Listing,
-}
 
 /// What came of a step.
 #[derive(Drop)]
@@ -134,20 +104,6 @@ fn listing_of(alloc: Global, text: &[u8]) -> Option<Listing> {
     Some(Listing::new(alloc, prefix))
 }
 
-/// The task that an ask names, beside a store and a list; None where it names none.
-fn task_of(alloc: Global, text: &[u8]) -> Option<Task> {
-    let mut words = WordCursor::new(text);
-    let verb = words.next()?;
-    if is(verb, b"get") {
-        let name = words.name()?;
-        return Some(Task::Get(Getting::new(alloc, name)));
-    }
-    match parse_call(alloc, text, 2) {
-        Ok(call) => Some(Task::Call(call)),
-        Err(_) => None,
-    }
-}
-
 impl Work {
     /// The work of a task.
     fn of(alloc: Global, place: usize, number: u32, task: Task) -> Work
@@ -172,7 +128,7 @@ impl Work {
         if let Some(listing) = listing_of(alloc, &ask.text) {
             return Some(Work::list(alloc, place, ask.number, listing));
         }
-        let task = task_of(alloc, &ask.text)?;
+        let task = Task::named(alloc, &ask.text)?;
         Some(Work::of(alloc, place, ask.number, task))
     }
 
@@ -241,18 +197,7 @@ impl Work {
     ///
     /// Want of memory, and that there is no call.
     pub fn asks(&self) -> Result<Call, NoMemory> {
-        match &self.task {
-            Task::Call(call) => call.copied(self.alloc),
-            Task::Store(storing) => storing.asks(self.alloc),
-            Task::Get(getting) => Ok(getting.asks()),
-            Task::Tidy(tidying) => Ok(tidying.asks()),
-            Task::List => Err(NoMemory::Memory),
-        }
-    }
-
-    /// Whether it lists names. Then it makes no call.
-    pub fn is_listing(&self) -> bool {
-        self.listing.is_some()
+        self.task.asks(self.alloc)
     }
 
     /// The request of this number for the next page of its list, where that is due at this time.
@@ -304,7 +249,7 @@ impl Work {
 
     /// Whether an answer of this kind says that a file was removed.
     fn is_removal(&self, kind: AnswerKind) -> bool {
-        matches!(&self.task, Task::Call(Call::Remove { .. })) && matches!(kind, AnswerKind::Done)
+        self.task.removes() && matches!(kind, AnswerKind::Done)
     }
 
     /// It is over, with this answer and no bytes.
@@ -364,25 +309,12 @@ impl Work {
         ensures same { self.new ≡ self.old }
         ensures own { Answers self.old result }
     {
-        match self.step(answer) {
+        match self.task.take_answer(answer) {
             Stepped::Called => self.answered(answer),
             Stepped::Stored(said) => self.stored(said, answer),
             Stepped::Got(got) => self.got(got, answer),
             Stepped::Tidied(told) => self.tidied(told),
             Stepped::Listing => Came::On,
-        }
-    }
-
-    /// Hands the answer to what is done.
-    fn step(&mut self, answer: &Answer) -> Stepped
-        ensures { self.new ≡ self.old }
-    {
-        match &mut self.task {
-            Task::Call(_) => Stepped::Called,
-            Task::Store(storing) => Stepped::Stored(storing.take_answer(answer)),
-            Task::Get(getting) => Stepped::Got(getting.take_answer(answer)),
-            Task::Tidy(tidying) => Stepped::Tidied(tidying.take_answer(answer)),
-            Task::List => Stepped::Listing,
         }
     }
 
@@ -484,10 +416,7 @@ impl Work {
         ensures { self.new ≡ self.old }
     {
         let nothing = Task::Call(Call::Sync { file: FileId(0) });
-        match mem::replace(&mut self.task, nothing) {
-            Task::Get(getting) => getting.into_bytes(),
-            _ => Vec::new(self.alloc),
-        }
+        mem::replace(&mut self.task, nothing).into_bytes(self.alloc)
     }
 
     /// All bytes are there. No call is made behind it.

@@ -1,298 +1,246 @@
-//! A host at work: it hears the server and those who ask, and waits for both at once.
+//! What a host does for those who ask it, call by call.
 
-use crate::askers::Asker;
-use crate::desk::HostDesk;
+ghost use Rattle.std.specs.Prelude.{⊤};
+
+use crate::door::Door;
 use crate::ledger::Ledger;
+use crate::notes::Notes;
 use crate::starts::pause;
-use mio::net::UnixListener;
-use mio::{Events, Interest, Poll, Token};
 use nq_asks::AnswerKind;
-use nq_base::{Answer, Call, Name, NoMemory};
+use nq_base::{Answer, Call, FileId, Journal, Name, NoMemory, Who};
+use nq_living::{Askers, Paged};
 use nq_tasks::{
     Ask, AskReply, Came, Listed, Made, NO_MEMORY, NOBODY, Waiting, Work, name_stored, own_name,
 };
 use std::alloc::Global;
-use std::io;
-use std::time::Duration;
 
-/// The most askers at once.
-const MOST_ASKERS: usize = 64;
-
-/// The most events of one wait.
-const MOST_EVENTS: usize = 64;
-
-/// The token of the server's datagrams.
-const SERVER: Token = Token(0);
-
-/// The token of those who connect.
-const DOOR: Token = Token(1);
-
-/// For how many milliseconds it waits at most. So it reads its clock several times in a tick.
-const WAIT: u64 = 200;
-
-/// The most calls of a round.
-const MOST_CALLS: u32 = 256;
+/// The most asks that are taken up for one call.
+const MOST_ASKS: u32 = 256;
 
 /// After how many ticks without an ask it stores what is delayed.
 const QUIET: u64 = 2;
 
-/// How often it looks at most, in the end, whether what was delayed is stored.
-const FAREWELL: u32 = 400;
+/// After how many ticks without an ask, and behind the last look, it looks whether bytes that it stored are still told under their name.
+const LOOKS: u64 = 10;
 
 /// The number of the first request for a page of an incarnation. No request of a client has so great a number.
 const FIRST_NUMBER: u32 = 1 << 31;
 
-/// A host with those who ask it.
+/// What is said where the host does not end, since writes are delayed.
+const STILL_DELAYED: &[u8] =
+    b"delayed writes are not stored yet, so the host goes on; a signal ends it, and then they are lost";
+
+/// What a host does for those who ask it.
+#[derive(Drop)]
 pub(crate) struct Hosting {
+    rt: HostRuntime,
     alloc: Global,
-    /// Its client.
-    pub(crate) desk: HostDesk,
-    poll: Poll,
-    door: UnixListener,
-    askers: Vec<Option<Asker>>,
-    first: usize,
+    who: Who,
+    door: Door,
+    /// What it notes.
+    pub(crate) notes: Notes,
+    ledger: Ledger,
     work: Option<Work>,
     aside: Option<Work>,
-    ledger: Ledger,
+    /// Whose ask is taken up next, and the ask.
+    held: Option<(usize, Ask)>,
+    /// How long the ask at work, or the next one, waits.
+    waiting: Waiting,
+    /// How many whole files were stored.
     made: u32,
     /// How many requests for pages of lists were sent.
     listed: u32,
+    /// When it was last asked.
     asked: u64,
-    /// How long the ask at work waits.
-    waiting: Waiting,
+    /// When it last looked after bytes that it stored.
+    looked: u64,
     /// Who told it to end, and the number of that ask.
     ender: Option<(usize, u32)>,
 }
 
-impl Hosting {
-    /// A host that nobody has asked yet. None where its sockets cannot be waited for; the client is closed then.
-    pub(crate) fn open(
-        rt: &HostRuntime,
-        desk: HostDesk,
-        door: UnixListener,
-        ledger: Ledger,
-    ) -> Option<Hosting> {
-        let mut desk = desk;
-        let mut door = door;
-        let alloc = rt.alloc();
-        let Ok(poll) = Poll::new(rt) else {
-            desk.close();
-            return None;
-        };
-        let server = poll
-            .registry()
-            .register(&mut desk.link.socket, SERVER, Interest::READABLE);
-        let askers = poll
-            .registry()
-            .register(&mut door, DOOR, Interest::READABLE);
-        if server.is_err() || askers.is_err() {
-            desk.close();
-            return None;
-        }
-        Some(Hosting {
-            alloc,
-            desk,
-            poll,
-            door,
-            askers: Vec::new(alloc),
-            first: 0,
-            work: None,
-            aside: None,
-            ledger,
-            made: 0,
-            listed: 0,
-            asked: 0,
-            waiting: Waiting::new(alloc, 0),
-            ender: None,
-        })
+impl Askers for Hosting {
+    ghost gives = { λ _ _ _. ⊤ };
+
+    ghost takes = { λ _ _ _. ⊤ };
+
+    ghost stirs = { λ _ _. ⊤ };
+
+    fn wait(&mut self, is_busy: bool) -> bool {
+        !self.notes.is_lacking && self.door.wait(is_busy)
     }
 
-    /// Works until it is told to end, or no more can be asked.
-    pub(crate) fn run(&mut self, rt: &HostRuntime) -> io::Result<()> {
-        let mut events = Events::with_capacity(self.alloc, MOST_EVENTS)?;
-        let mut is_busy = false;
-        for _round in 0..u64::MAX {
-            let wait = if is_busy { 0 } else { WAIT };
-            self.poll
-                .poll(&mut events, Some(Duration::from_millis(wait)))?;
-            is_busy = self.round();
-            if self.desk.halt.is_some() {
-                return Ok(());
-            }
-            if let Some((place, number)) = self.ender.take() {
-                if self.finish(rt, place, number) {
-                    return Ok(());
-                }
-            }
-        }
-        Ok(())
-    }
-
-    /// Hears all once, and does what can be done. Whether something is left to be done at once.
-    fn round(&mut self) -> bool {
-        self.hear();
-        self.let_in();
-        let has_read = self.read();
-        self.write();
-        self.hear_end();
-        let has_called = self.call_on();
-        self.wait_on();
-        has_read || has_called || !self.desk.link.is_dry()
-    }
-
-    /// Hears the server, and takes in the answer to the call under way.
-    fn hear(&mut self) {
-        self.desk.hear();
-        if let Some(answer) = self.desk.take_answer() {
-            self.advance(&answer);
-        }
-    }
-
-    /// Lets in those who connect.
-    fn let_in(&mut self) {
-        for _asker in 0..MOST_ASKERS {
-            let Ok((stream, _address)) = self.door.accept() else {
-                return;
-            };
-            let mut asker = Asker::new(self.alloc, stream);
-            let place = self.free_place();
-            let token = Token(place.saturating_add(2));
-            let both = Interest::READABLE | Interest::WRITABLE;
-            if place >= MOST_ASKERS
-                || self
-                    .poll
-                    .registry()
-                    .register(asker.stream(), token, both)
-                    .is_err()
-            {
-                continue;
-            }
-            match self.askers.get_mut(place) {
-                Some(free) => *free = Some(asker),
-                None => {
-                    let _kept = self.askers.push(Some(asker));
-                }
-            }
-        }
-    }
-
-    /// The first place that nobody has.
-    fn free_place(&self) -> usize {
-        for (place, asker) in self.askers.iter().enumerate() {
-            if asker.is_none() {
-                return place;
-            }
-        }
-        self.askers.len()
-    }
-
-    /// Takes in what askers sent. Whether anything came.
-    fn read(&mut self) -> bool {
-        let mut came = false;
-        for asker in self.askers.iter_mut() {
-            if let Some(asker) = asker {
-                came = asker.read() || came;
-            }
+    fn tend(&mut self) -> bool {
+        self.door.let_in();
+        let came = self.door.read();
+        self.door.write(self.at_work(), self.next_place());
+        if let Some(ender) = self.door.next_end() {
+            self.ender = Some(ender);
         }
         came
     }
 
-    /// Sends what is owed to askers, and lets those go who are gone.
-    fn write(&mut self) {
-        let at_work = match &self.work {
-            Some(work) => work.place(),
-            None => NOBODY,
-        };
-        for (place, asker) in self.askers.iter_mut().enumerate() {
-            let mut is_over = false;
-            if let Some(asker) = asker {
-                asker.write();
-                is_over = asker.is_over && place != at_work;
-            }
-            if is_over {
-                *asker = None;
-            }
-        }
+    fn note(&mut self, log: &Journal) {
+        self.notes.note(log);
     }
 
-    /// Hears who wants it to end, also while a call is under way.
-    fn hear_end(&mut self) {
-        let mut ender = None;
-        for (place, asker) in self.askers.iter_mut().enumerate() {
-            if let Some(asker) = asker {
-                if asker.says_end() {
-                    if let Some(ask) = asker.next_ask() {
-                        ender = Some((place, ask.number));
-                    }
-                }
+    fn next_call(&mut self, now: u64, delayed: Option<FileId>) -> Option<Call> {
+        for _ask in 0..MOST_ASKS {
+            if self.ender.is_some() {
+                return None;
             }
-        }
-        if ender.is_some() {
-            self.ender = ender;
-        }
-    }
-
-    /// Makes calls, each behind a turn that has read the clock, until one has no answer yet or nothing is to be done. Whether more can be
-    /// made.
-    fn call_on(&mut self) -> bool {
-        for _call in 0..MOST_CALLS {
-            if self.ender.is_some() || self.desk.halt.is_some() || !self.desk.is_ready() {
-                return false;
-            }
-            if self.work.is_none() && !self.take_up() {
-                return false;
+            if self.work.is_none() && !self.take_up(now, delayed) {
+                return None;
             }
             let call = match &self.work {
-                Some(work) if work.is_listing() => return self.list_on(),
+                Some(work) if work.is_listing() => return None,
                 Some(work) => work.asks(),
                 None => continue,
             };
-            if !self.make(call) {
-                return false;
+            match call {
+                Ok(call) => return Some(call),
+                Err(NoMemory::Memory) => self.lack(),
             }
         }
-        true
+        None
     }
 
-    /// Goes on with the list at work: takes the page that came, and asks for the next one where that is due. Whether it is over.
-    fn list_on(&mut self) -> bool {
-        if let Some(page) = self.desk.take_listed() {
-            let came = self.take_page(&page);
+    fn take(&mut self, answer: &Answer) {
+        let came = match &mut self.work {
+            Some(work) => work.take_answer(answer),
+            None => Came::On,
+        };
+        self.came(came);
+    }
+
+    fn turn_page(&mut self, now: u64, page: Option<Vec<u8>>) -> Paged {
+        let is_listing = match &self.work {
+            Some(work) => work.is_listing(),
+            None => false,
+        };
+        let request = if is_listing {
+            self.list_on(now, page)
+        } else {
+            self.probe(now, page)
+        };
+        self.tell_waiting(now);
+        Paged {
+            request,
+            is_over: is_listing && self.work.is_none(),
+        }
+    }
+
+    fn wants_end(&self) -> bool {
+        self.ender.is_some()
+    }
+
+    fn last_call(&mut self, file: FileId) -> Call {
+        if self.aside.is_none() {
+            self.aside = self.work.take();
+        }
+        self.work = Some(Work::sync(self.alloc, file));
+        Call::Sync { file }
+    }
+
+    fn rest(&mut self) {
+        pause(&self.rt);
+    }
+
+    fn end(&mut self, is_delaying: bool) -> bool {
+        let Some((place, number)) = self.ender.take() else {
+            return false;
+        };
+        if is_delaying {
+            self.refuse(place, number, STILL_DELAYED);
+            return false;
+        }
+        self.reply(place, number, AnswerKind::Done, b"ok", &[]);
+        true
+    }
+}
+
+impl Hosting {
+    /// A host that nobody has asked yet.
+    pub(crate) fn new(
+        rt: HostRuntime,
+        who: Who,
+        door: Door,
+        notes: Notes,
+        ledger: Ledger,
+    ) -> Hosting {
+        let alloc = rt.alloc();
+        Hosting {
+            rt,
+            alloc,
+            who,
+            door,
+            notes,
+            ledger,
+            work: None,
+            aside: None,
+            held: None,
+            waiting: Waiting::new(alloc, 0),
+            made: 0,
+            listed: 0,
+            asked: 0,
+            looked: 0,
+            ender: None,
+        }
+    }
+
+    /// Who it is.
+    fn who(&self) -> Who {
+        self.who
+    }
+
+    /// The place of whoever asked what is at work.
+    fn at_work(&self) -> usize {
+        match &self.work {
+            Some(work) => work.place(),
+            None => NOBODY,
+        }
+    }
+
+    /// The place of whoever is next.
+    fn next_place(&self) -> usize {
+        match &self.held {
+            Some((place, _)) => *place,
+            None => NOBODY,
+        }
+    }
+
+    // ---- lists, and what waits
+
+    /// Goes on with the list at work: takes the page that came, if one did. The request for the next one, where that is due.
+    fn list_on(&mut self, now: u64, page: Option<Vec<u8>>) -> Option<Vec<u8>> {
+        if let Some(page) = &page {
+            let came = self.take_page(page);
             self.came(came);
         }
-        match self.page_due() {
-            Ok(request) => self.send_request(request),
-            Err(NoMemory::Memory) => self.lack(),
+        match self.page_due(now) {
+            Ok(request) => self.counted(request),
+            Err(NoMemory::Memory) => {
+                self.lack();
+                None
+            }
         }
-        self.work.is_none()
     }
 
     /// Takes a page for the list at work.
     fn take_page(&mut self, page: &[u8]) -> Came {
-        let Some(work) = &mut self.work else {
-            return Came::On;
-        };
-        let who = self.desk.who();
-        work.take_page(who, page)
+        let who = self.who();
+        match &mut self.work {
+            Some(work) => work.take_page(who, page),
+            None => Came::On,
+        }
     }
 
     /// The request for the next page of the list at work, where that is due.
-    fn page_due(&mut self) -> Result<Option<Vec<u8>>, NoMemory> {
-        let (number, now) = (self.next_number(), self.desk.time());
-        let Some(work) = &mut self.work else {
-            return Ok(None);
-        };
-        let who = self.desk.who();
-        work.asks_page(who, number, now)
-    }
-
-    /// The ask at work is over, since memory was wanting.
-    fn lack(&mut self) {
-        let came = match &self.work {
-            Some(work) => work.lacks(),
-            None => Came::On,
-        };
-        self.came(came);
+    fn page_due(&mut self, now: u64) -> Result<Option<Vec<u8>>, NoMemory> {
+        let (who, number) = (self.who(), self.next_number());
+        match &mut self.work {
+            Some(work) => work.asks_page(who, number, now),
+            None => Ok(None),
+        }
     }
 
     /// The number of the next request for a page.
@@ -300,69 +248,60 @@ impl Hosting {
         FIRST_NUMBER | self.listed.wrapping_add(1)
     }
 
-    /// Sends a request for a page, if there is one.
-    fn send_request(&mut self, request: Option<Vec<u8>>) {
-        if let Some(request) = request {
+    /// A request that is sent, if there is one.
+    fn counted(&mut self, request: Option<Vec<u8>>) -> Option<Vec<u8>> {
+        if request.is_some() {
             self.listed = self.listed.wrapping_add(1);
-            self.desk.send(&request);
+        }
+        request
+    }
+
+    /// Takes the page that came, which may tell whether the server recovers. The request that asks so, where somebody waits and that is due.
+    fn probe(&mut self, now: u64, page: Option<Vec<u8>>) -> Option<Vec<u8>> {
+        if let Some(page) = &page {
+            let who = self.who();
+            self.waiting.take_page(self.alloc, who, page);
+        }
+        self.waiter(now)?;
+        let (who, number) = (self.who(), self.next_number());
+        match self.waiting.asks(self.alloc, who, number, now) {
+            Ok(request) => self.counted(request),
+            Err(NoMemory::Memory) => None,
         }
     }
 
-    /// Finds out why the ask at work waits, and tells whoever asked.
-    fn wait_on(&mut self) {
-        let (place, number, is_listing) = match &self.work {
-            Some(work) => (work.place(), work.number(), work.is_listing()),
-            None => return,
+    /// Who waits, and the number of the ask: whoever asked what is at work, or else is next.
+    fn waiter(&mut self, now: u64) -> Option<(usize, u32)> {
+        let (place, number) = match &self.work {
+            Some(work) => (work.place(), work.number()),
+            None => return None,
         };
-        if !is_listing {
-            self.hear_page();
-            self.probe();
+        if place != NOBODY {
+            return Some((place, number));
         }
-        let now = self.desk.time();
-        if let Some(words) = self.waiting.tells(now) {
-            if let Some(Some(asker)) = self.askers.get_mut(place) {
-                asker.answer(number, AnswerKind::Wait, words, &[]);
-            }
+        self.hold(now);
+        match &self.held {
+            Some((place, ask)) => Some((*place, ask.number)),
+            None => None,
         }
     }
 
-    /// Takes the page that came, which may tell whether the server recovers.
-    fn hear_page(&mut self) {
-        let Some(page) = self.desk.take_listed() else {
+    /// Tells whoever waits why, once it has waited for a while.
+    fn tell_waiting(&mut self, now: u64) {
+        let Some((place, number)) = self.waiter(now) else {
             return;
         };
-        let who = self.desk.who();
-        self.waiting.take_page(self.alloc, who, &page);
-    }
-
-    /// Asks whether the server recovers, where that is due.
-    fn probe(&mut self) {
-        let (number, now) = (self.next_number(), self.desk.time());
-        let who = self.desk.who();
-        match self.waiting.asks(self.alloc, who, number, now) {
-            Ok(request) => self.send_request(request),
-            Err(NoMemory::Memory) => {}
+        if let Some(words) = self.waiting.tells(now) {
+            self.door
+                .answer(place, number, AnswerKind::Wait, words, &[]);
         }
     }
 
-    /// Makes a call. Whether it has its answer.
-    fn make(&mut self, call: Result<Call, NoMemory>) -> bool {
-        let Ok(call) = call else {
-            self.lack();
-            return true;
-        };
-        match self.desk.ask(&call) {
-            Some(answer) => {
-                self.advance(&answer);
-                true
-            }
-            None => false,
-        }
-    }
+    // ---- what is done next
 
-    /// Takes up what is to be done next: what was put aside, else tidying up, else an ask, else storing what is delayed. Whether there was
-    /// anything.
-    fn take_up(&mut self) -> bool {
+    /// Takes up what is to be done next: what was put aside, else tidying up, else an ask, else storing what is delayed, else a look after
+    /// bytes that were stored. Whether there was anything.
+    fn take_up(&mut self, now: u64, delayed: Option<FileId>) -> bool {
         if self.aside.is_some() {
             self.work = self.aside.take();
             return true;
@@ -371,35 +310,43 @@ impl Hosting {
             self.work = Some(Work::tidy(self.alloc, made));
             return true;
         }
-        self.take_ask() || self.take_delayed()
+        self.take_ask(now) || self.take_delayed(now, delayed) || self.take_oldest(now)
     }
 
-    /// Takes the next ask, from each asker in turn. Whether there was one.
-    fn take_ask(&mut self) -> bool {
-        let count = self.askers.len();
-        for step in 0..count {
-            let place = self.first.saturating_add(step) % count;
-            let ask = match self.askers.get_mut(place) {
-                Some(Some(asker)) => asker.next_ask(),
-                _ => None,
-            };
-            if let Some(ask) = ask {
-                self.first = place.saturating_add(1);
-                self.asked = self.desk.time();
-                self.waiting = Waiting::new(self.alloc, self.asked);
+    /// Takes up the next ask. Whether there was one.
+    fn take_ask(&mut self, now: u64) -> bool {
+        self.hold(now);
+        match self.held.take() {
+            Some((place, ask)) => {
                 self.begin(place, ask);
-                return true;
+                true
+            }
+            None => false,
+        }
+    }
+
+    /// Takes the next ask out, unless one is taken out already.
+    fn hold(&mut self, now: u64) {
+        if self.held.is_some() || self.ender.is_some() {
+            return;
+        }
+        if let Some((place, ask)) = self.door.next_ask() {
+            self.asked = now;
+            self.waiting = Waiting::new(self.alloc, now);
+            if ask.text.as_slice() == b"end".as_slice() {
+                self.ender = Some((place, ask.number));
+            } else {
+                self.held = Some((place, ask));
             }
         }
-        false
     }
 
     /// Begins to store what is delayed, where nobody has asked for a while. Whether there was anything.
-    fn take_delayed(&mut self) -> bool {
-        if self.desk.time().saturating_sub(self.asked) < QUIET {
+    fn take_delayed(&mut self, now: u64, delayed: Option<FileId>) -> bool {
+        if now.saturating_sub(self.asked) < QUIET {
             return false;
         }
-        match self.desk.first_delayed() {
+        match delayed {
             Some(file) => {
                 self.work = Some(Work::sync(self.alloc, file));
                 true
@@ -408,13 +355,28 @@ impl Hosting {
         }
     }
 
+    /// Begins to look whether bytes that it stored are still told under their name, where nobody has asked for a while: another host may have
+    /// stored others under the name, and been cut off before it removed these. Whether there was anything.
+    fn take_oldest(&mut self, now: u64) -> bool {
+        if now.saturating_sub(self.asked) < LOOKS || now.saturating_sub(self.looked) < LOOKS {
+            return false;
+        }
+        self.looked = now;
+        let _doubted = self.ledger.doubt_oldest();
+        match self.ledger.next_left() {
+            Some(made) => {
+                self.work = Some(Work::tidy(self.alloc, made));
+                true
+            }
+            None => false,
+        }
+    }
+
+    // ---- an ask
+
     /// Begins the work for an ask.
     fn begin(&mut self, place: usize, ask: Ask) {
         let number = ask.number;
-        if ask.text.as_slice() == b"end".as_slice() {
-            self.ender = Some((place, number));
-            return;
-        }
         if let Some(name) = name_stored(&ask.text) {
             return self.begin_store(place, ask, name);
         }
@@ -428,7 +390,7 @@ impl Hosting {
     fn begin_store(&mut self, place: usize, ask: Ask, name: Name) {
         let number = ask.number;
         self.made = self.made.saturating_add(1);
-        let Some(own) = own_name(self.alloc, self.desk.who(), self.made) else {
+        let Some(own) = own_name(self.alloc, self.who(), self.made) else {
             return self.refuse(place, number, NO_MEMORY);
         };
         let made = Made { own, name };
@@ -441,10 +403,10 @@ impl Hosting {
         }
     }
 
-    /// Takes the answer to the call under way.
-    fn advance(&mut self, answer: &Answer) {
-        let came = match &mut self.work {
-            Some(work) => work.take_answer(answer),
+    /// The ask at work is over, since memory was wanting.
+    fn lack(&mut self) {
+        let came = match &self.work {
+            Some(work) => work.lacks(),
             None => Came::On,
         };
         self.came(came);
@@ -488,69 +450,14 @@ impl Hosting {
 
     /// Answers an ask. Before, whoever asked is told of the delayed writes that were lost since somebody was told.
     fn reply(&mut self, place: usize, number: u32, kind: AnswerKind, text: &[u8], bytes: &[u8]) {
-        if let Some(Some(asker)) = self.askers.get_mut(place) {
-            let lost = self.desk.take_lost();
-            if !lost.is_empty() {
-                asker.answer(number, AnswerKind::Note, &lost, &[]);
-            }
-            asker.answer(number, kind, text, bytes);
-        }
-    }
-
-    /// Stores what is delayed, as long as that does not take too long, and tells whoever wants it to end. Whether it ends.
-    fn finish(&mut self, rt: &HostRuntime, place: usize, number: u32) -> bool {
-        for _look in 0..FAREWELL {
-            self.hear();
-            if self.desk.halt.is_some() || !self.desk.is_delaying() {
-                break;
-            }
-            self.store_on();
-            pause(rt);
-        }
-        if self.desk.is_delaying() {
-            self.refuse(place, number, STILL_DELAYED);
-            return false;
-        }
-        self.reply(place, number, AnswerKind::Done, b"ok", &[]);
-        true
-    }
-
-    /// Begins to store what is delayed of a file, if it can be done now. What was at work is put aside, so that no answer but its own reaches it.
-    fn store_on(&mut self) {
-        if !self.desk.is_ready() {
+        if !self.door.has(place) {
             return;
         }
-        if self.aside.is_none() {
-            self.aside = self.work.take();
+        let lost = self.notes.take_lost();
+        if !lost.is_empty() {
+            self.door
+                .answer(place, number, AnswerKind::Note, &lost, &[]);
         }
-        if let Some(file) = self.desk.first_delayed() {
-            self.work = Some(Work::sync(self.alloc, file));
-            let _answered = self.make(Ok(Call::Sync { file }));
-        }
-    }
-
-    /// Ends it; what is left is its client.
-    pub(crate) fn close(self) -> HostDesk {
-        let Hosting {
-            alloc: _,
-            desk,
-            poll: _poll,
-            door: _door,
-            askers: _askers,
-            first: _,
-            work: _work,
-            aside: _aside,
-            ledger: _ledger,
-            made: _,
-            listed: _,
-            asked: _,
-            waiting: _waiting,
-            ender: _,
-        } = self;
-        desk
+        self.door.answer(place, number, kind, text, bytes);
     }
 }
-
-/// What is said where the host does not end, since writes are delayed.
-const STILL_DELAYED: &[u8] =
-    b"delayed writes are not stored yet, so the host goes on; a signal ends it, and then they are lost";

@@ -17,6 +17,8 @@ pub(crate) struct Ledger {
     folder: String,
     kept: Vec<u8>,
     left: Vec<u8>,
+    /// Whether the list is another one than that in the folder.
+    is_changed: bool,
 }
 
 /// What a line tells.
@@ -84,6 +86,7 @@ impl Ledger {
             folder,
             kept: Vec::new(alloc),
             left,
+            is_changed: false,
         })
     }
 
@@ -122,13 +125,32 @@ impl Ledger {
         true
     }
 
-    /// One was looked after: it is kept again, if it is told. Once none is left the list is written down. Whether that went well.
+    /// Has the one looked after that was not looked after for the longest time, if there is one. Whether there was memory for it.
+    pub(crate) fn doubt_oldest(&mut self) -> bool {
+        let Some((line, rest)) = cut(&self.kept, b'\n') else {
+            return true;
+        };
+        let (Some(made), Ok(rest)) = (made_in(line), rest.to_vec(self.alloc)) else {
+            return false;
+        };
+        if push_made(&mut self.left, &made).is_err() {
+            return false;
+        }
+        self.kept = rest;
+        true
+    }
+
+    /// One was looked after: it is kept again, if it is told. Once none is left the list is written down, where it has changed. Whether that
+    /// went well.
     pub(crate) fn looked_after(&mut self, made: Option<Made>) -> bool {
         let kept = match &made {
             Some(made) => push_made(&mut self.kept, made).is_ok(),
-            None => true,
+            None => {
+                self.is_changed = true;
+                true
+            }
         };
-        kept && (!self.left.is_empty() || self.put_down())
+        kept && (!self.left.is_empty() || !self.is_changed || self.put_down())
     }
 
     /// Keeps one, and writes the list down. Whether that went well.
@@ -137,7 +159,7 @@ impl Ledger {
     }
 
     /// Writes the list down. Whether that went well.
-    fn put_down(&self) -> bool {
+    fn put_down(&mut self) -> bool {
         let folder = self.folder.as_str();
         let Ok(path) = format!(in self.alloc; "{folder}/made") else {
             return false;
@@ -148,6 +170,8 @@ impl Ledger {
         if all.extend_from_slice(&self.kept).is_err() {
             return false;
         }
-        replace_file(&self.rt, folder, path.as_str(), &all).is_ok()
+        let went = replace_file(&self.rt, folder, path.as_str(), &all).is_ok();
+        self.is_changed = !went;
+        went
     }
 }

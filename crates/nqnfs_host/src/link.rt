@@ -6,6 +6,7 @@ ghost use Rattle.nq_link.specs.Link.{Comes, CountsReceive, CountsSend, Sends};
 
 use mio::net::UdpSocket;
 use nq_link::{Came, Link, Party, Sent};
+use nq_living::Line;
 use std::alloc::Global;
 use std::io::{self, ErrorKind};
 use std::marker::Model;
@@ -73,14 +74,6 @@ impl HostLink {
         })
     }
 
-    /// Sends what was held back. What the machine refuses is lost, as a datagram may be.
-    pub(crate) fn let_go(&mut self) {
-        for datagram in self.held.iter() {
-            let _sent = self.socket.send_to(datagram, self.server);
-        }
-        self.held.clear();
-    }
-
     /// Sends a datagram to the server, or holds it back. How many bytes of it went.
     fn post(&mut self, bytes: &[u8]) -> io::Result<usize>
         ensures { self.new ≡ self.old }
@@ -90,16 +83,6 @@ impl HostLink {
         }
         self.held.push(bytes.to_vec(self.alloc)?)?;
         Ok(bytes.len())
-    }
-
-    /// Whether the last receive found nothing.
-    pub(crate) fn is_dry(&self) -> bool {
-        self.is_dry
-    }
-
-    /// The last page of a list that came, until it is taken.
-    pub(crate) fn take_listed(&mut self) -> Option<Vec<u8>> {
-        self.listed.take()
     }
 
     /// Sets a page of a list aside. Where memory is wanting it is lost, as a datagram may be.
@@ -175,5 +158,23 @@ impl Link for HostLink {
                 Came::Failed
             }
         }
+    }
+}
+
+impl Line for HostLink {
+    /// Sends what was held back. What the machine refuses is lost, as a datagram may be.
+    fn let_go(&mut self) {
+        for datagram in self.held.iter() {
+            let _sent = self.socket.send_to(datagram, self.server);
+        }
+        self.held.clear();
+    }
+
+    fn is_dry(&self) -> bool {
+        self.is_dry
+    }
+
+    fn take_page(&mut self) -> Option<Vec<u8>> {
+        self.listed.take()
     }
 }

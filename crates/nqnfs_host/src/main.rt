@@ -2,25 +2,31 @@
 #![tactic(auto)]
 
 mod askers;
-mod desk;
+mod beginning;
+mod door;
 mod hosting;
 mod ledger;
 mod link;
+mod notes;
 mod starts;
 mod words;
 
-use crate::desk::HostDesk;
+use crate::beginning::{begin, begin_again};
+use crate::door::Door;
 use crate::hosting::Hosting;
 use crate::ledger::Ledger;
 use crate::link::HostLink;
+use crate::notes::Notes;
 use crate::starts::{NoStart, let_second_pass, next_inc, pause};
 use crate::words::{Files, Order, order_of};
 use mio::net::UnixListener;
 use nq_base::ending::{Ending, Fault};
-use nq_base::{Host, Party, Who};
+use nq_base::{Host, Inc, Party, Who};
 use nq_book::book_in;
+use nq_client::Client;
 use nq_clock::StdClock;
 use nq_diary::Diary;
+use nq_living::{End, Host as Living, hear};
 use nq_udp::Book;
 use nq_words::{Unread, args_of};
 use std::fs::{self, DirBuilder, Permissions};
@@ -228,54 +234,91 @@ fn live(
     door: UnixListener,
 ) -> Ending {
     let (number, inc) = (who.host.0, who.inc.0);
+    let Some(ledger) = Ledger::open(rt, folder) else {
+        let _told = eprintln!(rt; "nqnfs_host: the file {folder}/made cannot be read");
+        return Ending::KeepFault;
+    };
+    let mut link = link;
+    let Ok(door) = Door::open(rt, &mut link, door) else {
+        return told(rt, Ending::LinkFault, "its sockets cannot be waited for");
+    };
     let Ok(watch) = rt.clone() else {
         return told_memory(rt);
     };
-    let Some(desk) = HostDesk::open(rt.alloc(), who, link, StdClock::new(watch), diary) else {
+    let Ok(noting) = rt.clone() else {
         return told_memory(rt);
     };
-    let Some(ledger) = Ledger::open(rt, folder) else {
-        let _told = eprintln!(rt; "nqnfs_host: the file {folder}/made cannot be read");
-        desk.close();
-        return Ending::KeepFault;
+    let Ok(asked) = rt.clone() else {
+        return told_memory(rt);
     };
-    let Some(hosting) = Hosting::open(rt, desk, door, ledger) else {
-        let _told = eprintln!(rt; "nqnfs_host: its sockets cannot be waited for");
-        return Ending::LinkFault;
+    let notes = Notes::new(noting, diary);
+    let mut hosting = Hosting::new(asked, who, door, notes, ledger);
+    let mut clock = StdClock::new(watch);
+    let who = Who {
+        host: Host(number),
+        inc: Inc(inc),
     };
-    attend(rt, folder, number, inc, hosting)
+    match begin(rt.alloc(), who, &mut link, &mut clock, &mut hosting) {
+        Some(client) => {
+            let _told = println!(rt;
+                "nqnfs_host 1: host {number}, incarnation {inc}, asked at {folder}/asks"
+            );
+            attend(rt, folder, client, &mut link, &mut clock, &mut hosting)
+        }
+        None => told_memory(rt),
+    }
 }
 
 /// Works, and gives the leases back in the end.
-fn attend(rt: &HostRuntime, folder: &str, number: u32, inc: u32, hosting: Hosting) -> Ending {
-    let mut hosting = hosting;
-    let _told = println!(rt;
-        "nqnfs_host 1: host {number}, incarnation {inc}, asked at {folder}/asks"
-    );
-    let ran = hosting.run(rt);
-    let mut desk = hosting.close();
-    let ending = match desk.halt {
+fn attend(
+    rt: &HostRuntime,
+    folder: &str,
+    client: Client,
+    link: &mut HostLink,
+    clock: &mut StdClock<HostRuntime>,
+    hosting: &mut Hosting,
+) -> Ending {
+    let mut host = Living {
+        client,
+        next: 0,
+        halt: None,
+    };
+    let end = nq_living::live(rt.alloc(), &mut host, link, clock, hosting, u64::MAX);
+    let ending = match host.halt {
         Some(Fault::Memory) => told_memory(rt),
         Some(_) => told(
             rt,
             Ending::Limit,
             "a start takes in no more; begin another one",
         ),
-        None if ran.is_err() => told(rt, Ending::LinkFault, "its sockets cannot be waited for"),
-        None => Ending::Done,
+        None => told_end(rt, end, hosting),
     };
-    if desk.is_delaying() {
+    if host.client.dirty().pending() > 0 {
         let _lost = told(rt, ending, "delayed writes that were not stored are lost");
     }
-    if !give_back(rt, folder, Host(number), &mut desk) {
+    if !give_back(rt, folder, &mut host, link, clock, hosting) {
         let _told = told(
             rt,
             ending,
             "its leases run on, so others may wait for 38 seconds",
         );
     }
-    desk.close();
+    let Living {
+        client,
+        next: _,
+        halt: _,
+    } = host;
+    client.stop();
     ending
+}
+
+/// How the program ends where its client could be asked still.
+fn told_end(rt: &HostRuntime, end: End, hosting: &Hosting) -> Ending {
+    match end {
+        End::Deaf if hosting.notes.is_lacking => told_memory(rt),
+        End::Deaf => told(rt, Ending::LinkFault, "its sockets cannot be waited for"),
+        End::Told | End::Halted | End::Rounds => Ending::Done,
+    }
 }
 
 /// Tells words on a line, and ends so.
@@ -286,16 +329,28 @@ fn told(rt: &HostRuntime, ending: Ending, words: &str) -> Ending {
 
 /// Gives all leases back: the host begins one incarnation more, and the server ends the leases of those before as it attaches it. Whether
 /// it did.
-fn give_back(rt: &HostRuntime, folder: &str, host: Host, desk: &mut HostDesk) -> bool {
+fn give_back(
+    rt: &HostRuntime,
+    folder: &str,
+    host: &mut Living,
+    link: &mut HostLink,
+    clock: &mut StdClock<HostRuntime>,
+    hosting: &mut Hosting,
+) -> bool {
+    let number = host.client.who().host.0;
     let Ok(inc) = next_inc(rt, folder) else {
         return false;
     };
-    if !desk.begin_again(Who { host, inc }) {
+    let who = Who {
+        host: Host(number),
+        inc,
+    };
+    if !begin_again(rt.alloc(), who, host, link, clock, hosting) {
         return false;
     }
     for _look in 0..FAREWELL {
-        desk.hear();
-        if desk.is_ready() {
+        hear(rt.alloc(), host, link, clock, hosting);
+        if host.client.is_attached() && host.client.call_under_way().is_none() {
             return true;
         }
         pause(rt);

@@ -108,3 +108,7 @@ start-idle who term = record { leases = refl; call = refl; dirty = refl; push = 
 pub start-seq : (who : Who) (term : ℕ) → (attached_client who term 0).seq ≡ 1
 unfolding attached_client fresh_client
 start-seq who term = refl
+
+pub start-who : (who : Who) (term : ℕ) → (attached_client who term 0).who ≡ who
+unfolding attached_client fresh_client
+start-who who term = refl

@@ -77,6 +77,9 @@ grant-leases {revisions = revisions} {file = file} {g = g} less from h = record 
 }
 
 module _ (s : Server) (ps : List Packet) where
+  table : Table
+  table = standing s
+
   mid-leases : (v : View) (less : List Lease) → ((file : ℕ) (l : Lease) → lease_on file less ≡ Some l → WasLease v.leases file l)
       → ((file : ℕ) (l : Lease) → is_clean_in file v.dirty v.push ≡ false → lease_on file v.leases ≡ Some l → StillLease less file l) → Mid s ps v
       → Mid s ps (record v { leases = less })
