@@ -25,6 +25,7 @@ pub mod Passing
 pub mod Printing
 pub mod SaidFound
 pub mod SpanWords
+pub mod Shortened
 pub mod Splitting
 pub mod Whole
 pub mod WordsCuts

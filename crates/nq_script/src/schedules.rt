@@ -64,7 +64,7 @@ impl Schedule {
     pub fn drop_last(&mut self)
         ensures { self.new ≡ take (length self.old - 1) self.old }
     {
-        let left = self.kept.len().saturating_sub(1);
+        let left = self.len().saturating_sub(1);
         self.kept.truncate(left);
     }
 

@@ -7,8 +7,8 @@ use Rattle.nq_lease.proofs.Keeping.{stands, end-there, kept-added, kept-replaced
 use Rattle.nq_lease.proofs.Order.{put-new, put-old}
 use Rattle.nq_lease.proofs.changes.put_row.Goals as goal
 
-pub take-requires-clause-there : goal.take-requires-clause-there
-take-requires-clause-there c =
+pub take_end-requires-clause-there : goal.take_end-requires-clause-there
+take_end-requires-clause-there c =
     let row = c.args.row.now in
     let rows = c.args.rows.now.items in
     let place : c.place_of-place.result ≡ prefix_len (is_before row.file row.who.host) rows = rw (← c.as_slice.ensures.value) c.place_of-place.ensures in

@@ -11,8 +11,8 @@ returns-in-None-clause-rows c =
     let none : find_row c.args.file c.args.host c.args.rows.now.items ≡ None = rw (← c.as_slice-2.ensures.value) (sym c.at_place.ensures ∙ c.in-None.is) in
     sym (filter-none (is_row_of c.args.file c.args.host) c.args.rows.now.items none)
 
-pub take-requires-clause-there : goal.take-requires-clause-there
-take-requires-clause-there c =
+pub take_end-requires-clause-there : goal.take_end-requires-clause-there
+take_end-requires-clause-there c =
     let rows = c.args.rows.now.items in
     let place : c.place_of-place.result ≡ prefix_len (is_before c.args.file c.args.host) rows = rw (← c.as_slice.ensures.value) c.place_of-place.ensures in
     let there : find_row c.args.file c.args.host rows ≡ Some c.in-Some.old = rw (← c.as_slice-2.ensures.value) (sym c.at_place.ensures ∙ c.in-Some.is) in
