@@ -165,5 +165,3 @@ delayed-later who file block number v f b n above = case (same_who who who && fi
 
 pub delayed-other : (who w : Who) (file block number v f b n : ℕ) → w ≢ who → delayed_by (Entry.W who file block number v false) w f b n ≡ None
 delayed-other who w file block number v f b n apart = rw (who-differs who w apart) refl
-
-module _ (journal : List Entry) (first : ℕ → ℕ) (next : ℕ) (ps : List Packet) where

@@ -1,7 +1,6 @@
 -- What a server has drawn, and which terms and rows stand before a request is served.
-use Rattle.std.proofs.Common.{◌≡◌, ◌<◌, ◌≤◌, ◌⊎◌, ℕ, Bool, true, false, ◌==◌, List, [], ◌∷◌, Option, Some, None, if◌then◌else◌}
+use Rattle.std.proofs.Common.{◌≡◌, ◌<◌, ◌≤◌, ◌⊎◌, ℕ, Bool, true, false, ◌==◌, List, [], ◌∷◌, Some, None, if◌then◌else◌}
 use Rattle.std.proofs.Common.{refl, sym, subst, ap, ◌∙◌, arith, inl, inr}
-use Rattle.nq_base.specs.declared.Event.{Event}
 use Rattle.nq_base.specs.declared.HostRow.{HostRow}
 use Rattle.nq_base.specs.declared.Reply.{Reply}
 use Rattle.nq_base.specs.declared.Request.{Request}
@@ -10,7 +9,6 @@ use Rattle.nq_base.specs.declared.Tag.{Tag}
 use Rattle.nq_base.specs.declared.Verdict.{Verdict}
 use Rattle.nq_base.specs.declared.Who.{Who}
 use Rattle.walk_steps.proofs.ClientMoves.{some-same, none-some}
-use Rattle.walk_steps.proofs.Hearing.{Hearing}
 use Rattle.walk_steps.proofs.KeptChanges.{other-line}
 use Rattle.walk_steps.proofs.Packets.{In}
 use Rattle.walk_steps.proofs.RowChanges.{HasUniqueKeys, of-key, own-key}
@@ -19,10 +17,9 @@ use Rattle.walk_steps.proofs.ServerKnows.{LineMoves, line_stays}
 use Rattle.walk_steps.proofs.ServerOutcomes.{line_of, IsPlain, unattached, attached_again, not_yet, no_entry, entry, no_attributes}
 use Rattle.walk_steps.proofs.ServerOutcomes.{attributes, no_file, no_block, decided_again, is_old}
 use Rattle.walk_steps.proofs.TagFacts.{IsDrawn}
-use Rattle.nq_model.specs.protocol.Client.{Lease, Notice, Ticket}
 use Rattle.nq_model.specs.protocol.Decide.{verdict_reply}
 use Rattle.nq_model.specs.protocol.Kept.{Kept, with_row, host_row}
-use Rattle.nq_model.specs.protocol.Message.{Packet, Datagram}
+use Rattle.nq_model.specs.protocol.Message.{Packet}
 use Rattle.nq_model.specs.protocol.Message.{sequence_of}
 use Rattle.nq_model.specs.protocol.Profile.{shortest_term, granted_term}
 use Rattle.nq_model.specs.protocol.Server.{serving, Server, standing}
@@ -115,7 +112,3 @@ line-after kept other row ps host own is = step (host == other) refl
     step : (b : Bool) → (host == other) ≡ b → LineMoves ps host (host_row kept host) (host_row (with_row kept other row) host)
     step true e = let same : host ≡ other = same-number host other e in subst (λ l. LineMoves ps host (host_row kept host) l) (sym (is same)) (own same)
     step false e = line_stays (other-line kept other host row (λ same. let yes : (host == other) ≡ true = number-same host other same in absurd (cc)))
-
-module _ (ps : List Packet) (s : Server) (most sender next : ℕ) (d : Datagram) (events : List Event) (who : Who) (now xid : ℕ) (attached : Bool)
-    (ticket : Option Ticket) (leased : List Lease) (noticed : List Notice)
-    (hearing : Hearing ps s most sender d events who now xid attached ticket leased noticed) where
