@@ -7,8 +7,8 @@ use Rattle.nq_client.proofs.step.Step.meets.Goals as goal
 pub returns-in-Push : goal.returns-in-Push
 returns-in-Push c = c.pushes.ensures ∙ sym (ap (λ (need : Need). meets (step_of c.args.self.now) need) c.in-Push.is)
 
-pub returns-in-Write : goal.returns-in-Write
-returns-in-Write c = c.sends_write.ensures ∙ sym (ap (λ (need : Need). meets (step_of c.args.self.now) need) c.in-Write.is)
+pub returns-in-Through : goal.returns-in-Through
+returns-in-Through c = c.sends_write.ensures ∙ sym (ap (λ (need : Need). meets (step_of c.args.self.now) need) c.in-Through.is)
 
 pub returns-in-Ask : goal.returns-in-Ask
 returns-in-Ask c = c.sends_request.ensures ∙ sym (ap (λ (need : Need). meets (step_of c.args.self.now) need) c.in-Ask.is)
