@@ -1,5 +1,4 @@
-use Rattle.std.proofs.Common.{refl}
 use Rattle.nqnfs.proofs.top.ran.Goals as goal
 
-pub returns : goal.returns
-returns g c = record { never = λ nothing. c.run-ended.ensures.never (rw nothing tt); known = λ usage. c.run-ended.ensures.known refl usage }
+pub returns-clause-never : goal.returns-clause-never
+returns-clause-never g c = λ nothing. c.run-ended.ensures.never (rw nothing tt)
