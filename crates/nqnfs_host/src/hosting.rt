@@ -31,6 +31,14 @@ const FIRST_NUMBER: u32 = 1 << 31;
 const STILL_DELAYED: &[u8] =
     b"delayed writes are not stored yet, so the host goes on; a signal ends it, and then they are lost";
 
+/// The number of a file, if there is one.
+fn number_of(file: Option<FileId>) -> Option<u32> {
+    match file {
+        Some(file) => Some(file.0),
+        None => None,
+    }
+}
+
 /// What a host does for those who ask it.
 #[derive(Drop)]
 pub(crate) struct Hosting {
@@ -68,7 +76,8 @@ impl Askers for Hosting {
     fn tend(&mut self) -> bool {
         self.door.let_in();
         let came = self.door.read();
-        self.door.write(self.at_work(), self.desk.next_place());
+        let (at_work, next) = (self.at_work(), self.desk.next_place());
+        self.door.write(at_work, next);
         if let Some((place, number)) = self.door.next_end() {
             self.desk.hold_end(place, number);
         }
@@ -80,6 +89,7 @@ impl Askers for Hosting {
     }
 
     fn next_call(&mut self, now: u64, delayed: Option<FileId>) -> Option<Call> {
+        let delayed = number_of(delayed);
         for _ask in 0..MOST_ASKS {
             if self.desk.wants_end() {
                 return None;
@@ -266,7 +276,7 @@ impl Hosting {
 
     /// Takes up what is to be done next: what was put aside, else tidying up, else an ask, else storing what is delayed, else a look after
     /// bytes that were stored. Whether there was anything.
-    fn take_up(&mut self, now: u64, delayed: Option<FileId>) -> bool {
+    fn take_up(&mut self, now: u64, delayed: Option<u32>) -> bool {
         if self.desk.resume() {
             return true;
         }
@@ -306,13 +316,13 @@ impl Hosting {
     }
 
     /// Begins to store what is delayed, where nobody has asked for a while. Whether there was anything.
-    fn take_delayed(&mut self, now: u64, delayed: Option<FileId>) -> bool {
+    fn take_delayed(&mut self, now: u64, delayed: Option<u32>) -> bool {
         if now.saturating_sub(self.asked) < QUIET {
             return false;
         }
         match delayed {
-            Some(file) => {
-                self.desk.begin(Work::sync(self.alloc, file));
+            Some(number) => {
+                self.desk.begin(Work::sync(self.alloc, FileId(number)));
                 true
             }
             None => false,
