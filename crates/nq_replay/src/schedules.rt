@@ -8,7 +8,7 @@ ghost use Rattle.nq_base.specs.declared.ending.ending.Ending.{Ending};
 ghost use Rattle.nq_journal.specs.Text.{Has, IsVersion};
 ghost use Rattle.nq_keeper.specs.StoredKeeper.{empty_kept};
 ghost use Rattle.nq_replay.specs.AsidesGoing.{Comes};
-ghost use Rattle.nq_replay.specs.AsidesPlaying.{Ended};
+ghost use Rattle.nq_replay.specs.AsidesPlaying.{Ended as EndedPlay};
 ghost use Rattle.nq_replay.specs.Going.{said};
 ghost use Rattle.nq_replay.specs.Playing.{beginning, play};
 ghost use Rattle.nq_replay.specs.declared.play.played.Played.{Played};
@@ -122,10 +122,10 @@ fn tell<L: Keeper, K: Sink>(
     requires version { IsVersion version }
     requires has { played ≡ Played.All → All (Has version) world.now.entries }
     requires stops { said played ≡ Stepped.Done → played ≡ Played.All }
-    ensures ends { (head : Head) (due : Ended (List Event)) → head.version ≡ version → Comes played due (λ events. Plays (beginning head) events world.now
+    ensures ends { (head : Head) (due : EndedPlay (List Event)) → head.version ≡ version → Comes played due (λ events. Plays (beginning head) events world.now
         (L.content world.now.server.keeper))
         → EndsOver result head due (K.held out.old) (K.held out.new) (K.faults out.old) (K.faults out.new) }
-    ensures keeps { result ≡ Ending.Done → (head : Head) (due : Ended (List Event)) → Comes played due (λ events. Plays (beginning head) events world.now
+    ensures keeps { result ≡ Ending.Done → (head : Head) (due : EndedPlay (List Event)) → Comes played due (λ events. Plays (beginning head) events world.now
         (L.content world.now.server.keeper))
         → KeepsPlayed head due (L.content world.now.server.keeper) }
     ensures counts { (before count : ℕ) → CountsFaults (said played) before count → CountsKeeper result before count }
