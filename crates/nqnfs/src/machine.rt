@@ -25,7 +25,6 @@ const IMAGE: &str = "nqnfs.img";
 /// Runs what the words say, with the links of a loop and the link of the party that they name; the status.
 pub(crate) fn run(rt: &HostRuntime, words: &CommandWords) -> Result<u8, NoMemory>
     ensures never { IfOk result (λ status. command_of words.now ≡ None → status ≡ status_of Ending.Usage) }
-    ensures known { IfOk result (λ status. status ≡ status_of Ending.Usage → command_of words.now ≡ None) }
 {
     let parties = parties_of(rt.alloc(), words)?;
     let mut links = links_of(rt, parties.as_slice())?;
@@ -56,7 +55,6 @@ fn run_over<D: Disk + Drop>(
     requires lasts { place_of (command_of words.now) ≡ Place.File → D.told disk ≡ None }
     requires links { (hosts turns : ℕ) → command_of words.now ≡ Some (Command.Loop hosts turns) → length links.old ≡ hosts + 1 }
     ensures never { IfOk result (λ status. command_of words.now ≡ None → status ≡ status_of Ending.Usage) }
-    ensures known { IfOk result (λ status. status ≡ status_of Ending.Usage → command_of words.now ≡ None) }
 {
     let alloc = rt.alloc();
     let mut clock = StdClock::new(rt.clone()?);

@@ -18,8 +18,8 @@ use nq_run::{
 };
 use std::alloc::Global;
 
-/// Runs what the words say, with the four fates. The status is that of usage exactly where they say no command. What else `run` promises is said
-/// there. The words that want the file get a disk that lasts, which is none that tells its bytes.
+/// Runs what the words say, with the four fates. Where they say no command the status is that of usage. What else `run` promises is said there. The
+/// words that want the file get a disk that lasts, which is none that tells its bytes.
 pub(crate) fn ran<S: Source, K: Sink, D: Disk + Drop, L: Link, C: Clock>(
     alloc: Global,
     words: &CommandWords,
@@ -34,8 +34,6 @@ pub(crate) fn ran<S: Source, K: Sink, D: Disk + Drop, L: Link, C: Clock>(
     requires lasts { place_of (command_of words.now) ≡ Place.File → D.told disk ≡ None }
     requires links { (hosts turns : ℕ) → command_of words.now ≡ Some (Command.Loop hosts turns) → length links.old ≡ hosts + 1 }
     ensures never { IfOk result (λ ended. command_of words.now ≡ None → ended.end ≡ status_of Ending.Usage) }
-    // Refuses a list of fates that lacks one of the four.
-    ensures known { IfOk result (λ ended. ended.end ≡ status_of Ending.Usage → command_of words.now ≡ None) }
 {
     let mut fates: Vec<Box<dyn Fate>> = Vec::new(alloc);
     fates.push(Box::new(alloc, SteadyFate::new())?)?;
