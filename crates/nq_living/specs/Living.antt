@@ -1,9 +1,10 @@
--- A host that lives, as the steps that it makes one after another. Below, `gives`, `takes` and `stirs` say what those who ask are after they have given
--- a call or none, have taken an answer, or did something else.
+-- A host that lives, as the steps that it makes one after another. Below, `gives`, `takes`, `notes` and `stirs` say what those who ask are after they
+-- have given a call or none, have taken an answer, were told the entries of a step, or did something else.
 use Rattle.std.specs.Prelude.{◌≡◌, ◌&&◌, ℕ, zero, suc, Bool, true, List, [], Option, Some, None, Result, Ok, Err, is_none}
 use Rattle.nq_base.specs.Entries.{EntryList}
 use Rattle.nq_base.specs.declared.Answer.{Answer}
 use Rattle.nq_base.specs.declared.Call.{Call}
+use Rattle.nq_base.specs.declared.Entry.{Entry}
 use Rattle.nq_base.specs.declared.Party.{Party}
 use Rattle.nq_base.specs.declared.ending.fault.Fault.{Fault}
 use Rattle.nq_calling.specs.Calling.{CallsNow}
@@ -53,35 +54,36 @@ Hands takes (Some answer) askers askers' = takes askers answer askers'
 -- ---- steps
 
 -- a turn, with a journal that is empty at first and that those who ask are told, and its answer goes to them
-pub record Turns {A : Type 0} (takes : A → Answer → A → Type 0) (stirs : A → A → Type 0) (at after : Life A) : Type 0 where
+pub record Turns {A : Type 0} (takes : A → Answer → A → Type 0) (notes : A → List Entry → A → Type 0) (at after : Life A) : Type 0 where
   pub ended : Result (Option Answer) Fault
   pub log : EntryList
   pub silent : log.entries ≡ []
   pub noted : EntryList
   pub turn : AttendsTurn ended at.next after.next at.clock after.clock at.link after.link at.client after.client log noted
   pub told : A
-  pub notes : stirs at.askers told
+  pub tells : notes at.askers noted.entries told
   pub hands : Hands takes (brought ended) told after.askers
 
 -- a call was made directly behind a turn that read the clock once, and its answer goes to those who gave it
-pub record Makes {A : Type 0} (takes : A → Answer → A → Type 0) (stirs : A → A → Type 0) (call : Call) (at after : Life A) : Type 0 where
+pub record Makes {A : Type 0} (takes : A → Answer → A → Type 0) (notes : A → List Entry → A → Type 0) (call : Call)
+    (at after : Life A) : Type 0 where
   pub answer : Answer
   pub log : EntryList
   pub silent : log.entries ≡ []
   pub noted : EntryList
   pub now : CallsNow call answer at.next after.next at.clock after.clock at.link after.link at.client after.client log noted
   pub told : A
-  pub notes : stirs at.askers told
+  pub tells : notes at.askers noted.entries told
   pub hands : Hands takes (final answer) told after.askers
 
 -- those who ask gave a call while no other one was under way, and it was made
-pub record Calls {A : Type 0} (gives : A → Option Call → A → Type 0) (takes : A → Answer → A → Type 0) (stirs : A → A → Type 0)
-    (at after : Life A) : Type 0 where
+pub record Calls {A : Type 0} (gives : A → Option Call → A → Type 0) (takes : A → Answer → A → Type 0)
+    (notes : A → List Entry → A → Type 0) (at after : Life A) : Type 0 where
   pub ready : is_ready at.client.client ≡ true
   pub call : Call
   pub given : A
   pub gave : gives at.askers (Some call) given
-  pub makes : Makes takes stirs call (record at { askers = given }) after
+  pub makes : Makes takes notes call (record at { askers = given }) after
 
 -- those who ask gave no call, and nothing else changed
 abbrev pub GivesNone : {A : Type 0} → (gives : A → Option Call → A → Type 0) → (at after : Life A) → Type 0
@@ -115,23 +117,23 @@ Pages stirs at after =
     TurnsPage stirs at.link after.link at.askers after.askers × (after ≡ record at { link = after.link; askers = after.askers })
 
 -- one step of a host that lives: a turn, a call, no call, a page of a list, or what those who ask do by themselves
-pub data Step (A : Type 0) (gives : A → Option Call → A → Type 0) (takes : A → Answer → A → Type 0) (stirs : A → A → Type 0)
-    (at after : Life A) : Type 0 where
-  turned : Turns takes stirs at after → Step A gives takes stirs at after
-  called : Calls gives takes stirs at after → Step A gives takes stirs at after
-  idle : GivesNone gives at after → Step A gives takes stirs at after
-  paged : Pages stirs at after → Step A gives takes stirs at after
-  stirred : Stirs stirs at after → Step A gives takes stirs at after
+pub data Step (A : Type 0) (gives : A → Option Call → A → Type 0) (takes : A → Answer → A → Type 0) (notes : A → List Entry → A → Type 0)
+    (stirs : A → A → Type 0) (at after : Life A) : Type 0 where
+  turned : Turns takes notes at after → Step A gives takes notes stirs at after
+  called : Calls gives takes notes at after → Step A gives takes notes stirs at after
+  idle : GivesNone gives at after → Step A gives takes notes stirs at after
+  paged : Pages stirs at after → Step A gives takes notes stirs at after
+  stirred : Stirs stirs at after → Step A gives takes notes stirs at after
 
 -- so many steps one after another
-abbrev pub Lives : {A : Type 0} → (gives : A → Option Call → A → Type 0) → (takes : A → Answer → A → Type 0) → (stirs : A → A → Type 0)
-    → (count : ℕ) → (at after : Life A) → Type 0
-Lives gives takes stirs zero at after = after ≡ at
-Lives {A = A} gives takes stirs (suc count) at after =
-    (between : Life A) × Lives gives takes stirs count at between × Step A gives takes stirs between after
+abbrev pub Lives : {A : Type 0} → (gives : A → Option Call → A → Type 0) → (takes : A → Answer → A → Type 0)
+    → (notes : A → List Entry → A → Type 0) → (stirs : A → A → Type 0) → (count : ℕ) → (at after : Life A) → Type 0
+Lives gives takes notes stirs zero at after = after ≡ at
+Lives {A = A} gives takes notes stirs (suc count) at after =
+    (between : Life A) × Lives gives takes notes stirs count at between × Step A gives takes notes stirs between after
 
 -- some steps one after another
-pub record Lived {A : Type 0} (gives : A → Option Call → A → Type 0) (takes : A → Answer → A → Type 0) (stirs : A → A → Type 0)
-    (at after : Life A) : Type 0 where
+pub record Lived {A : Type 0} (gives : A → Option Call → A → Type 0) (takes : A → Answer → A → Type 0) (notes : A → List Entry → A → Type 0)
+    (stirs : A → A → Type 0) (at after : Life A) : Type 0 where
   pub count : ℕ
-  pub lives : Lives gives takes stirs count at after
+  pub lives : Lives gives takes notes stirs count at after

@@ -1,8 +1,9 @@
 //! Those who ask a host.
 
-ghost use Rattle.std.specs.Prelude.{Option, Some};
+ghost use Rattle.std.specs.Prelude.{List, Option, Some};
 ghost use Rattle.nq_base.specs.declared.Answer.{Answer};
 ghost use Rattle.nq_base.specs.declared.Call.{Call};
+ghost use Rattle.nq_base.specs.declared.Entry.{Entry};
 
 use nq_base::{Answer, Call, FileId, Journal};
 
@@ -23,6 +24,9 @@ pub trait Askers {
     /// Whether the second is the first one after it has taken this answer to the call that it gave last.
     ghost takes: { Self → Answer → Self → Type 0 };
 
+    /// Whether the second is the first one after it was told that a step of the client made these entries.
+    ghost notes: { Self → List Entry → Self → Type 0 };
+
     /// Whether the second is the first one after it did something else.
     ghost stirs: { Self → Self → Type 0 };
 
@@ -37,7 +41,7 @@ pub trait Askers {
 
     /// Is told what a step of the client did, before anything goes out that came of it.
     fn note(&mut self, log: &Journal)
-        ensures { stirs self.old self.new };
+        ensures { notes self.old log.now.entries self.new };
 
     /// The call that is made next, if any. The client shows this time in ticks, and delays writes of this file for the longest time, if of any.
     fn next_call(&mut self, now: u64, delayed: Option<FileId>) -> Option<Call>

@@ -25,7 +25,7 @@ pub(crate) fn call_on<L: Line, C: Clock, A: Askers>(
     clock: &mut C,
     askers: &mut A,
 ) -> bool
-    ensures { Lived A.gives A.takes A.stirs
+    ensures { Lived A.gives A.takes A.notes A.stirs
         (life host.old (clock_told C.floor C.readings C.reads clock.old) (link_told L.sent L.waiting L.faults L.receives link.old) askers.old)
         (life host.new (clock_told C.floor C.readings C.reads clock.new) (link_told L.sent L.waiting L.faults L.receives link.new) askers.new) }
 {
@@ -49,7 +49,7 @@ fn call_next<L: Line, C: Clock, A: Askers>(
     askers: &mut A,
 ) -> bool
     requires { is_ready host.old.client.client ≡ true }
-    ensures { Lived A.gives A.takes A.stirs
+    ensures { Lived A.gives A.takes A.notes A.stirs
         (life host.old (clock_told C.floor C.readings C.reads clock.old) (link_told L.sent L.waiting L.faults L.receives link.old) askers.old)
         (life host.new (clock_told C.floor C.readings C.reads clock.new) (link_told L.sent L.waiting L.faults L.receives link.new) askers.new) }
 {
@@ -70,7 +70,7 @@ pub(crate) fn make<L: Line, C: Clock, A: Askers>(
     askers: &mut A,
     call: &Call,
 ) -> bool
-    ensures { Makes A.takes A.stirs call.now
+    ensures { Makes A.takes A.notes call.now
         (life host.old (clock_told C.floor C.readings C.reads clock.old) (link_told L.sent L.waiting L.faults L.receives link.old) askers.old)
         (life host.new (clock_told C.floor C.readings C.reads clock.new) (link_told L.sent L.waiting L.faults L.receives link.new) askers.new) }
 {

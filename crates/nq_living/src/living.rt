@@ -40,7 +40,7 @@ pub fn live<L: Line, C: Clock, A: Askers>(
     askers: &mut A,
     rounds: u64,
 ) -> End
-    ensures { Lived A.gives A.takes A.stirs
+    ensures { Lived A.gives A.takes A.notes A.stirs
         (life host.old (clock_told C.floor C.readings C.reads clock.old) (link_told L.sent L.waiting L.faults L.receives link.old) askers.old)
         (life host.new (clock_told C.floor C.readings C.reads clock.new) (link_told L.sent L.waiting L.faults L.receives link.new) askers.new) }
 {
@@ -62,7 +62,7 @@ fn live_on<L: Line, C: Clock, A: Askers>(
     askers: &mut A,
     is_busy: &mut bool,
 ) -> Option<End>
-    ensures { Lived A.gives A.takes A.stirs
+    ensures { Lived A.gives A.takes A.notes A.stirs
         (life host.old (clock_told C.floor C.readings C.reads clock.old) (link_told L.sent L.waiting L.faults L.receives link.old) askers.old)
         (life host.new (clock_told C.floor C.readings C.reads clock.new) (link_told L.sent L.waiting L.faults L.receives link.new) askers.new) }
 {
@@ -88,7 +88,7 @@ fn round<L: Line, C: Clock, A: Askers>(
     clock: &mut C,
     askers: &mut A,
 ) -> bool
-    ensures { Lived A.gives A.takes A.stirs
+    ensures { Lived A.gives A.takes A.notes A.stirs
         (life host.old (clock_told C.floor C.readings C.reads clock.old) (link_told L.sent L.waiting L.faults L.receives link.old) askers.old)
         (life host.new (clock_told C.floor C.readings C.reads clock.new) (link_told L.sent L.waiting L.faults L.receives link.new) askers.new) }
 {

@@ -25,7 +25,7 @@ pub fn hear<L: Line, C: Clock, A: Askers>(
     clock: &mut C,
     askers: &mut A,
 )
-    ensures { Lived A.gives A.takes A.stirs
+    ensures { Lived A.gives A.takes A.notes A.stirs
         (life host.old (clock_told C.floor C.readings C.reads clock.old) (link_told L.sent L.waiting L.faults L.receives link.old) askers.old)
         (life host.new (clock_told C.floor C.readings C.reads clock.new) (link_told L.sent L.waiting L.faults L.receives link.new) askers.new) }
 {
@@ -45,7 +45,7 @@ fn turn<L: Line, C: Clock, A: Askers>(
     clock: &mut C,
     askers: &mut A,
 )
-    ensures { Lived A.gives A.takes A.stirs
+    ensures { Lived A.gives A.takes A.notes A.stirs
         (life host.old (clock_told C.floor C.readings C.reads clock.old) (link_told L.sent L.waiting L.faults L.receives link.old) askers.old)
         (life host.new (clock_told C.floor C.readings C.reads clock.new) (link_told L.sent L.waiting L.faults L.receives link.new) askers.new) }
 {

@@ -28,7 +28,8 @@ struct Ender {
 }
 
 /// What a host has to do: the work for one ask, or for none; what was put aside for it; the ask that is next; and the one that wants it to end.
-/// Contracts see whose they are, and the numbers of the asks. Each ask stands at one of these until it is answered.
+/// Contracts see whose they are, and the numbers of the asks.
+/// Where its answer comes an ask leaves the desk; that none is begun over another one, whoever uses it has to see to.
 #[derive(Drop)]
 pub struct Desk {
     alloc: Global,
@@ -104,6 +105,14 @@ impl Desk {
     pub fn next_place(&self) -> usize {
         match &self.held {
             Some(held) => held.place,
+            None => NOBODY,
+        }
+    }
+
+    /// The place of whoever asked what was put aside; that of nobody, where nobody did.
+    pub fn aside_place(&self) -> usize {
+        match &self.aside {
+            Some(work) => work.place(),
             None => NOBODY,
         }
     }

@@ -121,13 +121,13 @@ impl Door {
         came
     }
 
-    /// Sends what is owed to askers, and lets those go who are gone, but for those at two places, whose asks are at work or come next.
-    pub(crate) fn write(&mut self, at_work: usize, next: usize) {
+    /// Sends what is owed to askers, and lets those go who are gone, but for those at these places, whose asks are not answered yet.
+    pub(crate) fn write(&mut self, at_work: usize, next: usize, aside: usize) {
         for (place, asker) in self.askers.iter_mut().enumerate() {
             let mut is_over = false;
             if let Some(asker) = asker {
                 asker.write();
-                is_over = asker.is_over && place != at_work && place != next;
+                is_over = asker.is_over && place != at_work && place != next && place != aside;
             }
             if is_over {
                 *asker = None;
@@ -135,19 +135,18 @@ impl Door {
         }
     }
 
-    /// Takes an ask out that wants the host to end: its place and its number.
+    /// Takes an ask out that wants the host to end: its place and its number. Those of others stay.
     pub(crate) fn next_end(&mut self) -> Option<(usize, u32)> {
-        let mut ender = None;
         for (place, asker) in self.askers.iter_mut().enumerate() {
             if let Some(asker) = asker {
                 if asker.says_end() {
                     if let Some(ask) = asker.next_ask() {
-                        ender = Some((place, ask.number));
+                        return Some((place, ask.number));
                     }
                 }
             }
         }
-        ender
+        None
     }
 
     /// Takes the next ask out, from each asker in turn, with its place.

@@ -67,6 +67,8 @@ impl Askers for Hosting {
 
     ghost takes = { λ _ _ _. ⊤ };
 
+    ghost notes = { λ _ _ _. ⊤ };
+
     ghost stirs = { λ _ _. ⊤ };
 
     fn wait(&mut self, is_busy: bool) -> bool {
@@ -77,10 +79,9 @@ impl Askers for Hosting {
         self.door.let_in();
         let came = self.door.read();
         let (at_work, next) = (self.at_work(), self.desk.next_place());
-        self.door.write(at_work, next);
-        if let Some((place, number)) = self.door.next_end() {
-            self.desk.hold_end(place, number);
-        }
+        let aside = self.desk.aside_place();
+        self.door.write(at_work, next, aside);
+        self.hear_end();
         came
     }
 
@@ -181,6 +182,16 @@ impl Hosting {
             listed: 0,
             asked: 0,
             looked: 0,
+        }
+    }
+
+    /// Hears who wants it to end, one at a time.
+    fn hear_end(&mut self) {
+        if self.desk.wants_end() {
+            return;
+        }
+        if let Some((place, number)) = self.door.next_end() {
+            self.desk.hold_end(place, number);
         }
     }
 
