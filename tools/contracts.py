@@ -30,8 +30,18 @@ def of_text(crate, text, into):
         if found or in_trait:
             name = (found or in_trait).group(1)
             said = []
-            while at < len(lines) and lines[at].strip() not in ("{", "{}") and not lines[at].rstrip().endswith(";"):
-                said.append(" ".join(lines[at].split()))
+            is_clause, braces, brackets = False, 0, 0
+            while at < len(lines):
+                line = lines[at].strip()
+                if line in ("{", "{}") and braces == 0 and brackets == 0:
+                    break
+                said.append(" ".join(line.split()))
+                is_clause = is_clause or re.match(r"(requires|ensures|ghost)\b", line) is not None
+                braces += line.count("{") - line.count("}")
+                brackets += line.count("(") - line.count(")")
+                # A declaration ends in `;`, and a function with no clause in the brace of its body. A record within a clause has both.
+                if brackets == 0 and (braces == 0 and line.endswith((";", "{}")) or not is_clause and braces == 1 and line.endswith("{")):
+                    break
                 at += 1
             into[crate, place, name] = [one for one in said if one]
         at += 1
