@@ -15,7 +15,7 @@ ghost use Rattle.nq_world.specs.Playing.{HasSettings, Plays};
 
 use crate::printing::print_loop;
 use crate::schedules::loop_head;
-use crate::state::LoopState;
+use crate::state::{LoopState, LoopWorld};
 use crate::taking::take_turns;
 use crate::turns::Halt;
 use nq_base::ending::{Ended, Ending};
@@ -111,20 +111,21 @@ fn loop_over<P: Keeper, K: Sink, L: Link, C: Clock>(
     ensures sink { CountsSink result.end (K.faults out.old) (K.faults out.new) }
     ensures follows { P.follows world.server.keeper result.left }
 {
-    let mut world = world;
-    let Ok(mut ran) = Schedule::new(alloc) else {
+    let Ok(ran) = Schedule::new(alloc) else {
         return Ended {
             end: Ending::Memory,
             left: world.into_keeper(),
         };
     };
-    let Ok(mut state) = LoopState::new(alloc, hosts) else {
+    let Ok(state) = LoopState::new(alloc, hosts) else {
         return Ended {
             end: Ending::Memory,
             left: world.into_keeper(),
         };
     };
-    let last = take_turns(alloc, &mut world, links, clock, &mut state, &mut ran, turns);
+    let mut looping = LoopWorld { world, state, ran };
+    let last = take_turns(alloc, &mut looping, links, clock, turns);
+    let LoopWorld { world, state, ran } = looping;
     let end = tell(alloc, head, &world, &ran, last, out);
     Ended {
         end,
