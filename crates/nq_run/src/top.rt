@@ -36,6 +36,7 @@ use nq_command::{Command, CommandWords};
 use nq_disk::Disk;
 use nq_io::{Sink, Source};
 use nq_link::Link;
+use nq_loop::LoopPlan;
 use nq_service::{ServePlan, format_disk, serve_disk};
 use nq_storm::StormPlan;
 use nq_storm::fates::Fate;
@@ -203,7 +204,7 @@ fn run_command<S: Source, K: Sink, D: Disk + Drop, L: Link, C: Clock>(
             },
         ) => stormed(alloc, disk, fates, kind, StormPlan { start, events }, out),
         Some(Command::Loop { hosts, turns }) => {
-            looped(alloc, disk, hosts, turns, links, clock, out)
+            looped(alloc, disk, LoopPlan { hosts, turns }, links, clock, out)
         }
         Some(Command::Check) => Ended {
             end: checked(alloc, input, out, MOST_BYTES),
