@@ -2,6 +2,8 @@
 //! schedules that the page sends, and bends them.
 #![tactic(auto)]
 
+ghost use Rattle.nqnfs_lab.specs.Ends.{EndsOrder, IsSaid, IsServed};
+
 mod answers;
 mod desk;
 mod files;
@@ -16,7 +18,7 @@ use crate::files::file_of;
 use crate::peers::{serve_all, serve_once};
 use crate::words::{Options, Order, asked_of};
 use nq_base::ending::Ending;
-use nq_words::{Unread, args_of};
+use nq_words::{Unread, Wrong, args_of};
 use std::net::TcpListener;
 use std::process::ExitCode;
 
@@ -47,17 +49,18 @@ fn obey(rt: &HostRuntime) -> Ending {
             return Ending::Usage;
         }
     };
-    match asked_of(words.as_slice()) {
+    answer(rt, asked_of(words.as_slice()))
+}
+
+/// Does what is asked for; how that ends.
+fn answer(rt: &HostRuntime, order: Result<Order<'_>, Wrong<'_>>) -> Ending
+    ensures { EndsOrder order.entry result }
+{
+    match order {
         Ok(Order::Serve(options)) => serve(rt, options),
         Ok(Order::Once(options)) => once(rt, options),
-        Ok(Order::Help) => {
-            let _told = print!(rt; "{HELP}");
-            Ending::Done
-        }
-        Ok(Order::Version) => {
-            let _told = println!(rt; "nqnfs_lab 1");
-            Ending::Done
-        }
+        Ok(Order::Help) => say(rt, HELP),
+        Ok(Order::Version) => say(rt, "nqnfs_lab 1\n"),
         Err(wrong) => {
             let _told = eprintln!(rt; "nqnfs_lab: {wrong}; usage: {USAGE}");
             Ending::Usage
@@ -65,8 +68,20 @@ fn obey(rt: &HostRuntime) -> Ending {
     }
 }
 
+/// Prints a text.
+fn say(rt: &HostRuntime, text: &str) -> Ending
+    ensures { IsSaid result }
+{
+    match print!(rt; "{text}") {
+        Ok(()) => Ending::Done,
+        Err(_) => Ending::WriteFault,
+    }
+}
+
 /// Serves the page until the process is stopped.
-fn serve(rt: &HostRuntime, options: Options<'_>) -> Ending {
+fn serve(rt: &HostRuntime, options: Options<'_>) -> Ending
+    ensures { IsServed result }
+{
     let Options { port, web } = options;
     if file_of(rt, web, "/").is_none() {
         let _told = eprintln!(rt;
@@ -87,7 +102,9 @@ fn serve(rt: &HostRuntime, options: Options<'_>) -> Ending {
 }
 
 /// Answers the requests on the standard input; how that ends.
-fn once(rt: &HostRuntime, options: Options<'_>) -> Ending {
+fn once(rt: &HostRuntime, options: Options<'_>) -> Ending
+    ensures { IsSaid result }
+{
     let Options { port, web } = options;
     let mut desk = Desk::new(rt, port, web);
     match serve_once(rt, &mut desk) {

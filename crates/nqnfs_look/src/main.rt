@@ -7,6 +7,7 @@
 mod words;
 
 ghost use Rattle.std.specs.Prelude.{◌<◌, ◌^◌, length};
+ghost use Rattle.nqnfs_look.specs.Ends.{EndsOrder, IsPut};
 
 use crate::words::{Order, asked_of};
 use nq_base::ending::Ending;
@@ -15,7 +16,7 @@ use nq_io::{MemSink, MemSource, Put, Sink, Source, Whole, read_all};
 use nq_keeper::ListKeeper;
 use nq_observe::{Endless, Shown, Unseen, View, look};
 use nq_replay::{read_script, replay};
-use nq_words::{Unread, args_of};
+use nq_words::{Unread, Wrong, args_of};
 use std::io;
 use std::process::ExitCode;
 
@@ -52,7 +53,14 @@ fn obey(rt: &HostRuntime) -> Ending {
             return Ending::Usage;
         }
     };
-    match asked_of(words.as_slice()) {
+    answer(rt, asked_of(words.as_slice()))
+}
+
+/// Does what is asked for; how that ends.
+fn answer(rt: &HostRuntime, order: Result<Order, Wrong<'_>>) -> Ending
+    ensures { EndsOrder order.entry result }
+{
+    match order {
         Ok(Order::Show(view)) => show(rt, view),
         Ok(Order::Help) => print_page(rt, HELP.as_bytes(), Ending::Done),
         Ok(Order::Version) => print_page(rt, b"nqnfs_look 1\n", Ending::Done),
@@ -118,7 +126,9 @@ fn tell_fault(rt: &HostRuntime, text: &[u8]) -> Ending {
 }
 
 /// Puts bytes out; this end, or that of a sink that failed.
-fn print_page(rt: &HostRuntime, bytes: &[u8], end: Ending) -> Ending {
+fn print_page(rt: &HostRuntime, bytes: &[u8], end: Ending) -> Ending
+    ensures { IsPut end result }
+{
     let mut out = StdSink::new(io::writer(rt));
     match out.put(bytes) {
         Put::All => end,

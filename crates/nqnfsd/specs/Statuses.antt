@@ -103,7 +103,7 @@ IsWithoutFiles named end = (end ≡ Ending.Memory) ⊎ (named × (end ≡ Ending
 
 -- how the program ends that serves by these options: over their image, or with a fault of the words where a file that they name cannot be used
 abbrev pub EndsAt : Options → Ending → Type 0
-EndsAt options end = ((path : List ℕ) × EndsOver path end) ⊎ (NamesFiles options × (end ≡ Ending.Usage))
+EndsAt options end = EndsOver options.image.now end ⊎ (NamesFiles options × (end ≡ Ending.Usage))
 
 -- How the program ends that was told to do this. It ends with 0 only where it said what it was asked for, or took all its turns while its disk did
 -- not fail
