@@ -32,9 +32,10 @@ pub(crate) fn looped<K: Sink, D: Disk + Drop, L: Link, C: Clock>(
         (K.held out.old) (K.held out.new) (K.faults out.old) (K.faults out.new) (D.faults disk) (D.faults result.left) (D.told result.left) }
     ensures follows { D.follows disk result.left }
 {
+    let LoopPlan { hosts, turns } = plan;
     match emptied(alloc, disk) {
         Ok(store) => {
-            let finished = run_loop(alloc, store, plan, links, clock, out);
+            let finished = run_loop(alloc, store, LoopPlan { hosts, turns }, links, clock, out);
             Ended {
                 end: finished.end.status(),
                 left: finished.left.into_disk(),

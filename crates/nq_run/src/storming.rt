@@ -35,10 +35,17 @@ pub(crate) fn stormed<K: Sink, D: Disk + Drop>(
     ensures alone { result.end ≡ status_of Ending.Usage → result.left ≡ disk }
     ensures follows { D.follows disk result.left }
 {
+    let StormPlan { start, events } = plan;
     match place_of(fates, kind) {
         Some(place) => match emptied(alloc, disk) {
             Ok(store) => {
-                let finished = run_storm(alloc, store, &mut *fates[place], plan, out);
+                let finished = run_storm(
+                    alloc,
+                    store,
+                    &mut *fates[place],
+                    StormPlan { start, events },
+                    out,
+                );
                 Ended {
                     end: finished.end.status(),
                     left: finished.left.into_disk(),

@@ -37,7 +37,7 @@ use nq_disk::Disk;
 use nq_io::{Sink, Source};
 use nq_link::Link;
 use nq_loop::LoopPlan;
-use nq_service::{ServePlan, format_disk, serve_disk};
+use nq_service::{format_disk, serve_disk};
 use nq_storm::StormPlan;
 use nq_storm::fates::Fate;
 use std::alloc::Global;
@@ -193,7 +193,7 @@ fn run_command<S: Source, K: Sink, D: Disk + Drop, L: Link, C: Clock>(
     match words.command() {
         Some(Command::Format) => format_disk(disk),
         Some(Command::Serve { turns, longest }) => {
-            serve_disk(alloc, disk, ServePlan { turns, longest }, link, clock, out)
+            serve_disk(alloc, disk, turns, longest, link, clock, out)
         }
         Some(Command::Replay) => replayed(alloc, disk, input, out, MOST_BYTES),
         Some(

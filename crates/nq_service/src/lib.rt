@@ -8,4 +8,4 @@ pub mod recent;
 mod serving;
 
 pub use formatting::format_disk;
-pub use serving::{ServePlan, serve_disk};
+pub use serving::serve_disk;

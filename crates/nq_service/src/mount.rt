@@ -5,5 +5,5 @@ mod serving;
 mod survey;
 
 pub use opening::open_or_make;
-pub use serving::{Greeter, MountPlan, serve_image};
+pub use serving::{Greeter, serve_image};
 pub use survey::{Survey, surveyed};

@@ -26,15 +26,6 @@ const BOOT_PLACE: u64 = 8;
 /// The exit status where a byte of the image says that it cannot be served from.
 const BAD_IMAGE: u8 = 10;
 
-/// How long a server serves.
-#[derive(Clone, Copy)]
-pub struct ServePlan {
-    /// How many turns it takes.
-    pub turns: u32,
-    /// The longest term that it grants.
-    pub longest: u32,
-}
-
 /// Serves over the image on a disk for so many turns, as [`serve`] tells of the store that the disk opens as. What a stop at any
 /// moment of the call may leave on the disk opens, and stands for what was kept at first, or after some of the steps: the boot, and
 /// the ticks and datagrams of the turns.
@@ -46,14 +37,15 @@ pub struct ServePlan {
 pub fn serve_disk<D: Disk + Drop, L: Link, C: Clock, K: Sink>(
     alloc: Global,
     disk: D,
-    plan: ServePlan,
+    turns: u32,
+    longest: u32,
     link: &mut L,
     clock: &mut C,
     out: &mut K,
 ) -> Ended<u8, D>
-    requires long { 5 ≤ plan.longest }
-    requires short { plan.longest ≤ 600 }
-    ensures serves { ServesDisk D.told D.faults D.may_leave D.follows D.leaves result.end plan.longest plan.turns disk result.left
+    requires long { 5 ≤ longest }
+    requires short { longest ≤ 600 }
+    ensures serves { ServesDisk D.told D.faults D.may_leave D.follows D.leaves result.end longest turns disk result.left
         (clock_told C.floor C.readings C.reads clock.old) (clock_told C.floor C.readings C.reads clock.new)
         (link_told L.sent L.waiting L.faults L.receives link.old)
         (link_told L.sent L.waiting L.faults L.receives link.new)
@@ -61,7 +53,7 @@ pub fn serve_disk<D: Disk + Drop, L: Link, C: Clock, K: Sink>(
     ensures follows { D.follows disk result.left }
 {
     match Store::open(alloc, disk) {
-        Ok(store) => serve_store(alloc, store, plan, link, clock, out),
+        Ok(store) => serve_store(alloc, store, turns, longest, link, clock, out),
         Err(OpenFault::NotAnImage(disk)) => refuse(alloc, disk, 0, out),
         Err(OpenFault::BadField(disk, place)) => refuse(alloc, disk, place, out),
         Err(OpenFault::Failed(disk)) => ended_with(Ending::KeepFault, disk),
@@ -110,25 +102,26 @@ fn image_text(alloc: Global, place: u64) -> Result<String, NoMemory>
 fn serve_store<D: Disk + Drop, L: Link, C: Clock, K: Sink>(
     alloc: Global,
     store: Store<D>,
-    plan: ServePlan,
+    turns: u32,
+    longest: u32,
     link: &mut L,
     clock: &mut C,
     out: &mut K,
 ) -> Ended<u8, D>
-    requires long { 5 ≤ plan.longest }
-    requires short { plan.longest ≤ 600 }
+    requires long { 5 ≤ longest }
+    requires short { longest ≤ 600 }
     ensures serves { EndsServing D.told D.faults D.follows
         (λ ended served. LeavesServing (content_of D.told) (faults_of D.faults) LinkPolicy.Stop no_extension (GoesOn D.faults D.follows)
-        (λ first last. LeavesKept (D.leaves first.disk last.disk)) plan.longest plan.turns store ended served
+        (λ first last. LeavesKept (D.leaves first.disk last.disk)) longest turns store ended served
         (clock_told C.floor C.readings C.reads clock.old) (clock_told C.floor C.readings C.reads clock.new)
         (link_told L.sent L.waiting L.faults L.receives link.old)
         (link_told L.sent L.waiting L.faults L.receives link.new))
-        result.end plan.turns store result.left
+        result.end turns store result.left
         (link_told L.sent L.waiting L.faults L.receives link.old)
         (link_told L.sent L.waiting L.faults L.receives link.new)
         (K.held out.old) (K.held out.new) (K.faults out.old) (K.faults out.new) }
 {
-    let served = serve(alloc, store, plan.turns, plan.longest, link, clock, out);
+    let served = serve(alloc, store, turns, longest, link, clock, out);
     tell_end(alloc, served.end, served.left.into_disk(), out)
 }
 

@@ -12,7 +12,7 @@ mod words;
 
 use crate::memory::Resident;
 use crate::places::{Places, places_of};
-use crate::serving::{Console, Parts, Teller, parts_of, serve_disk};
+use crate::serving::{Parts, Teller, parts_of, serve_disk};
 use crate::words::{Options, Order, order_of};
 use nq_base::ending::Ending;
 use nq_diary::Diary;
@@ -126,14 +126,7 @@ fn serve_with(
             options.every,
         ),
     };
-    let ended = serve_disk(
-        Console { rt, image },
-        disk,
-        longest,
-        &mut link,
-        &mut clock,
-        &mut teller,
-    );
+    let ended = serve_disk(rt, image, disk, longest, &mut link, &mut clock, &mut teller);
     ended.end
 }
 

@@ -17,7 +17,7 @@ use nq_keeper::{KeepFault, Keeper};
 use nq_link::{Came, Link};
 use nq_lister::Lister;
 use nq_server::Server;
-use nq_service::mount::{Greeter, MountPlan, Survey, serve_image};
+use nq_service::mount::{Greeter, Survey, serve_image};
 use nq_serving::traffic::CountedLink;
 use nq_serving::{Extension, MOST_TURNS, Watcher};
 use nq_store::OpenFault;
@@ -157,16 +157,10 @@ pub(crate) fn parts_of(
     }
 }
 
-/// Where the program says what becomes of an image, and the file of that.
-#[derive(Clone, Copy)]
-pub(crate) struct Console<'a> {
-    pub(crate) rt: &'a HostRuntime,
-    pub(crate) image: &'a str,
-}
-
 /// Serves over the image on a disk until something stops it, and says why that ended.
 pub(crate) fn serve_disk<D: Disk + Drop, L: Link, C: Clock, W: Watcher<L> + Greeter + Extension>(
-    console: Console<'_>,
+    rt: &HostRuntime,
+    image: &str,
     disk: D,
     longest: u32,
     link: &mut L,
@@ -180,12 +174,7 @@ pub(crate) fn serve_disk<D: Disk + Drop, L: Link, C: Clock, W: Watcher<L> + Gree
         (link_told L.sent L.waiting L.faults L.receives link.old)
         (link_told L.sent L.waiting L.faults L.receives link.new) }
 {
-    let Console { rt, image } = console;
-    let plan = MountPlan {
-        turns: MOST_TURNS,
-        longest,
-    };
-    match serve_image(rt.alloc(), disk, plan, link, clock, watcher) {
+    match serve_image(rt.alloc(), disk, MOST_TURNS, longest, link, clock, watcher) {
         Ok(ran) => Ended {
             end: tell_end(rt, image, ran.end),
             left: ran.left,

@@ -9,7 +9,7 @@ use nq_base::{Host, Journal, Party, Ticks};
 use nq_io::streams::StdSink;
 use nq_keeper::{KeepFault, Keeper};
 use nq_server::Server;
-use nq_service::mount::{Greeter, MountPlan, Survey, serve_image};
+use nq_service::mount::{Greeter, Survey, serve_image};
 use nq_serving::traffic::{CountedLink, Gauge, Report};
 use nq_serving::{Extension, Nobody, Watcher};
 use nq_wire::Outbox;
@@ -99,10 +99,8 @@ pub(crate) fn tell_watched(rt: &HostRuntime, scene: &str, turns: &str) -> Option
     let served = serve_image(
         alloc,
         disk,
-        MountPlan {
-            turns: u64::from(turns),
-            longest: LONGEST,
-        },
+        u64::from(turns),
+        LONGEST,
         &mut link,
         &mut StoryClock::to(LAST),
         &mut onlooker,

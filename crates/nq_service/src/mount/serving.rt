@@ -18,15 +18,6 @@ use nq_serving::{Extension, Watcher, keep_serving};
 use nq_store::{OpenFault, Store};
 use std::alloc::Global;
 
-/// How long a server serves that goes on behind a failing link.
-#[derive(Clone, Copy)]
-pub struct MountPlan {
-    /// The most turns that it takes.
-    pub turns: u64,
-    /// The longest term that it grants.
-    pub longest: u32,
-}
-
 /// Somebody who is told what an image holds once it is open. No contract speaks of what is done with that.
 pub trait Greeter {
     /// An image was opened that holds so much.
@@ -45,16 +36,17 @@ pub trait Greeter {
 pub fn serve_image<D: Disk + Drop, L: Link, C: Clock, W: Watcher<L> + Greeter + Extension>(
     alloc: Global,
     disk: D,
-    plan: MountPlan,
+    turns: u64,
+    longest: u32,
     link: &mut L,
     clock: &mut C,
     watcher: &mut W,
 ) -> Result<Ended<Result<(), Fault>, D>, OpenFault<D>>
-    requires few { plan.turns < 2 ^ 60 }
-    requires long { 5 ≤ plan.longest }
-    requires short { plan.longest ≤ 600 }
+    requires few { turns < 2 ^ 60 }
+    requires long { 5 ≤ longest }
+    requires short { longest ≤ 600 }
     ensures serves { IfOk result (λ left. ServesImage D.told D.faults D.may_leave D.follows D.leaves
-        (extension_told W.owns W.replies) plan.longest plan.turns disk left.end left.left
+        (extension_told W.owns W.replies) longest turns disk left.end left.left
         (clock_told C.floor C.readings C.reads clock.old) (clock_told C.floor C.readings C.reads clock.new)
         (link_told L.sent L.waiting L.faults L.receives link.old)
         (link_told L.sent L.waiting L.faults L.receives link.new)) }
@@ -64,7 +56,7 @@ pub fn serve_image<D: Disk + Drop, L: Link, C: Clock, W: Watcher<L> + Greeter + 
         (link_told L.sent L.waiting L.faults L.receives link.new)) }
 {
     match open_or_make(alloc, disk) {
-        Ok(store) => Ok(serve_store(alloc, store, plan, link, clock, watcher)),
+        Ok(store) => Ok(serve_store(alloc, store, turns, longest, link, clock, watcher)),
         Err(fault) => Err(fault),
     }
 }
@@ -73,16 +65,17 @@ pub fn serve_image<D: Disk + Drop, L: Link, C: Clock, W: Watcher<L> + Greeter + 
 fn serve_store<D: Disk + Drop, L: Link, C: Clock, W: Watcher<L> + Greeter + Extension>(
     alloc: Global,
     store: Store<D>,
-    plan: MountPlan,
+    turns: u64,
+    longest: u32,
     link: &mut L,
     clock: &mut C,
     watcher: &mut W,
 ) -> Ended<Result<(), Fault>, D>
-    requires few { plan.turns < 2 ^ 60 }
-    requires long { 5 ≤ plan.longest }
-    requires short { plan.longest ≤ 600 }
+    requires few { turns < 2 ^ 60 }
+    requires long { 5 ≤ longest }
+    requires short { longest ≤ 600 }
     requires fresh { IsFresh store }
-    ensures { EndsServing D.told D.faults D.follows D.leaves (extension_told W.owns W.replies) plan.longest plan.turns store result.end result.left
+    ensures { EndsServing D.told D.faults D.follows D.leaves (extension_told W.owns W.replies) longest turns store result.end result.left
         (clock_told C.floor C.readings C.reads clock.old) (clock_told C.floor C.readings C.reads clock.new)
         (link_told L.sent L.waiting L.faults L.receives link.old)
         (link_told L.sent L.waiting L.faults L.receives link.new) }
@@ -90,15 +83,7 @@ fn serve_store<D: Disk + Drop, L: Link, C: Clock, W: Watcher<L> + Greeter + Exte
     let mut store = store;
     greet(&mut store, watcher);
     let keeper = RecentKeeper::new(alloc, store);
-    let ran = keep_serving(
-        alloc,
-        keeper,
-        plan.turns,
-        plan.longest,
-        link,
-        clock,
-        watcher,
-    );
+    let ran = keep_serving(alloc, keeper, turns, longest, link, clock, watcher);
     Ended {
         end: ran.end,
         left: ran.left.into_keeper().into_disk(),

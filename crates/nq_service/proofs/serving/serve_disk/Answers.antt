@@ -11,8 +11,8 @@ returns-in-Ok-clause-serves g c =
     let clock_of = clock_told g.C.Clock.floor g.C.Clock.readings g.C.Clock.reads in
     let link_of = link_told g.L.Link.sent g.L.Link.waiting g.L.Link.faults g.L.Link.receives in
     let disk = c.args.disk in
-    inr (serves_opened g.D.Disk.told g.D.Disk.faults g.D.Disk.may_leave g.D.Disk.follows g.D.Disk.leaves c.args.plan.longest
-    c.serve_store.result.end c.args.plan.turns disk c.in-Ok.store c.serve_store.result.left (clock_of c.args.clock.now) (clock_of
+    inr (serves_opened g.D.Disk.told g.D.Disk.faults g.D.Disk.may_leave g.D.Disk.follows g.D.Disk.leaves c.args.longest
+    c.serve_store.result.end c.args.turns disk c.in-Ok.store c.serve_store.result.left (clock_of c.args.clock.now) (clock_of
     c.serve_store.new.clock)
     (link_of c.args.link.now) (link_of c.serve_store.new.link) (g.K.Sink.held c.args.out.now) (g.K.Sink.held c.serve_store.new.out)
     (g.K.Sink.faults c.args.out.now) (g.K.Sink.faults c.serve_store.new.out) c.open.result c.in-Ok.is (g.met.D.Disk.told_may_stay disk)

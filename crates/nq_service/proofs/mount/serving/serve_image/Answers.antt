@@ -12,7 +12,7 @@ returns-in-Ok-clause-serves g c =
     let D = g.D.Disk in
     let met = g.met.D.Disk in
     let opens = of_ok D.told D.faults D.may_leave D.follows D.leaves c.args.disk c.in-Ok.store c.in-Ok.ensures.opens in
-    serves_opened D.told D.faults D.may_leave D.follows D.leaves (extension_told g.W.Extension.owns g.W.Extension.replies) c.args.plan.longest c.args.plan.turns c.args.disk c.in-Ok.store c.serve_store.result.end
+    serves_opened D.told D.faults D.may_leave D.follows D.leaves (extension_told g.W.Extension.owns g.W.Extension.replies) c.args.longest c.args.turns c.args.disk c.in-Ok.store c.serve_store.result.end
     c.serve_store.result.left (clock_of c.args.clock.now) (clock_of c.serve_store.new.clock) (link_of c.args.link.now) (link_of c.serve_store.new.link)
     opens met.told_may_stay met.leaves_ends met.parts met.follows_on met.rises c.serve_store.ensures
 

@@ -13,7 +13,7 @@ returns g c =
     let link_of = link_told g.L.Link.sent g.L.Link.waiting g.L.Link.faults g.L.Link.receives in
     let ran = c.keep_serving-ran in
     let handed = c.into_disk.ensures ∙ ap (λ (store : StoredStore g.row.D.Denot). store.disk) c.into_keeper.ensures in
-    subst (λ (store : StoredStore g.row.D.Denot). EndsServing g.D.Disk.told g.D.Disk.faults g.D.Disk.follows g.D.Disk.leaves (extension_told g.W.Extension.owns g.W.Extension.replies) c.args.plan.longest c.args.plan.turns
+    subst (λ (store : StoredStore g.row.D.Denot). EndsServing g.D.Disk.told g.D.Disk.faults g.D.Disk.follows g.D.Disk.leaves (extension_told g.W.Extension.owns g.W.Extension.replies) c.args.longest c.args.turns
     store ran.result.end c.into_disk.result (clock_of c.args.clock.now) (clock_of ran.new.clock) (link_of c.args.link.now) (link_of ran.new.link))
     (c.new-keeper.ensures ∙ c.greet.ensures)
     record {
