@@ -8,47 +8,45 @@ ghost use Rattle.nq_model.specs.protocol.World.{Head, run};
 ghost use Rattle.nq_world.specs.Playing.{Plays};
 
 use crate::giving::give;
-use crate::state::LoopState;
+use crate::state::LoopWorld;
 use crate::turns::Halt;
 use nq_base::{Block, BlockNo, Call, Event, FileId, Host};
 use nq_keeper::Keeper;
 use nq_link::Link;
-use nq_script::Schedule;
 use nq_world::World;
 use std::alloc::Global;
 
 /// Begins the next call of a host, if it has one left and none under way; answers whether it began.
 pub(crate) fn begin_call<K: Keeper, L: Link>(
     alloc: Global,
-    world: &mut World<K>,
+    looping: &mut LoopWorld<K>,
     links: &mut [L],
-    state: &mut LoopState,
-    ran: &mut Schedule,
     host: u32,
 ) -> Result<bool, Halt>
-    requires hosts { length world.old.clients ≡ length state.old.begun }
-    requires there { host < length state.old.begun }
-    requires few { length state.old.begun ≤ 64 }
-    ensures loops { (head : Head) → head.hosts ≡ length state.old.begun
-        → IsLooping head (loop_of K.content L.sent L.waiting L.faults L.receives world.old state.old ran.old links.old)
-        → Loops head (Step.call host ∷ []) result (loop_of K.content L.sent L.waiting L.faults L.receives world.old state.old ran.old links.old)
-        (loop_of K.content L.sent L.waiting L.faults L.receives world.new state.new ran.new links.new) }
-    ensures keeps { Keeps result (K.faults world.old.server.keeper) (K.faults world.new.server.keeper)
-        (length world.old.clients) (length world.new.clients) (length state.old.begun) (length state.new.begun) }
-    ensures follows { K.follows world.old.server.keeper world.new.server.keeper }
+    requires hosts { length looping.old.world.clients ≡ length looping.old.state.begun }
+    requires there { host < length looping.old.state.begun }
+    requires few { length looping.old.state.begun ≤ 64 }
+    ensures loops { (head : Head) → head.hosts ≡ length looping.old.state.begun
+        → IsLooping head (loop_of K.content L.sent L.waiting L.faults L.receives looping.old.world looping.old.state looping.old.ran links.old)
+        → Loops head (Step.call host ∷ []) result
+        (loop_of K.content L.sent L.waiting L.faults L.receives looping.old.world looping.old.state looping.old.ran links.old)
+        (loop_of K.content L.sent L.waiting L.faults L.receives looping.new.world looping.new.state looping.new.ran links.new) }
+    ensures keeps { Keeps result (K.faults looping.old.world.server.keeper) (K.faults looping.new.world.server.keeper)
+        (length looping.old.world.clients) (length looping.new.world.clients) (length looping.old.state.begun) (length looping.new.state.begun) }
+    ensures follows { K.follows looping.old.world.server.keeper looping.new.world.server.keeper }
 {
-    if is_busy(world, host) {
+    if is_busy(&looping.world, host) {
         return Ok(false);
     }
-    let hosts = state.hosts();
-    let begun = state.begun(Host(host));
+    let hosts = looping.state.hosts();
+    let begun = looping.state.begun(Host(host));
     match call_behind(hosts, host, begun) {
         Some(call) => {
             let event = Event::Call {
                 host: Host(host),
                 call,
             };
-            give(alloc, world, links, state, ran, &event)
+            give(alloc, looping, links, &event)
         }
         None => Ok(false),
     }

@@ -9,7 +9,7 @@ ghost use Rattle.nq_replay.specs.Delivering.{Marks};
 ghost use Rattle.nq_script.specs.Lines.{IsFilledEvent};
 
 use crate::sending::send_from;
-use crate::state::LoopState;
+use crate::state::{LoopState, LoopWorld};
 use crate::turns::Halt;
 use nq_base::{Event, NoMemory};
 use nq_keeper::Keeper;
@@ -22,31 +22,29 @@ use std::alloc::Global;
 /// It always moves something, if it does not stop.
 pub(crate) fn give<K: Keeper, L: Link>(
     alloc: Global,
-    world: &mut World<K>,
+    looping: &mut LoopWorld<K>,
     links: &mut [L],
-    state: &mut LoopState,
-    ran: &mut Schedule,
     event: &Event,
 ) -> Result<bool, Halt>
-    requires hosts { length world.old.clients ≡ length state.old.begun }
-    requires looped { IsLooped (length state.old.begun) event.now }
-    ensures gives { (head : Head) → head.hosts ≡ length state.old.begun
-        → IsLooping head (loop_of K.content L.sent L.waiting L.faults L.receives world.old state.old ran.old links.old)
-        → GivesTo head event.now result (loop_of K.content L.sent L.waiting L.faults L.receives world.old state.old ran.old links.old)
-        (loop_of K.content L.sent L.waiting L.faults L.receives world.new state.new ran.new links.new) }
-    ensures keeps { Keeps result (K.faults world.old.server.keeper) (K.faults world.new.server.keeper)
-        (length world.old.clients) (length world.new.clients) (length state.old.begun) (length state.new.begun) }
-    ensures follows { K.follows world.old.server.keeper world.new.server.keeper }
+    requires hosts { length looping.old.world.clients ≡ length looping.old.state.begun }
+    requires looped { IsLooped (length looping.old.state.begun) event.now }
+    ensures gives { (head : Head) → head.hosts ≡ length looping.old.state.begun
+        → IsLooping head (loop_of K.content L.sent L.waiting L.faults L.receives looping.old.world looping.old.state looping.old.ran links.old)
+        → GivesTo head event.now result (loop_of K.content L.sent L.waiting L.faults L.receives looping.old.world looping.old.state looping.old.ran links.old)
+        (loop_of K.content L.sent L.waiting L.faults L.receives looping.new.world looping.new.state looping.new.ran links.new) }
+    ensures keeps { Keeps result (K.faults looping.old.world.server.keeper) (K.faults looping.new.world.server.keeper)
+        (length looping.old.world.clients) (length looping.new.world.clients) (length looping.old.state.begun) (length looping.new.state.begun) }
+    ensures follows { K.follows looping.old.world.server.keeper looping.new.world.server.keeper }
 {
-    let sent = world.packets().len();
-    match keep(state, ran, sent as usize, event) {
-        Ok(()) => match world.step(event) {
+    let sent = looping.world.packets().len();
+    match keep(&mut looping.state, &mut looping.ran, sent as usize, event) {
+        Ok(()) => match looping.world.step(event) {
             Stepped::Done => {
-                state.note(event);
-                moved(send_from(alloc, world.packets(), links, sent))
+                looping.state.note(event);
+                moved(send_from(alloc, looping.world.packets(), links, sent))
             }
             refused => {
-                ran.drop_last();
+                looping.ran.drop_last();
                 Err(halt_of(refused))
             }
         },

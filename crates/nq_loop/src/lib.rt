@@ -22,4 +22,4 @@ mod taking;
 mod turning;
 mod turns;
 
-pub use running::run_loop;
+pub use running::{LoopPlan, run_loop};

@@ -10,34 +10,31 @@ ghost use Rattle.nq_link.specs.Links.{most_bytes};
 use crate::giving::give;
 use crate::matching::{Letter, packet_of};
 use crate::sending::place_of;
-use crate::state::LoopState;
+use crate::state::LoopWorld;
 use crate::turns::Halt;
 use nq_base::{Event, Party};
 use nq_keeper::Keeper;
 use nq_link::{Came, Link, MOST_BYTES};
-use nq_script::Schedule;
-use nq_world::World;
 use std::alloc::Global;
 
 /// Receives once on a party's link, and takes in the datagram that came; answers whether one came.
 #[tactic(auto, unfolding(nq_link::specs::Links::most_bytes))]
 pub(crate) fn receive<K: Keeper, L: Link>(
     alloc: Global,
-    world: &mut World<K>,
+    looping: &mut LoopWorld<K>,
     links: &mut [L],
-    state: &mut LoopState,
-    ran: &mut Schedule,
     party: Party,
 ) -> Result<bool, Halt>
-    requires hosts { length world.old.clients ≡ length state.old.begun }
+    requires hosts { length looping.old.world.clients ≡ length looping.old.state.begun }
     requires there { place_of party < length links.old }
-    ensures loops { (head : Head) → head.hosts ≡ length state.old.begun
-        → IsLooping head (loop_of K.content L.sent L.waiting L.faults L.receives world.old state.old ran.old links.old)
-        → Loops head (Step.receive party ∷ []) result (loop_of K.content L.sent L.waiting L.faults L.receives world.old state.old ran.old links.old)
-        (loop_of K.content L.sent L.waiting L.faults L.receives world.new state.new ran.new links.new) }
-    ensures keeps { Keeps result (K.faults world.old.server.keeper) (K.faults world.new.server.keeper)
-        (length world.old.clients) (length world.new.clients) (length state.old.begun) (length state.new.begun) }
-    ensures follows { K.follows world.old.server.keeper world.new.server.keeper }
+    ensures loops { (head : Head) → head.hosts ≡ length looping.old.state.begun
+        → IsLooping head (loop_of K.content L.sent L.waiting L.faults L.receives looping.old.world looping.old.state looping.old.ran links.old)
+        → Loops head (Step.receive party ∷ []) result
+        (loop_of K.content L.sent L.waiting L.faults L.receives looping.old.world looping.old.state looping.old.ran links.old)
+        (loop_of K.content L.sent L.waiting L.faults L.receives looping.new.world looping.new.state looping.new.ran links.new) }
+    ensures keeps { Keeps result (K.faults looping.old.world.server.keeper) (K.faults looping.new.world.server.keeper)
+        (length looping.old.world.clients) (length looping.new.world.clients) (length looping.old.state.begun) (length looping.new.state.begun) }
+    ensures follows { K.follows looping.old.world.server.keeper looping.new.world.server.keeper }
 {
     let mut buffer = [0; MOST_BYTES];
     let place = place_of(&party);
@@ -50,7 +47,7 @@ pub(crate) fn receive<K: Keeper, L: Link>(
                 to: party,
                 bytes: &buffer[..length],
             };
-            take_in(alloc, world, links, state, ran, &letter)
+            take_in(alloc, looping, links, &letter)
         }
     }
 }
@@ -68,26 +65,24 @@ fn bring<L: Link>(links: &mut [L], place: usize, buffer: &mut [u8]) -> Came
 /// Takes a datagram in as the delivery of the packet that it counts as, if it is one.
 fn take_in<K: Keeper, L: Link>(
     alloc: Global,
-    world: &mut World<K>,
+    looping: &mut LoopWorld<K>,
     links: &mut [L],
-    state: &mut LoopState,
-    ran: &mut Schedule,
     letter: &Letter<'_>,
 ) -> Result<bool, Halt>
-    requires hosts { length world.old.clients ≡ length state.old.begun }
-    ensures takes { (head : Head) → head.hosts ≡ length state.old.begun
-        → IsLooping head (loop_of K.content L.sent L.waiting L.faults L.receives world.old state.old ran.old links.old)
+    requires hosts { length looping.old.world.clients ≡ length looping.old.state.begun }
+    ensures takes { (head : Head) → head.hosts ≡ length looping.old.state.begun
+        → IsLooping head (loop_of K.content L.sent L.waiting L.faults L.receives looping.old.world looping.old.state looping.old.ran links.old)
         → TakesFrom head (record { sender = letter.now.sender; to = letter.now.to; bytes = letter.now.bytes.now }) result
-        (loop_of K.content L.sent L.waiting L.faults L.receives world.old state.old ran.old links.old)
-        (loop_of K.content L.sent L.waiting L.faults L.receives world.new state.new ran.new links.new) }
-    ensures keeps { Keeps result (K.faults world.old.server.keeper) (K.faults world.new.server.keeper)
-        (length world.old.clients) (length world.new.clients) (length state.old.begun) (length state.new.begun) }
-    ensures follows { K.follows world.old.server.keeper world.new.server.keeper }
+        (loop_of K.content L.sent L.waiting L.faults L.receives looping.old.world looping.old.state looping.old.ran links.old)
+        (loop_of K.content L.sent L.waiting L.faults L.receives looping.new.world looping.new.state looping.new.ran links.new) }
+    ensures keeps { Keeps result (K.faults looping.old.world.server.keeper) (K.faults looping.new.world.server.keeper)
+        (length looping.old.world.clients) (length looping.new.world.clients) (length looping.old.state.begun) (length looping.new.state.begun) }
+    ensures follows { K.follows looping.old.world.server.keeper looping.new.world.server.keeper }
 {
-    match packet_of(alloc, world.packets(), state, letter) {
+    match packet_of(alloc, looping.world.packets(), &looping.state, letter) {
         Ok(Some(number)) => {
             let event = Event::Deliver(number);
-            give(alloc, world, links, state, ran, &event)
+            give(alloc, looping, links, &event)
         }
         Ok(None) => Ok(true),
         Err(_) => Err(Halt::Memory),

@@ -15,7 +15,7 @@ ghost use Rattle.nq_world.specs.Playing.{HasSettings, Plays};
 
 use crate::printing::print_loop;
 use crate::schedules::loop_head;
-use crate::state::LoopState;
+use crate::state::{LoopState, LoopWorld};
 use crate::taking::take_turns;
 use crate::turns::Halt;
 use nq_base::ending::{Ended, Ending};
@@ -27,6 +27,15 @@ use nq_replay::tell_limit;
 use nq_script::{Head, Schedule};
 use nq_world::{NewFault, World, begin};
 use std::alloc::Global;
+
+/// How many hosts a loop has, and how many turns it takes at most.
+#[derive(Clone, Copy)]
+pub struct LoopPlan {
+    /// The hosts.
+    pub hosts: u32,
+    /// The turns.
+    pub turns: u32,
+}
 
 /// Runs a server and so many hosts, 1 to 64, over their links, of which the server's is the first, and over a keeper that keeps nothing yet,
 /// for at most so many turns. Each host writes a block of a file, synchronizes, and reads the block of the next host. It prints the text of
@@ -43,35 +52,34 @@ use std::alloc::Global;
 pub fn run_loop<P: Keeper, K: Sink, L: Link, C: Clock>(
     alloc: Global,
     keeper: P,
-    hosts: u32,
-    turns: u32,
+    plan: LoopPlan,
     links: &mut [L],
     clock: &mut C,
     out: &mut K,
 ) -> Ended<Ending, P>
     requires empty { P.content keeper ≡ Some empty_kept }
-    requires some { 1 ≤ hosts }
-    requires few { hosts ≤ 64 }
-    requires links { length links.old ≡ hosts + 1 }
-    ensures ends { LoopEnds result.end hosts turns (clock_told C.floor C.readings C.reads clock.old) (clock_told C.floor C.readings C.reads clock.new)
+    requires some { 1 ≤ plan.hosts }
+    requires few { plan.hosts ≤ 64 }
+    requires links { length links.old ≡ plan.hosts + 1 }
+    ensures ends { LoopEnds result.end plan.hosts plan.turns (clock_told C.floor C.readings C.reads clock.old) (clock_told C.floor C.readings C.reads clock.new)
         (map (told_of L.sent L.waiting L.faults L.receives) links.old) (map (told_of L.sent L.waiting L.faults L.receives) links.new)
         (K.held out.old) (K.held out.new) (K.faults out.old) (K.faults out.new) }
     ensures keeps { result.end ≡ Ending.Done
-        → KeepsLoop hosts turns (clock_told C.floor C.readings C.reads clock.old) (clock_told C.floor C.readings C.reads clock.new)
+        → KeepsLoop plan.hosts plan.turns (clock_told C.floor C.readings C.reads clock.old) (clock_told C.floor C.readings C.reads clock.new)
         (map (told_of L.sent L.waiting L.faults L.receives) links.old) (map (told_of L.sent L.waiting L.faults L.receives) links.new)
         (K.held out.old) (K.held out.new) (P.content result.left) }
     ensures counts { CountsKeeper result.end (P.faults keeper) (P.faults result.left) }
     ensures sink { CountsSink result.end (K.faults out.old) (K.faults out.new) }
     ensures follows { P.follows keeper result.left }
 {
-    let Ok(head) = loop_head(alloc, hosts) else {
+    let Ok(head) = loop_head(alloc, plan.hosts) else {
         return Ended {
             end: Ending::Memory,
             left: keeper,
         };
     };
     match begin(alloc, &head, keeper) {
-        Ok(world) => loop_over(alloc, &head, world, hosts, turns, links, clock, out),
+        Ok(world) => loop_over(alloc, &head, world, plan, links, clock, out),
         Err(NewFault::Failed(keeper)) => Ended {
             end: Ending::KeepFault,
             left: keeper,
@@ -88,43 +96,43 @@ fn loop_over<P: Keeper, K: Sink, L: Link, C: Clock>(
     alloc: Global,
     head: &Head,
     world: World<P>,
-    hosts: u32,
-    turns: u32,
+    plan: LoopPlan,
     links: &mut [L],
     clock: &mut C,
     out: &mut K,
 ) -> Ended<Ending, P>
-    requires head { head.now ≡ loop_head hosts }
-    requires some { 1 ≤ hosts }
-    requires few { hosts ≤ 64 }
-    requires links { length links.old ≡ hosts + 1 }
-    requires settings { HasSettings hosts 60 30 world }
-    requires plays { Plays (beginning (loop_head hosts)) [] world (P.content world.server.keeper) }
-    ensures ends { LoopEnds result.end hosts turns (clock_told C.floor C.readings C.reads clock.old) (clock_told C.floor C.readings C.reads clock.new)
+    requires head { head.now ≡ loop_head plan.hosts }
+    requires some { 1 ≤ plan.hosts }
+    requires few { plan.hosts ≤ 64 }
+    requires links { length links.old ≡ plan.hosts + 1 }
+    requires settings { HasSettings plan.hosts 60 30 world }
+    requires plays { Plays (beginning (loop_head plan.hosts)) [] world (P.content world.server.keeper) }
+    ensures ends { LoopEnds result.end plan.hosts plan.turns (clock_told C.floor C.readings C.reads clock.old) (clock_told C.floor C.readings C.reads clock.new)
         (map (told_of L.sent L.waiting L.faults L.receives) links.old) (map (told_of L.sent L.waiting L.faults L.receives) links.new)
         (K.held out.old) (K.held out.new) (K.faults out.old) (K.faults out.new) }
     ensures keeps { result.end ≡ Ending.Done
-        → KeepsLoop hosts turns (clock_told C.floor C.readings C.reads clock.old) (clock_told C.floor C.readings C.reads clock.new)
+        → KeepsLoop plan.hosts plan.turns (clock_told C.floor C.readings C.reads clock.old) (clock_told C.floor C.readings C.reads clock.new)
         (map (told_of L.sent L.waiting L.faults L.receives) links.old) (map (told_of L.sent L.waiting L.faults L.receives) links.new)
         (K.held out.old) (K.held out.new) (P.content result.left) }
     ensures counts { CountsKeeper result.end (P.faults world.server.keeper) (P.faults result.left) }
     ensures sink { CountsSink result.end (K.faults out.old) (K.faults out.new) }
     ensures follows { P.follows world.server.keeper result.left }
 {
-    let mut world = world;
-    let Ok(mut ran) = Schedule::new(alloc) else {
+    let Ok(ran) = Schedule::new(alloc) else {
         return Ended {
             end: Ending::Memory,
             left: world.into_keeper(),
         };
     };
-    let Ok(mut state) = LoopState::new(alloc, hosts) else {
+    let Ok(state) = LoopState::new(alloc, plan.hosts) else {
         return Ended {
             end: Ending::Memory,
             left: world.into_keeper(),
         };
     };
-    let last = take_turns(alloc, &mut world, links, clock, &mut state, &mut ran, turns);
+    let mut looping = LoopWorld { world, state, ran };
+    let last = take_turns(alloc, &mut looping, links, clock, plan.turns);
+    let LoopWorld { world, state, ran } = looping;
     let end = tell(alloc, head, &world, &ran, last, out);
     Ended {
         end,

@@ -7,6 +7,8 @@ ghost use Rattle.nq_replay.specs.Delivering.{Marks, was_delivered};
 ghost use Rattle.nq_replay.specs.Going.{HasFlag};
 
 use nq_base::{Event, Host, NoMemory};
+use nq_script::Schedule;
+use nq_world::World;
 use std::alloc::Global;
 use std::marker::Model;
 
@@ -18,6 +20,16 @@ pub(crate) const CALLS: u8 = 3;
 pub struct LoopState {
     flags: Vec<bool>,
     begun: Vec<u8>,
+}
+
+/// A world, what a loop keeps beside it, and the events that it took in, the oldest first. It ends with its world.
+pub struct LoopWorld<K> {
+    /// The world.
+    pub world: World<K>,
+    /// What the loop keeps beside it.
+    pub state: LoopState,
+    /// The events that were taken in.
+    pub ran: Schedule,
 }
 
 impl Model for LoopState {

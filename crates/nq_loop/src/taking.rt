@@ -10,48 +10,45 @@ ghost use Rattle.nq_model.specs.protocol.World.{Head};
 ghost use Rattle.nq_world.specs.Playing.{Plays};
 
 use crate::calling::is_busy;
-use crate::state::LoopState;
+use crate::state::{LoopState, LoopWorld};
 use crate::turning::loop_turn;
 use crate::turns::Halt;
 use nq_base::Host;
 use nq_clock::Clock;
 use nq_keeper::Keeper;
 use nq_link::Link;
-use nq_script::Schedule;
 use nq_world::World;
 use std::alloc::Global;
 
 /// Takes turns of a loop until all calls were answered, or so many turns were taken, or one stops.
 pub(crate) fn take_turns<P: Keeper, L: Link, C: Clock>(
     alloc: Global,
-    world: &mut World<P>,
+    looping: &mut LoopWorld<P>,
     links: &mut [L],
     clock: &mut C,
-    state: &mut LoopState,
-    ran: &mut Schedule,
     turns: u32,
 ) -> Result<(), Halt>
-    requires { AreThere (length world.old.clients) (length state.old.begun) (length links.old) }
-    ensures turns { (head : Head) → head.hosts ≡ length state.old.begun
-        → IsLooping head (loop_of P.content L.sent L.waiting L.faults L.receives world.old state.old ran.old links.old)
+    requires { AreThere (length looping.old.world.clients) (length looping.old.state.begun) (length links.old) }
+    ensures turns { (head : Head) → head.hosts ≡ length looping.old.state.begun
+        → IsLooping head (loop_of P.content L.sent L.waiting L.faults L.receives looping.old.world looping.old.state looping.old.ran links.old)
         → TakesTurns head turns result
         (record {
-          moment = moment_of (loop_of P.content L.sent L.waiting L.faults L.receives world.old state.old ran.old links.old);
+          moment = moment_of (loop_of P.content L.sent L.waiting L.faults L.receives looping.old.world looping.old.state looping.old.ran links.old);
           clock = clock_told C.floor C.readings C.reads clock.old;
         })
         (record {
-          moment = moment_of (loop_of P.content L.sent L.waiting L.faults L.receives world.new state.new ran.new links.new);
+          moment = moment_of (loop_of P.content L.sent L.waiting L.faults L.receives looping.new.world looping.new.state looping.new.ran links.new);
           clock = clock_told C.floor C.readings C.reads clock.new;
         })
-        × Stands head result (loop_of P.content L.sent L.waiting L.faults L.receives world.new state.new ran.new links.new) }
-    ensures faults { CountsKeep result (P.faults world.old.server.keeper) (P.faults world.new.server.keeper) }
-    ensures follows { P.follows world.old.server.keeper world.new.server.keeper }
+        × Stands head result (loop_of P.content L.sent L.waiting L.faults L.receives looping.new.world looping.new.state looping.new.ran links.new) }
+    ensures faults { CountsKeep result (P.faults looping.old.world.server.keeper) (P.faults looping.new.world.server.keeper) }
+    ensures follows { P.follows looping.old.world.server.keeper looping.new.world.server.keeper }
 {
     for turn in 0..turns {
-        if all_answered(world, state) {
+        if all_answered(&looping.world, &looping.state) {
             return Ok(());
         }
-        match loop_turn(alloc, world, links, clock, state, ran) {
+        match loop_turn(alloc, looping, links, clock) {
             Ok(_moved) => {}
             Err(why) => return Err(why),
         }

@@ -7,14 +7,12 @@ ghost use Rattle.nq_loop.specs.Looping.{rounds_due};
 ghost use Rattle.nq_model.specs.protocol.World.{Head};
 
 use crate::deeds::take_steps;
-use crate::state::LoopState;
+use crate::state::LoopWorld;
 use crate::turns::Halt;
 use nq_base::Ticks;
 use nq_clock::Clock;
 use nq_keeper::Keeper;
 use nq_link::Link;
-use nq_script::Schedule;
-use nq_world::World;
 use std::alloc::Global;
 
 /// The most rounds of a turn.
@@ -33,25 +31,23 @@ const MOST_ROUNDS: u64 = 60;
 /// events or more than 999,936 packets came before the next event. What was done before stays done, and `ran` shows it.
 pub fn loop_turn<K: Keeper, L: Link, C: Clock>(
     alloc: Global,
-    world: &mut World<K>,
+    looping: &mut LoopWorld<K>,
     links: &mut [L],
     clock: &mut C,
-    state: &mut LoopState,
-    ran: &mut Schedule,
 ) -> Result<bool, Halt>
-    requires { AreThere (length world.old.clients) (length state.old.begun) (length links.old) }
-    ensures turn { (head : Head) → head.hosts ≡ length state.old.begun
-        → IsLooping head (loop_of K.content L.sent L.waiting L.faults L.receives world.old state.old ran.old links.old)
+    requires { AreThere (length looping.old.world.clients) (length looping.old.state.begun) (length links.old) }
+    ensures turn { (head : Head) → head.hosts ≡ length looping.old.state.begun
+        → IsLooping head (loop_of K.content L.sent L.waiting L.faults L.receives looping.old.world looping.old.state looping.old.ran links.old)
         → Turns head result (clock_told C.floor C.readings C.reads clock.old) (clock_told C.floor C.readings C.reads clock.new)
-        (loop_of K.content L.sent L.waiting L.faults L.receives world.old state.old ran.old links.old)
-        (loop_of K.content L.sent L.waiting L.faults L.receives world.new state.new ran.new links.new) }
-    ensures keeps { Keeps result (K.faults world.old.server.keeper) (K.faults world.new.server.keeper)
-        (length world.old.clients) (length world.new.clients) (length state.old.begun) (length state.new.begun) }
-    ensures follows { K.follows world.old.server.keeper world.new.server.keeper }
+        (loop_of K.content L.sent L.waiting L.faults L.receives looping.old.world looping.old.state looping.old.ran links.old)
+        (loop_of K.content L.sent L.waiting L.faults L.receives looping.new.world looping.new.state looping.new.ran links.new) }
+    ensures keeps { Keeps result (K.faults looping.old.world.server.keeper) (K.faults looping.new.world.server.keeper)
+        (length looping.old.world.clients) (length looping.new.world.clients) (length looping.old.state.begun) (length looping.new.state.begun) }
+    ensures follows { K.follows looping.old.world.server.keeper looping.new.world.server.keeper }
 {
     let reading = clock.now();
-    let rounds = rounds_due(world.server_time(), reading);
-    take_steps(alloc, world, links, state, ran, rounds)
+    let rounds = rounds_due(looping.world.server_time(), reading);
+    take_steps(alloc, looping, links, rounds)
 }
 
 /// The rounds that are due where the server's clock shows this time.

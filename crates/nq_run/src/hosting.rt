@@ -12,32 +12,39 @@ use nq_io::{Sink, Source};
 use nq_link::Link;
 use std::alloc::Global;
 
+/// How the command `client` calls: which incarnation of a host, for how many turns at most, and with how many bytes of input.
+#[derive(Clone, Copy)]
+pub(crate) struct ClientPlan {
+    pub(crate) host: u32,
+    pub(crate) inc: u32,
+    pub(crate) turns: u32,
+    pub(crate) limit: usize,
+}
+
 /// Runs the calls of this incarnation of a host, from input of at most so many bytes; the status.
 pub(crate) fn attended<S: Source, K: Sink, L: Link, C: Clock>(
     alloc: Global,
-    host: u32,
-    inc: u32,
-    turns: u32,
+    plan: ClientPlan,
     input: &mut S,
     out: &mut K,
     link: &mut L,
     clock: &mut C,
-    limit: usize,
 ) -> u8
-    requires { limit < 2 ^ 31 }
-    ensures { Attends turns (record { host = host; inc = inc }) limit result (S.left input.old) (S.left input.new) (S.faults input.old) (S.faults input.new)
+    requires { plan.limit < 2 ^ 31 }
+    ensures { Attends plan.turns (record { host = plan.host; inc = plan.inc }) plan.limit result
+        (S.left input.old) (S.left input.new) (S.faults input.old) (S.faults input.new)
         (K.held out.old) (K.held out.new) (K.faults out.old) (K.faults out.new) (clock_told C.floor C.readings C.reads clock.old)
         (clock_told C.floor C.readings C.reads clock.new)
         (link_told L.sent L.waiting L.faults L.receives link.old)
         (link_told L.sent L.waiting L.faults L.receives link.new) }
 {
-    let plan = UsePlan {
+    let whole = UsePlan {
         who: Who {
-            host: Host(host),
-            inc: Inc(inc),
+            host: Host(plan.host),
+            inc: Inc(plan.inc),
         },
-        turns,
-        limit,
+        turns: plan.turns,
+        limit: plan.limit,
     };
-    client(alloc, plan, input, out, link, clock).status()
+    client(alloc, whole, input, out, link, clock).status()
 }

@@ -14,7 +14,7 @@ use nq_disk::Disk;
 use nq_io::Sink;
 use nq_service::blank::emptied;
 use nq_storm::fates::Fate;
-use nq_storm::run_storm;
+use nq_storm::{StormPlan, run_storm};
 use std::alloc::Global;
 
 /// Runs a storm of the first fate of a kind over an empty store of a disk that tells its bytes. Where there is none, the disk is not touched.
@@ -23,12 +23,11 @@ pub(crate) fn stormed<K: Sink, D: Disk + Drop>(
     disk: D,
     fates: &mut [Box<dyn Fate>],
     kind: u8,
-    start: u64,
-    events: u32,
+    plan: StormPlan,
     out: &mut K,
 ) -> Ended<u8, D>
     requires { (bytes : List ℕ) × (D.told disk ≡ Some bytes) }
-    ensures storms { StormsOn result.end kind start events (map (λ fate. (Fate-box fate).told fate.value) fates.old)
+    ensures storms { StormsOn result.end kind plan.start plan.events (map (λ fate. (Fate-box fate).told fate.value) fates.old)
         (map (λ fate. fate_told ((Fate-box fate).told fate.value) (asks fate)) fates.old)
         (map (λ fate. fate_told ((Fate-box fate).told fate.value) (asks fate)) fates.new)
         (K.held out.old) (K.held out.new) (K.faults out.old) (K.faults out.new) (D.faults disk) (D.faults result.left) (D.told result.left) }
@@ -36,10 +35,17 @@ pub(crate) fn stormed<K: Sink, D: Disk + Drop>(
     ensures alone { result.end ≡ status_of Ending.Usage → result.left ≡ disk }
     ensures follows { D.follows disk result.left }
 {
+    let StormPlan { start, events } = plan;
     match place_of(fates, kind) {
         Some(place) => match emptied(alloc, disk) {
             Ok(store) => {
-                let finished = run_storm(alloc, store, &mut *fates[place], start, events, out);
+                let finished = run_storm(
+                    alloc,
+                    store,
+                    &mut *fates[place],
+                    StormPlan { start, events },
+                    out,
+                );
                 Ended {
                     end: finished.end.status(),
                     left: finished.left.into_disk(),

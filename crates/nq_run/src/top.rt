@@ -23,7 +23,7 @@ ghost use Rattle.nq_service.specs.Formatting.{Formats};
 ghost use Rattle.nq_service.specs.Serving.{ServesDisk};
 
 use crate::checking::checked;
-use crate::hosting::attended;
+use crate::hosting::{ClientPlan, attended};
 use crate::looping::looped;
 use crate::naming::named;
 use crate::replaying::replayed;
@@ -36,7 +36,9 @@ use nq_command::{Command, CommandWords};
 use nq_disk::Disk;
 use nq_io::{Sink, Source};
 use nq_link::Link;
+use nq_loop::LoopPlan;
 use nq_service::{format_disk, serve_disk};
+use nq_storm::StormPlan;
 use nq_storm::fates::Fate;
 use std::alloc::Global;
 
@@ -200,9 +202,9 @@ fn run_command<S: Source, K: Sink, D: Disk + Drop, L: Link, C: Clock>(
                 start,
                 events,
             },
-        ) => stormed(alloc, disk, fates, kind, start, events, out),
+        ) => stormed(alloc, disk, fates, kind, StormPlan { start, events }, out),
         Some(Command::Loop { hosts, turns }) => {
-            looped(alloc, disk, hosts, turns, links, clock, out)
+            looped(alloc, disk, LoopPlan { hosts, turns }, links, clock, out)
         }
         Some(Command::Check) => Ended {
             end: checked(alloc, input, out, MOST_BYTES),
@@ -217,7 +219,19 @@ fn run_command<S: Source, K: Sink, D: Disk + Drop, L: Link, C: Clock>(
             left: disk,
         },
         Some(Command::Client { host, inc, turns }) => Ended {
-            end: attended(alloc, host, inc, turns, input, out, link, clock, MOST_BYTES),
+            end: attended(
+                alloc,
+                ClientPlan {
+                    host,
+                    inc,
+                    turns,
+                    limit: MOST_BYTES,
+                },
+                input,
+                out,
+                link,
+                clock,
+            ),
             left: disk,
         },
         None => Ended {

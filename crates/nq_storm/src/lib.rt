@@ -16,5 +16,5 @@ mod stormed;
 mod storms;
 
 pub use laws::storms_are_lawful;
-pub use running::run_storm;
+pub use running::{StormPlan, run_storm};
 pub use stormed::Stormed;

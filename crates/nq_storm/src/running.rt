@@ -27,6 +27,15 @@ use nq_script::{Head, Schedule};
 use nq_world::{NewFault, World, begin};
 use std::alloc::Global;
 
+/// Which storm is run.
+#[derive(Clone, Copy)]
+pub struct StormPlan {
+    /// Where its random words begin.
+    pub start: u64,
+    /// How many events it has.
+    pub events: u32,
+}
+
 /// Runs a storm of so many events, which a fate chooses, asked once for each, over four hosts, two files, and a keeper that keeps
 /// nothing yet. It prints the text of its schedule, the text of that schedule's journal, and a line that counts events, packets and
 /// losses; the keeper keeps at the end what the run of that schedule keeps. How it ends:
@@ -41,14 +50,13 @@ pub fn run_storm<P: Keeper, K: Sink>(
     alloc: Global,
     keeper: P,
     fate: &mut dyn Fate,
-    start: u64,
-    events: u32,
+    plan: StormPlan,
     out: &mut K,
 ) -> Ended<Ending, P>
     requires { P.content keeper ≡ Some empty_kept }
-    ensures ends { StormEnds result.end start events (told fate.old) (K.held out.old) (K.held out.new) (K.faults out.old) (K.faults out.new) }
-    ensures keeps { result.end ≡ Ending.Done → KeepsStorm start events (told fate.old) (K.held out.old) (K.held out.new) (P.content result.left) }
-    ensures asks { AsksFor result.end events (asks fate.old) (asks fate.new) }
+    ensures ends { StormEnds result.end plan.start plan.events (told fate.old) (K.held out.old) (K.held out.new) (K.faults out.old) (K.faults out.new) }
+    ensures keeps { result.end ≡ Ending.Done → KeepsStorm plan.start plan.events (told fate.old) (K.held out.old) (K.held out.new) (P.content result.left) }
+    ensures asks { AsksFor result.end plan.events (asks fate.old) (asks fate.new) }
     ensures counts { CountsKeeper result.end (P.faults keeper) (P.faults result.left) }
     ensures sink { CountsSink result.end (K.faults out.old) (K.faults out.new) }
     ensures follows { P.follows keeper result.left }
@@ -60,7 +68,7 @@ pub fn run_storm<P: Keeper, K: Sink>(
         };
     };
     match begin(alloc, &head, keeper) {
-        Ok(world) => storm_over(alloc, &head, world, fate, start, events, out),
+        Ok(world) => storm_over(alloc, &head, world, fate, plan, out),
         Err(NewFault::Failed(keeper)) => Ended {
             end: Ending::KeepFault,
             left: keeper,
@@ -79,16 +87,15 @@ fn storm_over<P: Keeper, K: Sink>(
     head: &Head,
     world: World<P>,
     fate: &mut dyn Fate,
-    start: u64,
-    events: u32,
+    plan: StormPlan,
     out: &mut K,
 ) -> Ended<Ending, P>
     requires head { head.now ≡ storm_head }
     requires settings { HasSettings 4 60 30 world }
     requires plays { Plays (beginning storm_head) [] world (P.content world.server.keeper) }
-    ensures ends { StormEnds result.end start events (told fate.old) (K.held out.old) (K.held out.new) (K.faults out.old) (K.faults out.new) }
-    ensures keeps { result.end ≡ Ending.Done → KeepsStorm start events (told fate.old) (K.held out.old) (K.held out.new) (P.content result.left) }
-    ensures asks { AsksFor result.end events (asks fate.old) (asks fate.new) }
+    ensures ends { StormEnds result.end plan.start plan.events (told fate.old) (K.held out.old) (K.held out.new) (K.faults out.old) (K.faults out.new) }
+    ensures keeps { result.end ≡ Ending.Done → KeepsStorm plan.start plan.events (told fate.old) (K.held out.old) (K.held out.new) (P.content result.left) }
+    ensures asks { AsksFor result.end plan.events (asks fate.old) (asks fate.new) }
     ensures counts { CountsKeeper result.end (P.faults world.server.keeper) (P.faults result.left) }
     ensures sink { CountsSink result.end (K.faults out.old) (K.faults out.new) }
     ensures follows { P.follows world.server.keeper result.left }
@@ -100,7 +107,7 @@ fn storm_over<P: Keeper, K: Sink>(
             left: world.into_keeper(),
         };
     };
-    let stormed = storm(alloc, &mut world, fate, start, events, &mut ran);
+    let stormed = storm(alloc, &mut world, fate, plan.start, plan.events, &mut ran);
     let end = tell(alloc, head, &world, &ran, stormed, out);
     Ended {
         end,

@@ -9,7 +9,7 @@ pub loop-place-init : goal.loop-place-init
 loop-place-init g c = record {
   loops = λ head hosts here. no-steps head _ here;
   keeps = record { faults = refl; clients_are = refl; hosts_are = refl };
-  follows = g.met.K.Keeper.follows_itself c.args.world.now.server.keeper;
+  follows = g.met.K.Keeper.follows_itself c.args.looping.now.world.server.keeper;
 }
 
 pub take_step-requires-clause-there : goal.take_step-requires-clause-there
@@ -20,7 +20,7 @@ take_step-requires-clause-there g c =
 
 pub take_step-requires-clause-among : goal.take_step-requires-clause-among
 take_step-requires-clause-among g c =
-    (step-is (length c.loop-place.state.begun) c.hosts-hosts.result c.args.rounds c.step_count-place-end.result c.loop-place.place
+    (step-is (length c.loop-place.looping.state.begun) c.hosts-hosts.result c.args.rounds c.step_count-place-end.result c.loop-place.place
     c.deed_at-deed.result (c.hosts-hosts.ensures ∙ sym c.loop-place.invariant.keeps.hosts_are) c.step_count-place-end.ensures
     c.loop-place-test.true c.deed_at-deed.ensures).among
 
@@ -34,11 +34,12 @@ loop-place-preserved g c =
           let is = step-is head.hosts c.hosts-hosts.result c.args.rounds c.step_count-place-end.result c.loop-place.place c.deed_at-deed.result
           (c.hosts-hosts.ensures ∙ sym hosts) c.step_count-place-end.ensures c.loop-place-test.true c.deed_at-deed.ensures in
           step-more head (turn_steps head.hosts c.args.rounds) c.loop-place.place (step_of c.deed_at-deed.result) c.loop-place.any c.in-Ok.more
-          c.either-any.result (loop_of g.K.Keeper.content g.L.Link.sent g.L.Link.waiting g.L.Link.faults g.L.Link.receives c.args.world.now
-          c.args.state.now c.args.ran.now c.args.links.now)
-          (loop_of g.K.Keeper.content g.L.Link.sent g.L.Link.waiting g.L.Link.faults g.L.Link.receives c.loop-place.world c.loop-place.state
-          c.loop-place.ran c.loop-place.links) (loop_of g.K.Keeper.content g.L.Link.sent g.L.Link.waiting g.L.Link.faults g.L.Link.receives
-          c.take_step.new.world c.take_step.new.state c.take_step.new.ran c.take_step.new.links) is.step c.either-any.ensures first second;
+          c.either-any.result (loop_of g.K.Keeper.content g.L.Link.sent g.L.Link.waiting g.L.Link.faults g.L.Link.receives c.args.looping.now.world
+          c.args.looping.now.state c.args.looping.now.ran c.args.links.now)
+          (loop_of g.K.Keeper.content g.L.Link.sent g.L.Link.waiting g.L.Link.faults g.L.Link.receives c.loop-place.looping.world c.loop-place.looping.state
+          c.loop-place.looping.ran c.loop-place.links) (loop_of g.K.Keeper.content g.L.Link.sent g.L.Link.waiting g.L.Link.faults g.L.Link.receives
+          c.take_step.new.looping.world c.take_step.new.looping.state c.take_step.new.looping.ran c.take_step.new.links) is.step c.either-any.ensures
+          first second;
       keeps = keeps-any c.in-Ok.more c.either-any.result _ _ _ _ _ _ (keeps-then c.loop-place.any (Ok c.in-Ok.more) _ _ _ _ _ _ _ _ _ before.keeps
           c.in-Ok.ensures.keeps);
       follows = g.met.K.Keeper.follows_on _ _ _ before.follows c.take_step.ensures.follows;
@@ -54,11 +55,11 @@ returns-in-Err g c =
           let is = step-is head.hosts c.hosts-hosts.result c.args.rounds c.step_count-place-end.result c.loop-place.place c.deed_at-deed.result
           (c.hosts-hosts.ensures ∙ sym hosts) c.step_count-place-end.ensures c.loop-place-test.true c.deed_at-deed.ensures in
           step-stops head (turn_steps head.hosts c.args.rounds) c.loop-place.place (step_of c.deed_at-deed.result) c.loop-place.any c.in-Err.why
-          (loop_of g.K.Keeper.content g.L.Link.sent g.L.Link.waiting g.L.Link.faults g.L.Link.receives c.args.world.now c.args.state.now
-          c.args.ran.now c.args.links.now)
-          (loop_of g.K.Keeper.content g.L.Link.sent g.L.Link.waiting g.L.Link.faults g.L.Link.receives c.loop-place.world c.loop-place.state
-          c.loop-place.ran c.loop-place.links) (loop_of g.K.Keeper.content g.L.Link.sent g.L.Link.waiting g.L.Link.faults g.L.Link.receives
-          c.take_step.new.world c.take_step.new.state c.take_step.new.ran c.take_step.new.links) is.step first second;
+          (loop_of g.K.Keeper.content g.L.Link.sent g.L.Link.waiting g.L.Link.faults g.L.Link.receives c.args.looping.now.world c.args.looping.now.state
+          c.args.looping.now.ran c.args.links.now)
+          (loop_of g.K.Keeper.content g.L.Link.sent g.L.Link.waiting g.L.Link.faults g.L.Link.receives c.loop-place.looping.world c.loop-place.looping.state
+          c.loop-place.looping.ran c.loop-place.links) (loop_of g.K.Keeper.content g.L.Link.sent g.L.Link.waiting g.L.Link.faults g.L.Link.receives
+          c.take_step.new.looping.world c.take_step.new.looping.state c.take_step.new.looping.ran c.take_step.new.links) is.step first second;
       keeps = keeps-then c.loop-place.any (Err c.in-Err.why) _ _ _ _ _ _ _ _ _ before.keeps c.in-Err.ensures.keeps;
       follows = g.met.K.Keeper.follows_on _ _ _ before.follows c.take_step.ensures.follows;
     }
@@ -70,9 +71,9 @@ returns g c = record {
       let all = all-below head.hosts c.hosts-hosts.result c.args.rounds c.step_count-place-end.result c.loop-place.place (c.hosts-hosts.ensures
       ∙ sym hosts) c.step_count-place-end.ensures past in
       steps-whole head (turn_steps head.hosts c.args.rounds) c.loop-place.place (Ok c.loop-place.any) (loop_of g.K.Keeper.content g.L.Link.sent
-      g.L.Link.waiting g.L.Link.faults g.L.Link.receives c.args.world.now c.args.state.now c.args.ran.now c.args.links.now)
-      (loop_of g.K.Keeper.content g.L.Link.sent g.L.Link.waiting g.L.Link.faults g.L.Link.receives c.loop-place.world c.loop-place.state
-      c.loop-place.ran c.loop-place.links) all (c.loop-place.invariant.loops head hosts here);
+      g.L.Link.waiting g.L.Link.faults g.L.Link.receives c.args.looping.now.world c.args.looping.now.state c.args.looping.now.ran c.args.links.now)
+      (loop_of g.K.Keeper.content g.L.Link.sent g.L.Link.waiting g.L.Link.faults g.L.Link.receives c.loop-place.looping.world c.loop-place.looping.state
+      c.loop-place.looping.ran c.loop-place.links) all (c.loop-place.invariant.loops head hosts here);
   keeps = c.loop-place.invariant.keeps;
   follows = c.loop-place.invariant.follows;
 }

@@ -9,11 +9,14 @@ returns-in-Ok-Some g c = record {
   takes = λ head hosts here.
       takes-packet head (record { sender = c.args.letter.now.sender; to = c.args.letter.now.to; bytes = c.args.letter.now.bytes.now })
       c.in-Ok-Some.number c.packets.result.now.datagrams c.give.result
-      (loop_of g.K.Keeper.content g.L.Link.sent g.L.Link.waiting g.L.Link.faults g.L.Link.receives c.args.world.now c.args.state.now c.args.ran.now
+      (loop_of g.K.Keeper.content g.L.Link.sent g.L.Link.waiting g.L.Link.faults g.L.Link.receives c.args.looping.now.world c.args.looping.now.state
+      c.args.looping.now.ran
       c.args.links.now)
-      (loop_of g.K.Keeper.content g.L.Link.sent g.L.Link.waiting g.L.Link.faults g.L.Link.receives c.give.new.world c.give.new.state c.give.new.ran
+      (loop_of g.K.Keeper.content g.L.Link.sent g.L.Link.waiting g.L.Link.faults g.L.Link.receives c.give.new.looping.world c.give.new.looping.state
+      c.give.new.looping.ran
       c.give.new.links)
-      here c.packets.ensures ((rw c.in-Ok-Some.field-0-is at c.in-Ok-Some.ensures) (reverse c.args.ran.now) here.marks) (c.give.ensures.gives head hosts here);
+      here c.packets.ensures ((rw c.in-Ok-Some.field-0-is at c.in-Ok-Some.ensures) (reverse c.args.looping.now.ran) here.marks) (c.give.ensures.gives
+      head hosts here);
   keeps = c.give.ensures.keeps;
   follows = c.give.ensures.follows;
 }
@@ -22,16 +25,16 @@ pub returns-in-Ok-None : goal.returns-in-Ok-None
 returns-in-Ok-None g c = record {
   takes = λ head hosts here.
       drops-it head (record { sender = c.args.letter.now.sender; to = c.args.letter.now.to; bytes = c.args.letter.now.bytes.now })
-      c.packets.result.now.datagrams (loop_of g.K.Keeper.content g.L.Link.sent g.L.Link.waiting g.L.Link.faults g.L.Link.receives c.args.world.now
-      c.args.state.now c.args.ran.now c.args.links.now)
-      here c.packets.ensures ((rw c.in-Ok-None.field-0-is at c.in-Ok-None.ensures) (reverse c.args.ran.now) here.marks);
+      c.packets.result.now.datagrams (loop_of g.K.Keeper.content g.L.Link.sent g.L.Link.waiting g.L.Link.faults g.L.Link.receives c.args.looping.now.world
+      c.args.looping.now.state c.args.looping.now.ran c.args.links.now)
+      here c.packets.ensures ((rw c.in-Ok-None.field-0-is at c.in-Ok-None.ensures) (reverse c.args.looping.now.ran) here.marks);
   keeps = record { faults = refl; clients_are = refl; hosts_are = refl };
-  follows = g.met.K.Keeper.follows_itself c.args.world.now.server.keeper;
+  follows = g.met.K.Keeper.follows_itself c.args.looping.now.world.server.keeper;
 }
 
 pub returns-in-Err : goal.returns-in-Err
 returns-in-Err g c = record {
   takes = λ head hosts here. wants-memory head _ _ here;
   keeps = record { faults = refl; clients_are = refl; hosts_are = refl };
-  follows = g.met.K.Keeper.follows_itself c.args.world.now.server.keeper;
+  follows = g.met.K.Keeper.follows_itself c.args.looping.now.world.server.keeper;
 }

@@ -20,25 +20,25 @@ take_turns-last-requires g c =
 
 pub tell-end-requires-clause-looped : goal.tell-end-requires-clause-looped
 tell-end-requires-clause-looped g c =
-    let head = loop_head c.args.hosts in
+    let head = loop_head c.args.plan.hosts in
     let first = loop_of g.P.Keeper.content g.L.Link.sent g.L.Link.waiting g.L.Link.faults g.L.Link.receives c.args.world c.in-Ok-new.state c.in-Ok.ran
     c.args.links.now in
-    let last = loop_of g.P.Keeper.content g.L.Link.sent g.L.Link.waiting g.L.Link.faults g.L.Link.receives c.take_turns-last.new.world
-    c.take_turns-last.new.state c.take_turns-last.new.ran c.take_turns-last.new.links in
+    let last = loop_of g.P.Keeper.content g.L.Link.sent g.L.Link.waiting g.L.Link.faults g.L.Link.receives c.take_turns-last.new.looping.world
+    c.take_turns-last.new.looping.state c.take_turns-last.new.looping.ran c.take_turns-last.new.links in
     let here : IsLooping (beginning head) first = begins (beginning head) first c.in-Ok.ensures.empty c.requires.plays c.in-Ok-new.ensures.marks
     c.in-Ok-new.ensures.counts in
     let both = c.take_turns-last.ensures.turns (beginning head) (sym c.in-Ok-new.ensures.hosts) here in
-    subst (λ h. AllByRecursion (IsLooped h.hosts) c.take_turns-last.new.ran) (sym c.requires.head) (are-looped c.take_turns-last.result
+    subst (λ h. AllByRecursion (IsLooped h.hosts) c.take_turns-last.new.looping.ran) (sym c.requires.head) (are-looped c.take_turns-last.result
     (beginning head) last both.1)
 
 pub returns : goal.returns
 returns g c =
-    let head = loop_head c.args.hosts in
+    let head = loop_head c.args.plan.hosts in
     let told = told_of g.L.Link.sent g.L.Link.waiting g.L.Link.faults g.L.Link.receives in
     let first = loop_of g.P.Keeper.content g.L.Link.sent g.L.Link.waiting g.L.Link.faults g.L.Link.receives c.args.world c.in-Ok-new.state c.in-Ok.ran
     c.args.links.now in
-    let last = loop_of g.P.Keeper.content g.L.Link.sent g.L.Link.waiting g.L.Link.faults g.L.Link.receives c.take_turns-last.new.world
-    c.take_turns-last.new.state c.take_turns-last.new.ran c.take_turns-last.new.links in
+    let last = loop_of g.P.Keeper.content g.L.Link.sent g.L.Link.waiting g.L.Link.faults g.L.Link.receives c.take_turns-last.new.looping.world
+    c.take_turns-last.new.looping.state c.take_turns-last.new.looping.ran c.take_turns-last.new.links in
     let here : IsLooping (beginning head) first = begins (beginning head) first c.in-Ok.ensures.empty c.requires.plays c.in-Ok-new.ensures.marks
     c.in-Ok-new.ensures.counts in
     let both = c.take_turns-last.ensures.turns (beginning head) (sym c.in-Ok-new.ensures.hosts) here in
@@ -49,16 +49,17 @@ returns g c =
     let now = g.K.Sink.held c.tell-end.new.out in
     let w = g.K.Sink.faults c.args.out.now in
     let w' = g.K.Sink.faults c.tell-end.new.out in
-    let takes = subst (λ ran. TakesTurns (beginning head) c.args.turns c.take_turns-last.result (between (reverse ran) links clock)
+    let takes = subst (λ ran. TakesTurns (beginning head) c.args.plan.turns c.take_turns-last.result (between (reverse ran) links clock)
     (now_at last clock')) c.in-Ok.ensures.empty both.0 in
-    let tells = subst (λ h. TellsEnd c.tell-end.result c.take_turns-last.result h c.take_turns-last.new.world
-    (g.P.Keeper.content c.take_turns-last.new.world.server.keeper) c.take_turns-last.new.ran held now w w') c.requires.head c.tell-end.ensures.tells in
+    let tells = subst (λ h. TellsEnd c.tell-end.result c.take_turns-last.result h c.take_turns-last.new.looping.world
+    (g.P.Keeper.content c.take_turns-last.new.looping.world.server.keeper) c.take_turns-last.new.looping.ran held now w w') c.requires.head
+    c.tell-end.ensures.tells in
     let same = c.into_keeper-2.ensures in
     record {
-      ends = ends c.tell-end.result c.take_turns-last.result c.args.hosts c.args.turns clock clock' links last held now w w' takes both.1 tells;
-      keeps = λ done. rw same (keeps-loop c.tell-end.result c.take_turns-last.result c.args.hosts c.args.turns clock clock' links last held now w w'
+      ends = ends c.tell-end.result c.take_turns-last.result c.args.plan.hosts c.args.plan.turns clock clock' links last held now w w' takes both.1 tells;
+      keeps = λ done. rw same (keeps-loop c.tell-end.result c.take_turns-last.result c.args.plan.hosts c.args.plan.turns clock clock' links last held now w w'
           takes both.1 tells done);
-      counts = rw same (counts-loop c.tell-end.result c.take_turns-last.result c.args.hosts last held now w w'
+      counts = rw same (counts-loop c.tell-end.result c.take_turns-last.result c.args.plan.hosts last held now w w'
           (g.P.Keeper.faults c.args.world.server.keeper) _ both.1 tells c.take_turns-last.ensures.faults);
       sink = c.tell-end.ensures.sink;
       follows = rw same c.take_turns-last.ensures.follows;

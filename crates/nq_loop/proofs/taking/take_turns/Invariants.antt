@@ -8,15 +8,18 @@ use Rattle.nq_loop.proofs.taking.take_turns.Given as goal
 
 abbrev pub invariant-loop-turn : goal.invariant-loop-turn
 invariant-loop-turn g l = record {
-  goes : (head : Head) → head.hosts ≡ length l.fn.state.begun → IsLooping head (loop_of g.P.Keeper.content g.L.Link.sent g.L.Link.waiting
-      g.L.Link.faults g.L.Link.receives l.fn.world l.fn.state l.fn.ran l.fn.links)
-      → Goes head l.turn (now_at (loop_of g.P.Keeper.content g.L.Link.sent g.L.Link.waiting g.L.Link.faults g.L.Link.receives l.fn.world l.fn.state
-      l.fn.ran l.fn.links) (clock_told g.C.Clock.floor g.C.Clock.readings g.C.Clock.reads l.fn.clock))
-      (now_at (loop_of g.P.Keeper.content g.L.Link.sent g.L.Link.waiting g.L.Link.faults g.L.Link.receives l.world l.state l.ran l.links)
+  goes : (head : Head) → head.hosts ≡ length l.fn.looping.state.begun → IsLooping head (loop_of g.P.Keeper.content g.L.Link.sent g.L.Link.waiting
+      g.L.Link.faults g.L.Link.receives l.fn.looping.world l.fn.looping.state l.fn.looping.ran l.fn.links)
+      → Goes head l.turn (now_at (loop_of g.P.Keeper.content g.L.Link.sent g.L.Link.waiting g.L.Link.faults g.L.Link.receives l.fn.looping.world
+      l.fn.looping.state
+      l.fn.looping.ran l.fn.links) (clock_told g.C.Clock.floor g.C.Clock.readings g.C.Clock.reads l.fn.clock))
+      (now_at (loop_of g.P.Keeper.content g.L.Link.sent g.L.Link.waiting g.L.Link.faults g.L.Link.receives l.looping.world l.looping.state
+      l.looping.ran l.links)
       (clock_told g.C.Clock.floor g.C.Clock.readings g.C.Clock.reads l.clock))
-      × IsLooping head (loop_of g.P.Keeper.content g.L.Link.sent g.L.Link.waiting g.L.Link.faults g.L.Link.receives l.world l.state l.ran l.links);
-  clients : length l.world.clients ≡ length l.fn.world.clients;
-  hosts : length l.state.begun ≡ length l.fn.state.begun;
-  faults : g.P.Keeper.faults l.world.server.keeper ≡ g.P.Keeper.faults l.fn.world.server.keeper;
-  follows : g.P.Keeper.follows l.fn.world.server.keeper l.world.server.keeper;
+      × IsLooping head (loop_of g.P.Keeper.content g.L.Link.sent g.L.Link.waiting g.L.Link.faults g.L.Link.receives l.looping.world l.looping.state
+      l.looping.ran l.links);
+  clients : length l.looping.world.clients ≡ length l.fn.looping.world.clients;
+  hosts : length l.looping.state.begun ≡ length l.fn.looping.state.begun;
+  faults : g.P.Keeper.faults l.looping.world.server.keeper ≡ g.P.Keeper.faults l.fn.looping.world.server.keeper;
+  follows : g.P.Keeper.follows l.fn.looping.world.server.keeper l.looping.world.server.keeper;
 }

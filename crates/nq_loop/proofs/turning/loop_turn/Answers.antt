@@ -7,11 +7,14 @@ pub returns : goal.returns
 returns g c = record {
   turn = λ head hosts here.
       turned head c.take_steps.result c.now-reading.result c.rounds_due-rounds.result c.server_time.result
-      (clock_told g.C.Clock.floor g.C.Clock.readings g.C.Clock.reads c.args.clock.now) (clock_told g.C.Clock.floor g.C.Clock.readings g.C.Clock.reads c.now-reading.new.self)
-      (loop_of g.K.Keeper.content g.L.Link.sent g.L.Link.waiting g.L.Link.faults g.L.Link.receives c.args.world.now c.args.state.now c.args.ran.now
+      (clock_told g.C.Clock.floor g.C.Clock.readings g.C.Clock.reads c.args.clock.now) (clock_told g.C.Clock.floor g.C.Clock.readings g.C.Clock.reads
+      c.now-reading.new.self)
+      (loop_of g.K.Keeper.content g.L.Link.sent g.L.Link.waiting g.L.Link.faults g.L.Link.receives c.args.looping.now.world c.args.looping.now.state
+      c.args.looping.now.ran
       c.args.links.now)
-      (loop_of g.K.Keeper.content g.L.Link.sent g.L.Link.waiting g.L.Link.faults g.L.Link.receives c.take_steps.new.world c.take_steps.new.state
-      c.take_steps.new.ran c.take_steps.new.links)
+      (loop_of g.K.Keeper.content g.L.Link.sent g.L.Link.waiting g.L.Link.faults g.L.Link.receives c.take_steps.new.looping.world
+      c.take_steps.new.looping.state
+      c.take_steps.new.looping.ran c.take_steps.new.links)
       (record {
         rises = c.now-reading.ensures.rises;
         floor = c.now-reading.ensures.floor;

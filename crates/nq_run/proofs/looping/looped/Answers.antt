@@ -6,10 +6,10 @@ use Rattle.nq_run.proofs.looping.looped.Goals as goal
 pub returns-in-Ok-clause-loops : goal.returns-in-Ok-clause-loops
 returns-in-Ok-clause-loops g c =
     let served = c.run_loop-finished.result.left in
-    loops_on g.D.Disk.told g.D.Disk.faults g.D.Disk.follows c.status.result c.args.hosts c.args.turns _ _ _ _ _ _ _ _ c.args.disk c.in-Ok.store served
+    loops_on g.D.Disk.told g.D.Disk.faults g.D.Disk.follows c.status.result c.args.plan.hosts c.args.plan.turns _ _ _ _ _ _ _ _ c.args.disk c.in-Ok.store served
     c.into_disk.result c.into_disk.ensures
     g.met.D.Disk.rises c.in-Ok.ensures.fresh c.in-Ok.ensures.counts c.run_loop-finished.ensures.follows
-    (loops_for c.run_loop-finished.result.end c.status.result c.args.hosts c.args.turns _ _ _ _ _ _ _ _ _ _ _ c.status.ensures
+    (loops_for c.run_loop-finished.result.end c.status.result c.args.plan.hosts c.args.plan.turns _ _ _ _ _ _ _ _ _ _ _ c.status.ensures
     c.run_loop-finished.ensures.ends c.run_loop-finished.ensures.keeps c.run_loop-finished.ensures.counts c.run_loop-finished.ensures.sink)
 
 pub returns-in-Ok-clause-follows : goal.returns-in-Ok-clause-follows
@@ -20,4 +20,4 @@ returns-in-Ok-clause-follows g c =
 
 pub returns-in-Err-clause-loops : goal.returns-in-Err-clause-loops
 returns-in-Err-clause-loops g c =
-    loops_not c.in-Err.ended.end c.status-in-Err.result c.args.hosts c.args.turns _ _ _ _ _ _ _ c.status-in-Err.ensures c.in-Err.ensures.fails
+    loops_not c.in-Err.ended.end c.status-in-Err.result c.args.plan.hosts c.args.plan.turns _ _ _ _ _ _ _ c.status-in-Err.ensures c.in-Err.ensures.fails
