@@ -1,3 +1,4 @@
+pub mod Classes
 pub mod Extending
 pub mod Leaving
 pub mod LeavingTurns

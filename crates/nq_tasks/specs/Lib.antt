@@ -1,3 +1,4 @@
+pub mod Desk
 pub mod Inbox
 pub mod Listing
 pub mod Waiting

@@ -3,6 +3,7 @@
 #![tactic(auto)]
 
 mod asks;
+mod desk;
 mod inbox;
 mod listing;
 mod tasks;
@@ -11,6 +12,7 @@ mod waiting;
 mod work;
 
 pub use asks::{Ask, Made, name_stored, own_name};
+pub use desk::{Desk, asks_are_answered_once};
 pub use inbox::{AskTaken, Inbox};
 pub use listing::{Listed, Listing};
 pub use texts::NO_MEMORY;

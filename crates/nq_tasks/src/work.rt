@@ -200,6 +200,11 @@ impl Work {
         self.task.asks(self.alloc)
     }
 
+    /// Whether it lists names. Then it makes no call.
+    pub fn is_listing(&self) -> bool {
+        self.listing.is_some()
+    }
+
     /// The request of this number for the next page of its list, where that is due at this time.
     ///
     /// # Errors

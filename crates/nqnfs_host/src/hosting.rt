@@ -1,6 +1,7 @@
 //! What a host does for those who ask it, call by call.
 
-ghost use Rattle.std.specs.Prelude.{⊤};
+ghost use Rattle.std.specs.Prelude.{◌≡◌, ⊤};
+ghost use Rattle.nq_tasks.specs.Desk.{AnswersAtMost};
 
 use crate::door::Door;
 use crate::ledger::Ledger;
@@ -10,7 +11,8 @@ use nq_asks::AnswerKind;
 use nq_base::{Answer, Call, FileId, Journal, Name, NoMemory, Who};
 use nq_living::{Askers, Paged};
 use nq_tasks::{
-    Ask, AskReply, Came, Listed, Made, NO_MEMORY, NOBODY, Waiting, Work, name_stored, own_name,
+    Ask, AskReply, Came, Desk, Listed, Made, NO_MEMORY, NOBODY, Waiting, Work, name_stored,
+    own_name,
 };
 use std::alloc::Global;
 
@@ -40,10 +42,7 @@ pub(crate) struct Hosting {
     /// What it notes.
     pub(crate) notes: Notes,
     ledger: Ledger,
-    work: Option<Work>,
-    aside: Option<Work>,
-    /// Whose ask is taken up next, and the ask.
-    held: Option<(usize, Ask)>,
+    desk: Desk,
     /// How long the ask at work, or the next one, waits.
     waiting: Waiting,
     /// How many whole files were stored.
@@ -54,14 +53,12 @@ pub(crate) struct Hosting {
     asked: u64,
     /// When it last looked after bytes that it stored.
     looked: u64,
-    /// Who told it to end, and the number of that ask.
-    ender: Option<(usize, u32)>,
 }
 
 impl Askers for Hosting {
     ghost gives = { λ _ _ _. ⊤ };
 
-    ghost takes = { λ _ _ _. ⊤ };
+    ghost takes = { λ a _ b. AnswersAtMost a.desk b.desk };
 
     ghost stirs = { λ _ _. ⊤ };
 
@@ -72,9 +69,9 @@ impl Askers for Hosting {
     fn tend(&mut self) -> bool {
         self.door.let_in();
         let came = self.door.read();
-        self.door.write(self.at_work(), self.next_place());
-        if let Some(ender) = self.door.next_end() {
-            self.ender = Some(ender);
+        self.door.write(self.at_work(), self.desk.next_place());
+        if let Some((place, number)) = self.door.next_end() {
+            self.desk.hold_end(place, number);
         }
         came
     }
@@ -85,13 +82,13 @@ impl Askers for Hosting {
 
     fn next_call(&mut self, now: u64, delayed: Option<FileId>) -> Option<Call> {
         for _ask in 0..MOST_ASKS {
-            if self.ender.is_some() {
+            if self.desk.wants_end() {
                 return None;
             }
-            if self.work.is_none() && !self.take_up(now, delayed) {
+            if self.desk.is_idle() && !self.take_up(now, delayed) {
                 return None;
             }
-            let call = match &self.work {
+            let call = match self.desk.work() {
                 Some(work) if work.is_listing() => return None,
                 Some(work) => work.asks(),
                 None => continue,
@@ -105,15 +102,12 @@ impl Askers for Hosting {
     }
 
     fn take(&mut self, answer: &Answer) {
-        let came = match &mut self.work {
-            Some(work) => work.take_answer(answer),
-            None => Came::On,
-        };
+        let came = self.desk.take_answer(answer);
         self.came(came);
     }
 
     fn turn_page(&mut self, now: u64, page: Option<Vec<u8>>) -> Paged {
-        let is_listing = match &self.work {
+        let is_listing = match self.desk.work() {
             Some(work) => work.is_listing(),
             None => false,
         };
@@ -125,19 +119,16 @@ impl Askers for Hosting {
         self.tell_waiting(now);
         Paged {
             request,
-            is_over: is_listing && self.work.is_none(),
+            is_over: is_listing && self.desk.is_idle(),
         }
     }
 
     fn wants_end(&self) -> bool {
-        self.ender.is_some()
+        self.desk.wants_end()
     }
 
     fn last_call(&mut self, file: FileId) -> Call {
-        if self.aside.is_none() {
-            self.aside = self.work.take();
-        }
-        self.work = Some(Work::sync(self.alloc, file));
+        self.desk.put_aside(file);
         Call::Sync { file }
     }
 
@@ -146,7 +137,7 @@ impl Askers for Hosting {
     }
 
     fn end(&mut self, is_delaying: bool) -> bool {
-        let Some((place, number)) = self.ender.take() else {
+        let Some((place, number)) = self.desk.take_end() else {
             return false;
         };
         if is_delaying {
@@ -175,15 +166,12 @@ impl Hosting {
             door,
             notes,
             ledger,
-            work: None,
-            aside: None,
-            held: None,
+            desk: Desk::new(alloc),
             waiting: Waiting::new(alloc, 0),
             made: 0,
             listed: 0,
             asked: 0,
             looked: 0,
-            ender: None,
         }
     }
 
@@ -194,16 +182,8 @@ impl Hosting {
 
     /// The place of whoever asked what is at work.
     fn at_work(&self) -> usize {
-        match &self.work {
+        match self.desk.work() {
             Some(work) => work.place(),
-            None => NOBODY,
-        }
-    }
-
-    /// The place of whoever is next.
-    fn next_place(&self) -> usize {
-        match &self.held {
-            Some((place, _)) => *place,
             None => NOBODY,
         }
     }
@@ -228,19 +208,13 @@ impl Hosting {
     /// Takes a page for the list at work.
     fn take_page(&mut self, page: &[u8]) -> Came {
         let who = self.who();
-        match &mut self.work {
-            Some(work) => work.take_page(who, page),
-            None => Came::On,
-        }
+        self.desk.take_page(who, page)
     }
 
     /// The request for the next page of the list at work, where that is due.
     fn page_due(&mut self, now: u64) -> Result<Option<Vec<u8>>, NoMemory> {
         let (who, number) = (self.who(), self.next_number());
-        match &mut self.work {
-            Some(work) => work.asks_page(who, number, now),
-            None => Ok(None),
-        }
+        self.desk.asks_page(who, number, now)
     }
 
     /// The number of the next request for a page.
@@ -270,20 +244,12 @@ impl Hosting {
         }
     }
 
-    /// Who waits, and the number of the ask: whoever asked what is at work, or else is next.
+    /// Who waits, and the number of the ask. Where nobody asked what is at work, the next ask is taken out.
     fn waiter(&mut self, now: u64) -> Option<(usize, u32)> {
-        let (place, number) = match &self.work {
-            Some(work) => (work.place(), work.number()),
-            None => return None,
-        };
-        if place != NOBODY {
-            return Some((place, number));
+        if !self.desk.is_idle() && self.at_work() == NOBODY {
+            self.hold(now);
         }
-        self.hold(now);
-        match &self.held {
-            Some((place, ask)) => Some((*place, ask.number)),
-            None => None,
-        }
+        self.desk.waiter()
     }
 
     /// Tells whoever waits why, once it has waited for a while.
@@ -302,12 +268,11 @@ impl Hosting {
     /// Takes up what is to be done next: what was put aside, else tidying up, else an ask, else storing what is delayed, else a look after
     /// bytes that were stored. Whether there was anything.
     fn take_up(&mut self, now: u64, delayed: Option<FileId>) -> bool {
-        if self.aside.is_some() {
-            self.work = self.aside.take();
+        if self.desk.resume() {
             return true;
         }
         if let Some(made) = self.ledger.next_left() {
-            self.work = Some(Work::tidy(self.alloc, made));
+            self.desk.begin(Work::tidy(self.alloc, made));
             return true;
         }
         self.take_ask(now) || self.take_delayed(now, delayed) || self.take_oldest(now)
@@ -316,7 +281,7 @@ impl Hosting {
     /// Takes up the next ask. Whether there was one.
     fn take_ask(&mut self, now: u64) -> bool {
         self.hold(now);
-        match self.held.take() {
+        match self.desk.take_next() {
             Some((place, ask)) => {
                 self.begin(place, ask);
                 true
@@ -327,16 +292,16 @@ impl Hosting {
 
     /// Takes the next ask out, unless one is taken out already.
     fn hold(&mut self, now: u64) {
-        if self.held.is_some() || self.ender.is_some() {
+        if self.desk.has_next() || self.desk.wants_end() {
             return;
         }
         if let Some((place, ask)) = self.door.next_ask() {
             self.asked = now;
             self.waiting = Waiting::new(self.alloc, now);
             if ask.text.as_slice() == b"end".as_slice() {
-                self.ender = Some((place, ask.number));
+                self.desk.hold_end(place, ask.number);
             } else {
-                self.held = Some((place, ask));
+                self.desk.hold(place, ask);
             }
         }
     }
@@ -348,7 +313,7 @@ impl Hosting {
         }
         match delayed {
             Some(file) => {
-                self.work = Some(Work::sync(self.alloc, file));
+                self.desk.begin(Work::sync(self.alloc, file));
                 true
             }
             None => false,
@@ -365,7 +330,7 @@ impl Hosting {
         let _doubted = self.ledger.doubt_oldest();
         match self.ledger.next_left() {
             Some(made) => {
-                self.work = Some(Work::tidy(self.alloc, made));
+                self.desk.begin(Work::tidy(self.alloc, made));
                 true
             }
             None => false,
@@ -381,7 +346,7 @@ impl Hosting {
             return self.begin_store(place, ask, name);
         }
         match Work::new(self.alloc, place, &ask) {
-            Some(work) => self.work = Some(work),
+            Some(work) => self.desk.begin(work),
             None => self.refuse(place, number, b"the host knows no such ask"),
         }
     }
@@ -398,31 +363,28 @@ impl Hosting {
             return self.refuse(place, number, b"the host cannot write in its folder");
         }
         match Work::store(self.alloc, place, ask, made) {
-            Some(work) => self.work = Some(work),
+            Some(work) => self.desk.begin(work),
             None => self.refuse(place, number, b"these are too many bytes"),
         }
     }
 
     /// The ask at work is over, since memory was wanting.
     fn lack(&mut self) {
-        let came = match &self.work {
-            Some(work) => work.lacks(),
-            None => Came::On,
-        };
+        let came = self.desk.lack();
         self.came(came);
     }
 
     /// What came of a step.
-    fn came(&mut self, came: Came) {
+    fn came(&mut self, came: Came)
+        ensures { self.new.desk ≡ self.old.desk }
+    {
         match came {
             Came::On => {}
             Came::Later => self.waiting.hear(Listed::Later),
             Came::Tidied(made) => {
-                self.work = None;
                 let _noted = self.ledger.looked_after(made);
             }
             Came::Over(reply) => {
-                self.work = None;
                 let AskReply {
                     place,
                     number,
@@ -449,7 +411,9 @@ impl Hosting {
     }
 
     /// Answers an ask. Before, whoever asked is told of the delayed writes that were lost since somebody was told.
-    fn reply(&mut self, place: usize, number: u32, kind: AnswerKind, text: &[u8], bytes: &[u8]) {
+    fn reply(&mut self, place: usize, number: u32, kind: AnswerKind, text: &[u8], bytes: &[u8])
+        ensures { self.new.desk ≡ self.old.desk }
+    {
         if !self.door.has(place) {
             return;
         }

@@ -4,6 +4,7 @@
 mod askers;
 mod beginning;
 mod door;
+mod ends;
 mod hosting;
 mod ledger;
 mod link;
@@ -13,6 +14,7 @@ mod words;
 
 use crate::beginning::{begin, begin_again};
 use crate::door::Door;
+use crate::ends::ends_in;
 use crate::hosting::Hosting;
 use crate::ledger::Ledger;
 use crate::link::HostLink;
@@ -21,7 +23,7 @@ use crate::starts::{NoStart, let_second_pass, next_inc, pause};
 use crate::words::{Files, Order, order_of};
 use mio::net::UnixListener;
 use nq_base::ending::{Ending, Fault};
-use nq_base::{Host, Inc, Party, Who};
+use nq_base::{Host, Inc, Who};
 use nq_book::book_in;
 use nq_client::Client;
 use nq_clock::StdClock;
@@ -121,12 +123,9 @@ fn ends_of(
         Some(path) => book_at(rt, path)?,
         None => Book::local(),
     };
-    match (
-        book.address(Party::Client(host)),
-        book.address(Party::Server),
-    ) {
-        (Some(home), Some(server)) => Ok((home, server)),
-        _ => Err(told(
+    match ends_in(&book, host.0) {
+        Some(ends) => Ok(ends),
+        None => Err(told(
             rt,
             Ending::Usage,
             "the book has to list the host and the server",

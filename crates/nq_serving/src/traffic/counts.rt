@@ -1,6 +1,6 @@
 //! Counts of what came and went.
 
-use crate::traffic::classes::{Heard, Said};
+use crate::traffic::classes::{ClassHeard, ClassSaid};
 
 /// The names of the procedures, by their numbers.
 pub const PROCEDURES: [&str; 14] = [
@@ -65,10 +65,10 @@ impl Counts {
     }
 
     /// Counts what came.
-    pub(crate) fn hear(&mut self, heard: Heard) {
+    pub(crate) fn hear(&mut self, heard: ClassHeard) {
         match heard {
-            Heard::Strange => raise(&mut self.strange),
-            Heard::Call(procedure) => match self.calls.get_mut(procedure as usize) {
+            ClassHeard::Strange => raise(&mut self.strange),
+            ClassHeard::Call(procedure) => match self.calls.get_mut(procedure as usize) {
                 Some(count) => raise(count),
                 None => raise(&mut self.strange),
             },
@@ -76,14 +76,14 @@ impl Counts {
     }
 
     /// Counts what was sent.
-    pub(crate) fn say(&mut self, said: Said) {
+    pub(crate) fn say(&mut self, said: ClassSaid) {
         match said {
-            Said::Notice => raise(&mut self.notices),
-            Said::Done => raise(&mut self.done),
-            Said::Later => raise(&mut self.later),
-            Said::Fenced => raise(&mut self.fenced),
-            Said::Refused => raise(&mut self.refused),
-            Said::Error => raise(&mut self.errors),
+            ClassSaid::Notice => raise(&mut self.notices),
+            ClassSaid::Done => raise(&mut self.done),
+            ClassSaid::Later => raise(&mut self.later),
+            ClassSaid::Fenced => raise(&mut self.fenced),
+            ClassSaid::Refused => raise(&mut self.refused),
+            ClassSaid::Error => raise(&mut self.errors),
         }
     }
 
