@@ -96,7 +96,12 @@ fn round<L: Line, C: Clock, A: Askers>(
     let has_heard = askers.tend();
     let has_called = call_on(alloc, host, link, clock, askers);
     let is_over = turn_page(host, link, askers);
-    has_heard || has_called || is_over || !link.is_dry()
+    any(has_heard, has_called, is_over, !link.is_dry())
+}
+
+/// Whether one of these is so.
+fn any(heard: bool, called: bool, over: bool, wet: bool) -> bool {
+    heard || called || over || wet
 }
 
 /// Hands over the page of a list that came, and sends the request for the next one that is due. Whether something is over.

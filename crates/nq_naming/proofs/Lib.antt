@@ -1,5 +1,4 @@
 pub mod Inside
 pub mod Keeping
 pub mod Moments
-pub mod Outcomes
 pub mod Printed

@@ -1,20 +1,16 @@
--- What `run_names` reads and prints. Below, `left` is what was left in the source before it and `rest` is what is left after it, where the
+-- What `names` reads and prints. Below, `left` is what was left in the source before it and `rest` is what is left after it, where the
 -- source tells them; `held` is what the sink held before it and `now` is what it holds after it, where the sink tells them; `r` and `r'`
 -- are the source's counts of faults before and after, and `w` and `w'` the sink's.
 use Rattle.std.specs.List.{AllByRecursion}
 use Rattle.std.specs.Prelude.{◌≡◌, ℕ, List, ◌++◌, Option, map, reverse}
 use Rattle.nq_replay.specs.Texts.{IsTellable}
-use Rattle.nq_base.specs.declared.SkewBroken.{SkewBroken}
 use Rattle.nq_names.specs.Playing.{PlaysOutside, NamesOver}
 use Rattle.nq_base.specs.declared.ending.ending.Ending.{Ending}
 use Rattle.nq_journal.specs.Text.{journal_text}
 use Rattle.nq_model.specs.protocol.Kept.{Kept}
-use Rattle.nq_model.specs.protocol.Stepped.{Stepped, out_of_skew}
-use Rattle.nq_replay.specs.Ending.{CountsSink, IsUnlessFault}
-use Rattle.nq_played.specs.Running.{Ends, EndsByInput, EndsPlayed, EndsText, Faulty, Passes, Prints, PrintsRun as PrintsAll, Runs, Stops}
+use Rattle.nq_played.specs.Running.{Ends, EndsByInput, EndsPlayed, Prints, Runs}
 use Rattle.nq_replay.specs.Lawful.{IsLawful}
 use Rattle.nq_replay.specs.Playing.{beginning}
-use Rattle.nq_replay.specs.declared.Bound.{Bound}
 use Rattle.nq_script.specs.Lines.{once}
 use Rattle.nq_script.specs.Schedule.{SpellsSchedule}
 use Rattle.nq_script.specs.declared.heads.Head.{Head}
@@ -50,34 +46,9 @@ pub record IsPrinted (head : Head) (m : Moment) (bytes : List ℕ) : Type 0 wher
 abbrev pub RunsNames : (text : List ℕ) → Head → Moment → Type 0
 RunsNames text head reached = Runs SpellsNames FirstBadNames play IsPrinted text head reached
 
--- the text is a schedule with lists, and the first of its events that is not taken is of this line and is answered so
-abbrev pub StopsNames : (text : List ℕ) → (number : ℕ) → Stepped → Type 0
-StopsNames text number answer = Stops SpellsNames FirstBadNames play IsPrinted text number answer
-
--- the faulty line: of a text outside the grammar the first that is, and of a schedule with lists the one that delivers a packet which does not travel
-abbrev pub FaultyNames : (text : List ℕ) → (number : ℕ) → Type 0
-FaultyNames text number = Faulty SpellsNames FirstBadNames play IsPrinted text number
-
--- an event of this line comes after too many events or packets
-abbrev pub PassesNames : (text : List ℕ) → (number : ℕ) → Bound → Type 0
-PassesNames text number bound = Passes SpellsNames FirstBadNames play IsPrinted text number bound
-
 -- running this text printed all of that
 abbrev pub PrintsNames : (text : List ℕ) → (held now : Option (List ℕ)) → Type 0
 PrintsNames text held now = Prints SpellsNames FirstBadNames play IsPrinted text held now
-
--- what running a text that was read printed, by the end
-abbrev pub EndsNamesText : Ending → (text : List ℕ) → (held now : Option (List ℕ)) → (w w' : ℕ) → Type 0
-EndsNamesText end text held now w w' = EndsText SpellsNames FirstBadNames play IsPrinted end text held now w w'
-
--- what running a text that was read printed, and which end came by the text, if no fault came in its place
-pub record TellsText (end : Ending) (text : List ℕ) (held now : Option (List ℕ)) (w w' : ℕ) : Type 0 where
-  pub ends : EndsNamesText end text held now w w'
-  pub script : (number : ℕ) → FaultyNames text number → IsUnlessFault end Ending.Script 0 0 w w'
-  pub skew : (number : ℕ) (broken : SkewBroken) → StopsNames text number (out_of_skew broken) → IsUnlessFault end Ending.Skew 0 0 w w'
-  pub passes : (number : ℕ) (bound : Bound) → PassesNames text number bound → IsUnlessFault end Ending.Limit 0 0 w w'
-  pub done : (head : Head) (m : Moment) → RunsNames text head m → IsUnlessFault end Ending.Done 0 0 w w'
-  pub sink : CountsSink end w w'
 
 -- what a run read and printed, by its end
 abbrev pub EndsNames : Ending → (limit : ℕ) → (left rest held now : Option (List ℕ)) → (r r' w w' : ℕ) → Type 0
@@ -94,10 +65,6 @@ pub record IsTold {K : Type 0} (head : Head) (w : NamesOver K) (told : Option Ke
   pub moment : Moment
   pub plays : PlaysOutside (beginning head) moment.events w told
   pub tellable : AllByRecursion (IsTellable head) (end_of head moment).ran
-
--- all that is printed of this was printed, or a front of it, or nothing, by the end
-abbrev pub PrintsRun : Ending → Head → Moment → (held now : Option (List ℕ)) → (w w' : ℕ) → Type 0
-PrintsRun end head reached held now w w' = PrintsAll SpellsNames FirstBadNames play IsPrinted end head reached held now w w'
 
 -- what running lines printed, by what is due and the end
 abbrev pub EndsNamesPlayed : Ending → Head → Ended Moment → (held now : Option (List ℕ)) → (w w' : ℕ) → Type 0

@@ -27,8 +27,8 @@ NamesLine = MixedLine Aside
 
 -- the text is a schedule with lists of this head and these lines
 abbrev pub SpellsNames : Head → (lines : List NamesLine) → (text : List ℕ) → Type 0
-SpellsNames head lines text = SpellsMixed aside_of head lines text
+SpellsNames = SpellsMixed aside_of
 
 -- the first line that is wrong in a text that is no schedule with lists
 abbrev pub FirstBadNames : (text : List ℕ) → (number : ℕ) → Type 0
-FirstBadNames text number = FirstBadMixed aside_of text number
+FirstBadNames = FirstBadMixed aside_of

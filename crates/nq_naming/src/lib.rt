@@ -9,5 +9,3 @@ mod playing;
 mod printing;
 mod running;
 pub mod script;
-
-pub use running::run_names;

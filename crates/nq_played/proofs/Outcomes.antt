@@ -1,14 +1,16 @@
 -- What a command comes to that plays texts of some kind. The names are those of `specs/Running`.
-use Rattle.std.proofs.Common.{◌≡◌, inl, inr, ℕ, List, Option, refl, sym, subst}
+use Rattle.std.proofs.Common.{◌≡◌, ◌<◌, ◌≤◌, inl, inr, ℕ, List, length, Option, Some, refl, sym, ap, subst, arith}
+use Rattle.std.specs.Prelude.{IfSome}
 use Rattle.nq_base.specs.declared.SkewBroken.{SkewBroken}
 use Rattle.nq_base.specs.declared.ending.ending.Ending.{Ending}
 use Rattle.nq_io.specs.Whole.{IsAll, IsOver}
 use Rattle.nq_model.specs.protocol.Stepped.{Stepped as Answer, done, no_packet, out_of_skew, too_many_events, too_many_packets}
+use Rattle.nq_replay.proofs.Endings.{over_unless, told_text}
 use Rattle.nq_replay.proofs.Outcomes.{script_unless}
 use Rattle.nq_replay.specs.AsidesGoing.{Comes, StoppedAt}
 use Rattle.nq_replay.specs.AsidesPlaying.{Ended, ran, stopped}
-use Rattle.nq_played.specs.Running.{Ends, EndsPlayed, EndsText, Faulty, Passes, Runs, Stops}
-use Rattle.nq_replay.specs.Ending.{CountsSource, IsFault, IsUnlessFault, TellsOver}
+use Rattle.nq_played.specs.Running.{Ends, EndsByInput, EndsPlayed, EndsText, Faulty, Passes, Runs, Stops, TellsText}
+use Rattle.nq_replay.specs.Ending.{CountsSink, CountsSource, IsFault, IsUnlessFault, TellsOver}
 use Rattle.nq_replay.specs.Schedules.{TellsStop}
 use Rattle.nq_replay.specs.declared.play.played.Played.{Played}
 use Rattle.nq_replay.specs.declared.Bound.{Bound}
@@ -269,3 +271,93 @@ module _ {L S : Type 0} (spells : Head → L → List ℕ → Type 0) (bad : Lis
   ends_over Ending.Memory front limit left rest held now r r' w w' over tells = inl (tells, inr (inr (front, over)))
   ends_over Ending.Limit front limit left rest held now r r' w w' over tells = inl (record { front = front; passes = over; printed = tells })
   ends_over other front limit left rest held now r r' w w' over tells = absurd tells
+
+  -- ---- a text that was run
+
+  -- one that was read
+  pub tells_read : (end : Ending) (head : Head) (lines : L) (text : List ℕ) (held now : Option (List ℕ)) (w w' : ℕ) → spells head lines text
+      → ((h : Head) (ls : L) → spells h ls text → (head ≡ h) × (lines ≡ ls)) → ((number : ℕ) → bad text number → ⊥)
+      → EndsPlayed spells bad play prints end head (play head lines) held now w w' → CountsSink end w w'
+      → TellsText spells bad play prints end text held now w w'
+  tells_read end head lines text held now w w' spelled only none ends sink = record {
+    ends = text_of_schedule end head lines text held now w w' spelled ends;
+    script = λ number faulty. ends_faulty end head lines text number held now w w' ends only (none number) faulty;
+    skew = λ number broken breaks. ends_skew end head lines number broken held now w w' ends
+        (is_due head breaks.head lines breaks.lines _ (only breaks.head breaks.lines breaks.spelled) breaks.stopped);
+    passes = λ number bound passes. ends_passing end head lines text number bound held now w w' ends only passes;
+    done = λ h m runs. ends_done end head lines h runs.lines m held now w w' ends (only h runs.lines runs.spelled) runs.played;
+    sink = sink;
+  }
+
+  -- one that is outside the grammar
+  pub tells_bad : (end : Ending) (line : ℕ) (text : List ℕ) (held now : Option (List ℕ)) (w w' : ℕ) → bad text line
+      → ((h : Head) (ls : L) → spells h ls text → ⊥) → TellsStop end line Stepped.NoPacket held now w w' → CountsSink end w w'
+      → TellsText spells bad play prints end text held now w w'
+  tells_bad end line text held now w w' is none tells sink = record {
+    ends = text_of_fault end line text held now w w' is tells;
+    script = λ number faulty. script_unless end line held now w w' tells;
+    skew = λ number broken breaks. absurd (none breaks.head breaks.lines breaks.spelled);
+    passes = λ number bound passes. absurd (passes_none text number bound none passes);
+    done = λ head m runs. absurd (none head runs.lines runs.spelled);
+    sink = sink;
+  }
+
+  -- one for which memory was wanting
+  pub tells_none : (text : List ℕ) (held : Option (List ℕ)) (w : ℕ) → TellsText spells bad play prints Ending.Memory text held held w w
+  tells_none text held w = record {
+    ends = inl refl;
+    script = λ number faulty. inr tt;
+    skew = λ number broken breaks. inr tt;
+    passes = λ number bound passes. inr tt;
+    done = λ head m runs. inr tt;
+    sink = refl;
+  }
+
+  -- ---- which end comes by an input
+
+  too-long : (limit : ℕ) (left : Option (List ℕ)) (text : List ℕ) → IfSome left (λ input. limit < length input) → left ≡ Some text
+      → length text ≤ limit → ⊥
+  too-long limit left text longer told within =
+      let more : limit < length text = subst (λ l. IfSome l (λ input. limit < length input)) told longer in omega arith
+
+  not-over : (bytes text : List ℕ) (limit : ℕ) → bytes ≡ text → length bytes ≤ limit → limit < length text → ⊥
+  not-over bytes text limit same within longer = let long = ap length same in omega arith
+
+  -- one that was read to its end
+  pub by_text : (end : Ending) (bytes : List ℕ) (limit : ℕ) (left rest held now : Option (List ℕ)) (r r' w w' : ℕ) → IsAll bytes limit left rest
+      → TellsText spells bad play prints end bytes held now w w' → EndsByInput spells bad play prints end limit left r r' w w'
+  by_text end bytes limit left rest held now r r' w w' read tells = record {
+    over = λ text told longer. absurd (not-over bytes text limit (told_text bytes limit left rest text read told) read.within longer);
+    script = λ text told within number faulty. still_unless end Ending.Script bytes held now r r' w w' tells.ends
+        (tells.script number (subst (λ t. Faulty spells bad play prints t number) (sym (told_text bytes limit left rest text read told)) faulty));
+    skew = λ text told within number broken breaks. still_unless end Ending.Skew bytes held now r r' w w' tells.ends
+        (tells.skew number broken (subst (λ t. Stops spells bad play prints t number (out_of_skew broken))
+        (sym (told_text bytes limit left rest text read told)) breaks));
+    passes = λ text told within number bound passes. still_unless end Ending.Limit bytes held now r r' w w' tells.ends
+        (tells.passes number bound (subst (λ t. Passes spells bad play prints t number bound)
+        (sym (told_text bytes limit left rest text read told)) passes));
+    done = λ text told within head m runs. still_unless end Ending.Done bytes held now r r' w w' tells.ends
+        (tells.done head m (subst (λ t. Runs spells bad play prints t head m) (sym (told_text bytes limit left rest text read told)) runs));
+  }
+
+  -- one that passes the limit
+  pub by_over : (end : Ending) (front : List ℕ) (limit : ℕ) (left rest held now : Option (List ℕ)) (r r' w w' : ℕ) → IsOver front limit left rest
+      → TellsOver end front held now w w' → EndsByInput spells bad play prints end limit left r r' w w'
+  by_over end front limit left rest held now r r' w w' over tells = record {
+    over = λ text told longer. over_unless end front held now r r' w w' tells;
+    script = λ text told within number faulty. absurd (too-long limit left text over.longer told within);
+    skew = λ text told within number broken breaks. absurd (too-long limit left text over.longer told within);
+    passes = λ text told within number bound passes. absurd (too-long limit left text over.longer told within);
+    done = λ text told within head m runs. absurd (too-long limit left text over.longer told within);
+  }
+
+  -- one of which a fault came before it was read
+  pub by_fault : (end : Ending) (limit : ℕ) (left : Option (List ℕ)) (r r' w w' : ℕ) → IsFault end r r' w w'
+      → EndsByInput spells bad play prints end limit left r r' w w'
+  by_fault end limit left r r' w w' fault = record {
+    over = λ text told longer. inr fault;
+    script = λ text told within number faulty. inr fault;
+    skew = λ text told within number broken breaks. inr fault;
+    passes = λ text told within number bound passes. inr fault;
+    done = λ text told within head m runs. inr fault;
+  }

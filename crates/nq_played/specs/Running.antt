@@ -12,7 +12,7 @@ use Rattle.nq_io.specs.Told.{with_end}
 use Rattle.nq_io.specs.Whole.{TakesSome}
 use Rattle.nq_model.specs.protocol.Stepped.{Stepped, no_packet, out_of_skew, too_many_events, too_many_packets}
 use Rattle.nq_replay.specs.AsidesPlaying.{Ended, ran, stopped}
-use Rattle.nq_replay.specs.Ending.{IsUnlessFault}
+use Rattle.nq_replay.specs.Ending.{CountsSink, IsUnlessFault}
 use Rattle.nq_replay.specs.Lines.{limit_line, script_line, skew_line}
 use Rattle.nq_replay.specs.Replay.{OfInput, PrintsLimit, TakesInput}
 use Rattle.nq_replay.specs.Schedules.{PrintsBytes, TellsStop}
@@ -107,6 +107,15 @@ module _ {L S : Type 0} (spells : Head → L → List ℕ → Type 0) (bad : Lis
   EndsText Ending.WriteFault text held now w w' = PrintsPart text held now × Rose w w'
   EndsText Ending.Memory text held now w w' = (now ≡ held) ⊎ PrintsPart text held now
   EndsText other text held now w w' = ⊥
+
+  -- what running a text printed, and which end came by the text, if no fault came in its place
+  pub record TellsText (end : Ending) (text : List ℕ) (held now : Option (List ℕ)) (w w' : ℕ) : Type 0 where
+    pub ends : EndsText end text held now w w'
+    pub script : (number : ℕ) → Faulty text number → IsUnlessFault end Ending.Script 0 0 w w'
+    pub skew : (number : ℕ) (broken : SkewBroken) → Stops text number (out_of_skew broken) → IsUnlessFault end Ending.Skew 0 0 w w'
+    pub passes : (number : ℕ) (bound : Bound) → Passes text number bound → IsUnlessFault end Ending.Limit 0 0 w w'
+    pub done : (head : Head) (reached : S) → Runs text head reached → IsUnlessFault end Ending.Done 0 0 w w'
+    pub sink : CountsSink end w w'
 
   -- what a run read and printed, by its end
   abbrev pub Ends : Ending → (limit : ℕ) → (left rest held now : Option (List ℕ)) → (r r' w w' : ℕ) → Type 0

@@ -1,2 +1,7 @@
-//! What a command reads and prints that plays texts of some kind, as definitions and lemmas: a text with asides is such a kind. It has no code.
+//! The commands that play texts of some kind: schedules in which lines of another kind may stand, their asides. A kind is told by its
+//! asides; `specs/Running` says what is read and printed.
 #![tactic(auto)]
+
+mod running;
+
+pub use running::{PlayedAside, run_played};

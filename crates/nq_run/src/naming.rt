@@ -4,7 +4,8 @@ ghost use Rattle.std.specs.Prelude.{◌≡◌, ◌<◌, ◌^◌};
 ghost use Rattle.nq_run.specs.Naming.{NamesFor};
 
 use nq_io::{Sink, Source};
-use nq_naming::run_names;
+use nq_naming::script::Aside;
+use nq_played::run_played;
 use std::alloc::Global;
 
 /// Runs a schedule with lists of at most so many bytes; the status.
@@ -18,5 +19,5 @@ pub(crate) fn named<S: Source, K: Sink>(
     ensures { NamesFor limit result (S.left input.old) (S.left input.new) (K.held out.old) (K.held out.new)
         (S.faults input.old) (S.faults input.new) (K.faults out.old) (K.faults out.new) }
 {
-    run_names(alloc, input, out, limit).status()
+    run_played::<Aside, S, K>(alloc, input, out, limit).status()
 }

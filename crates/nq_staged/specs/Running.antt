@@ -9,11 +9,9 @@ use Rattle.nq_staged.specs.Worlds.{PlaysOutside, StagedOver}
 use Rattle.nq_base.specs.declared.ending.ending.Ending.{Ending}
 use Rattle.nq_journal.specs.Text.{journal_text}
 use Rattle.nq_model.specs.protocol.Kept.{Kept}
-use Rattle.nq_model.specs.protocol.Stepped.{Stepped}
-use Rattle.nq_played.specs.Running.{Ends, EndsByInput, EndsPlayed, EndsText, Faulty, Passes, Prints, PrintsRun as PrintsAll, Runs, Stops}
+use Rattle.nq_played.specs.Running.{Ends, EndsByInput, EndsPlayed, Prints, PrintsRun as PrintsAll, Runs}
 use Rattle.nq_replay.specs.Lawful.{IsLawful}
 use Rattle.nq_replay.specs.Playing.{beginning}
-use Rattle.nq_replay.specs.declared.Bound.{Bound}
 use Rattle.nq_script.specs.Lines.{once}
 use Rattle.nq_script.specs.Schedule.{SpellsSchedule}
 use Rattle.nq_script.specs.declared.heads.Head.{Head}
@@ -55,25 +53,9 @@ pub record IsPrinted (head : Head) (events : List StagedEvent) (bytes : List ℕ
 abbrev pub RunsStaged : (text : List ℕ) → Head → List StagedEvent → Type 0
 RunsStaged text head reached = Runs SpellsStaged FirstBadStaged play IsPrinted text head reached
 
--- the text is a staged schedule, and the first of its events that is not taken is of this line and is answered so
-abbrev pub StopsStaged : (text : List ℕ) → (number : ℕ) → Stepped → Type 0
-StopsStaged text number answer = Stops SpellsStaged FirstBadStaged play IsPrinted text number answer
-
--- the faulty line: of a text outside the grammar the first that is, and of a staged schedule the one that delivers a packet which does not travel
-abbrev pub FaultyStaged : (text : List ℕ) → (number : ℕ) → Type 0
-FaultyStaged text number = Faulty SpellsStaged FirstBadStaged play IsPrinted text number
-
--- an event of this line comes after too many events or packets
-abbrev pub PassesStaged : (text : List ℕ) → (number : ℕ) → Bound → Type 0
-PassesStaged text number bound = Passes SpellsStaged FirstBadStaged play IsPrinted text number bound
-
 -- running this text printed all of that
 abbrev pub PrintsStaged : (text : List ℕ) → (held now : Option (List ℕ)) → Type 0
 PrintsStaged text held now = Prints SpellsStaged FirstBadStaged play IsPrinted text held now
-
--- what running a text that was read printed, by the end
-abbrev pub EndsStagedText : Ending → (text : List ℕ) → (held now : Option (List ℕ)) → (w w' : ℕ) → Type 0
-EndsStagedText end text held now w w' = EndsText SpellsStaged FirstBadStaged play IsPrinted end text held now w w'
 
 -- what a run read and printed, by its end
 abbrev pub EndsStaged : Ending → (limit : ℕ) → (left rest held now : Option (List ℕ)) → (r r' w w' : ℕ) → Type 0

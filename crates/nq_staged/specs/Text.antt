@@ -24,8 +24,8 @@ StagedLine = MixedLine Offer
 
 -- the text is a staged schedule of this head and these lines
 abbrev pub SpellsStaged : Head → (lines : List StagedLine) → (text : List ℕ) → Type 0
-SpellsStaged head lines text = SpellsMixed offer_of head lines text
+SpellsStaged = SpellsMixed offer_of
 
 -- the first line that is wrong in a text that is no staged schedule
 abbrev pub FirstBadStaged : (text : List ℕ) → (number : ℕ) → Type 0
-FirstBadStaged text number = FirstBadMixed offer_of text number
+FirstBadStaged = FirstBadMixed offer_of

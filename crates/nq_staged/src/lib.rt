@@ -12,4 +12,3 @@ mod printing;
 mod running;
 
 pub use offer::Offer;
-pub use running::run_staged;

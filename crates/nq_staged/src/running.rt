@@ -1,24 +1,22 @@
-//! Running a staged schedule.
+//! Running a staged schedule: a schedule of version 2 that may have lines `stage H`. The schedule of the inner world that was run is printed,
+//! in version 2, its journal, and the line `staged S commits C unstaged U`.
 
-ghost use Rattle.std.specs.Prelude.{◌≡◌, ◌⊎◌, ◌<◌, ◌≤◌, ◌^◌, ℕ, List, [], Some, length, IfOk};
-ghost use Rattle.nq_base.specs.declared.SkewBroken.{SkewBroken};
+ghost use Rattle.std.specs.Prelude.{◌≡◌, ◌⊎◌, List, [], Some, IfOk};
 ghost use Rattle.nq_replay.specs.Text.{IsReadyMixed, mixed};
 ghost use Rattle.nq_staged.specs.Worlds.{PlaysOutside};
 ghost use Rattle.nq_base.specs.declared.ending.ending.Ending.{Ending};
 ghost use Rattle.nq_keeper.specs.StoredKeeper.{empty_kept};
-ghost use Rattle.nq_model.specs.protocol.Stepped.{out_of_skew};
 ghost use Rattle.nq_replay.specs.Playing.{beginning};
 ghost use Rattle.nq_replay.specs.declared.play.played.Played.{Played};
-ghost use Rattle.nq_replay.specs.Ending.{CountsSink, CountsSource, IsUnlessFault};
+ghost use Rattle.nq_replay.specs.Ending.{CountsSink};
 ghost use Rattle.nq_world.specs.Beginning.{NeverFails};
 ghost use Rattle.nq_replay.specs.Schedules.{HasReason};
-ghost use Rattle.nq_replay.specs.declared.Bound.{Bound};
 ghost use Rattle.nq_script.specs.Heads.{FitsHead};
 ghost use Rattle.nq_script.specs.declared.heads.Head.{Head};
 ghost use Rattle.nq_replay.specs.AsidesGoing.{Comes};
 ghost use Rattle.nq_replay.specs.AsidesPlaying.{Ended};
 ghost use Rattle.nq_staged.specs.Playing.{play};
-ghost use Rattle.nq_staged.specs.Running.{EndsStaged, EndsStagedPlayed, EndsStagedText, FaultyStaged, IsTold, PassesStaged, PrintsRun, RunsStaged, StopsStaged};
+ghost use Rattle.nq_staged.specs.Running.{EndsStagedPlayed, IsPrinted, IsTold, PrintsRun};
 ghost use Rattle.nq_staged.specs.Text.{IsOfHost};
 ghost use Rattle.nq_stage.specs.declared.run.event.StagedEvent.{StagedEvent};
 ghost use Rattle.nq_world.specs.Playing.{HasSettings};
@@ -28,96 +26,28 @@ use crate::offer::Offer;
 use crate::printing::count_text;
 use nq_base::NoMemory;
 use nq_base::ending::Ending;
-use nq_io::{Sink, Source, Whole, read_all};
+use nq_io::Sink;
 use nq_keeper::{Keeper, ListKeeper};
-use nq_replay::asides::{MixedScript, read_script};
+use nq_played::PlayedAside;
+use nq_replay::asides::MixedScript;
 use nq_replay::play::{Played, play};
-use nq_replay::{print_parts, schedule_text, tell_over, tell_script, tell_stop};
-use nq_script::{Head, ScriptFault};
+use nq_replay::{print_parts, schedule_text, tell_stop};
+use nq_script::Head;
 use nq_world::{MOST_EVENTS, NewFault, begin_surely};
 use std::alloc::Global;
 
-/// Reads a staged schedule to the end of the input, of at most so many bytes, and runs it: a schedule of version 2 that may have
-/// lines `stage H`, whose `deliver` and `flow` speak of the packets that travel outside. Prints the schedule of the inner world that
-/// was run, in version 2, its journal, and the line `staged S commits C unstaged U`. How it ends:
-///
-/// - `Done`: all of that was printed.
-/// - `Script`: a line is outside the grammar, or delivers a packet that does not travel; prints `script line N`, with lines counted
-///   from 1.
-/// - `Skew`: a tick of the server's clock breaks the rule on skew (Macklem 1994); prints `skew line N host H server S client C` with
-///   the lowest such host, and how often both clocks ticked in the shortest part of the inner schedule that breaks the rule.
-/// - `ReadFault`: the source failed, which it has counted, behind a front of what was left in it; prints nothing.
-/// - `WriteFault`: the sink failed, which it has counted; a front of what is to be printed is printed.
-/// - `Memory`: memory was wanting; a front of what is to be printed may be printed.
-/// - `Limit`: the input has more bytes than the limit, the schedule more than 100,000 events, or an event comes after more than
-///   999,936 packets outside; prints `limit line N bytes`, `events` or `packets` with the line of the first byte beyond them, or of
-///   the event.
-pub fn run_staged<S: Source, K: Sink>(
-    alloc: Global,
-    input: &mut S,
-    out: &mut K,
-    limit: usize,
-) -> Ending
-    requires { limit < 2 ^ 31 }
-    ensures ends { EndsStaged result limit (S.left input.old) (S.left input.new) (K.held out.old) (K.held out.new)
-        (S.faults input.old) (S.faults input.new) (K.faults out.old) (K.faults out.new) }
-    ensures usage { result ≡ Ending.Usage → ⊥ }
-    ensures limit { (text : List ℕ) → S.left input.old ≡ Some text → limit < length text
-        → IsUnlessFault result Ending.Limit (S.faults input.old) (S.faults input.new) (K.faults out.old) (K.faults out.new) }
-    ensures script { (text : List ℕ) → S.left input.old ≡ Some text → length text ≤ limit
-        → (number : ℕ) → FaultyStaged text number
-        → IsUnlessFault result Ending.Script (S.faults input.old) (S.faults input.new) (K.faults out.old) (K.faults out.new) }
-    ensures skew { (text : List ℕ) → S.left input.old ≡ Some text → length text ≤ limit
-        → (number : ℕ) (broken : SkewBroken) → StopsStaged text number (out_of_skew broken)
-        → IsUnlessFault result Ending.Skew (S.faults input.old) (S.faults input.new) (K.faults out.old) (K.faults out.new) }
-    ensures passes { (text : List ℕ) → S.left input.old ≡ Some text → length text ≤ limit
-        → (number : ℕ) (bound : Bound) → PassesStaged text number bound
-        → IsUnlessFault result Ending.Limit (S.faults input.old) (S.faults input.new) (K.faults out.old) (K.faults out.new) }
-    ensures done { (text : List ℕ) → S.left input.old ≡ Some text → length text ≤ limit
-        → (head : Head) (events : List StagedEvent) → RunsStaged text head events
-        → IsUnlessFault result Ending.Done (S.faults input.old) (S.faults input.new) (K.faults out.old) (K.faults out.new) }
-    ensures source { CountsSource result (S.faults input.old) (S.faults input.new) }
-    ensures sink { CountsSink result (K.faults out.old) (K.faults out.new) }
-{
-    match read_all(alloc, input, limit) {
-        Whole::All(text) => run_text(alloc, &text, out),
-        Whole::Over(front) => tell_over(alloc, &front, out),
-        Whole::Failed => Ending::ReadFault,
-        Whole::Memory => Ending::Memory,
-    }
-}
+impl PlayedAside for Offer {
+    ghost Reached = { List StagedEvent };
 
-/// Runs a staged schedule that was read, and prints what it made or the line at which it stopped.
-fn run_text<K: Sink>(alloc: Global, text: &[u8], out: &mut K) -> Ending
-    requires { length text.now < 2 ^ 31 }
-    ensures ends { EndsStagedText result text.now (K.held out.old) (K.held out.new) (K.faults out.old) (K.faults out.new) }
-    ensures script { (number : ℕ) → FaultyStaged text.now number
-        → IsUnlessFault result Ending.Script 0 0 (K.faults out.old) (K.faults out.new) }
-    ensures skew { (number : ℕ) (broken : SkewBroken) → StopsStaged text.now number (out_of_skew broken)
-        → IsUnlessFault result Ending.Skew 0 0 (K.faults out.old) (K.faults out.new) }
-    ensures passes { (number : ℕ) (bound : Bound) → PassesStaged text.now number bound
-        → IsUnlessFault result Ending.Limit 0 0 (K.faults out.old) (K.faults out.new) }
-    ensures done { (head : Head) (events : List StagedEvent) → RunsStaged text.now head events
-        → IsUnlessFault result Ending.Done 0 0 (K.faults out.old) (K.faults out.new) }
-    ensures sink { CountsSink result (K.faults out.old) (K.faults out.new) }
-{
-    match read_script(alloc, text) {
-        Ok(script) => run_in_memory(alloc, &script, out),
-        Err(ScriptFault::Bad(number)) => tell_script(alloc, number, out),
-        Err(ScriptFault::Memory) => Ending::Memory,
-    }
-}
+    ghost due = { play };
 
-/// Runs a staged schedule over a keeper in memory, which is told to fail in no call.
-fn run_in_memory<K: Sink>(alloc: Global, script: &MixedScript<Offer>, out: &mut K) -> Ending
-    requires { IsReadyMixed IsOfHost script.now.script script.now.asides.items }
-    ensures ends { EndsStagedPlayed result script.now.script.head (play script.now.script.head (mixed script.now.asides.items script.now.script.lines))
-        (K.held out.old) (K.held out.new) (K.faults out.old) (K.faults out.new) }
-    ensures sink { CountsSink result (K.faults out.old) (K.faults out.new) }
-{
-    match ListKeeper::new(alloc, Vec::new(alloc)) {
-        Ok(keeper) => run_over(alloc, script, keeper, out),
-        Err(_) => Ending::Memory,
+    ghost prints = { IsPrinted };
+
+    fn run<K: Sink>(alloc: Global, script: &MixedScript<Offer>, out: &mut K) -> Ending {
+        match ListKeeper::new(alloc, Vec::new(alloc)) {
+            Ok(keeper) => run_over(alloc, script, keeper, out),
+            Err(_) => Ending::Memory,
+        }
     }
 }
 

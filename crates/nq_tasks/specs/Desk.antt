@@ -1,5 +1,5 @@
 -- The asks that a host has taken out and not answered yet.
-use Rattle.std.specs.Prelude.{◌≡◌, ◌⊎◌, ℕ, ◌==◌, List, [], ◌∷◌, ◌++◌, Option, Some, None, if◌then◌else◌}
+use Rattle.std.specs.Prelude.{ℕ, ◌==◌, List, [], ◌∷◌, ◌++◌, Option, Some, None, if◌then◌else◌}
 use Rattle.nq_tasks.specs.Work.{Asked, nobodys}
 use Rattle.nq_tasks.specs.declared.work.Came.{Came}
 
@@ -24,10 +24,6 @@ abbrev pub closed : Came → Desks → Desks
 closed (Came.Over reply) d = record d { work = None }
 closed (Came.Tidied made) d = record d { work = None }
 closed other d = d
-
--- at most the ask at work was answered: all else is as before
-abbrev pub AnswersAtMost : (d d' : Desks) → Type 0
-AnswersAtMost d d' = (d' ≡ d) ⊎ (d' ≡ record d { work = None })
 
 -- what was put aside is at work, if anything was
 abbrev pub resumed_by : Option Asked → Desks → Desks

