@@ -2,6 +2,7 @@ pub mod Block
 pub mod Calls
 pub mod Content
 pub mod Entries
+pub mod KeptCalls
 pub mod Lists
 pub mod Name
 pub mod Order

@@ -1,5 +1,6 @@
 //! The entries of a journal.
 
+use crate::kept_calls::KeptCall;
 use crate::lists::Spans;
 use crate::names::Name;
 use crate::numbers::{BlockNo, FileId, Number, Ticks};
@@ -92,7 +93,7 @@ pub enum Entry {
     C {
         who: Who,
         q: u64,
-        told: Told,
+        told: KeptCall,
     },
     /// A write: delayed at the client, or `through` at the server.
     W {

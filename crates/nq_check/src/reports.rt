@@ -47,7 +47,7 @@ fn may_report(whole: &[Entry], place: usize, entry: &Entry) -> Option<EntryKey>
             if is_there(whole, place + 1, Sought::Busy { who, q: *q }) {
                 return None;
             }
-            reports_of(who, told)
+            reports_of(who, &told.told())
         }
         _ => None,
     }

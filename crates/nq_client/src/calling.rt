@@ -14,23 +14,24 @@ ghost use Rattle.nq_client.specs.Tied.{Tied};
 use crate::rooms::Rooms;
 use crate::state::UnderWay;
 use crate::step::Step;
-use nq_base::{Answer, Call, Entry, FileId, Said};
+use nq_base::{Answer, Call, Entry, FileId, KeptCall, Said};
 use nq_client_parts::{Named, changed_file};
 
 impl Step {
     /// A call: busy, or told of losses, or under way.
-    pub(crate) fn call(&mut self, call: Call, named: Named, rooms: &mut Rooms)
+    pub(crate) fn call(&mut self, call: Call, kept: KeptCall, named: Named, rooms: &mut Rooms)
         requires rooms { HasRooms rooms.old }
         requires room { HasRoomToCall self.old }
         requires numbers { HasNumbers 2 self.old.state }
         requires calls { self.old.state.calls < 2 ^ 62 }
         requires tied { Tied self.old.state.asked self.old.state.dirty.push }
+        requires kept { kept ≡ told call }
         requires named { named ≡ losses_for (changed_file call) self.old.state.losses.items }
         requires begun { step_of self.old ≡ begun (step_of self.old).client }
         ensures { step_of self.new ≡ client_call (step_of self.old).client call }
     {
         let busy = self.state.call.is_some() || !self.state.attached;
-        self.begins_call(&call);
+        self.begins_call(&call, kept);
         if busy {
             self.says_busy();
         } else if named.is_empty() {
@@ -42,7 +43,8 @@ impl Step {
 
     /// A call begins: it takes the next number.
     #[tactic(auto, unfolding(nq_model::specs::protocol::ClientStep::begins_call))]
-    fn begins_call(&mut self, call: &Call)
+    fn begins_call(&mut self, call: &Call, kept: KeptCall)
+        requires kept { kept ≡ told call.now }
         requires room { HasRoomToCall self.old }
         requires numbers { HasNumbers 2 self.old.state }
         requires calls { self.old.state.calls < 2 ^ 62 }
@@ -58,7 +60,7 @@ impl Step {
         self.entries.note(Entry::C {
             who: self.state.who,
             q: self.state.calls,
-            told: call.told(),
+            told: kept,
         });
     }
 

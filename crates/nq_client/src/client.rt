@@ -24,7 +24,7 @@ use crate::state::State;
 use crate::step::Step;
 use crate::stepping::{hear, make_call, make_tick, reserve, room_for_call};
 use nq_base::{
-    Answer, Block, BlockNo, Call, FileId, Host, Inc, Journal, NoMemory, Spare, Ticks, Who,
+    Answer, Block, BlockNo, Call, FileId, Host, Inc, Journal, KeptCall, NoMemory, Spare, Ticks, Who,
 };
 use nq_client_parts::dirty::Dirty;
 use nq_client_parts::holding::Held;
@@ -141,11 +141,22 @@ impl Client {
         let Ok(own) = call.copied(self.step.state.alloc) else {
             return Answer::Memory;
         };
+        let Ok(kept) = KeptCall::new(self.step.state.alloc, &call.told()) else {
+            return Answer::Memory;
+        };
         let Ok(named) = room_for_call(&mut self.step, &mut self.letters, call, out, log) else {
             return Answer::Memory;
         };
         self.taken += 1;
-        make_call(&mut self.step, &mut self.letters, own, named, out, log);
+        make_call(
+            &mut self.step,
+            &mut self.letters,
+            own,
+            kept,
+            named,
+            out,
+            log,
+        );
         self.step.gives_answer()
     }
 

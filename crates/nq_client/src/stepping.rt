@@ -1,6 +1,7 @@
 //! Whole steps of a client: memory is taken first, then the step is made, then its outcome is given.
 
 ghost use Rattle.std.specs.Prelude.{◌≡◌, ◌≤◌, ◌<◌, ◌+◌, ◌^◌, IfOk, OnOk};
+ghost use Rattle.nq_base.specs.Calls.{told};
 ghost use Rattle.nq_model.specs.protocol.ClientStep.{changed_file, client_call, client_tick, losses_for};
 ghost use Rattle.nq_client.specs.Finishing.{Hears, IsKept, IsSupplied, Makes};
 ghost use Rattle.nq_client.specs.Receiving.{HasRoomForFiles, IsHeeded, most_entries, on_heard};
@@ -11,7 +12,7 @@ ghost use Rattle.nq_client.specs.Tied.{Tied};
 use crate::finishing::Letters;
 use crate::receiving::most_entries;
 use crate::step::Step;
-use nq_base::{Call, Journal, NoMemory, Ticks};
+use nq_base::{Call, Journal, KeptCall, NoMemory, Ticks};
 use nq_client_parts::Named;
 use nq_wire::Outbox;
 
@@ -56,6 +57,7 @@ pub(crate) fn make_call(
     step: &mut Step,
     letters: &mut Letters,
     call: Call,
+    kept: KeptCall,
     named: Named,
     out: &mut Outbox,
     log: &mut Journal,
@@ -64,11 +66,12 @@ pub(crate) fn make_call(
     requires supplied { IsSupplied 3 step.old letters.old out.old log.old }
     requires numbers { HasNumbers 2 step.old.state }
     requires calls { step.old.state.calls < 2 ^ 62 }
+    requires kept { kept ≡ told call }
     requires named { named ≡ losses_for (changed_file call) step.old.state.losses.items }
     requires tied { Tied step.old.state.asked step.old.state.dirty.push }
     ensures { Makes (client_call (client_of step.old.state) call) step.new out.old out.new log.old log.new }
 {
-    step.call(call, named, &mut letters.rooms);
+    step.call(call, kept, named, &mut letters.rooms);
     step.finish(letters, out, log);
 }
 

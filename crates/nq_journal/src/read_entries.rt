@@ -8,7 +8,7 @@ ghost use Rattle.nq_journal.specs.ReadingEntries.{c_at, w_at, r_at, s_at, l_at, 
 ghost use Rattle.nq_journal.specs.Text.{mode_word, way_word, source_words, longest_words, FitsSource, Has};
 ghost use Rattle.nq_script.specs.Forms.{HasTold};
 
-use nq_base::{Entry, FileId, Mode, NoMemory, Number, Ticks};
+use nq_base::{Entry, FileId, KeptCall, Mode, NoMemory, Number, Ticks};
 use nq_script::words::{WordCursor, has_told, is, take_said, take_told};
 use std::alloc::Global;
 
@@ -141,14 +141,21 @@ fn take_longest(words: &mut WordCursor<'_>, version: u32) -> Option<u32>
 }
 
 #[tactic(auto, unfolding(crate::specs::ReadingEntries::c_at))]
-fn take_c(words: &mut WordCursor<'_>) -> Option<Entry>
-    ensures step { Takes plain result words.new (c_at words.old) }
-    ensures found { (version : ℕ) → IfSome result (λ entry. Spells version (codes "C" ∷ words.old) entry words.new) }
+fn take_c(alloc: Global, words: &mut WordCursor<'_>) -> Result<Option<Entry>, NoMemory>
+    ensures step { IfOk result (λ entry. Takes plain entry words.new (c_at words.old)) }
+    ensures found { (version : ℕ) → IfOk result (λ entry. IfSome entry (λ e. Spells version (codes "C" ∷ words.old) e words.new)) }
 {
-    let who = words.who()?;
-    let q = words.u64()?;
-    let told = take_told(words)?;
-    Some(Entry::C { who, q, told })
+    let Some(who) = words.who() else {
+        return Ok(None);
+    };
+    let Some(q) = words.u64() else {
+        return Ok(None);
+    };
+    let Some(told) = take_told(words) else {
+        return Ok(None);
+    };
+    let told = KeptCall::new(alloc, &told)?;
+    Ok(Some(Entry::C { who, q, told }))
 }
 
 #[tactic(auto, unfolding(crate::specs::ReadingEntries::w_at))]
@@ -353,7 +360,7 @@ fn take_entry(
     ensures found { IfOk result (λ entry. IfSome entry (λ e. Spells version (kind_word kind ∷ words.old) e words.new)) }
 {
     match kind {
-        EntryKind::C => Ok(take_c(words)),
+        EntryKind::C => take_c(alloc, words),
         EntryKind::W => Ok(take_w(words)),
         EntryKind::R => Ok(take_r(words)),
         EntryKind::S => Ok(take_s(words)),
@@ -374,7 +381,7 @@ pub(crate) fn has(version: u32, entry: &Entry) -> bool
     ensures has { IsTrue result ↔ Has version entry.now }
 {
     match entry {
-        Entry::C { told, .. } => has_told(version, told),
+        Entry::C { told, .. } => has_told(version, &told.told()),
         Entry::Z { .. } => version == 2,
         Entry::X { longest, .. } => version == 2 || *longest == 60,
         _ => true,

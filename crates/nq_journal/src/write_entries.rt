@@ -92,7 +92,7 @@ fn push_of_call(out: &mut Vec<u8>, entry: &Entry) -> Result<(), NoMemory>
     match entry {
         Entry::C { who, q, told } => {
             push_of_who(out, b"C", who, &[*q])?;
-            push_call(out, told)
+            push_call(out, &told.told())
         }
         Entry::Z {
             who,

@@ -29,7 +29,7 @@ pub fn entry_words(alloc: Global, entry: &Entry) -> Result<Noted, NoMemory>
 /// What an entry says.
 fn words_of(maker: &mut Maker, entry: &Entry) -> String {
     match entry {
-        Entry::C { told, .. } => call_words(maker, told),
+        Entry::C { told, .. } => call_words(maker, &told.told()),
         Entry::A { said, .. } => answer_words(maker, said),
         Entry::W { .. } | Entry::R { .. } => block_words(maker, entry),
         Entry::S { .. } => maker.filled("stores #:#, writes #-#", &writes_of(entry)),

@@ -26,7 +26,7 @@ pub fn told_by(entry: &Entry, by: &Who, n: u64) -> Option<Told>
     ensures { result ≡ told_by entry.now by.now n }
 {
     match entry {
-        Entry::C { who, q, told } if *by == *who && n == *q => Some(*told),
+        Entry::C { who, q, told } if *by == *who && n == *q => Some(told.told()),
         _ => None,
     }
 }
