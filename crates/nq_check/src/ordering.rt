@@ -89,7 +89,7 @@ fn stands(
     match entry {
         Entry::C { who, q, told } => {
             let is_busy = is_busy_behind(whole, place, who, *q);
-            let next = after_call(&line_at(lines, who), *q, &told.told(), is_busy);
+            let next = after_call(&line_at(lines, who), *q, told, is_busy);
             set_next(lines, who, next)
         }
         Entry::W {

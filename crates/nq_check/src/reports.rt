@@ -14,7 +14,7 @@ use crate::along::{call_along, is_there};
 use crate::links::{Heads, head_at, set_head};
 use crate::namings::loss_key;
 use crate::tables::LinkTables;
-use nq_base::{Entry, Loss, NoMemory, Said, Told, Who};
+use nq_base::{Entry, KeptCall, Loss, NoMemory, Said, Told, Who};
 use nq_rules::calls::speaks_of;
 use nq_rules::entries::is_answer;
 use nq_rules::keys::{EntryKey, file_key};
@@ -24,15 +24,15 @@ use std::alloc::Global;
 use std::collections::HashMap;
 
 /// The incarnation and file whose losses a call reports, if any.
-pub(crate) fn reports_of(who: &Who, told: &Told) -> Option<EntryKey>
+pub(crate) fn reports_of(who: &Who, told: &KeptCall) -> Option<EntryKey>
     ensures { result ≡ reports_of who.now told.now }
 {
-    match told {
-        Told::Write { file, .. } => Some(file_key(who, *file)),
-        Told::Put { file, .. } => Some(file_key(who, *file)),
-        Told::Sync { file } => Some(file_key(who, *file)),
-        Told::Resize { file, .. } => Some(file_key(who, *file)),
-        Told::Remove { file } => Some(file_key(who, *file)),
+    match told.told() {
+        Told::Write { file, .. } => Some(file_key(who, file)),
+        Told::Put { file, .. } => Some(file_key(who, file)),
+        Told::Sync { file } => Some(file_key(who, file)),
+        Told::Resize { file, .. } => Some(file_key(who, file)),
+        Told::Remove { file } => Some(file_key(who, file)),
         _ => None,
     }
 }
@@ -47,7 +47,7 @@ fn may_report(whole: &[Entry], place: usize, entry: &Entry) -> Option<EntryKey>
             if is_there(whole, place + 1, Sought::Busy { who, q: *q }) {
                 return None;
             }
-            reports_of(who, &told.told())
+            reports_of(who, told)
         }
         _ => None,
     }

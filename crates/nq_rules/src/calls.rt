@@ -9,7 +9,7 @@ ghost use Rattle.nq_model.specs.laws.ReportedTest.{is_reporting};
 
 use crate::entries::told_by;
 use crate::sought::{Sought, is_among, is_near};
-use nq_base::{BlockNo, Entry, FileId, Told, Who};
+use nq_base::{BlockNo, Entry, FileId, KeptCall, Told, Who};
 
 /// Whether an A of a call stands among the entries.
 pub(crate) fn is_answered(entries: &[Entry], by: &Who, n: u64) -> bool
@@ -138,15 +138,15 @@ pub(crate) fn resizes(on: FileId, to: u32, call: Option<Told>) -> bool
 }
 
 /// Whether the call is a `write`, `put`, `sync`, `resize` or `remove` of a file.
-pub(crate) fn is_reporting(on: FileId, told: &Told) -> bool
+pub(crate) fn is_reporting(on: FileId, told: &KeptCall) -> bool
     ensures { result ≡ is_reporting on told.now }
 {
-    match told {
-        Told::Write { file, .. } => *file == on,
-        Told::Put { file, .. } => *file == on,
-        Told::Sync { file } => *file == on,
-        Told::Resize { file, .. } => *file == on,
-        Told::Remove { file } => *file == on,
+    match told.told() {
+        Told::Write { file, .. } => file == on,
+        Told::Put { file, .. } => file == on,
+        Told::Sync { file } => file == on,
+        Told::Resize { file, .. } => file == on,
+        Told::Remove { file } => file == on,
         _ => false,
     }
 }

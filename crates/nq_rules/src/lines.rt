@@ -4,7 +4,7 @@ ghost use Rattle.std.specs.Prelude.{◌≡◌};
 ghost use Rattle.nq_rules.specs.Lines.{after_answer_of, after_call, after_call_at, after_read_of, after_resize_of, after_write_of, is_sizing, is_used};
 ghost use Rattle.nq_rules.specs.Lines.{is_writing, lower, sizing_of, upper, writing_of};
 
-use nq_base::{BlockNo, FileId, Number, Told};
+use nq_base::{BlockNo, FileId, KeptCall, Number, Told};
 
 /// A file, a block of it and a value: the write that a call asks.
 pub type Writing = (u32, u32, u32);
@@ -116,13 +116,18 @@ fn after_call_at(line: &CallProgress, q: u64, told: &Told, is_busy: bool) -> Opt
 }
 
 /// The line behind a C, where it is known whether the next entry answers it `busy`. None where the C may be out of order.
-pub fn after_call(line: &CallProgress, q: u64, told: &Told, is_busy: bool) -> Option<CallProgress>
+pub fn after_call(
+    line: &CallProgress,
+    q: u64,
+    told: &KeptCall,
+    is_busy: bool,
+) -> Option<CallProgress>
     ensures { result ≡ after_call line.now q told.now is_busy }
 {
     if q <= line.highest {
         return None;
     }
-    after_call_at(line, q, told, is_busy)
+    after_call_at(line, q, &told.told(), is_busy)
 }
 
 /// The higher of two numbers.

@@ -81,7 +81,7 @@ fn must_report(whole: &[Entry], by: &Who, loss: &Loss, entry: &Entry) -> bool
     match entry {
         Entry::C { who, q, told } => {
             *by == *who
-                && is_reporting(loss.file, &told.told())
+                && is_reporting(loss.file, told)
                 && !is_among(whole, Sought::Busy { who, q: *q })
         }
         _ => false,
