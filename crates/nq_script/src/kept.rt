@@ -1,50 +1,13 @@
-//! Calls and events as they are kept: in few bytes, since a run has many.
+//! Events as they are kept: in few bytes, since a run has many.
 
 ghost use Rattle.std.specs.Prelude.{◌≡◌, IfOk, IsTrue};
 ghost use Rattle.nq_base.specs.Calls.{told};
 ghost use Rattle.nq_script.specs.Calls.{IsFilled, IsFilledCall};
-ghost use Rattle.nq_script.specs.Kept.{event_of, told_of};
+ghost use Rattle.nq_script.specs.Kept.{event_of};
 
 use crate::calls::call_of;
-use nq_base::{Block, BlockNo, Call, Event, FileId, Host, NoMemory, Seen, Told};
+use nq_base::{Block, Call, Event, Host, KeptCall, NoMemory, Seen};
 use std::alloc::Global;
-
-/// A call as it is kept: a body is told by its value. A name, which few calls have, stands apart.
-#[derive(Drop)]
-pub(crate) enum KeptCall {
-    Named(Box<Told>),
-    Attr {
-        file: FileId,
-    },
-    Read {
-        file: FileId,
-        block: BlockNo,
-    },
-    Fetch {
-        file: FileId,
-        block: BlockNo,
-    },
-    Write {
-        file: FileId,
-        block: BlockNo,
-        value: u32,
-    },
-    Put {
-        file: FileId,
-        block: BlockNo,
-        value: u32,
-    },
-    Sync {
-        file: FileId,
-    },
-    Resize {
-        file: FileId,
-        blocks: u32,
-    },
-    Remove {
-        file: FileId,
-    },
-}
 
 /// An event as it is kept: one whose body no number fills stands apart.
 #[derive(Drop)]
@@ -56,60 +19,6 @@ pub(crate) enum KeptEvent {
     ClientTick(Host),
     Restart(Host),
     Crash { longest: u32 },
-}
-
-/// Keeps what is told of a call.
-pub(crate) fn keep_call(alloc: Global, told: &Told) -> Result<KeptCall, NoMemory>
-    ensures { IfOk result (λ kept. told_of kept ≡ told.now) }
-{
-    Ok(match *told {
-        Told::Create { name, blocks } => {
-            KeptCall::Named(Box::new(alloc, Told::Create { name, blocks })?)
-        }
-        Told::Lookup { name } => KeptCall::Named(Box::new(alloc, Told::Lookup { name })?),
-        Told::Attr { file } => KeptCall::Attr { file },
-        Told::Read { file, block } => KeptCall::Read { file, block },
-        Told::Fetch { file, block } => KeptCall::Fetch { file, block },
-        Told::Write { file, block, value } => KeptCall::Write { file, block, value },
-        Told::Put { file, block, value } => KeptCall::Put { file, block, value },
-        Told::Sync { file } => KeptCall::Sync { file },
-        Told::Resize { file, blocks } => KeptCall::Resize { file, blocks },
-        Told::Remove { file } => KeptCall::Remove { file },
-    })
-}
-
-/// What a call that is kept tells.
-pub(crate) fn told_of(kept: &KeptCall) -> Told
-    ensures { result ≡ told_of kept.now }
-{
-    match kept {
-        KeptCall::Named(told) => **told,
-        KeptCall::Attr { file } => Told::Attr { file: *file },
-        KeptCall::Read { file, block } => Told::Read {
-            file: *file,
-            block: *block,
-        },
-        KeptCall::Fetch { file, block } => Told::Fetch {
-            file: *file,
-            block: *block,
-        },
-        KeptCall::Write { file, block, value } => Told::Write {
-            file: *file,
-            block: *block,
-            value: *value,
-        },
-        KeptCall::Put { file, block, value } => Told::Put {
-            file: *file,
-            block: *block,
-            value: *value,
-        },
-        KeptCall::Sync { file } => Told::Sync { file: *file },
-        KeptCall::Resize { file, blocks } => Told::Resize {
-            file: *file,
-            blocks: *blocks,
-        },
-        KeptCall::Remove { file } => Told::Remove { file: *file },
-    }
 }
 
 /// Keeps an event.
@@ -146,7 +55,7 @@ pub(crate) fn keep_filled_call(
     requires { IsFilledCall call.now }
     ensures { IfOk result (λ kept. event_of kept ≡ Event.Call host call.now) }
 {
-    let call = keep_call(alloc, &call.told())?;
+    let call = KeptCall::new(alloc, &call.told())?;
     Ok(KeptEvent::Call { host, call })
 }
 
@@ -177,7 +86,7 @@ pub(crate) fn event_of(alloc: Global, kept: &KeptEvent) -> Result<Event, NoMemor
     match kept {
         KeptEvent::Call { host, call } => Ok(Event::Call {
             host: *host,
-            call: call_of(&told_of(call)),
+            call: call_of(&call.told()),
         }),
         KeptEvent::Whole(event) => copied(alloc, event),
         KeptEvent::Deliver(packet) => Ok(Event::Deliver(*packet)),

@@ -10,9 +10,8 @@ ghost use Rattle.nq_script.specs.declared.lines.Line.{Line};
 use crate::calls::call_of;
 use crate::fields::{number_then, ranged, rest_after};
 use crate::heads::Head;
-use crate::kept::{KeptCall, keep_call, told_of};
 use crate::words::{number, number32, read_told};
-use nq_base::{Event, Host, NoMemory, Told};
+use nq_base::{Event, Host, KeptCall, NoMemory, Told};
 use std::alloc::Global;
 
 /// A line after the head.
@@ -87,7 +86,7 @@ pub(crate) fn keep_line(alloc: Global, line: ToldLine) -> Result<KeptLine, NoMem
 {
     Ok(match line {
         ToldLine::Call { host, told } => {
-            let call = keep_call(alloc, &told)?;
+            let call = KeptCall::new(alloc, &told)?;
             KeptLine::Call { host, call }
         }
         ToldLine::Deliver(packet) => KeptLine::Deliver(packet),
@@ -107,7 +106,7 @@ pub(crate) fn kept_line(kept: &KeptLine) -> Line
 {
     match kept {
         KeptLine::Call { host, call } => {
-            let call = call_of(&told_of(call));
+            let call = call_of(&call.told());
             once(Event::Call { host: *host, call })
         }
         KeptLine::Deliver(packet) => once(Event::Deliver(*packet)),
