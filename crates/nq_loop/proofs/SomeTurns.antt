@@ -202,72 +202,36 @@ host-waits events server host = inl (record {
 
 -- ---- the packets
 
-is-0 : slice_get (datagrams_of (run one_head wrote)) 0
-    ≡ Some (record { sender = (datagram_at wrote 0).sender; to = Party.Server; bytes = (datagram_at wrote 0).bytes })
-unfolding filled zeros given-run
-is-0 = refl
-
-short-0 : nat_le (length (datagram_at wrote 0).bytes) most_bytes ≡ true
-unfolding filled zeros given-run bytes_of spelling auth numbers outcome arguments results ok who_bytes tag_bytes want_bytes grant_bytes base_bytes
-    optional word hyper boolean padding opaque most_bytes
-short-0 = refl
-
-lawful-0 : stepped one_head wrote (Event.Deliver 0) ≡ done
-unfolding filled zeros given-run
-lawful-0 = refl
+-- what is computed of a packet makes it one
+packet : (events : List Event) (party : Party) (k : ℕ)
+    → slice_get (datagrams_of (run one_head events)) k
+    ≡ Some (record { sender = (datagram_at events k).sender; to = party; bytes = (datagram_at events k).bytes })
+    → nat_le (length (datagram_at events k).bytes) most_bytes ≡ true → was_delivered k events ≡ false
+    → ((lower : ℕ) → lower < k → was_delivered lower events ≡ true) → stepped one_head events (Event.Deliver k) ≡ done → IsPacket events party k
+packet events party k is short fresh before lawful = record {
+  is = is;
+  short = is-at-most (length (datagram_at events k).bytes) most_bytes short;
+  fresh = fresh;
+  before = before;
+  lawful = lawful;
+}
 
 before-0 : (lower : ℕ) → lower < 0 → was_delivered lower wrote ≡ true
 before-0 lower low = absurd (omega arith)
 
 packet-0 : IsPacket wrote Party.Server 0
-packet-0 = record {
-  is = is-0;
-  short = is-at-most (length (datagram_at wrote 0).bytes) most_bytes short-0;
-  fresh = refl;
-  before = before-0;
-  lawful = lawful-0;
-}
-
-is-1 : slice_get (datagrams_of (run one_head asks)) 1
-    ≡ Some (record { sender = (datagram_at asks 1).sender; to = Party.Client 0; bytes = (datagram_at asks 1).bytes })
-unfolding filled zeros given-run
-is-1 = refl
-
-short-1 : nat_le (length (datagram_at asks 1).bytes) most_bytes ≡ true
 unfolding filled zeros given-run bytes_of spelling auth numbers outcome arguments results ok who_bytes tag_bytes want_bytes grant_bytes base_bytes
     optional word hyper boolean padding opaque most_bytes
-short-1 = refl
-
-lawful-1 : stepped one_head asks (Event.Deliver 1) ≡ done
-unfolding filled zeros given-run
-lawful-1 = refl
+packet-0 = packet wrote Party.Server 0 refl refl refl before-0 refl
 
 before-1 : (lower : ℕ) → lower < 1 → was_delivered lower asks ≡ true
 before-1 zero low = refl
 before-1 (suc lower) low = absurd (omega arith)
 
 packet-1 : IsPacket asks (Party.Client 0) 1
-packet-1 = record {
-  is = is-1;
-  short = is-at-most (length (datagram_at asks 1).bytes) most_bytes short-1;
-  fresh = refl;
-  before = before-1;
-  lawful = lawful-1;
-}
-
-is-2 : slice_get (datagrams_of (run one_head syncs)) 2
-    ≡ Some (record { sender = (datagram_at syncs 2).sender; to = Party.Server; bytes = (datagram_at syncs 2).bytes })
-unfolding filled zeros given-run
-is-2 = refl
-
-short-2 : nat_le (length (datagram_at syncs 2).bytes) most_bytes ≡ true
 unfolding filled zeros given-run bytes_of spelling auth numbers outcome arguments results ok who_bytes tag_bytes want_bytes grant_bytes base_bytes
     optional word hyper boolean padding opaque most_bytes
-short-2 = refl
-
-lawful-2 : stepped one_head syncs (Event.Deliver 2) ≡ done
-unfolding filled zeros given-run
-lawful-2 = refl
+packet-1 = packet asks (Party.Client 0) 1 refl refl refl before-1 refl
 
 before-2 : (lower : ℕ) → lower < 2 → was_delivered lower syncs ≡ true
 before-2 zero low = refl
@@ -275,27 +239,9 @@ before-2 (suc zero) low = refl
 before-2 (suc (suc lower)) low = absurd (omega arith)
 
 packet-2 : IsPacket syncs Party.Server 2
-packet-2 = record {
-  is = is-2;
-  short = is-at-most (length (datagram_at syncs 2).bytes) most_bytes short-2;
-  fresh = refl;
-  before = before-2;
-  lawful = lawful-2;
-}
-
-is-3 : slice_get (datagrams_of (run one_head pushes)) 3
-    ≡ Some (record { sender = (datagram_at pushes 3).sender; to = Party.Client 0; bytes = (datagram_at pushes 3).bytes })
-unfolding filled zeros given-run
-is-3 = refl
-
-short-3 : nat_le (length (datagram_at pushes 3).bytes) most_bytes ≡ true
 unfolding filled zeros given-run bytes_of spelling auth numbers outcome arguments results ok who_bytes tag_bytes want_bytes grant_bytes base_bytes
     optional word hyper boolean padding opaque most_bytes
-short-3 = refl
-
-lawful-3 : stepped one_head pushes (Event.Deliver 3) ≡ done
-unfolding filled zeros given-run
-lawful-3 = refl
+packet-2 = packet syncs Party.Server 2 refl refl refl before-2 refl
 
 before-3 : (lower : ℕ) → lower < 3 → was_delivered lower pushes ≡ true
 before-3 zero low = refl
@@ -304,13 +250,9 @@ before-3 (suc (suc zero)) low = refl
 before-3 (suc (suc (suc lower))) low = absurd (omega arith)
 
 packet-3 : IsPacket pushes (Party.Client 0) 3
-packet-3 = record {
-  is = is-3;
-  short = is-at-most (length (datagram_at pushes 3).bytes) most_bytes short-3;
-  fresh = refl;
-  before = before-3;
-  lawful = lawful-3;
-}
+unfolding filled zeros given-run bytes_of spelling auth numbers outcome arguments results ok who_bytes tag_bytes want_bytes grant_bytes base_bytes
+    optional word hyper boolean padding opaque most_bytes
+packet-3 = packet pushes (Party.Client 0) 3 refl refl refl before-3 refl
 
 -- ---- the calls and the ticks
 
@@ -348,7 +290,7 @@ server-lawful = refl
 
 -- each event was taken in
 pub are-taken : AreTaken one_head three_turns
-are-taken = (read-lawful, (lawful-3, (lawful-2, (sync-lawful, (server-lawful, (host-lawful, (lawful-1, (lawful-0, (write-lawful, tt)))))))))
+are-taken = (read-lawful, (packet-3.lawful, (packet-2.lawful, (sync-lawful, (server-lawful, (host-lawful, (packet-1.lawful, (packet-0.lawful, (write-lawful, tt)))))))))
 
 -- ---- the turns
 
