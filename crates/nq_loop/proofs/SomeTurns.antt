@@ -256,41 +256,58 @@ packet-3 = packet pushes (Party.Client 0) 3 refl refl refl before-3 refl
 
 -- ---- the calls and the ticks
 
-write-due : call_due one_head 0 [] ≡ Some write
-unfolding filled zeros given-run
-write-due = refl
+-- what is computed of them, and of the turns
+record Computed : Type 0 where
+  pub write_due : call_due one_head 0 [] ≡ Some write
+  pub write_lawful : stepped one_head [] write ≡ done
+  pub sync_due : call_due one_head 0 all_ticked ≡ Some sync
+  pub sync_lawful : stepped one_head all_ticked sync ≡ done
+  pub read_due : call_due one_head 0 two_turns ≡ Some read
+  pub read_lawful : stepped one_head two_turns read ≡ done
+  pub host_lawful : stepped one_head one_turn (Event.ClientTick 0) ≡ done
+  pub server_lawful : stepped one_head host_ticked Event.ServerTick ≡ done
+  pub now_0 : (run one_head []).server.now ≡ 0
+  pub now_1 : (run one_head one_turn).server.now ≡ 0
+  pub now_2 : (run one_head two_turns).server.now ≡ 1
+  pub left_0 : all_answered one_head [] ≡ false
+  pub left_1 : all_answered one_head one_turn ≡ false
 
-write-lawful : stepped one_head [] write ≡ done
+computed : Computed
 unfolding filled zeros given-run
-write-lawful = refl
-
-sync-due : call_due one_head 0 all_ticked ≡ Some sync
-unfolding filled zeros given-run
-sync-due = refl
-
-sync-lawful : stepped one_head all_ticked sync ≡ done
-unfolding filled zeros given-run
-sync-lawful = refl
-
-read-due : call_due one_head 0 two_turns ≡ Some read
-unfolding filled zeros given-run
-read-due = refl
-
-read-lawful : stepped one_head two_turns read ≡ done
-unfolding filled zeros given-run
-read-lawful = refl
-
-host-lawful : stepped one_head one_turn (Event.ClientTick 0) ≡ done
-unfolding filled zeros given-run
-host-lawful = refl
-
-server-lawful : stepped one_head host_ticked Event.ServerTick ≡ done
-unfolding filled zeros given-run
-server-lawful = refl
+computed = record {
+  write_due = refl;
+  write_lawful = refl;
+  sync_due = refl;
+  sync_lawful = refl;
+  read_due = refl;
+  read_lawful = refl;
+  host_lawful = refl;
+  server_lawful = refl;
+  now_0 = refl;
+  now_1 = refl;
+  now_2 = refl;
+  left_0 = refl;
+  left_1 = refl;
+}
 
 -- each event was taken in
 pub are-taken : AreTaken one_head three_turns
-are-taken = (read-lawful, (packet-3.lawful, (packet-2.lawful, (sync-lawful, (server-lawful, (host-lawful, (packet-1.lawful, (packet-0.lawful, (write-lawful, tt)))))))))
+are-taken = (
+  computed.read_lawful,
+  (
+    packet-3.lawful,
+    (
+      packet-2.lawful,
+      (
+        computed.sync_lawful,
+        (
+          computed.server_lawful,
+          (computed.host_lawful, (packet-1.lawful, (packet-0.lawful, (computed.write_lawful, tt)))),
+        ),
+      ),
+    ),
+  ),
+)
 
 -- ---- the turns
 
@@ -309,7 +326,7 @@ first-made = (
   true,
   true,
   at_moment wrote 0 0,
-  calls write [] 0 0 write-due write-lawful,
+  calls write [] 0 0 computed.write_due computed.write_lawful,
   (
     true,
     true,
@@ -326,17 +343,17 @@ second-made = (
   true,
   true,
   at_moment host_ticked 1 1,
-  gives (Event.ClientTick 0) one_turn 1 1 host-lawful,
+  gives (Event.ClientTick 0) one_turn 1 1 computed.host_lawful,
   (
     true,
     true,
     at_moment all_ticked 1 1,
-    gives Event.ServerTick host_ticked 1 1 server-lawful,
+    gives Event.ServerTick host_ticked 1 1 computed.server_lawful,
     (
       true,
       true,
       at_moment syncs 1 1,
-      calls sync all_ticked 1 1 sync-due sync-lawful,
+      calls sync all_ticked 1 1 computed.sync_due computed.sync_lawful,
       (
         true,
         true,
@@ -357,7 +374,7 @@ third-made = (
   true,
   false,
   at_moment three_turns 2 2,
-  calls read two_turns 2 2 read-due read-lawful,
+  calls read two_turns 2 2 computed.read_due computed.read_lawful,
   (
     false,
     false,
@@ -378,45 +395,25 @@ takes reading now due clock clock' at after shows is reads made = record {
   made = subst (λ n. MakesAll (Makes one_head) (turn_steps 1 n) true at after) (sym is ∙ ap (λ n. rounds_due n reading) (sym shows)) made;
 }
 
-now-0 : (run one_head []).server.now ≡ 0
-unfolding filled zeros given-run
-now-0 = refl
-
-now-1 : (run one_head one_turn).server.now ≡ 0
-unfolding filled zeros given-run
-now-1 = refl
-
-now-2 : (run one_head two_turns).server.now ≡ 1
-unfolding filled zeros given-run
-now-2 = refl
-
-left-0 : all_answered one_head [] ≡ false
-unfolding filled zeros given-run
-left-0 = refl
-
-left-1 : all_answered one_head one_turn ≡ false
-unfolding filled zeros given-run
-left-1 = refl
-
 pub goes : Goes one_head 3 (between [] (asked 0 0) slow_clock) (between three_turns (asked 3 3) three_read)
 goes = (
   between two_turns (asked 2 2) two_read,
   (
     between one_turn (asked 1 1) one_read,
-    (between [] (asked 0 0) slow_clock, refl, (left-0, true, first)),
-    (left-1, true, second),
+    (between [] (asked 0 0) slow_clock, refl, (computed.left_0, true, first)),
+    (computed.left_1, true, second),
   ),
   (loops-are-met.left, true, third),
 )
   where
     first : TakesTurn one_head (Ok true) slow_clock one_read (at_moment [] 0 0) (at_moment one_turn 1 1)
-    first = takes 0 0 0 slow_clock one_read (at_moment [] 0 0) (at_moment one_turn 1 1) now-0 refl
+    first = takes 0 0 0 slow_clock one_read (at_moment [] 0 0) (at_moment one_turn 1 1) computed.now_0 refl
         (record { rises = omega arith; floor = omega arith; below = omega arith; told = (refl, refl); once = refl }) first-made
 
     second : TakesTurn one_head (Ok true) one_read two_read (at_moment one_turn 1 1) (at_moment two_turns 2 2)
-    second = takes 1 0 1 one_read two_read (at_moment one_turn 1 1) (at_moment two_turns 2 2) now-1 refl
+    second = takes 1 0 1 one_read two_read (at_moment one_turn 1 1) (at_moment two_turns 2 2) computed.now_1 refl
         (record { rises = omega arith; floor = omega arith; below = omega arith; told = (refl, refl); once = refl }) second-made
 
     third : TakesTurn one_head (Ok true) two_read three_read (at_moment two_turns 2 2) (at_moment three_turns 3 3)
-    third = takes 1 1 0 two_read three_read (at_moment two_turns 2 2) (at_moment three_turns 3 3) now-2 refl
+    third = takes 1 1 0 two_read three_read (at_moment two_turns 2 2) (at_moment three_turns 3 3) computed.now_2 refl
         (record { rises = omega arith; floor = omega arith; below = omega arith; told = (refl, refl); once = refl }) third-made
