@@ -290,24 +290,14 @@ computed = record {
   left_1 = refl;
 }
 
+one-taken : AreTaken one_head one_turn
+one-taken = (packet-1.lawful, (packet-0.lawful, (computed.write_lawful, tt)))
+
 -- each event was taken in
 pub are-taken : AreTaken one_head three_turns
-are-taken = (
-  computed.read_lawful,
-  (
-    packet-3.lawful,
-    (
-      packet-2.lawful,
-      (
-        computed.sync_lawful,
-        (
-          computed.server_lawful,
-          (computed.host_lawful, (packet-1.lawful, (packet-0.lawful, (computed.write_lawful, tt)))),
-        ),
-      ),
-    ),
-  ),
-)
+are-taken =
+    let ticked : AreTaken one_head all_ticked = (computed.server_lawful, (computed.host_lawful, one-taken)) in
+    (computed.read_lawful, (packet-3.lawful, (packet-2.lawful, (computed.sync_lawful, ticked))))
 
 -- ---- the turns
 
