@@ -8,7 +8,7 @@ use Rattle.nq_base.specs.declared.ending.fault.Fault.{Fault}
 use Rattle.nq_calling.specs.Calling.{refusal_of}
 use Rattle.nq_client.proofs.Calls.{Within, ticked}
 use Rattle.nq_client.proofs.Received.{replied-answered}
-use Rattle.nq_client.proofs.Replied.{Kept, answered-kept}
+use Rattle.nq_client.proofs.RepliedKept.{Kept, answered-kept}
 use Rattle.nq_client.proofs.Requested.{Sent, sends}
 use Rattle.nq_client.proofs.Settled.{Settled, settled}
 use Rattle.nq_client.specs.Counted.{Counted}

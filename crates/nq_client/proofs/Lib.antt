@@ -8,6 +8,7 @@ pub mod InPlace
 pub mod Needs
 pub mod Outcomes
 pub mod Received
+pub mod RepliedKept
 pub mod Replied
 pub mod Renewing
 pub mod Reported

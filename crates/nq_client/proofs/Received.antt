@@ -5,7 +5,8 @@ use Rattle.nq_base.specs.declared.Request.{Request}
 use Rattle.nq_base.specs.declared.Tag.{Tag}
 use Rattle.nq_base.specs.declared.Who.{Who}
 use Rattle.nq_client.proofs.Calls.{Within}
-use Rattle.nq_client.proofs.Replied.{Kept, answered-kept, answered-none}
+use Rattle.nq_client.proofs.RepliedKept.{Kept, answered-kept}
+use Rattle.nq_client.proofs.Replied.{answered-none}
 use Rattle.nq_client.proofs.Requested.{sends, Sent}
 use Rattle.nq_client.proofs.Settled.{choice, settled, Settled, is_given}
 use Rattle.nq_client.proofs.Ties.{tied-cancelled}

@@ -1,4 +1,5 @@
 pub mod Agreeing
+pub mod GivenBlocks
 pub mod Allotting
 pub mod Bodying
 pub mod Changing

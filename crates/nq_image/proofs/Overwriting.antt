@@ -13,7 +13,7 @@ use Rattle.nq_image.specs.Standing.{IsRowCleared, IsUsed, PlacedFile, Standing, 
 use Rattle.nq_image.specs.Standing.{rows_of_image, with_file_written, with_row_cleared}
 use Rattle.nq_image.specs.Tables.{is_of_tables}
 use Rattle.nq_image.specs.Writing.{entries_of, row_bytes, table_of_blocks, zeros_of}
-use Rattle.nq_image.proofs.Allotting.{both-of}
+use Rattle.nq_image.proofs.GivenBlocks.{both-of}
 use Rattle.nq_image.proofs.FileRows.{length-row}
 use Rattle.nq_image.proofs.Giving.{IsHeld}
 use Rattle.nq_image.proofs.Parting.{parts-of}

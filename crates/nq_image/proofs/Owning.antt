@@ -26,7 +26,7 @@ use Rattle.nq_image.specs.declared.heads.Front.{Front}
 use Rattle.nq_image.specs.declared.rows.Slot.{Slot}
 use Rattle.nq_image.specs.declared.rows.Version.{Version}
 use Rattle.nq_image.proofs.Agreeing.{all-front, all-rest, all-rows, hold-behind, hold-front, stands-by-tables, tables-by}
-use Rattle.nq_image.proofs.Allotting.{AreGivenOnce, distinct-apart, distinct-behind, distinct-front, apart-back}
+use Rattle.nq_image.proofs.GivenBlocks.{AreGivenOnce, distinct-apart, distinct-behind, distinct-front, apart-back}
 use Rattle.nq_image.proofs.Holding.{each-three, test-le, test-lt}
 use Rattle.nq_image.proofs.Numbering.{AllNewIds, IsNewId, ids-split}
 use Rattle.nq_image.proofs.Parting.{parts-of}

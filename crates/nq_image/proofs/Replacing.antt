@@ -19,8 +19,10 @@ use Rattle.nq_image.specs.Tables.{held, ids_checks, ids_of}
 use Rattle.nq_image.specs.declared.rows.Slot.{Slot}
 use Rattle.nq_image.specs.declared.rows.Version.{Version}
 use Rattle.nq_image.proofs.Agreeing.{all-front, all-rest, begins-same, held-by}
-use Rattle.nq_image.proofs.Allotting.{AllGiven, AreGivenOnce, AreOthersSame, AreTablesAllotted, all-given, all-swap, both-of, distinct-swap}
-use Rattle.nq_image.proofs.Allotting.{each-given, given-if-once, once, tables-given, tables-marks-are, tables-over}
+use Rattle.nq_image.proofs.GivenBlocks.{AllGiven, AreGivenOnce, all-given, all-swap, both-of, distinct-swap}
+use Rattle.nq_image.proofs.Allotting.{AreOthersSame, AreTablesAllotted}
+use Rattle.nq_image.proofs.GivenBlocks.{each-given, given-if-once, once}
+use Rattle.nq_image.proofs.Allotting.{tables-given, tables-marks-are, tables-over}
 use Rattle.nq_image.proofs.Changing.{around, beside}
 use Rattle.nq_image.proofs.Giving.{IsGiven, IsHeld, given-is-held}
 use Rattle.nq_image.proofs.Imaging.{length-marks, no-marks}

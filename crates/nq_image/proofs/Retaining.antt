@@ -13,7 +13,7 @@ use Rattle.nq_image.specs.Kept.{body_in}
 use Rattle.nq_image.specs.Standing.{AreDistinct, HasBodies, IsApartFrom, IsNoneOf, PlacedFile, Standing, blocks_in, file_at, files_in, kept_at}
 use Rattle.nq_image.specs.Standing.{others, put_file, row_at, row_blocks, row_for, with_placed, with_rows}
 use Rattle.nq_image.proofs.Agreeing.{all-front, all-put, all-rest, each-block, map-same, same-file, same-files}
-use Rattle.nq_image.proofs.Allotting.{both-of}
+use Rattle.nq_image.proofs.GivenBlocks.{both-of}
 use Rattle.nq_image.proofs.Numbering.{IsOtherId, not-equal}
 use Rattle.nq_image.proofs.Replacing.{around-row, blocks-append}
 use Rattle.nq_image.proofs.Sorting.{OfRow, of-rows, put-last, put-replaced, replaced, row-gone, row-put}

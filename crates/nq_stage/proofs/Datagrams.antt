@@ -20,7 +20,7 @@ use Rattle.nq_wire.specs.Request.{procedure_of, arguments}
 use Rattle.nq_xdr.specs.Item.{word, hyper, boolean, opaque}
 use Rattle.nq_xdr.specs.declared.XdrFault.TheVariants.{Bool as NoBoolean}
 use Rattle.nq_xdr.proofs.Opaque.{boolean_again}
-use Rattle.nq_stage.proofs.KnownClient.{Bodies, Asks, AllFit}
+use Rattle.nq_stage.proofs.KnownBodies.{Bodies, Asks, AllFit}
 use Rattle.nq_xdr.proofs.SameNumbers.{same-word, same-hyper}
 use Rattle.walk_steps.proofs.ClientMoves.{some-same}
 use Rattle.walk_steps.proofs.Packets.{In}

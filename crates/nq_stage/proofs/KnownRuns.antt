@@ -7,7 +7,7 @@ use Rattle.nq_base.specs.declared.Event.{Event}
 use Rattle.nq_base.specs.declared.Party.{Party}
 use Rattle.nq_base.specs.declared.Who.{Who}
 use Rattle.walk_steps.proofs.Saying.{server-says-plainly}
-use Rattle.nq_stage.proofs.KnownClient.{Bodies, Carries, Says, HasOne, AllFit, More, more-asks, more-says, KnowsIn, IsKnown, begun-knows}
+use Rattle.nq_stage.proofs.KnownBodies.{Bodies, Carries, Says, HasOne, AllFit, More, more-asks, more-says, KnowsIn, IsKnown, begun-knows}
 use Rattle.nq_stage.proofs.KnownSteps.{call-knows, tick-knows, hear-knows, restart-knows}
 use Rattle.nq_model.proofs.Lists.{each-append, each-map}
 use Rattle.nq_model.specs.protocol.Client.{Client, ClientStep, begun}

@@ -18,7 +18,8 @@ use Rattle.walk_steps.proofs.ClientMoves.{some-same, none-some}
 use Rattle.walk_steps.proofs.SendCases.{send-cases}
 use Rattle.walk_steps.proofs.SettleCases.{settle-cases}
 use Rattle.walk_steps.proofs.StepCases.{call-cases, unless-cached-cases, tick-cases, heard-cases}
-use Rattle.nq_stage.proofs.KnownClient.{Bodies, Asks, KnowsIn, later, answered, named, read-knows, delayed, marked, replied-knows, evicted-knows}
+use Rattle.nq_stage.proofs.KnownBodies.{Bodies, Asks, KnowsIn}
+use Rattle.nq_stage.proofs.KnownClient.{later, answered, named, read-knows, delayed, marked, replied-knows, evicted-knows}
 use Rattle.nq_stage.proofs.KnownClient.{begins, busy, calls, timed, again, sends-know, seq-knows, gives-knows, push-knows, through-knows}
 
 -- ---- whole steps, each of which gives two numbers at most

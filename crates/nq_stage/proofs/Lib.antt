@@ -8,6 +8,7 @@ pub mod Writes
 mod Apart
 mod Boots
 mod Datagrams
+mod KnownBodies
 mod KnownClient
 mod KnownRuns
 mod KnownSteps

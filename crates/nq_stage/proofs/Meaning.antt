@@ -10,7 +10,7 @@ use Rattle.nq_base.specs.declared.Who.{Who}
 use Rattle.nq_datagrams.specs.Messages.{bytes_of}
 use Rattle.law_runs.proofs.EachOf.{each-get}
 use Rattle.nq_stage.proofs.Datagrams.{IsPushOf, reads-push}
-use Rattle.nq_stage.proofs.KnownClient.{Bodies, Asks, Says, More}
+use Rattle.nq_stage.proofs.KnownBodies.{Bodies, Asks, Says, More}
 use Rattle.nq_stage.proofs.KnownRuns.{PacketKnown, Knowing, SameWho, later-knowing}
 use Rattle.nq_model.proofs.Lists.{each-append}
 use Rattle.nq_model.specs.protocol.Client.{Client, ClientStep}

@@ -9,7 +9,7 @@ use Rattle.nq_base.specs.declared.Who.{Who}
 use Rattle.nq_datagrams.specs.Messages.{bytes_of}
 use Rattle.law_runs.proofs.EachOf.{each-at, each-get, each-filter, each-take}
 use Rattle.nq_stage.proofs.Datagrams.{request-no-stage, commit-no-stage}
-use Rattle.nq_stage.proofs.KnownClient.{Bodies, Carries}
+use Rattle.nq_stage.proofs.KnownBodies.{Bodies, Carries}
 use Rattle.nq_stage.proofs.Apart.{AreApart, there-at}
 use Rattle.nq_stage.proofs.KnownRuns.{PacketKnown, Knowing, step-knows, start-knows, call-who, delivery-who, tick-who, server-tick-who, crash-who}
 use Rattle.nq_model.proofs.Lists.{each-map}

@@ -7,7 +7,7 @@ use Rattle.nq_base.specs.declared.Party.{Party}
 use Rattle.nq_datagrams.specs.Messages.{bytes_of}
 use Rattle.law_runs.proofs.EachOf.{each-get}
 use Rattle.nq_stage.proofs.Datagrams.{request-no-stage, request-no-commit, stage-no-commit, commit-no-stage, reads-commit}
-use Rattle.nq_stage.proofs.KnownClient.{Bodies}
+use Rattle.nq_stage.proofs.KnownBodies.{Bodies}
 use Rattle.nq_stage.proofs.KnownRuns.{PacketKnown, Knowing}
 use Rattle.nq_model.specs.laws.Journal.{Each}
 use Rattle.nq_model.specs.protocol.World.{World, step}

@@ -14,7 +14,7 @@ use Rattle.nq_image.specs.Standing.{file_at, files_in, kept_at, others, overwrit
 use Rattle.nq_image.specs.Standing.{with_placed, with_rows}
 use Rattle.nq_image.specs.Writing.{row_bytes}
 use Rattle.nq_image.proofs.Agreeing.{all-front, all-rest, map-same}
-use Rattle.nq_image.proofs.Allotting.{apart-back, distinct-append}
+use Rattle.nq_image.proofs.GivenBlocks.{apart-back, distinct-append}
 use Rattle.nq_image.proofs.FileRows.{length-row}
 use Rattle.nq_image.proofs.Giving.{IsHeld}
 use Rattle.nq_image.proofs.Overwriting.{file-leaves, file-written, rows-written, whole-bodies}

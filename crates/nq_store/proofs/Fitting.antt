@@ -20,7 +20,7 @@ use Rattle.nq_image.specs.Layout.{block_place, piece, word_in}
 use Rattle.nq_image.specs.Standing.{IsFileBlock, PlacedFile, Standing, blocks_in, found_of, front_for, row_blocks}
 use Rattle.nq_image.specs.Writing.{heads_bytes, host_bytes, row_bytes, table_of_blocks, zeros_of}
 use Rattle.nq_image.specs.declared.Front.{Front}
-use Rattle.nq_image.proofs.Allotting.{both-of}
+use Rattle.nq_image.proofs.GivenBlocks.{both-of}
 use Rattle.nq_image.proofs.FileRows.{length-row}
 use Rattle.nq_image.proofs.Giving.{IsHeld}
 use Rattle.nq_image.proofs.Holding.{test-le}

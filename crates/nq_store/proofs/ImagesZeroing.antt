@@ -13,7 +13,7 @@ use Rattle.nq_image.specs.Kept.{body_in}
 use Rattle.nq_image.specs.Layout.{block_place, piece}
 use Rattle.nq_image.specs.Standing.{Agree, IsFree, IsInBlock, IsUsed, Standing, Stands, blocks_in}
 use Rattle.nq_image.proofs.Agreeing.{agree-stands}
-use Rattle.nq_image.proofs.Allotting.{both-of}
+use Rattle.nq_image.proofs.GivenBlocks.{both-of}
 use Rattle.nq_image.proofs.Giving.{IsHeld}
 use Rattle.nq_image.proofs.Overwriting.{apart-blocks, bytes-agree, not-tables}
 use Rattle.nq_image.proofs.Pieces.{at-piece, length-piece, piece-same}

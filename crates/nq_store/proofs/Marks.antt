@@ -9,7 +9,7 @@ use Rattle.nq_image.specs.Image.{no_marks}
 use Rattle.nq_image.specs.Standing.{AreDistinct, IsNoneOf, marks_with}
 use Rattle.nq_image.specs.Tables.{is_marked}
 use Rattle.nq_image.proofs.Agreeing.{all-front, all-rest}
-use Rattle.nq_image.proofs.Allotting.{all-given, apart-back, distinct-apart, distinct-behind, each-given, length-with}
+use Rattle.nq_image.proofs.GivenBlocks.{all-given, apart-back, distinct-apart, distinct-behind, each-given, length-with}
 use Rattle.nq_image.proofs.Giving.{IsGiven}
 use Rattle.nq_image.proofs.Imaging.{no-marks}
 use Rattle.nq_plan.specs.Settling.{marked_all}

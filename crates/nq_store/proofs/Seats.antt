@@ -10,7 +10,7 @@ use Rattle.nq_image.specs.Image.{no_marks}
 use Rattle.nq_image.specs.Kept.{numbers_from}
 use Rattle.nq_image.specs.Standing.{AreDistinct, IsFileBlock, IsFree, IsNoneOf, PlacedFile, Standing, Stands, blocks_in, found_of, marks_with}
 use Rattle.nq_image.specs.Tables.{is_marked, is_of_tables}
-use Rattle.nq_image.proofs.Allotting.{AreGivenOnce, all-given}
+use Rattle.nq_image.proofs.GivenBlocks.{AreGivenOnce, all-given}
 use Rattle.nq_image.proofs.Giving.{IsGiven}
 use Rattle.nq_image.proofs.Imaging.{length-marks}
 use Rattle.nq_image.proofs.Parting.{parts-of}
