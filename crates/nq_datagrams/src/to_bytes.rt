@@ -10,7 +10,7 @@ use crate::numbers::{PROGRAM, VERSION};
 use nq_base::{NoMemory, Request};
 use nq_wire::{LONGEST_ARGUMENTS, Procedure, encode_request_into};
 use nq_xdr::Writer;
-use nq_xdr::rpc::{Head, begin_call};
+use nq_xdr::rpc::{CallHead, begin_call};
 
 /// The most bytes of a call: those of a WRITE that is a push.
 pub const LONGEST_CALL: usize = 40 + LONGEST_ARGUMENTS;
@@ -33,10 +33,10 @@ pub fn write_call(xid: u32, request: &Request, out: &mut Writer) -> Result<(), N
 }
 
 /// What a call of the program begins with.
-pub(crate) fn head_of(xid: u32, request: &Request) -> Head
+pub(crate) fn head_of(xid: u32, request: &Request) -> CallHead
     ensures { result ≡ record { xid = xid; prog = program; vers = version; procedure = number_of (procedure_of request.now) } }
 {
-    Head {
+    CallHead {
         xid,
         prog: PROGRAM,
         vers: VERSION,

@@ -3,7 +3,7 @@ use Rattle.std.specs.Prelude.{ℕ, Bool, ◌^◌, ◌<◌, ◌≤◌, List, [], 
 use Rattle.nq_base.specs.Name.{IsName}
 use Rattle.nq_base.specs.declared.Grant.{Grant}
 use Rattle.nq_datagrams.specs.Messages.{program, version}
-use Rattle.nq_xdr.specs.declared.rpc.message.Head.{Head}
+use Rattle.nq_xdr.specs.declared.rpc.message.CallHead.{CallHead}
 use Rattle.nq_xdr.specs.Message.{spelling, call_with, reply_with, null}
 use Rattle.nq_wire.specs.Parts.{head, tag_bytes, grant_bytes, optional, IsWho, IsTag, IsGrant}
 use Rattle.nq_xdr.specs.Item.{word, boolean, opaque}
@@ -33,7 +33,7 @@ abbrev pub most_names : ℕ
 most_names = 32
 
 -- what a call of a procedure of the program begins with
-abbrev pub head_of : (xid procedure : ℕ) → Head
+abbrev pub head_of : (xid procedure : ℕ) → CallHead
 head_of xid procedure = record { xid = xid; prog = program; vers = version; procedure = procedure }
 
 -- ---- READDIRLOOK and its reply

@@ -2,7 +2,7 @@
 use Rattle.std.specs.Prelude.{ℕ, ◌==◌, List, Option, Some, None, Result, Ok, Err, if◌then◌else◌}
 use Rattle.nq_xdr.specs.declared.fault.XdrFault.{XdrFault}
 use Rattle.nq_xdr.specs.declared.rpc.fault.RpcFault.{RpcFault}
-use Rattle.nq_xdr.specs.declared.rpc.message.Head.{Head}
+use Rattle.nq_xdr.specs.declared.rpc.message.CallHead.{CallHead}
 use Rattle.nq_xdr.specs.declared.rpc.message.Message.{Message}
 use Rattle.nq_xdr.specs.declared.rpc.message.Outcome.{Outcome}
 use Rattle.nq_xdr.specs.Reading.{word_at}
@@ -12,7 +12,7 @@ use Rattle.nq_serving.specs.declared.traffic.classes.ClassHeard.{ClassHeard}
 use Rattle.nq_serving.specs.declared.traffic.classes.ClassSaid.{ClassSaid}
 
 -- a call, by its program and its procedure
-abbrev pub call_class : Head → ClassHeard
+abbrev pub call_class : CallHead → ClassHeard
 call_class head = if head.prog == program then ClassHeard.Call head.procedure else ClassHeard.Strange
 
 -- what came, by the message that was read

@@ -5,7 +5,7 @@ use Rattle.nq_base.specs.declared.Request.{Request}
 use Rattle.nq_base.specs.declared.Request.TheVariants.{Write}
 use Rattle.nq_datagrams.specs.Messages.{program, version, bytes_of}
 use Rattle.nq_model.specs.protocol.Message.{call}
-use Rattle.nq_xdr.specs.declared.rpc.message.Head.{Head}
+use Rattle.nq_xdr.specs.declared.rpc.message.CallHead.{CallHead}
 use Rattle.nq_xdr.specs.Message.{spelling, call_with, reply_with, null}
 use Rattle.nq_wire.specs.Parts.{head, base_bytes, IsPushBase}
 use Rattle.nq_xdr.specs.Item.{word, hyper, opaque}
@@ -25,7 +25,7 @@ abbrev pub unstaged : ℕ
 unstaged = 505
 
 -- what a call of a procedure of the program begins with
-abbrev pub head_of : (xid procedure : ℕ) → Head
+abbrev pub head_of : (xid procedure : ℕ) → CallHead
 head_of xid procedure = record { xid = xid; prog = program; vers = version; procedure = procedure }
 
 -- ---- STAGE and its reply

@@ -10,7 +10,7 @@ use nq_base::{Block, NoMemory};
 use nq_datagrams::{PROGRAM, VERSION};
 use nq_wire::parts::{put_base, put_body, put_who};
 use nq_xdr::Writer;
-use nq_xdr::rpc::{Head, begin_call, begin_reply};
+use nq_xdr::rpc::{CallHead, begin_call, begin_reply};
 use std::alloc::Global;
 
 /// The procedure WRITE.
@@ -142,10 +142,10 @@ fn begun_reply(alloc: Global, xid: u32) -> Result<Writer, NoMemory>
 }
 
 /// What a call of a procedure of the program begins with.
-fn head_of(xid: u32, procedure: u32) -> Head
+fn head_of(xid: u32, procedure: u32) -> CallHead
     ensures { result ≡ head_of xid procedure }
 {
-    Head {
+    CallHead {
         xid,
         prog: PROGRAM,
         vers: VERSION,

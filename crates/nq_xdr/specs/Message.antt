@@ -2,7 +2,7 @@
 use Rattle.std.specs.Prelude.{◌≡◌, ℕ, ◌+◌, ◌^◌, ◌<◌, ◌≤◌, List, [], ◌++◌, length}
 use Rattle.nq_xdr.specs.Item.{word, opaque}
 use Rattle.nq_xdr.specs.declared.rpc.message.CallMessage.{CallMessage}
-use Rattle.nq_xdr.specs.declared.rpc.message.Head.{Head}
+use Rattle.nq_xdr.specs.declared.rpc.message.CallHead.{CallHead}
 use Rattle.nq_xdr.specs.declared.rpc.message.Outcome.{Outcome}
 use Rattle.nq_xdr.specs.declared.rpc.message.Outcome.TheVariants.{Success, ProgUnavail, ProgMismatch, ProcUnavail, GarbageArgs, RpcMismatch, AuthError}
 use Rattle.nq_xdr.specs.declared.rpc.message.Message.{Message}
@@ -47,7 +47,7 @@ spelling (Call m) credential verifier = numbers m ++ auth credential ++ auth ver
 spelling (Reply r) credential verifier = word r.xid ++ word 1 ++ outcome r.outcome verifier
 
 -- a call of version 2 of RPC with these arguments
-abbrev pub call_with : Head → List ℕ → Message
+abbrev pub call_with : CallHead → List ℕ → Message
 call_with head arguments = Call (record { head = head; rpcvers = 2; arguments = arguments })
 
 -- a reply with these results

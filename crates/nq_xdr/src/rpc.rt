@@ -18,5 +18,5 @@ pub use decoding::{decode, decode_in_place};
 pub use encoding::{begin_call, begin_reply, encode, encode_into};
 pub use fault::RpcFault;
 pub use lent::{LentCall, LentMessage, LentOutcome, LentReply};
-pub use message::{CallMessage, Head, Message, Outcome, ReplyMessage};
+pub use message::{CallHead, CallMessage, Message, Outcome, ReplyMessage};
 pub use nq_memory::NoMemory;

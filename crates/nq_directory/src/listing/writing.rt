@@ -17,7 +17,7 @@ use nq_base::{Grant, NoMemory};
 use nq_datagrams::{PROGRAM, VERSION};
 use nq_wire::parts::{name_len, put_name, put_optional_grant, put_tag, put_who};
 use nq_xdr::Writer;
-use nq_xdr::rpc::{Head, begin_call, begin_reply};
+use nq_xdr::rpc::{CallHead, begin_call, begin_reply};
 use std::alloc::Global;
 use std::marker::Model;
 
@@ -157,7 +157,7 @@ fn begun(alloc: Global, xid: u32, procedure: u32) -> Result<Writer, NoMemory>
     ensures begun { IfOk result (λ w. (arguments : List ℕ) → w.bytes ++ arguments ≡ spelling (call_with (head_of xid procedure) arguments) null null) }
     ensures room { IfOk result (λ w. 96 ≤ w.spare) }
 {
-    let head = Head {
+    let head = CallHead {
         xid,
         prog: PROGRAM,
         vers: VERSION,

@@ -12,7 +12,7 @@ ghost use Rattle.nq_xdr.specs.RpcReading.{reply_at, message_at};
 
 use crate::Reader;
 use crate::rpc::{
-    Bytes, CallMessage, Head, LentCall, LentMessage, LentOutcome, LentReply, Message, Outcome,
+    Bytes, CallHead, CallMessage, LentCall, LentMessage, LentOutcome, LentReply, Message, Outcome,
     ReplyMessage, RpcFault, number,
 };
 use std::alloc::Global;
@@ -129,7 +129,7 @@ fn call(xid: u32, mut reader: Reader<'_>) -> Result<LentMessage<'_>, RpcFault>
     auth(&mut reader)?;
     auth(&mut reader)?;
     Ok(LentMessage::Call(LentCall {
-        head: Head {
+        head: CallHead {
             xid,
             prog,
             vers,

@@ -6,7 +6,7 @@ ghost use Rattle.nq_xdr.specs.declared.rpc.message.Message.TheVariants.{Call};
 ghost use Rattle.nq_xdr.specs.Message.{auth, null, outcome, spelling, call_with, reply_with, outcome_len, spelling_len};
 
 use crate::Writer;
-use crate::rpc::{Head, Message, NoMemory, Outcome, number};
+use crate::rpc::{CallHead, Message, NoMemory, Outcome, number};
 use std::alloc::Global;
 
 /// The version of RPC (RFC 1057 section 8).
@@ -55,7 +55,7 @@ fn put_bounds(low: u32, high: u32, out: &mut Writer)
 
 /// Writes what stands before the arguments of a call. There is room.
 #[tactic(auto, unfolding(crate::specs::Message::numbers, crate::specs::Message::spelling))]
-fn put_head(head: &Head, rpcvers: u32, out: &mut Writer)
+fn put_head(head: &CallHead, rpcvers: u32, out: &mut Writer)
     requires { 40 ≤ out.old.spare }
     ensures written { (arguments : List ℕ)
         → out.new.bytes ++ arguments ≡ out.old.bytes ++ spelling (Call (record { head = head.now; rpcvers = rpcvers; arguments = arguments })) null null }
@@ -143,7 +143,7 @@ fn put_message(message: &Message, out: &mut Writer)
 
 /// Begins a call of RPC version 2 behind what `out` holds: whatever is written behind it are its arguments, which so are
 /// copied once. Memory is wanted only where `out` has too little room.
-pub fn begin_call(head: &Head, out: &mut Writer) -> Result<(), NoMemory>
+pub fn begin_call(head: &CallHead, out: &mut Writer) -> Result<(), NoMemory>
     ensures written { OnOk result ((arguments : List ℕ)
         → out.new.bytes ++ arguments ≡ out.old.bytes ++ spelling (call_with head.now arguments) null null) }
     ensures refused { OnErr result (out.new ≡ out.old) }

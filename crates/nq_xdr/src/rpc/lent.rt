@@ -1,6 +1,6 @@
 //! Messages whose arguments or results are lent.
 
-use crate::rpc::Head;
+use crate::rpc::CallHead;
 
 /// A message as it stands in a datagram, which lends its arguments or results (RFC 1057 section 8).
 #[derive(Clone, Copy)]
@@ -12,7 +12,7 @@ pub enum LentMessage<'a> {
 /// A call, without its credential and its verifier.
 #[derive(Clone, Copy)]
 pub struct LentCall<'a> {
-    pub head: Head,
+    pub head: CallHead,
     /// The version of RPC, which is 2 in a call that can be served.
     pub rpcvers: u32,
     /// Whatever stands behind the verifier.

@@ -4,7 +4,7 @@ use crate::rpc::Bytes;
 
 /// What a call asks for, and the number by which its reply is known (RFC 1057 section 8).
 #[derive(Clone, Copy)]
-pub struct Head {
+pub struct CallHead {
     /// The transaction identifier, which the reply repeats.
     pub xid: u32,
     pub prog: u32,
@@ -22,7 +22,7 @@ pub enum Message {
 /// A call, without its credential and its verifier.
 #[derive(Drop)]
 pub struct CallMessage {
-    pub head: Head,
+    pub head: CallHead,
     /// The version of RPC, which is 2 in a call that can be served.
     pub rpcvers: u32,
     /// Whatever stands behind the verifier.
