@@ -12,6 +12,7 @@ pub mod Stored
 pub mod Capping
 pub mod Concluding
 pub mod HeadsChange
+pub mod HostRows
 pub mod OnceOnly
 pub mod Sequences
 pub mod SomeRepeats
