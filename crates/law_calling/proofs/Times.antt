@@ -14,7 +14,7 @@ use Rattle.nq_client.proofs.Settled.{Settled, settled}
 use Rattle.nq_client.specs.Counted.{Counted}
 use Rattle.nq_client.specs.Outcome.{Heeded, Received}
 use Rattle.nq_client.specs.Receiving.{answered}
-use Rattle.nq_client.specs.declared.heard.Heard.{Heard}
+use Rattle.nq_client.specs.declared.reaction.Reaction.{Reaction}
 use Rattle.nq_client_parts.specs.Calls.{file_at_stake}
 use Rattle.nq_clock.specs.Clocks.{ClockTold}
 use Rattle.nq_datagrams.specs.Incoming.{hears, hears_in, heard_in}
@@ -78,25 +78,25 @@ same-time : (m n : ℕ) → n ≡ m → m ≤ n
 same-time m n e = omega arith
 
 -- a client that took a step in, or refused it
-heeded-time : (how : Heard) (t : ClientStep) (at after : Moment) → at.client.client.now ≤ t.client.now
+heeded-time : (how : Reaction) (t : ClientStep) (at after : Moment) → at.client.client.now ≤ t.client.now
     → Heeded how t at.client after.client at.out after.out at.log after.log → Waits at after
-heeded-time Heard.Nothing t at after less does = let e = ap (λ (c : Client). c.now) does.0.client in omega arith
-heeded-time Heard.Ignored t at after less does = let e = ap (λ (c : Client). c.now) does.0.client in omega arith
-heeded-time (Heard.Answered answer) t at after less does = let e = ap (λ (c : Client). c.now) does.0.client in omega arith
-heeded-time Heard.Memory t at after less does = let e = ap (λ (c : Counted). c.client.now) does.client in omega arith
-heeded-time Heard.Spent t at after less does = let e = ap (λ (c : Counted). c.client.now) does.client in omega arith
+heeded-time Reaction.Nothing t at after less does = let e = ap (λ (c : Client). c.now) does.0.client in omega arith
+heeded-time Reaction.Ignored t at after less does = let e = ap (λ (c : Client). c.now) does.0.client in omega arith
+heeded-time (Reaction.Answered answer) t at after less does = let e = ap (λ (c : Client). c.now) does.0.client in omega arith
+heeded-time Reaction.Memory t at after less does = let e = ap (λ (c : Counted). c.client.now) does.client in omega arith
+heeded-time Reaction.Spent t at after less does = let e = ap (λ (c : Counted). c.client.now) does.client in omega arith
 
 -- a client that took a datagram in, or did not
-received-time : (how : Heard) (c : Client) (o : Option ClientStep) (at after : Moment) → c ≡ at.client.client
+received-time : (how : Reaction) (c : Client) (o : Option ClientStep) (at after : Moment) → c ≡ at.client.client
     → ((t : ClientStep) → o ≡ Some t → t.client.now ≡ c.now)
     → Received how o at.client after.client at.out after.out at.log after.log → Waits at after
 received-time how c (Some t) at after is same does =
     heeded-time how t at after (let e = same t refl in let f = ap (λ (d : Client). d.now) is in omega arith) does
-received-time Heard.Ignored c None at after is same does = let e = ap (λ (d : Client). d.now) does.client in omega arith
-received-time Heard.Spent c None at after is same does = let e = ap (λ (d : Counted). d.client.now) does.client in omega arith
-received-time Heard.Nothing c None at after is same does = absurd does
-received-time Heard.Memory c None at after is same does = absurd does
-received-time (Heard.Answered answer) c None at after is same does = absurd does
+received-time Reaction.Ignored c None at after is same does = let e = ap (λ (d : Client). d.now) does.client in omega arith
+received-time Reaction.Spent c None at after is same does = let e = ap (λ (d : Counted). d.client.now) does.client in omega arith
+received-time Reaction.Nothing c None at after is same does = absurd does
+received-time Reaction.Memory c None at after is same does = absurd does
+received-time (Reaction.Answered answer) c None at after is same does = absurd does
 
 -- the step on a datagram
 step-time : (c : Client) (number : ℕ) (o : Option Message) (t : ClientStep) → hears c number o ≡ Some t → t.client.now ≡ c.now
@@ -123,16 +123,16 @@ receives-time (Err Fault.NoAnswer) link link' at after receives = letter-time re
 -- ---- the tick
 
 -- a tick that went on
-went-time : (how : Heard) (ticked : Option Answer) (reading : ℕ) (at after : Moment) → Ok ticked ≡ goes_on how
+went-time : (how : Reaction) (ticked : Option Answer) (reading : ℕ) (at after : Moment) → Ok ticked ≡ goes_on how
     → Heeded how (client_tick at.client.client reading) at.client after.client at.out after.out at.log after.log → reading ≤ after.client.client.now
-went-time Heard.Nothing ticked reading at after is does =
+went-time Reaction.Nothing ticked reading at after is does =
     let e = ap (λ (c : Client). c.now) does.0.client in let f = tick-time at.client.client reading in omega arith
-went-time Heard.Ignored ticked reading at after is does =
+went-time Reaction.Ignored ticked reading at after is does =
     let e = ap (λ (c : Client). c.now) does.0.client in let f = tick-time at.client.client reading in omega arith
-went-time (Heard.Answered answer) ticked reading at after is does =
+went-time (Reaction.Answered answer) ticked reading at after is does =
     let e = ap (λ (c : Client). c.now) does.0.client in let f = tick-time at.client.client reading in omega arith
-went-time Heard.Memory ticked reading at after is does = absurd (cc)
-went-time Heard.Spent ticked reading at after is does = absurd (cc)
+went-time Reaction.Memory ticked reading at after is does = absurd (cc)
+went-time Reaction.Spent ticked reading at after is does = absurd (cc)
 
 -- the tick that is due, where it went on
 due-time : (ticked : Option Answer) (reading : ℕ) (at after : Moment) (due : Bool) → nat_lt at.client.client.now reading ≡ due
@@ -143,14 +143,14 @@ due-time ticked reading at after false test takes =
     let f = is-not-below at.client.client.now reading test in omega arith
 
 -- a tick that did not go on: memory was refused, or the client takes in no more
-stopped-tick : (how : Heard) (why : Fault) → Err why ≡ goes_on how → refusal_of (Err why) ≡ None → ⊥
-stopped-tick Heard.Nothing why is on = cc
-stopped-tick Heard.Ignored why is on = cc
-stopped-tick (Heard.Answered answer) why is on = cc
-stopped-tick Heard.Memory Fault.Memory is on = cc
-stopped-tick Heard.Memory why is on = cc
-stopped-tick Heard.Spent Fault.Spent is on = cc
-stopped-tick Heard.Spent why is on = cc
+stopped-tick : (how : Reaction) (why : Fault) → Err why ≡ goes_on how → refusal_of (Err why) ≡ None → ⊥
+stopped-tick Reaction.Nothing why is on = cc
+stopped-tick Reaction.Ignored why is on = cc
+stopped-tick (Reaction.Answered answer) why is on = cc
+stopped-tick Reaction.Memory Fault.Memory is on = cc
+stopped-tick Reaction.Memory why is on = cc
+stopped-tick Reaction.Spent Fault.Spent is on = cc
+stopped-tick Reaction.Spent why is on = cc
 
 stopped : (due : Bool) (reading : ℕ) (why : Fault) (at after : Moment)
     → Takes (if due then Some (Given.ticks reading) else None) (Err why) at after → refusal_of (Err why) ≡ None → ⊥

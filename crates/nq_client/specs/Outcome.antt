@@ -4,7 +4,7 @@ use Rattle.nq_base.specs.Plain.{plain_answer}
 use Rattle.nq_base.specs.declared.Answer.{Answer}
 use Rattle.nq_client.specs.Counted.{Counted}
 use Rattle.nq_client.specs.Finishing.{Grows}
-use Rattle.nq_client.specs.declared.heard.Heard.{Heard}
+use Rattle.nq_client.specs.declared.reaction.Reaction.{Reaction}
 use Rattle.nq_base.specs.Entries.{EntryList}
 use Rattle.nq_model.specs.protocol.Client.{ClientStep}
 use Rattle.nq_wire.specs.Outbox.{Datagrams}
@@ -35,15 +35,15 @@ Called answer t old new out outs log logs =
     Gives t old new out outs log logs × (plain_answer answer ≡ or_pending t.answer)
 
 -- what is told of a step's answer
-abbrev pub IsHeard : Heard → Option Answer → Type 0
-IsHeard Heard.Nothing answer = answer ≡ None
-IsHeard (Heard.Answered a) answer = answer ≡ Some (plain_answer a)
+abbrev pub IsHeard : Reaction → Option Answer → Type 0
+IsHeard Reaction.Nothing answer = answer ≡ None
+IsHeard (Reaction.Answered a) answer = answer ≡ Some (plain_answer a)
 IsHeard other answer = ⊥
 
 -- what comes of a tick, or of a datagram that counts: likewise, and the answer to the call under way if the step gave it
-abbrev pub Heeded : Heard → ClientStep → (old new : Counted) (out outs : Datagrams) (log logs : EntryList) → Type 0
-Heeded Heard.Memory t old new out outs log logs = Stays old new out outs log logs
-Heeded Heard.Spent t old new out outs log logs = Stays old new out outs log logs
+abbrev pub Heeded : Reaction → ClientStep → (old new : Counted) (out outs : Datagrams) (log logs : EntryList) → Type 0
+Heeded Reaction.Memory t old new out outs log logs = Stays old new out outs log logs
+Heeded Reaction.Spent t old new out outs log logs = Stays old new out outs log logs
 Heeded heard t old new out outs log logs =
     Gives t old new out outs log logs × IsHeard heard t.answer
 
@@ -56,12 +56,12 @@ pub record Counts (old new : Counted) (out outs : Datagrams) (log logs : EntryLi
   pub entries : logs.entries ≡ log.entries
 
 -- what comes of a datagram that makes no step: it is counted, unless all was taken in
-abbrev pub Ignores : Heard → (old new : Counted) (out outs : Datagrams) (log logs : EntryList) → Type 0
-Ignores Heard.Ignored old new out outs log logs = Counts old new out outs log logs
-Ignores Heard.Spent old new out outs log logs = Stays old new out outs log logs
+abbrev pub Ignores : Reaction → (old new : Counted) (out outs : Datagrams) (log logs : EntryList) → Type 0
+Ignores Reaction.Ignored old new out outs log logs = Counts old new out outs log logs
+Ignores Reaction.Spent old new out outs log logs = Stays old new out outs log logs
 Ignores other old new out outs log logs = ⊥
 
 -- what comes of a datagram, by the step that it makes, if it makes one
-abbrev pub Received : Heard → Option ClientStep → (old new : Counted) (out outs : Datagrams) (log logs : EntryList) → Type 0
+abbrev pub Received : Reaction → Option ClientStep → (old new : Counted) (out outs : Datagrams) (log logs : EntryList) → Type 0
 Received heard None old new out outs log logs = Ignores heard old new out outs log logs
 Received heard (Some t) old new out outs log logs = Heeded heard t old new out outs log logs

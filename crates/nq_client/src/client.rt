@@ -16,7 +16,7 @@ ghost use Rattle.nq_client.specs.Outcome.{Called, Heeded, Received};
 ghost use Rattle.nq_client.specs.State.{call_of};
 
 use crate::finishing::Letters;
-use crate::heard::Heard;
+use crate::reaction::Reaction;
 use crate::reading::read_cached;
 use crate::receiving::read;
 use crate::starting::begin;
@@ -167,17 +167,17 @@ impl Client {
     ///
     /// `Spent` exactly where the client has taken in 2^30 calls, datagrams and ticks. After `Spent` and `Memory` the
     /// client, the outbox and the journal are as before. It is never `Ignored`.
-    pub fn tick(&mut self, now: Ticks, out: &mut Outbox, log: &mut Journal) -> Heard
+    pub fn tick(&mut self, now: Ticks, out: &mut Outbox, log: &mut Journal) -> Reaction
         requires early { now < 2 ^ 62 }
         requires later { self.old.client.now ≤ now }
-        ensures spent { (result ≡ Heard.Spent) ↔ (self.old.taken ≡ most_taken_by_client) }
+        ensures spent { (result ≡ Reaction.Spent) ↔ (self.old.taken ≡ most_taken_by_client) }
         ensures heeded { Heeded result (client_tick self.old.client now) self.old self.new out.old out.new log.old log.new }
     {
         if self.taken == Client::MOST_TAKEN {
-            return Heard::Spent;
+            return Reaction::Spent;
         }
         let Ok(()) = reserve(&mut self.step, &mut self.letters, 2, out, log) else {
-            return Heard::Memory;
+            return Reaction::Memory;
         };
         self.taken += 1;
         make_tick(&mut self.step, &mut self.letters, now, out, log);
@@ -198,24 +198,24 @@ impl Client {
         datagram: &[u8],
         out: &mut Outbox,
         log: &mut Journal,
-    ) -> Heard
-        ensures spent { (result ≡ Heard.Spent) ↔ (self.old.taken ≡ most_taken_by_client) }
+    ) -> Reaction
+        ensures spent { (result ≡ Reaction.Spent) ↔ (self.old.taken ≡ most_taken_by_client) }
         ensures received { Received result (hears_in self.old.client packet datagram.now) self.old self.new out.old out.new log.old log.new }
     {
         if self.taken == Client::MOST_TAKEN {
-            return Heard::Spent;
+            return Reaction::Spent;
         }
         let Some(heard) = read(&self.step.state, datagram) else {
             self.taken += 1;
-            return Heard::Ignored;
+            return Reaction::Ignored;
         };
         let room = &mut self.letters.rooms.kept;
         let Ok(()) = room.reserve(self.step.state.alloc) else {
-            return Heard::Memory;
+            return Reaction::Memory;
         };
         let heard = heard.kept(room);
         let Ok(()) = hear(&mut self.step, &mut self.letters, packet, &heard, out, log) else {
-            return Heard::Memory;
+            return Reaction::Memory;
         };
         self.taken += 1;
         self.step.gives_heard()

@@ -9,8 +9,8 @@ ghost use Rattle.nq_client.specs.Outcome.{IsHeard, or_pending};
 ghost use Rattle.nq_client.specs.Step.{IsBegun, request_message, vacated_message};
 
 use crate::asked::AskedRequest;
-use crate::heard::Heard;
 use crate::letters::Letter;
+use crate::reaction::Reaction;
 use crate::rooms::Rooms;
 use crate::step::{Step, Vacated};
 use nq_base::{Answer, Journal, NoMemory, Party, Request, Who};
@@ -142,15 +142,15 @@ impl Step {
     }
 
     /// Gives what is heard of the answer, with which the step ends.
-    pub(crate) fn gives_heard(&mut self) -> Heard
+    pub(crate) fn gives_heard(&mut self) -> Reaction
         requires { IsBegun (record self.old { answer = None }) }
         ensures begun { IsBegun self.new }
         ensures state { self.new.state ≡ self.old.state }
         ensures heard { IsHeard result (option_map plain_answer self.old.answer) }
     {
         match self.answer.take() {
-            Some(answer) => Heard::Answered(answer),
-            None => Heard::Nothing,
+            Some(answer) => Reaction::Answered(answer),
+            None => Reaction::Nothing,
         }
     }
 }

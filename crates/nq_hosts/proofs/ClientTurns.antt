@@ -2,7 +2,7 @@
 use Rattle.std.proofs.Common.{◌≡◌, ℕ, Option, Some, None, Result, Ok, Err, refl, sym, subst}
 use Rattle.std.specs.Prelude.{⊤}
 use Rattle.nq_base.specs.declared.Answer.{Answer}
-use Rattle.nq_client.specs.declared.Heard.{Heard}
+use Rattle.nq_client.specs.declared.Reaction.{Reaction}
 use Rattle.nq_hosts.specs.ClientTurn.{Given, GoesOn, Moment, Receives, Stages, Takes, TakesFrom, given_by, goes_on, tick_due}
 use Rattle.nq_clock.specs.Clocks.{ClockTold, ReadsOnce}
 use Rattle.nq_link.specs.Links.{Hears, Letter, LinkTold, ReceivesOnce, most_bytes}
@@ -16,12 +16,12 @@ IsOwn Fault.Memory = ⊤
 IsOwn Fault.Spent = ⊤
 IsOwn Fault.NoAnswer = ⊥
 
-own : (how : Heard) (why : Fault) → goes_on how ≡ Err why → IsOwn why
-own Heard.Nothing why same = absurd (cc)
-own (Heard.Answered answer) why same = absurd (cc)
-own Heard.Ignored why same = absurd (cc)
-own Heard.Memory why same = let is : Fault.Memory ≡ why = cc in subst IsOwn is tt
-own Heard.Spent why same = let is : Fault.Spent ≡ why = cc in subst IsOwn is tt
+own : (how : Reaction) (why : Fault) → goes_on how ≡ Err why → IsOwn why
+own Reaction.Nothing why same = absurd (cc)
+own (Reaction.Answered answer) why same = absurd (cc)
+own Reaction.Ignored why same = absurd (cc)
+own Reaction.Memory why same = let is : Fault.Memory ≡ why = cc in subst IsOwn is tt
+own Reaction.Spent why same = let is : Fault.Spent ≡ why = cc in subst IsOwn is tt
 
 -- what a client is given stops the turn for no other reason
 pub own_only : (why : Fault) (given : Option Given) (at after : Moment) → Takes given (Err why) at after → IsOwn why

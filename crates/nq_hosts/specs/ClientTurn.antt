@@ -5,7 +5,7 @@ use Rattle.nq_base.specs.declared.Party.{Party}
 use Rattle.nq_base.specs.declared.ending.fault.Fault.{Fault}
 use Rattle.nq_client.specs.Counted.{Counted}
 use Rattle.nq_client.specs.Outcome.{Heeded, Received}
-use Rattle.nq_client.specs.declared.Heard.{Heard}
+use Rattle.nq_client.specs.declared.Reaction.{Reaction}
 use Rattle.nq_datagrams.specs.Incoming.{hears_in}
 use Rattle.nq_io.specs.Faults.{Rose}
 use Rattle.nq_base.specs.Entries.{EntryList}
@@ -31,15 +31,15 @@ pub data Given : Type 0 where
   datagram : (bytes : List ℕ) → Given
 
 -- what the client does with it, by its answer: it makes the step of the protocol, or refuses it
-abbrev pub Does : Given → Heard → (at after : Moment) → Type 0
+abbrev pub Does : Given → Reaction → (at after : Moment) → Type 0
 Does (ticks now) how at after = Heeded how (client_tick at.client.client now) at.client after.client at.out after.out at.log after.log
 Does (datagram bytes) how at after = Received how (hears_in at.client.client at.next bytes) at.client after.client at.out after.out at.log after.log
 
 -- the answer that a turn brings where the client has taken something so, or why the turn stops
-abbrev pub goes_on : Heard → Result (Option Answer) Fault
-goes_on (Heard.Answered answer) = Ok (Some answer)
-goes_on Heard.Memory = Err Fault.Memory
-goes_on Heard.Spent = Err Fault.Spent
+abbrev pub goes_on : Reaction → Result (Option Answer) Fault
+goes_on (Reaction.Answered answer) = Ok (Some answer)
+goes_on Reaction.Memory = Err Fault.Memory
+goes_on Reaction.Spent = Err Fault.Spent
 goes_on other = Ok None
 
 -- the number that the client is told of the next datagram: one more where a datagram was taken in. It stops at the type's end
@@ -49,11 +49,11 @@ next_after other goes next = next
 
 -- the client took in what it was given, or refused it
 pub record Steps (given : Given) (goes : Result (Option Answer) Fault) (at after : Moment) : Type 0 where
-  pub how : Heard
+  pub how : Reaction
   pub so : goes ≡ goes_on how
   pub does : Does given how at after
   pub next : after.next ≡ next_after given goes at.next
-  pub spent : (how ≡ Heard.Spent) ↔ (at.client.taken ≡ most_taken_by_client)
+  pub spent : (how ≡ Reaction.Spent) ↔ (at.client.taken ≡ most_taken_by_client)
 
 -- likewise, if it was given anything
 abbrev pub Takes : Option Given → Result (Option Answer) Fault → (at after : Moment) → Type 0

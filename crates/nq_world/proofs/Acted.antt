@@ -10,7 +10,7 @@ use Rattle.nq_base.specs.declared.Who.{Who}
 use Rattle.nq_client.specs.Counted.{Counted}
 use Rattle.nq_client.specs.Finishing.{Grows}
 use Rattle.nq_client.specs.Outcome.{Called, Counts, Heeded, Received, Stays}
-use Rattle.nq_client.specs.declared.heard.Heard.{Heard}
+use Rattle.nq_client.specs.declared.reaction.Reaction.{Reaction}
 use Rattle.nq_base.specs.Entries.{EntryList}
 use Rattle.nq_datagrams.specs.Messages.{FitsMessage}
 use Rattle.nq_model.specs.protocol.Client.{Client, ClientStep, noting}
@@ -92,18 +92,18 @@ called-acts host step_of t old c c' other out outs log logs at empty is all x = 
 
 -- ---- a tick, and a datagram that counts
 
-pub heeded-acts : (host : ℕ) (step_of : Client → Option ClientStep) (t : ClientStep) (old : List Counted) (c c' : Counted) (heard : Heard)
+pub heeded-acts : (host : ℕ) (step_of : Client → Option ClientStep) (t : ClientStep) (old : List Counted) (c c' : Counted) (heard : Reaction)
     (out outs : Datagrams) (log logs : EntryList)
-    → IsClientAt host old c → out.datagrams ≡ [] → step_of c.client ≡ Some t → (heard ≡ Heard.Spent → c.taken ≡ most_taken_by_client)
+    → IsClientAt host old c → out.datagrams ≡ [] → step_of c.client ≡ Some t → (heard ≡ Reaction.Spent → c.taken ≡ most_taken_by_client)
     → Heeded heard t c c' out outs log logs
     → ActsAt host step_of (heeded heard) old (slice_set old host c') outs.datagrams log.entries logs.entries
-heeded-acts host step_of t old c c' Heard.Memory out outs log logs at empty is all x = stayed host old c c' out outs log logs at x
-heeded-acts host step_of t old c c' Heard.Spent out outs log logs at empty is all x = count-spent host old c c' out outs log logs at (all refl) x
-heeded-acts host step_of t old c c' Heard.Nothing out outs log logs at empty is all x = made host step_of t old c c' out outs log logs at empty is
+heeded-acts host step_of t old c c' Reaction.Memory out outs log logs at empty is all x = stayed host old c c' out outs log logs at x
+heeded-acts host step_of t old c c' Reaction.Spent out outs log logs at empty is all x = count-spent host old c c' out outs log logs at (all refl) x
+heeded-acts host step_of t old c c' Reaction.Nothing out outs log logs at empty is all x = made host step_of t old c c' out outs log logs at empty is
     x.0.client (let one = x.0.taken in omega arith) x.0.grows
-heeded-acts host step_of t old c c' (Heard.Answered a) out outs log logs at empty is all x = made host step_of t old c c' out outs log logs at empty
+heeded-acts host step_of t old c c' (Reaction.Answered a) out outs log logs at empty is all x = made host step_of t old c c' out outs log logs at empty
     is x.0.client (let one = x.0.taken in omega arith) x.0.grows
-heeded-acts host step_of t old c c' Heard.Ignored out outs log logs at empty is all x = absurd x.1
+heeded-acts host step_of t old c c' Reaction.Ignored out outs log logs at empty is all x = absurd x.1
 
 -- ---- any datagram
 
@@ -124,18 +124,18 @@ ignored host step_of old c c' out outs log logs at empty is counts =
           (let one = counts.taken in omega arith) took;
     })
 
-pub received-acts : (host : ℕ) (step_of : Client → Option ClientStep) (o : Option ClientStep) (old : List Counted) (c c' : Counted) (heard : Heard)
+pub received-acts : (host : ℕ) (step_of : Client → Option ClientStep) (o : Option ClientStep) (old : List Counted) (c c' : Counted) (heard : Reaction)
     (out outs : Datagrams) (log logs : EntryList)
-    → IsClientAt host old c → out.datagrams ≡ [] → step_of c.client ≡ o → (heard ≡ Heard.Spent → c.taken ≡ most_taken_by_client)
+    → IsClientAt host old c → out.datagrams ≡ [] → step_of c.client ≡ o → (heard ≡ Reaction.Spent → c.taken ≡ most_taken_by_client)
     → Received heard o c c' out outs log logs
     → ActsAt host step_of (heeded heard) old (slice_set old host c') outs.datagrams log.entries logs.entries
 received-acts host step_of (Some t) old c c' heard out outs log logs at empty is all x = heeded-acts host step_of t old c c' heard out outs log logs
     at empty is all x
-received-acts host step_of None old c c' Heard.Ignored out outs log logs at empty is all x = ignored host step_of old c c' out outs log logs at empty is x
-received-acts host step_of None old c c' Heard.Spent out outs log logs at empty is all x = count-spent host old c c' out outs log logs at (all refl) x
-received-acts host step_of None old c c' Heard.Memory out outs log logs at empty is all x = absurd x
-received-acts host step_of None old c c' Heard.Nothing out outs log logs at empty is all x = absurd x
-received-acts host step_of None old c c' (Heard.Answered a) out outs log logs at empty is all x = absurd x
+received-acts host step_of None old c c' Reaction.Ignored out outs log logs at empty is all x = ignored host step_of old c c' out outs log logs at empty is x
+received-acts host step_of None old c c' Reaction.Spent out outs log logs at empty is all x = count-spent host old c c' out outs log logs at (all refl) x
+received-acts host step_of None old c c' Reaction.Memory out outs log logs at empty is all x = absurd x
+received-acts host step_of None old c c' Reaction.Nothing out outs log logs at empty is all x = absurd x
+received-acts host step_of None old c c' (Reaction.Answered a) out outs log logs at empty is all x = absurd x
 
 -- a datagram to a host that is not there
 pub nobody-acts : (host : ℕ) (step_of : Client → Option ClientStep) (clients : List Counted) (sent : List (Party × List ℕ)) (entries : List Entry)

@@ -7,7 +7,7 @@ use Rattle.nq_base.specs.declared.Event.{Event}
 use Rattle.nq_base.specs.declared.Party.{Party}
 use Rattle.nq_client.specs.Counted.{Counted}
 use Rattle.nq_client_parts.specs.Entries.{Tells}
-use Rattle.nq_client.specs.declared.heard.Heard.{Heard}
+use Rattle.nq_client.specs.declared.reaction.Reaction.{Reaction}
 use Rattle.nq_clock.specs.Counts.{SkewCounts}
 use Rattle.nq_clock.specs.Tracks.{Follows}
 use Rattle.nq_datagrams.specs.Messages.{FitsMessage}
@@ -36,9 +36,9 @@ called Answer.Spent = Err fault.Spent
 called other = Ok tt
 
 -- what is heard of a tick or a datagram means for the event
-abbrev pub heeded : Heard → Result Unit Fault
-heeded Heard.Memory = Err fault.Memory
-heeded Heard.Spent = Err fault.Spent
+abbrev pub heeded : Reaction → Result Unit Fault
+heeded Reaction.Memory = Err fault.Memory
+heeded Reaction.Spent = Err fault.Spent
 heeded other = Ok tt
 
 -- how the server took an event in, for the event

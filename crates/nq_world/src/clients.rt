@@ -9,7 +9,7 @@ ghost use Rattle.nq_world.specs.Moving.{ActsAt, Clocks, called, heeded};
 use crate::clocks::{shown, time_after};
 use nq_base::ending::Fault;
 use nq_base::{Answer, Call, Entry, Host, Inc, Journal, Who};
-use nq_client::{Client, Heard, StartClient};
+use nq_client::{Client, Reaction, StartClient};
 use nq_clock::Skew;
 use nq_wire::Outbox;
 use std::alloc::Global;
@@ -27,13 +27,13 @@ fn called(answer: &Answer) -> Result<(), Fault>
 }
 
 /// What is heard of a tick or a datagram means for the event.
-fn heeded(heard: &Heard) -> Result<(), Fault>
+fn heeded(heard: &Reaction) -> Result<(), Fault>
     ensures { result ≡ heeded heard.now }
 {
     match heard {
-        Heard::Memory => Err(Fault::Memory),
-        Heard::Spent => Err(Fault::Spent),
-        Heard::Nothing | Heard::Answered(_) | Heard::Ignored => Ok(()),
+        Reaction::Memory => Err(Fault::Memory),
+        Reaction::Spent => Err(Fault::Spent),
+        Reaction::Nothing | Reaction::Answered(_) | Reaction::Ignored => Ok(()),
     }
 }
 

@@ -9,7 +9,7 @@ ghost use Rattle.nq_link.specs.Links.{link_told, most_bytes};
 
 use nq_base::ending::Fault;
 use nq_base::{Answer, Journal, Party, Ticks};
-use nq_client::{Client, Heard};
+use nq_client::{Client, Reaction};
 use nq_clock::Clock;
 use nq_link::{Came, Link, MOST_BYTES, Sent, send_all};
 use nq_wire::Outbox;
@@ -202,13 +202,13 @@ fn take_in(
 }
 
 /// The answer that a turn brings where a client has taken something so.
-fn heard(how: Heard) -> Result<Option<Answer>, Fault>
+fn heard(how: Reaction) -> Result<Option<Answer>, Fault>
     ensures { result ≡ goes_on how }
 {
     match how {
-        Heard::Nothing | Heard::Ignored => Ok(None),
-        Heard::Answered(answer) => Ok(Some(answer)),
-        Heard::Memory => Err(Fault::Memory),
-        Heard::Spent => Err(Fault::Spent),
+        Reaction::Nothing | Reaction::Ignored => Ok(None),
+        Reaction::Answered(answer) => Ok(Some(answer)),
+        Reaction::Memory => Err(Fault::Memory),
+        Reaction::Spent => Err(Fault::Spent),
     }
 }

@@ -4,7 +4,7 @@ use nq_base::Answer;
 
 /// What came of a datagram or a tick.
 #[derive(Drop)]
-pub enum Heard {
+pub enum Reaction {
     /// It was taken in, and answered no call.
     Nothing,
     /// It was taken in, and the call under way has this answer.
