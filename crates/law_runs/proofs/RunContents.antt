@@ -16,7 +16,8 @@ use Rattle.walk_files.proofs.ClientHears.{hear-mid}
 use Rattle.walk_files.proofs.KnownContents.{part_of, IsOverKnown, IsFair, Mid}
 use Rattle.walk_files.proofs.Facts.{Follows, follows, line-follows}
 use Rattle.walk_files.proofs.FileMoves.{files-idle, unused-idle, map-replicate, zeros-value}
-use Rattle.walk_files.proofs.ServerContents.{IsFirst, Hearing, hears}
+use Rattle.walk_files.proofs.ServerContents.{hears}
+use Rattle.walk_files.proofs.UnchangedContents.{IsFirst, Hearing}
 use Rattle.walk_files.proofs.ServerDelays.{receive-never, tick-never, crash-never}
 use Rattle.walk_files.proofs.ServerTimes.{Standing, ticks, crashes}
 use Rattle.law_runs.proofs.WorldFacts.{ClientFits, begun-mid, fits-follows, history_now, Fits, client-fits, server-fits}

@@ -20,6 +20,7 @@ pub mod Histories
 pub mod Facts
 pub mod FileMoves
 pub mod ServerDoes
+pub mod UnchangedContents
 pub mod ServerContents
 pub mod ServerTimes
 pub mod ServerDelays

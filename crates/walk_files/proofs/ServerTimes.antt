@@ -8,7 +8,7 @@ use Rattle.nq_base.specs.declared.Row.{Row}
 use Rattle.walk_files.proofs.Facts.{History, Follows, follows, LineTells, line-follows, FilesFit, UnusedFit}
 use Rattle.walk_files.proofs.FileMoves.{ChangesOnly, files-idle, unused-idle, files-changed, unused-changed}
 use Rattle.walk_files.proofs.Histories.{NoChanges}
-use Rattle.walk_files.proofs.ServerContents.{IsFirst}
+use Rattle.walk_files.proofs.UnchangedContents.{IsFirst}
 use Rattle.walk_files.proofs.ServerDoes.{history_of, history_after, Shows}
 use Rattle.nq_model.specs.protocol.Kept.{File, find_file, host_row, replace_file, fenced_file, with_files}
 use Rattle.nq_model.specs.protocol.Message.{Packet, reply}
