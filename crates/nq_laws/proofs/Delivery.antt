@@ -1,5 +1,5 @@
--- A delivery of a calm network while the server serves, packet by packet: what holds of each request under way, and what each packet leaves of
--- hopes and of rows in the way. Or a call is answered.
+-- A delivery of a calm network while the server serves, packet by packet: what a client that hears leaves of hopes and of rows in the way, and a packet
+-- that nobody hears. Or a call is answered.
 use Rattle.std.proofs.Common.{◌≡◌, ◌≢◌, ◌≤◌, ◌<◌, ◌⊎◌, ℕ, ◌==◌, ◌++◌, Bool, true, false, not, List, [], ◌∷◌, Option, Some, None, is_some, nat_le}
 use Rattle.std.proofs.Common.{length, refl, sym, subst, ap, ◌∙◌, arith, inl, inr, append-nil}
 use Rattle.std.specs.Prelude.{map, slice_get, slice_set}
@@ -14,241 +14,65 @@ use Rattle.nq_base.specs.declared.Tag.{Tag}
 use Rattle.nq_base.specs.declared.Want.{Want}
 use Rattle.nq_model.specs.protocol.Client.{Client, ClientStep, Job, attaching, for_call, renewing, pushing, Ticket, UnderWay, begun, lease_on}
 use Rattle.nq_model.specs.protocol.Hear.{hear, refusal_counts, holds_later, cancels, evicted, goes_on}
-use Rattle.nq_model.specs.protocol.Kept.{host_row}
 use Rattle.nq_model.specs.protocol.Lines.{Play, play}
-use Rattle.nq_model.specs.protocol.Message.{Message, Packet, call, reply, datagram_of}
-use Rattle.nq_model.specs.protocol.Server.{serving, ServerStep, to_host}
+use Rattle.nq_model.specs.protocol.Message.{Packet, call, reply, datagram_of}
+use Rattle.nq_model.specs.protocol.Server.{ServerStep, to_host}
 use Rattle.nq_model.specs.protocol.ServerStep.{receive}
-use Rattle.nq_model.specs.protocol.Table.{caches, greater_mode, same_who, find_row}
+use Rattle.nq_model.specs.protocol.Table.{same_who, find_row}
 use Rattle.nq_model.specs.protocol.World.{Head, World, from_host, after_client, after_server, sending_host, step, run}
-use Rattle.nq_model.specs.laws.RowsStandApart.{WritesAlone}
 use Rattle.law_rounds.specs.RequestsAreMeant.{wanted, IsMeant}
 use Rattle.law_rounds.proofs.ClientCount.{client-count}
-use Rattle.law_rounds.proofs.HostsBelow.{run-local, stands-apart}
+use Rattle.law_rounds.proofs.HostsBelow.{run-local}
 use Rattle.law_rounds.proofs.Meant.{requests-are-meant}
-use Rattle.walk_steps.proofs.LeaseIntervals.{run-runs}
 use Rattle.walk_steps.proofs.NoticeCounts.{HostedBelow}
 use Rattle.law_rounds.specs.CalmRoundsAreLawful.{IsLawful}
-use Rattle.law_rounds.specs.QuietDeliveries.{recovers}
-use Rattle.law_rounds.proofs.PacketsCome.{Comes}
 use Rattle.law_rounds.proofs.Attaching.{hear-stays}
-use Rattle.law_rounds.proofs.CalmEnds.{IsRising, played-rising}
+use Rattle.law_rounds.proofs.CalmEnds.{played-rising}
 use Rattle.law_rounds.proofs.CalmIsLawful.{played-quiet}
 use Rattle.law_rounds.proofs.QuietFlows.{delivered-phase}
 use Rattle.walk_steps.proofs.WorldSequences.{run-draws}
-use Rattle.law_rounds.proofs.Next.{IsNext, next-in}
+use Rattle.law_rounds.proofs.Next.{IsNext}
 use Rattle.law_rounds.proofs.Coming.{Delivery, no_packet, at_server, at_host, ignored, no_client, delivery}
 use Rattle.walk_steps.proofs.ClientFacts.{fits_job}
 use Rattle.walk_steps.proofs.ClientMoves.{some-same, none-some}
-use Rattle.walk_steps.proofs.Packets.{In, in-append, in-left, in-right, in-get, Asked, Told, message-same, not-both}
+use Rattle.walk_steps.proofs.Packets.{In, in-append, in-get, Asked, Told, message-same}
 use Rattle.walk_steps.proofs.Worlds.{IsAt, Holds, IsSent, by_host, by_server, get-set-same, get-set-other, set-there, to-told, run-holds}
 use Rattle.walk_steps.proofs.StepSends.{HearSends, hear-sends}
-use Rattle.walk_steps.proofs.Rows.{same-number, number-same, found-row}
+use Rattle.walk_steps.proofs.Rows.{same-number, number-same}
 use Rattle.walk_steps.proofs.Tests.{is-at-most, is-not-at-most}
 use Rattle.nq_laws.proofs.CallRequests.{run-asks}
 use Rattle.nq_laws.proofs.ClientHopes.{Hearer}
 use Rattle.nq_laws.proofs.ClientHopes as client
 use Rattle.nq_laws.proofs.Counts.{open_calls, ended-fewer}
-use Rattle.nq_laws.proofs.Given.{AllInLine, ordered, ordered-on, tags, served}
+use Rattle.nq_laws.proofs.Given.{ordered, ordered-on, tags}
 use Rattle.nq_laws.proofs.HearerAt.{hearer}
-use Rattle.nq_laws.proofs.Hope.{Cancels, PutsOff, Clear}
-use Rattle.nq_laws.proofs.Front.{Fronts, to-front, moves-from}
-use Rattle.nq_laws.proofs.Queue.{packets_of, queue, queue-parts, rest-parts, before-apart, queue-next, head-packet, head-comes, rest-comes}
-use Rattle.nq_laws.proofs.Queue.{rest-later, there-is}
-use Rattle.nq_laws.proofs.Served.{IsWant, by_read, by_lease, IsServed, Fits, read_fits, write_fits, Wanting, by_call, by_renewal}
-use Rattle.nq_laws.proofs.Asking.{Fate, all_on, off, fate}
-use Rattle.nq_laws.proofs.ServerHopes.{Asker, clear-on, off-clear, off-hope}
-use Rattle.nq_laws.proofs.UnderWay.{InOrder, TagsFit, WantedNow, of_call, of_row, Wants, NoneRenew, Moves, all_move, all_but, Paused, hear-sent}
-use Rattle.nq_laws.proofs.UnderWay.{none-renews, serves-is}
-
--- ---- a state
+use Rattle.nq_laws.proofs.Hope.{Cancels, PutsOff}
+use Rattle.nq_laws.proofs.Front.{moves-from}
+use Rattle.nq_laws.proofs.Queue.{queue, queue-next, head-packet, head-comes, rest-comes}
+use Rattle.nq_laws.proofs.Queue.{there-is}
+use Rattle.nq_laws.proofs.Served.{IsWant, by_read, by_lease, Fits, read_fits, write_fits}
+use Rattle.nq_laws.proofs.UnderWay.{TagsFit, WantedNow, of_call, of_row, Wants, NoneRenew, Moves, all_move, Paused, hear-sent}
+use Rattle.nq_laws.proofs.UnderWay.{none-renews}
+use Rattle.nq_laws.proofs.ServedDelivery as state
+use Rattle.nq_laws.proofs.ServedDelivery.{State, holder, at-run, queue-front, rest-sent, server-next, server-served}
 
 module _ (most : ℕ) (head : Head) where
-  pub record State (p : Play) : Type 0 where
-    pub lawful : IsLawful most head p
-    pub rising : IsRising p
-    pub serves : recovers p.world.server.phase ≡ false
-    pub on : (host : ℕ) (c : Client) → slice_get p.world.clients host ≡ Some c → c.attached ≡ true
-    pub order : AllInLine most head p
-    pub wants : Wants p.world (queue p)
-    pub none_renew : NoneRenew p.world
-
-  module _ (p : Play) (st : State p) where
+  module _ (p : Play) (st : State most head p) where
     holds : Holds p.world
-    holds = subst (λ u. Holds u) (sym st.lawful.is_run) (run-holds head p.events)
-
-    at-run : (host : ℕ) (c : Client) → slice_get p.world.clients host ≡ Some c → slice_get (run head p.events).clients host ≡ Some c
-    at-run host c at = subst (λ (u : World). slice_get u.clients host ≡ Some c) st.lawful.is_run at
-
-    phase : p.world.server.phase ≡ serving
-    phase = serves-is p.world.server.phase st.serves
-
-    -- the kept incarnation of a host is its client's
-    line-inc : (host : ℕ) (c : Client) → slice_get p.world.clients host ≡ Some c → (host_row p.world.server.kept host).inc ≡ c.who.inc
-    line-inc host c at =
-        ap (λ (u : World). (host_row u.server.kept host).inc) st.lawful.is_run
-        ∙ (((run-runs most head p.events st.lawful.bounds st.lawful.within).known.clients host c (at-run host c at))).lined.current (st.on host c at)
-
-    -- a row of a host is its client's
-    holder : (host : ℕ) (c : Client) → slice_get p.world.clients host ≡ Some c → (f : ℕ) (row : Row)
-        → find_row f host p.world.server.table.rows ≡ Some row → row.who ≡ c.who
-    holder host c at f row found =
-        let s = (stands-apart head p.events).current in
-        let there : find_row f host (run head p.events).server.table.rows ≡ Some row = subst (λ
-        (u : World). find_row f host u.server.table.rows ≡ Some row) st.lawful.is_run found in
-        let inc : row.who.inc ≡ c.who.inc = s f host row there ∙ ap (λ (u : World). (host_row u.server.kept host).inc) (sym st.lawful.is_run)
-        ∙ line-inc host c at in
-        let same_host : row.who.host ≡ c.who.host = (found-row f host p.world.server.table.rows row found).1 ∙ sym (holds.clients host c at).here in
-        ap (λ n. record { host = n; inc = row.who.inc }) same_host ∙ ap (λ n. record { host = c.who.host; inc = n }) inc
-
-    alone : WritesAlone p.world.server.table.rows
-    alone = subst (λ (u : World). WritesAlone u.server.table.rows) (sym st.lawful.is_run) (stands-apart head p.events).alone
+    holds = state.holds most head p st
 
     module _ (k : ℕ) (next : IsNext p k) where
       abbrev rest : List Packet
-      rest = packets_of p.world.packets (next.before ++ next.behind)
+      rest = state.rest most head p st k next
 
       abbrev after : Play
       after = play p (Event.Deliver k)
 
+      abbrev Next : World → List Packet → Packet → Type 0
+      Next = state.Next most head p st k next
+
       in-rest : (y z : Packet) → slice_get p.world.packets k ≡ Some y → In rest z → In (queue p) z
-      in-rest y z sent i = subst (λ q. In q z) (sym (queue-parts p k next st.rising y sent)) (later (in-append (packets_of p.world.packets next.before)
-          (packets_of p.world.packets next.behind) z (subst (λ q. In q z) (rest-parts p k next st.rising) i)))
-        where
-          later : In (packets_of p.world.packets next.before) z ⊎ In (packets_of p.world.packets next.behind) z
-              → In (packets_of p.world.packets next.before ++ y ∷ packets_of p.world.packets next.behind) z
-          later (inl j) = in-left (packets_of p.world.packets next.before) (y ∷ packets_of p.world.packets next.behind) z j
-          later (inr j) = in-right (packets_of p.world.packets next.before) (y ∷ packets_of p.world.packets next.behind) z (inr j)
-
-      -- the packet itself is under way
-      in-head : (y : Packet) → slice_get p.world.packets k ≡ Some y → In (queue p) y
-      in-head y sent = subst (λ q. In q y) (sym (queue-parts p k next st.rising y sent)) (in-right (packets_of p.world.packets next.before)
-          (y ∷ packets_of p.world.packets next.behind) y (inl refl))
-
-      -- it may as well stand first: what hopes and what is clear stays so
-      queue-front : (y : Packet) → slice_get p.world.packets k ≡ Some y → Fronts p.world (queue p) (y ∷ rest)
-      queue-front y sent = subst (λ q. Fronts p.world q (y ∷ rest)) (sym (queue-parts p k next st.rising y sent))
-          (subst (λ q. Fronts p.world (packets_of p.world.packets next.before ++ y ∷ packets_of p.world.packets next.behind) (y ∷ q))
-          (sym (rest-parts p k next st.rising))
-          (to-front p.world y (packets_of p.world.packets next.before) (packets_of p.world.packets next.behind)
-          (λ z i one. before-apart p k next st.rising y z sent i one)))
-
-      rest-sent : (z : Packet) → In rest z → In p.world.packets z
-      rest-sent z i = let c = rest-comes p k next st.rising z i in in-get p.world.packets c.number z c.is
-
-      -- what a step leads to
-      record Next (v : World) (q : List Packet) (y : Packet) : Type 0 where
-        wants : Wants v q
-        none_renew : NoneRenew v
-        on : (host : ℕ) (c : Client) → slice_get v.clients host ≡ Some c → c.attached ≡ true
-        moves : Moves p.world v (y ∷ rest) q
-        pauses : Paused p.world v
-
-      -- ---- a request at the server
-
-      module _ (y : Packet) (sent : slice_get p.world.packets k ≡ Some y) (b x : ℕ) (r : Request) (c : Client) (at : slice_get p.world.clients b ≡ Some c)
-          (is : y ≡ from_host b (call x r)) where
-        head-is : Comes p (from_host b (call x r))
-        head-is = record { number = k; fresh = next-in p k next; is = sent ∙ ap Some is }
-
-        order : InOrder p b c
-        order = ordered most head p st.lawful st.order b c at
-
-        mine : IsAt b c p.world.packets
-        mine = holds.clients b c at
-
-        there : Asked p.world.packets c.who.host x r
-        there = subst (λ n. Asked p.world.packets n x r) (sym mine.here) (in-get p.world.packets k (from_host b (call x r)) (sent ∙ ap Some is))
-
-        asker-now : Asker p.world.server.table.rows p.world.clients rest b x r c
-        asker-now = record {
-          caller = record {
-            same = λ t asks number. (mine.mail.asked x r c.who there (order.asks x r head-is)).same refl t asks number;
-            meant = λ t u f asks job has on. ((run-asks head p.events b c (at-run b c at)).about t u asks job has).about f on;
-            unrenewed = λ t u asks has job. st.none_renew b c t u at asks has job;
-            held = λ f own found. (tags most head p st.lawful b c at (st.on b c at)).held f own found;
-            holder = λ f own found. holder b c at f own found;
-          };
-          alone = alone;
-          wants = λ f want w. wanting f want (st.wants b x f c r want at (subst (λ z. In (queue p) z) is (in-head y sent)) w);
-          unreplied = λ f want w t a asks i inc. order.unreplied x f r want t a head-is w asks (rest-comes p k next st.rising (to_host b
-              (reply t.xid a)) i) inc;
-        }
-          where
-            wanting : (f : ℕ) (want : Want) → WantedNow p.world.server.table.rows (queue p) b c x f want → Wanting p.world.server.table.rows b c f want
-            wanting f want (of_call u has early fit) = by_call u has early fit
-            wanting f want (of_row row idle found kind mode least) = by_renewal idle row found mode
-
-        server-next : (t : ServerStep) → IsServed p.world.server.table.rows t.server.table.rows t.sends b c.who x r
-            → Next (after_server p.world t) (rest ++ t.sends) y
-        unfolding after_server head-is
-        server-next t s = record {
-          wants = λ host z f d q want there_at i w. later host z f d q want there_at (in-append rest t.sends (from_host host (call z q)) i) w;
-          none_renew = st.none_renew;
-          on = st.on;
-          pauses = λ a d u here has. (d, u, here, has, λ late. (refl, refl));
-          moves = by (fate p.world.server.table.rows t.server.table.rows p.world.clients y rest t.sends b x r c at is s asker-now.caller);
-        }
-          where
-            clear : (g : Bool) (host : ℕ) → Clear g p.world.server.table.rows p.world.clients (y ∷ rest) host
-                → Clear g t.server.table.rows p.world.clients (rest ++ t.sends) host
-            clear g host = clear-on p.world.server.table.rows t.server.table.rows p.world.clients y rest t.sends b x r c at is s asker-now g host
-
-            by : Fate p.world.server.table.rows t.server.table.rows p.world.clients y rest t.sends b c
-                → Moves p.world (after_server p.world t) (y ∷ rest) (rest ++ t.sends)
-            by (all_on on) = all_move on clear
-            by (off others o) = all_but b others clear
-                (off-clear p.world.server.table.rows t.server.table.rows p.world.clients y rest t.sends b x r c at is s asker-now o)
-                (off-hope p.world.server.table.rows t.server.table.rows p.world.clients y rest t.sends b x r c at is s asker-now others o)
-
-            no-request : (host : ℕ) (m : Message) → In t.sends (from_host host m) → ⊥
-            no-request host m i = let z = s.for_hosts (from_host host m) i in not-both host z.0 m z.1 z.2
-
-            kept : (host z f : ℕ) (d : Client) (q : Request) (want : Want) → slice_get p.world.clients host ≡ Some d
-                → In rest (from_host host (call z q)) → WantedNow p.world.server.table.rows (queue p) host d z f want
-                → WantedNow t.server.table.rows (rest ++ t.sends) host d z f want
-            kept host z f d q want there_at i (of_call u has early fit) = of_call u has early fit
-            kept host z f d q want there_at i (of_row row idle found kind mode least) = whose (host == b) refl
-              where
-                least-now : (v : ℕ) (o : Request) → In (rest ++ t.sends) (from_host host (call v o)) → z ≤ v
-                least-now v o j = from (in-append rest t.sends (from_host host (call v o)) j)
-                  where
-                    from : In rest (from_host host (call v o)) ⊎ In t.sends (from_host host (call v o)) → z ≤ v
-                    from (inl old) = least v o (in-rest y (from_host host (call v o)) sent old)
-                    from (inr new) = absurd (no-request host (call v o) new)
-
-                whose : (e : Bool) → (host == b) ≡ e → WantedNow t.server.table.rows (rest ++ t.sends) host d z f want
-                whose false e =
-                    let n = s.keeps f host row (λ same. let yes : (host == b) ≡ true = number-same host b same in absurd (cc)) found kind in
-                    of_row n.0 idle n.1 (ap caches n.2.mode ∙ kind) (subst (λ m. greater_mode m want.mode ≡ m) (sym n.2.mode) mode) least-now
-                whose true e =
-                    let same : host ≡ b = same-number host b e in
-                    let low : z ≤ x = least x r (subst (λ n. In (queue p) (from_host n (call x r))) (sym same) (subst (λ z. In (queue p) z) is
-                    (in-head y sent))) in
-                    let c2 = rest-later p k next st.rising y (from_host b (call z q)) sent (record {
-                      sender = ap (λ (o : Packet). o.sender) (sym is);
-                      to =
-                          ap (λ (o : Packet). o.to) (sym is);
-                    }) (subst (λ n. In rest (from_host n (call z q))) same i) in
-                    let high : x < z = order.rises x z r q head-is c2.0 c2.1 in
-                    absurd (omega arith)
-
-            later : (host z f : ℕ) (d : Client) (q : Request) (want : Want) → slice_get p.world.clients host ≡ Some d
-                → In rest (from_host host (call z q)) ⊎ In t.sends (from_host host (call z q)) → IsWant q f want
-                → WantedNow t.server.table.rows (rest ++ t.sends) host d z f want
-            later host z f d q want there_at (inl i) w = kept host z f d q want there_at i (st.wants host z f d q want there_at (in-rest y (from_host host
-                (call z q)) sent i) w)
-            later host z f d q want there_at (inr i) w = absurd (no-request host (call z q) i)
-
-        server-served : (t : ServerStep) → t ≡ receive p.world.server (sending_host y.sender) (length p.world.packets) (datagram_of y.message)
-            → IsServed p.world.server.table.rows t.server.table.rows t.sends b c.who x r
-        server-served t e =
-            let datagram : receive p.world.server (sending_host y.sender) (length p.world.packets) (datagram_of y.message) ≡ receive p.world.server b
-            (length p.world.packets) (datagram_of (call x r)) = ap (λ (z : Packet). receive p.world.server (sending_host z.sender)
-            (length p.world.packets) (datagram_of z.message)) is in
-            subst (λ (v : ServerStep). IsServed p.world.server.table.rows v.server.table.rows v.sends b c.who x r) (sym (e ∙ datagram))
-            (served most head p st.lawful phase b x (length p.world.packets) r c.who (order.asks x r head-is) mine.here (line-inc b c at)
-            (λ n sq. order.fresh x n r head-is sq) c at)
+      in-rest = state.in-rest most head p st k next
 
       -- ---- a client hears
 
@@ -263,10 +87,10 @@ module _ (most : ℕ) (head : Head) where
         its-tags = tags most head p st.lawful h0 c at (st.on h0 c at)
 
         now-hears : Hearer p.world.server.table.rows y rest h0 c t
-        now-hears = hearer p.world.server.table.rows p.world.packets y rest h0 k y.message c t own is rest-sent mail hears stays
+        now-hears = hearer p.world.server.table.rows p.world.packets y rest h0 k y.message c t own is (rest-sent most head p st k next) mail hears stays
             (λ f row n found noted. its-tags.noted f row n found noted)
             (λ f row n tag found says. its-tags.named f n row tag found (subst (λ m. Told p.world.packets h0 m) says mail))
-            (holder h0 c at)
+            (holder most head p st h0 c at)
 
         its-sends : HearSends c y.message t
         its-sends = hear-sends c k y.message t own.alone hears
@@ -345,8 +169,8 @@ module _ (most : ℕ) (head : Head) where
 
             low : x < c.xid
             low =
-                let there : Asked p.world.packets c.who.host x r = subst (λ n. Asked p.world.packets n x r) (sym own.here) (rest-sent (from_host h0
-                (call x r)) i) in
+                let there : Asked p.world.packets c.who.host x r = subst (λ n. Asked p.world.packets n x r) (sym own.here)
+                (rest-sent most head p st k next (from_host h0 (call x r)) i) in
                 (own.mail.asked x r c.who there ((ordered most head p st.lawful st.order h0 c at).asks x r (rest-comes p k next st.rising
                 (from_host h0 (call x r)) i))).number refl
 
@@ -401,7 +225,7 @@ module _ (most : ℕ) (head : Head) where
             not-off o has late l asks x = of-job l.job refl
               where
                 of-job : (job : Job) → l.job ≡ job → ⊥
-                of-job for_call job = let early = (run-asks head p.events h0 c (at-run h0 c at)).early l asks job in absurd (omega arith)
+                of-job for_call job = let early = (run-asks head p.events h0 c (at-run most head p st h0 c at)).early l asks job in absurd (omega arith)
                 of-job renewing job = st.none_renew h0 c l o at asks has job
                 of-job attaching job = let no : refusal_counts x.status l.request l.job ≡ false = ap (refusal_counts x.status l.request) job in let yes =
                     x.counts in absurd (cc)
@@ -487,7 +311,7 @@ module _ (most : ℕ) (head : Head) where
             by : (o : Option Client) → slice_get p.world.clients h0 ≡ o → ⊥
             by (Some c) at =
                 would-hear c n f row.tag at (ap (λ (z : Packet). z.message) says ∙ ap (λ w. call n (Request.Evicted w f row.tag))
-                (holder h0 c at f row found))
+                (holder most head p st h0 c at f row found))
                 ((tags most head p st.lawful h0 c at (st.on h0 c at)).held f row found)
             by None none =
                 let rows = (run-local head p.events).rows in
@@ -526,7 +350,7 @@ module _ (most : ℕ) (head : Head) where
       -- what a delivery comes to: a call is answered, or the state goes on
       pub data Delivered : Type 0 where
         fewer : open_calls (step p.world (Event.Deliver k)).clients < open_calls p.world.clients → Delivered
-        goes_on_so : State (play p (Event.Deliver k)) → Moves p.world (step p.world (Event.Deliver k)) (queue p) (queue (play p (Event.Deliver k)))
+        goes_on_so : State most head (play p (Event.Deliver k)) → Moves p.world (step p.world (Event.Deliver k)) (queue p) (queue (play p (Event.Deliver k)))
             → Paused p.world (step p.world (Event.Deliver k)) → Delivered
 
       lead : (v : World) (more : List Packet) (y : Packet) → slice_get p.world.packets k ≡ Some y → step p.world (Event.Deliver k) ≡ v
@@ -543,7 +367,8 @@ module _ (most : ℕ) (head : Head) where
             none_renew = subst (λ (w : World). NoneRenew w) (sym to) n.none_renew;
           })
           (subst (λ (w : World). Moves p.world w (queue p) (queue (play p (Event.Deliver k)))) (sym to)
-          (subst (λ z. Moves p.world v (queue p) z) (sym q) (moves-from p.world v (queue p) (y ∷ rest) (rest ++ more) (queue-front y sent) n.moves)))
+          (subst (λ z. Moves p.world v (queue p) z) (sym q) (moves-from p.world v (queue p) (y ∷ rest) (rest ++ more)
+          (queue-front most head p st k next y sent) n.moves)))
           (subst (λ (w : World). Paused p.world w) (sym to) n.pauses)
 
       to-host-is : (y : Packet) (h : ℕ) → slice_get p.world.packets k ≡ Some y → y.to ≡ Party.Client h → y ≡ to_host h y.message
@@ -574,8 +399,8 @@ module _ (most : ℕ) (head : Head) where
                   let there : Asked (run head p.events).packets b x r = subst (λ (u : World). Asked u.packets b x r) st.lawful.is_run
                   (in-get p.world.packets k (from_host b (call x r)) (sent ∙ ap Some e)) in
                   absurd ((run-draws head p.events).lone b x r there (subst (λ (u : World). slice_get u.clients b ≡ None) st.lawful.is_run none))
-              found (Some c) at = lead (after_server p.world t) t.sends y sent is refl (server-next y sent b x r c at e t
-                  (server-served y sent b x r c at e t refl))
+              found (Some c) at = lead (after_server p.world t) t.sends y sent is refl (server-next most head p st k next y sent b x r c at e t
+                  (server-served most head p st k next y sent b x r c at e t refl))
 
           silent : (y : Packet) (h : ℕ) → slice_get p.world.packets k ≡ Some y → y.to ≡ Party.Client h → ((c : Client)
               → slice_get p.world.clients h ≡ Some c → hear c k y.message ≡ None) → step p.world (Event.Deliver k) ≡ p.world → Delivered

@@ -16,7 +16,8 @@ use Rattle.law_rounds.proofs.Next.{next-among}
 use Rattle.walk_steps.proofs.ClientMoves.{none-some}
 use Rattle.walk_steps.proofs.Rows.{same-number, number-same}
 use Rattle.nq_laws.proofs.Counts.{open_calls, order-less}
-use Rattle.nq_laws.proofs.Delivery.{State, Delivered, fewer, goes_on_so, delivers}
+use Rattle.nq_laws.proofs.Delivery.{Delivered, fewer, goes_on_so, delivers}
+use Rattle.nq_laws.proofs.ServedDelivery.{State}
 use Rattle.nq_laws.proofs.UnderWay.{Moves, all_move, all_but, Paused}
 use Rattle.nq_laws.proofs.Hope.{file_of_call, access_of_call, Hopeful, told, waits, vacated, Passes, goes, hoped, InWay, Clear}
 use Rattle.nq_laws.proofs.Queue.{queue}

@@ -28,7 +28,7 @@ use Rattle.nq_laws.proofs.Hosts.{ticked}
 use Rattle.law_rounds.proofs.Calling.{tick-opens}
 use Rattle.nq_laws.proofs.Begin.{round-tickets, round-wants, none-renew}
 use Rattle.nq_laws.proofs.Counts.{open_calls}
-use Rattle.nq_laws.proofs.Delivery.{State}
+use Rattle.nq_laws.proofs.ServedDelivery.{State}
 use Rattle.nq_laws.proofs.UnderWay.{Moves, Paused}
 use Rattle.nq_laws.proofs.Frames.{HopesOrClear, SomeHopes, first-moves, second-moves, NoWay, no-hope, clear-none, none-clear, Ends, answered, stands}
 use Rattle.nq_laws.proofs.Frames.{order-ends}
