@@ -1,16 +1,17 @@
 -- What a turn does to a client's time: a tick brings it to the reading of the clock, and a datagram leaves it.
-use Rattle.std.proofs.Common.{◌≡◌, ◌≤◌, ◌<◌, ◌+◌, ℕ, Bool, true, false, List, [], ◌∷◌, length, Option, Some, None, Result, Ok, Err, refl, sym, ap, ◌∙◌, subst, nat_lt, if◌then◌else◌, arith}
+use Rattle.std.proofs.Common.{◌≡◌, ◌≤◌, ◌<◌, ◌+◌, ℕ, Bool, true, false, length, Option, Some, None, Result, Ok, Err, refl, ap, ◌∙◌, subst, nat_lt}
+use Rattle.std.proofs.Common.{if◌then◌else◌, arith}
 use Rattle.nq_base.specs.declared.Answer.{Answer}
 use Rattle.nq_base.specs.declared.Party.{Party}
 use Rattle.nq_base.specs.declared.Reply.{Reply}
 use Rattle.nq_base.specs.declared.Tag.{Tag}
 use Rattle.nq_base.specs.declared.ending.fault.Fault.{Fault}
 use Rattle.nq_calling.specs.Calling.{refusal_of}
-use Rattle.nq_client.proofs.Calls.{Within, ticked}
+use Rattle.nq_client.proofs.Calls.{ticked}
 use Rattle.nq_client.proofs.Received.{replied-answered}
 use Rattle.nq_client.proofs.RepliedKept.{Kept, answered-kept}
-use Rattle.nq_client.proofs.Requested.{Sent, sends}
-use Rattle.nq_client.proofs.Settled.{Settled, settled}
+use Rattle.nq_client.proofs.Requested.{sends}
+use Rattle.nq_client.proofs.Settled.{settled}
 use Rattle.nq_client.specs.Counted.{Counted}
 use Rattle.nq_client.specs.Outcome.{Heeded, Received}
 use Rattle.nq_client.specs.Receiving.{answered}
@@ -18,13 +19,12 @@ use Rattle.nq_client.specs.declared.reaction.Reaction.{Reaction}
 use Rattle.nq_client_parts.specs.Calls.{file_at_stake}
 use Rattle.nq_clock.specs.Clocks.{ClockTold}
 use Rattle.nq_datagrams.specs.Incoming.{hears, hears_in, heard_in}
-use Rattle.nq_hosts.specs.ClientTurn.{Given, Moment, Takes, Steps, Receives, TakesFrom, GoesOn, Sends, Stages, goes_on, tick_due, given_of}
+use Rattle.nq_hosts.specs.ClientTurn.{Given, Moment, Takes, Receives, GoesOn, Stages, goes_on, tick_due, given_of}
 use Rattle.nq_link.specs.Links.{Letter, LinkTold}
 use Rattle.nq_model.specs.protocol.Client.{Client, ClientStep, Ticket, begun, is_clean}
 use Rattle.nq_model.specs.protocol.ClientStep.{client_tick, at_time}
 use Rattle.nq_model.specs.protocol.Hear.{all_dirty, cancels, evicted, goes_on as goes_from, hear, notes_notice, replied, spends, vacates_lease}
 use Rattle.nq_model.specs.protocol.Message.{Message}
-use Rattle.nq_model.specs.protocol.Send.{send_next}
 use Rattle.nq_model.specs.protocol.Settle.{settle}
 use Rattle.walk_steps.proofs.Rows.{choice}
 use Rattle.walk_steps.proofs.StepCases.{heard-cases}

@@ -194,22 +194,27 @@ module _ (hosts : ℕ) (wants : ℕ → Option Request) (has_rows : AskersHaveRo
           → clash_in u.server.table q ≡ None
       no-clash-for row there kind serves = by (clash_in u.server.table q) refl
         where
-          which : (r2 : Row) → find_row file r2.who.host between ≡ Some r2 → r2.who.host ≢ host → (b : Bool) → writes_for r ≡ b
-              → mode_conflicts (access_of_mode b) r2.mode ≡ true → ⊥
-          which r2 at other true e k = let no = behind.alone file host r2.who.host row r2 there at other (serves e) in let bad : true ≡ false = sym k
-              ∙ no in cc
-          which r2 at other false e k = let no = behind.alone file r2.who.host host r2 row at there (λ same. other (sym same)) k in let bad : true
-              ≡ false = sym kind ∙ no in cc
+          which : (clashing : Row) → find_row file clashing.who.host between ≡ Some clashing → clashing.who.host ≢ host → (b : Bool) → writes_for r ≡ b
+              → mode_conflicts (access_of_mode b) clashing.mode ≡ true → ⊥
+          which clashing at other true e k =
+              let no = behind.alone file host clashing.who.host row clashing there at other (serves e) in
+              let bad : true ≡ false = sym k ∙ no in
+              cc
+          which clashing at other false e k =
+              let no = behind.alone file clashing.who.host host clashing row at there (λ same. other (sym same)) k in
+              let bad : true ≡ false = sym kind ∙ no in
+              cc
 
           by : (o : Option Row) → clash_in u.server.table q ≡ o → clash_in u.server.table q ≡ None
           by None e = e
-          by (Some r2) e =
-              let c = is-clash q.file q.who.host q.access r2 (find-passes (conflicts q.file q.who.host q.access) r2 between e) in
-              let at : find_row file r2.who.host between ≡ Some r2 = subst (λ f. find_row f r2.who.host between ≡ Some r2) (c.of_file ∙ of.file_is)
-              (behind.members (conflicts q.file q.who.host q.access) r2 e) in
+          by (Some clashing) e =
+              let c = is-clash q.file q.who.host q.access clashing (find-passes (conflicts q.file q.who.host q.access) clashing between e) in
+              let at : find_row file clashing.who.host between ≡ Some clashing =
+              subst (λ f. find_row f clashing.who.host between ≡ Some clashing) (c.of_file ∙ of.file_is)
+              (behind.members (conflicts q.file q.who.host q.access) clashing e) in
               let access : q.access ≡ access_of_mode (writes_for r) = of.access_is ∙ ap access_of_mode of.writes_is in
-              let k : mode_conflicts (access_of_mode (writes_for r)) r2.mode ≡ true = subst (λ a. mode_conflicts a r2.mode ≡ true) access c.kind in
-              absurd (which r2 at (λ same. c.other (same ∙ sym of.host_is)) (writes_for r) refl k)
+              let k : mode_conflicts (access_of_mode (writes_for r)) clashing.mode ≡ true = subst (λ a. mode_conflicts a clashing.mode ≡ true) access c.kind in
+              absurd (which clashing at (λ same. c.other (same ∙ sym of.host_is)) (writes_for r) refl k)
 
       own-row : (row : Row) → find_row file host between ≡ Some row → (writes_for r ≡ true → is_writing row.mode ≡ true) ⊎ (caches row.mode ≡ false)
           → OwnRow hosts wants u.server.table q of.want of.wants asker-below asker-wishes row
@@ -281,39 +286,39 @@ module _ (hosts : ℕ) (wants : ℕ → Option Request) (has_rows : AskersHaveRo
                 absurd (none-some q (sym no ∙ some))
 
     -- good rows stay good
-    pub pair-keeps : (f h : ℕ) (wh : Who) (tg : Tag) (r2 : Request) → wants h ≡ Some r2 → wants_of f r2 ≡ true → HasGoodRow hosts wants w.server f h
-        wh tg r2 → HasGoodRow hosts wants t.server f h wh tg r2
-    pair-keeps f h wh tg r2 asks_two wants_two (inr none) = inr (same-question w.server t.server h r2 same-server ∙ none)
-    pair-keeps f h wh tg r2 asks_two wants_two (inl good) = place (f == file) (h == host) refl refl
+    pub pair-keeps : (f h : ℕ) (wh : Who) (tg : Tag) (wished : Request) → wants h ≡ Some wished → wants_of f wished ≡ true → HasGoodRow hosts wants w.server f h
+        wh tg wished → HasGoodRow hosts wants t.server f h wh tg wished
+    pair-keeps f h wh tg wished asks_two wants_two (inr none) = inr (same-question w.server t.server h wished same-server ∙ none)
+    pair-keeps f h wh tg wished asks_two wants_two (inl good) = place (f == file) (h == host) refl refl
       where
-        elsewhere : (f ≡ file → h ≢ host) → HasGoodRow hosts wants t.server f h wh tg r2
+        elsewhere : (f ≡ file → h ≢ host) → HasGoodRow hosts wants t.server f h wh tg wished
         elsewhere other = inl (by hears)
           where
-            here : IsGood between f h wh tg (writes_for r2)
-            here = good-same before between f h wh tg (writes_for r2) (ap (find_row f h) first ∙ without-others before file who is_gone f h
+            here : IsGood between f h wh tg (writes_for wished)
+            here = good-same before between f h wh tg (writes_for wished) (ap (find_row f h) first ∙ without-others before file who is_gone f h
                 (λ e same. other e (same ∙ from))) good
 
-            by : Hears u.server (question_of u.server host r) t → IsGood after f h wh tg (writes_for r2)
-            by (mute o s none same table) = subst (λ (x : Table). IsGood x.rows f h wh tg (writes_for r2)) (sym table) here
+            by : Hears u.server (question_of u.server host r) t → IsGood after f h wh tg (writes_for wished)
+            by (mute o s none same table) = subst (λ (x : Table). IsGood x.rows f h wh tg (writes_for wished)) (sym table) here
             by (asked o s q some same table) =
                 let of = question-is u.server host file r q wants_it some in
-                subst (λ (x : Table). IsGood x.rows f h wh tg (writes_for r2)) (sym table) (others-good u.server.table q f h wh tg (writes_for r2)
+                subst (λ (x : Table). IsGood x.rows f h wh tg (writes_for wished)) (sym table) (others-good u.server.table q f h wh tg (writes_for wished)
                 (λ e same. other (e ∙ of.file_is) (same ∙ of.host_is)) here)
 
-        at-own : f ≡ file → h ≡ host → HasGoodRow hosts wants t.server f h wh tg r2
+        at-own : f ≡ file → h ≡ host → HasGoodRow hosts wants t.server f h wh tg wished
         at-own at by_host =
-            let one : r2 ≡ r = some-same r2 r (sym asks_two ∙ ap wants by_host ∙ asks_it) in
-            subst (λ g. HasGoodRow hosts wants t.server g h wh tg r2) (sym at) (subst (λ n. HasGoodRow hosts wants t.server file n wh tg r2)
+            let one : wished ≡ r = some-same wished r (sym asks_two ∙ ap wants by_host ∙ asks_it) in
+            subst (λ g. HasGoodRow hosts wants t.server g h wh tg wished) (sym at) (subst (λ n. HasGoodRow hosts wants t.server file n wh tg wished)
             (sym by_host) (subst (λ x. HasGoodRow hosts wants t.server file host wh tg x) (sym one)
-            (by hears (subst (λ x. IsGood before file host wh tg (writes_for x)) one (subst (λ n. IsGood before file n wh tg (writes_for r2)) by_host
-            (subst (λ g. IsGood before g h wh tg (writes_for r2)) at good))))))
+            (by hears (subst (λ x. IsGood before file host wh tg (writes_for x)) one (subst (λ n. IsGood before file n wh tg (writes_for wished)) by_host
+            (subst (λ g. IsGood before g h wh tg (writes_for wished)) at good))))))
           where
             by : Hears u.server (question_of u.server host r) t → IsGood before file host wh tg (writes_for r) → HasGoodRow hosts wants t.server file
                 host wh tg r
             by (mute o s none same table) g = inr (same-question u.server t.server host r same ∙ none)
             by (asked o s q some same table) g = inl (own-good q (question-is u.server host file r q wants_it some) table wh tg g)
 
-        place : (a b : Bool) → (f == file) ≡ a → (h == host) ≡ b → HasGoodRow hosts wants t.server f h wh tg r2
+        place : (a b : Bool) → (f == file) ≡ a → (h == host) ≡ b → HasGoodRow hosts wants t.server f h wh tg wished
         place true true x y = at-own (same-number f file x) (same-number h host y)
         place true false x y = elsewhere (λ e same. let sure : (h == host) ≡ true = number-same h host same in let bad : true ≡ false = sym sure ∙ y in cc)
         place false b x y = elsewhere (λ e same. let sure : (f == file) ≡ true = number-same f file e in let bad : true ≡ false = sym sure ∙ x in cc)

@@ -1,5 +1,5 @@
 -- Turns of a client, up to the one that reaches what they are taken for.
-use Rattle.std.specs.Prelude.{◌≡◌, ◌<◌, ℕ, zero, suc, Bool, true, false, is_none, Option, Some, None, Result, Ok, Err}
+use Rattle.std.specs.Prelude.{◌≡◌, ◌<◌, ℕ, zero, suc, Bool, true, false, is_none, Option, Result, Ok, Err}
 use Rattle.nq_base.specs.declared.Answer.{Answer}
 use Rattle.nq_client.specs.Counted.{Counted}
 use Rattle.nq_base.specs.declared.ending.fault.Fault.{Fault}

@@ -3,7 +3,6 @@ use Rattle.std.specs.Prelude.{ℕ, ◌==◌, List, Option, Some, None, if◌then
 use Rattle.nq_base.specs.declared.Answer.{Answer}
 use Rattle.nq_base.specs.declared.Call.{Call}
 use Rattle.nq_base.specs.declared.Value.{Value}
-use Rattle.nq_whole.specs.Answers.{body_in}
 use Rattle.nq_whole.specs.Heads.{head_in}
 use Rattle.nq_whole.specs.declared.heads.FileHead.{FileHead}
 use Rattle.nq_whole.specs.declared.tidying.Rest.{Rest}

@@ -1,5 +1,4 @@
 use Rattle.std.proofs.Common.{◌≡◌, ◌-◌, refl, arith}
-use Rattle.nq_link.proofs.Repeating.{repeated-step}
 use Rattle.nq_link.proofs.net.runs.goes_on.Goals as goal
 
 pub loop-at-init : goal.loop-at-init
