@@ -1,19 +1,15 @@
 -- The rows of a server stand apart, by induction over all that came to it.
-use Rattle.std.proofs.Common.{◌≡◌, ◌≤◌, ◌⊎◌, ℕ, Bool, true, false, List, [], ◌∷◌, Option, Some, None, if◌then◌else◌, length, refl, sym, subst, ◌∙◌}
-use Rattle.std.proofs.Common.{arith, inl, inr}
+use Rattle.std.proofs.Common.{◌≡◌, ◌⊎◌, ℕ, List, [], ◌∷◌, Option, Some, None, refl, sym, subst, ◌∙◌}
+use Rattle.std.proofs.Common.{inl, inr}
 use Rattle.std.specs.Prelude.{IsSome}
-use Rattle.std.specs.List.{find, filter}
 use Rattle.nq_loop.specs.Serving.{Coming, datagram, ticks, crashes, Does, HasBooted, HasCome, IsServed, RowsApart, ServedRowsStandApart}
 use Rattle.walk_steps.proofs.KeptTags.{own-keys}
-use Rattle.nq_base.specs.declared.Row.{Row}
 use Rattle.nq_datagrams.specs.Incoming.{datagram_in}
 use Rattle.nq_base.specs.Entries.{EntryList}
 use Rattle.nq_keeper.specs.Keeping.{StaysOrEnds}
 use Rattle.nq_model.specs.protocol.Kept.{Kept}
-use Rattle.nq_model.specs.protocol.Server.{Phase, serving, recovering, Server, ServerStep}
+use Rattle.nq_model.specs.protocol.Server.{Server, ServerStep}
 use Rattle.nq_model.specs.protocol.ServerStep.{at_time, boot, receive, tick, crash}
-use Rattle.nq_model.specs.protocol.Table.{is_row_of, find_row}
-use Rattle.nq_model.specs.laws.RowsStandApart.{WritesAlone}
 use Rattle.nq_server.specs.Holding.{Holding, IsTaken, Reboots}
 use Rattle.nq_server.specs.State.{beside, server_of}
 use Rattle.nq_server.specs.Stepping.{next_of}
@@ -21,9 +17,9 @@ use Rattle.nq_model.specs.protocol.Table.{empty_table}
 use Rattle.nq_server.specs.declared.Received.{Received}
 use Rattle.nq_server.specs.declared.Received.TheVariants as received
 use Rattle.nq_wire.specs.Outbox.{Datagrams}
-use Rattle.walk_steps.proofs.RowChanges.{HasUniqueKeys, of-key}
+use Rattle.walk_steps.proofs.ServerAlone.{one-each, alone-in}
 use Rattle.walk_steps.proofs.TableFits.{no-rows-fit}
-use Rattle.walk_steps.proofs.ServerTables.{StandingFits, StandingFitsOf, NoneRecovering, NoneRecoveringOf, stands-receive, stands-tick, stands-boot}
+use Rattle.walk_steps.proofs.ServerTables.{StandingFitsOf, NoneRecovering, NoneRecoveringOf, stands-receive, stands-tick, stands-boot}
 use Rattle.walk_steps.proofs.ServerTables.{stands-crash, none-receive, none-tick, none-boot, none-crash}
 
 -- what is kept of the rows whatever comes
@@ -149,35 +145,6 @@ served-after : {K : Type 0} (content : K → Option Kept) (faults : K → ℕ) (
     → Served content s
 served-after content faults [] s is = booted content faults s is
 served-after content faults (came ∷ earlier) s is = after content faults came is.0 s (served-after content faults earlier is.0 is.1) is.2
-
--- a search that finds nothing leaves nothing
-none-left : {A : Type 0} (p : A → Bool) (xs : List A) → find p xs ≡ None → filter p xs ≡ []
-none-left p [] h = refl
-none-left p (x ∷ xs) h = by (p x) (none-left p xs) h
-  where
-    by : (b : Bool) → (find p xs ≡ None → filter p xs ≡ []) → (if b then Some x else find p xs) ≡ None → (if b then x ∷ filter p xs else filter p xs) ≡ []
-    by true rest e = absurd (cc)
-    by false rest e = rest e
-
-one-step : (file host : ℕ) (r : Row) (rows : List Row) (b : Bool) → is_row_of file host r ≡ b → find_row r.file r.who.host rows ≡ None
-    → length (filter (is_row_of file host) rows) ≤ 1 → length (if b then r ∷ filter (is_row_of file host) rows else filter (is_row_of file host) rows) ≤ 1
-one-step file host r rows true e none rest =
-    let k = of-key file host r e in
-    let empty : filter (is_row_of file host) rows ≡ [] = none-left (is_row_of file host) rows
-    (subst (λ i. find_row i host rows ≡ None) k.0 (subst (λ i. find_row r.file i rows ≡ None) k.1 none)) in
-    subst (λ xs. length (r ∷ xs) ≤ 1) (sym empty) (omega arith)
-one-step file host r rows false e none rest = rest
-
-one-each : (file host : ℕ) (rows : List Row) → HasUniqueKeys rows → length (filter (is_row_of file host) rows) ≤ 1
-one-each file host [] unique = omega arith
-one-each file host (r ∷ rows) unique = one-step file host r rows (is_row_of file host r) refl unique.0 (one-each file host rows unique.1)
-
-no-others : WritesAlone []
-no-others file host other row r found beside differs writes = absurd (cc)
-
-alone-in : (s : Server) (phase : Phase) → StandingFits s.kept.files phase s.table → NoneRecovering phase s.table → WritesAlone s.table.rows
-alone-in s serving stands none = stands.alone
-alone-in s (recovering until heard last) stands none = subst WritesAlone (sym none) no-others
 
 rows-apart : (s : Server) → Apart s → RowsApart (beside s)
 rows-apart s a = record {

@@ -73,7 +73,7 @@ one-step file host r rows true e none rest =
     subst (λ xs. length (r ∷ xs) ≤ 1) (sym empty) (omega arith)
 one-step file host r rows false e none rest = rest
 
-one-each : (file host : ℕ) (rows : List Row) → HasUniqueKeys rows → length (filter (is_row_of file host) rows) ≤ 1
+pub one-each : (file host : ℕ) (rows : List Row) → HasUniqueKeys rows → length (filter (is_row_of file host) rows) ≤ 1
 one-each file host [] unique = omega arith
 one-each file host (r ∷ rows) unique = one-step file host r rows (is_row_of file host r) refl unique.0 (one-each file host rows unique.1)
 
@@ -87,7 +87,7 @@ current-in : (s : Server) (phase : Phase) → IncsFit s.kept phase s.table → N
 current-in s serving incs none = incs
 current-in s (recovering until heard last) incs none = subst (AreOfKeptIncarnations s.kept) (sym none) (no-current s.kept)
 
-alone-in : (s : Server) (phase : Phase) → StandingFits s.kept.files phase s.table → NoneRecovering phase s.table → WritesAlone s.table.rows
+pub alone-in : (s : Server) (phase : Phase) → StandingFits s.kept.files phase s.table → NoneRecovering phase s.table → WritesAlone s.table.rows
 alone-in s serving stands none = stands.alone
 alone-in s (recovering until heard last) stands none = subst WritesAlone (sym none) no-others
 
