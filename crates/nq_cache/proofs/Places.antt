@@ -153,7 +153,7 @@ put-past : (new b : KnownRevision) (xs : List KnownRevision) → b.file < new.fi
     new.file new.rev (map revision xs)
 put-past new b xs lt = rw (below-differs b.file new.file lt) (rw (is-not-below b.file new.file lt) refl)
 
-abbrev IsPut : (new : KnownRevision) (old now : List KnownRevision) → Type 0
+abbrev pub IsPut : (new : KnownRevision) (old now : List KnownRevision) → Type 0
 IsPut new old now = (map revision now ≡ put_revision new.file new.rev (map revision old)) × Ascends now
 
 put-here : (new k : KnownRevision) (rest : List KnownRevision) → k.file ≡ new.file → AllAbove k.file rest → put_revision new.file new.rev (map revision (k ∷ rest))

@@ -170,7 +170,7 @@ module _ {A B : Type 0} (file_of : B → ℕ) (view : A → B) where
   put-past : (new b : A) (xs : List A) → (key b) < (key new) → put_in (view new) (map view (b ∷ xs)) ≡ view b ∷ put_in (view new) (map view xs)
   put-past new b xs lt = rw (below-differs (key b) (key new) lt) (rw (is-not-below (key b) (key new) lt) refl)
 
-  abbrev IsPut : (new : A) (old now : List A) → Type 0
+  abbrev pub IsPut : (new : A) (old now : List A) → Type 0
   IsPut new old now = (map view now ≡ put_in (view new) (map view old)) × Ascends key now
 
   put-here : (new k : A) (rest : List A) → (key k) ≡ (key new) → AllAbove (key k) rest → put_in (view new) (map view (k ∷ rest)) ≡ view new ∷ map view rest
@@ -245,7 +245,7 @@ module _ {A B : Type 0} (file_of : B → ℕ) (view : A → B) where
 
   -- ---- what is taken out, and what is changed in its place
 
-  abbrev IsTaken : (file : ℕ) (old now : List A) → Type 0
+  abbrev pub IsTaken : (file : ℕ) (old now : List A) → Type 0
   IsTaken file old now = (map view now ≡ without file (map view old)) × Ascends key now
 
   keeps-below : (file : ℕ) (before behind : List A) → AllBelow file before → without file (map view (before ++ behind)) ≡ map view before
