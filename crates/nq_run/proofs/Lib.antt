@@ -3,7 +3,6 @@ pub mod Faultless
 pub mod Finding
 pub mod FourFates
 pub mod Hiding
-pub mod Judgements
 pub mod LoopPromises
 pub mod Making
 pub mod NamesPromises

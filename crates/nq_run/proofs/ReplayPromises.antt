@@ -7,7 +7,7 @@ use Rattle.nq_model.specs.protocol.Kept.{Kept}
 use Rattle.nq_replay.specs.Playing.{play}
 use Rattle.nq_replay.proofs.Whole.{over_by_input, over_ends, over_within, refused_by_input, refused_counts, refused_ends, refused_not_done}
 use Rattle.nq_replay.specs.Ending.{CountsKeeper, CountsSink, CountsSource, Ends, IsFault}
-use Rattle.nq_run.specs.Judging.{Judges}
+use Rattle.nq_judge.specs.Judging.{Judges}
 use Rattle.nq_replay.specs.Reading.{IsReadAs, RefusedUnlessFault, Refuses}
 use Rattle.nq_replay.specs.Replay.{OfInput}
 use Rattle.nq_replay.specs.Schedules.{EndsOver, KeepsPlayed}

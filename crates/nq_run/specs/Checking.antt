@@ -5,7 +5,7 @@ use Rattle.nq_base.specs.Status.{status_of}
 use Rattle.nq_base.specs.declared.ending.ending.Ending.{Ending}
 use Rattle.nq_journal.specs.Fault.{IsFaultyAt, IsJournal}
 use Rattle.nq_replay.specs.Ending.{CountsSink, CountsSource, IsUnlessFault}
-use Rattle.nq_run.specs.Judging.{IsSaidUnlessFault, Judges}
+use Rattle.nq_judge.specs.Judging.{IsSaidUnlessFault, Judges}
 
 -- A journal was judged, or it ended before, and the status is that of its end, which has its cause: an input that passes the limit, a faulty
 -- line, or the verdict on a journal. A fault that was counted, or want of memory, may come in the place of that. `source` and `sink` refuse a

@@ -3,7 +3,6 @@ pub mod Commands
 pub mod Fates
 pub mod Frames
 pub mod Hosting
-pub mod Judging
 pub mod Looping
 pub mod Naming
 pub mod Promised

@@ -3,8 +3,8 @@
 ghost use Rattle.std.specs.Prelude.{◌<◌, ◌^◌};
 ghost use Rattle.nq_run.specs.Checking.{ChecksFor};
 
-use crate::judging::judge;
 use nq_io::{Sink, Source};
+use nq_judge::judge;
 use std::alloc::Global;
 
 /// Judges a journal of at most so many bytes; the status.

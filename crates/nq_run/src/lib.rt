@@ -4,7 +4,6 @@
 mod checking;
 mod fates;
 mod hosting;
-mod judging;
 mod looping;
 mod naming;
 mod replaying;
@@ -14,7 +13,6 @@ mod storming;
 mod top;
 mod usage;
 
-pub use judging::judge;
 pub use nq_base::ending::Ended;
 pub use nq_command::{Command, CommandWords, NoMemory};
 pub use nq_storm::fates::{CutFate, Fate, HostileFate, LossyFate, SteadyFate};

@@ -7,10 +7,10 @@ use nq_base::NoMemory;
 use nq_base::ending::Ending;
 use nq_bend::{Bend, BendFault, Bent, Then, bend};
 use nq_io::{MemSink, MemSource};
+use nq_judge::judge;
 use nq_keeper::ListKeeper;
 use nq_observe::{Shown, Unseen, View, look};
 use nq_replay::{read_script, replay};
-use nq_run::judge;
 use nq_script::parse;
 use std::alloc::Global;
 

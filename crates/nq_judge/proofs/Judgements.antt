@@ -19,7 +19,7 @@ use Rattle.nq_journal.specs.Fault.{IsFaultyAt, IsJournal, ended}
 use Rattle.nq_journal.specs.Parsing.{IsFault, IsTextOf, named}
 use Rattle.nq_journal.specs.Text.{IsText, entry_line, entry_words, end_line, head_line, journal_text}
 use Rattle.nq_replay.specs.Ending.{CountsSource, IsUnlessFault, TellsOver}
-use Rattle.nq_run.specs.Judging.{IsJudged, IsSaidUnlessFault, Judges, JudgesText, PrintsWrong, TellsVerdict, yes_line}
+use Rattle.nq_judge.specs.Judging.{IsJudged, IsSaidUnlessFault, Judges, JudgesText, PrintsWrong, TellsVerdict, yes_line}
 use Rattle.nq_replay.specs.Lines.{script_line}
 use Rattle.nq_script.specs.Words.{line, joined}
 

@@ -1,6 +1,6 @@
 use Rattle.std.proofs.Common.{◌∙◌}
-use Rattle.nq_run.proofs.Judgements.{judged_text, tell_fits, wrong_text}
-use Rattle.nq_run.proofs.judging.judge_text.Goals as goal
+use Rattle.nq_judge.proofs.Judgements.{judged_text, tell_fits, wrong_text}
+use Rattle.nq_judge.proofs.judging.judge_text.Goals as goal
 
 pub tell-requires : goal.tell-requires
 tell-requires g c = tell_fits c.check.result c.in-Ok.journal.entries c.args.text.now c.check.ensures c.in-Ok.ensures.parses c.requires

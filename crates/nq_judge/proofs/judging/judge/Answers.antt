@@ -2,9 +2,9 @@ use Rattle.std.proofs.Common.{◌∙◌, subst, sym}
 use Rattle.nq_io.specs.Whole.{IsAll}
 use Rattle.nq_journal.specs.Fault.{IsFaultyAt, IsJournal}
 use Rattle.nq_replay.proofs.Endings.{over_counts, over_unless, told_text}
-use Rattle.nq_run.proofs.Judgements.{judged_source, judges_over, judges_text, script_said, verdict_said}
+use Rattle.nq_judge.proofs.Judgements.{judged_source, judges_over, judges_text, script_said, verdict_said}
 use Rattle.nq_replay.specs.Ending.{TellsOver}
-use Rattle.nq_run.proofs.judging.judge.Goals as goal
+use Rattle.nq_judge.proofs.judging.judge.Goals as goal
 
 pub returns-in-All-clause-judges : goal.returns-in-All-clause-judges
 returns-in-All-clause-judges g c =

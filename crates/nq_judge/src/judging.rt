@@ -5,7 +5,7 @@ ghost use Rattle.nq_check.specs.Verdict.{Fault, IsVerdict};
 ghost use Rattle.nq_journal.specs.Fault.{IsFaultyAt, IsJournal};
 ghost use Rattle.nq_base.specs.declared.ending.ending.Ending.{Ending};
 ghost use Rattle.nq_replay.specs.Ending.{CountsSink, CountsSource, IsUnlessFault};
-ghost use Rattle.nq_run.specs.Judging.{IsSaidUnlessFault, Judges, JudgesText, TellsVerdict, no_line};
+ghost use Rattle.nq_judge.specs.Judging.{IsSaidUnlessFault, Judges, JudgesText, TellsVerdict, no_line};
 
 use nq_base::NoMemory;
 use nq_base::ending::Ending;
