@@ -3,11 +3,11 @@ use Rattle.std.specs.Prelude.{ℕ, List, Option, Some, None}
 use Rattle.nq_directory.specs.declared.listing.messages.Page.{Page}
 use Rattle.nq_directory.specs.declared.listing.messages.PageTold.{PageTold}
 use Rattle.nq_directory.specs.declared.listing.messages.PageTold.TheVariants as told
-use Rattle.nq_directory.specs.declared.listing.reading.Asked.{Asked}
+use Rattle.nq_directory.specs.declared.listing.reading.ProcedureCall.{ProcedureCall}
 use Rattle.nq_directory.specs.Messages.{Listing, Answer, page, wait}
 
 -- a call: its number and its arguments
-abbrev pub lent_call : Option Asked → Option (ℕ × List ℕ)
+abbrev pub lent_call : Option ProcedureCall → Option (ℕ × List ℕ)
 lent_call None = None
 lent_call (Some called) = Some (called.xid, called.arguments.now)
 

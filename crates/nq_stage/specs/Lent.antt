@@ -1,11 +1,11 @@
 -- What stands in a datagram, as contracts see it.
 use Rattle.std.specs.Prelude.{ℕ, List, Option, Some, None}
 use Rattle.nq_stage.specs.declared.messages.LentStage.{LentStage}
-use Rattle.nq_stage.specs.declared.reading.Asked.{Asked}
+use Rattle.nq_stage.specs.declared.reading.ProcedureCall.{ProcedureCall}
 use Rattle.nq_stage.specs.Reading.{Stage}
 
 -- a call: its number and its arguments
-abbrev pub lent_call : Option Asked → Option (ℕ × List ℕ)
+abbrev pub lent_call : Option ProcedureCall → Option (ℕ × List ℕ)
 lent_call None = None
 lent_call (Some called) = Some (called.xid, called.arguments.now)
 

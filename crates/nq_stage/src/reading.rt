@@ -20,7 +20,7 @@ const WRITE: u32 = 6;
 
 /// A call of a procedure as it stands in a datagram.
 #[derive(Clone, Copy)]
-struct Asked<'a> {
+struct ProcedureCall<'a> {
     xid: u32,
     arguments: &'a [u8],
 }
@@ -102,7 +102,7 @@ pub fn is_unstaged(xid: u32, inc: u32, datagram: &[u8]) -> bool
 
 /// The call of a procedure of the program that a datagram is.
 #[tactic(auto, unfolding(crate::specs::Reading::call_in))]
-fn call_of(procedure: u32, datagram: &[u8]) -> Option<Asked<'_>>
+fn call_of(procedure: u32, datagram: &[u8]) -> Option<ProcedureCall<'_>>
     ensures { lent_call result ≡ call_in procedure datagram.now }
 {
     let message = match decode_in_place(datagram) {
@@ -117,7 +117,7 @@ fn call_of(procedure: u32, datagram: &[u8]) -> Option<Asked<'_>>
 
 /// A call, where it is of this procedure.
 #[tactic(auto, unfolding(crate::specs::Reading::call_as))]
-fn called(procedure: u32, call: LentCall<'_>) -> Option<Asked<'_>>
+fn called(procedure: u32, call: LentCall<'_>) -> Option<ProcedureCall<'_>>
     ensures { lent_call result ≡ call_as procedure (record { head = call.entry.head; rpcvers = call.entry.rpcvers; arguments = call.entry.arguments.now }) }
 {
     let LentCall {
@@ -132,7 +132,7 @@ fn called(procedure: u32, call: LentCall<'_>) -> Option<Asked<'_>>
     {
         return None;
     }
-    Some(Asked {
+    Some(ProcedureCall {
         xid: head.xid,
         arguments,
     })
@@ -261,11 +261,11 @@ fn pushed(xid: u32, front: Front, base: PushBase) -> Pushed
 
 /// The STAGE of a call's arguments.
 #[tactic(auto, unfolding(crate::specs::Reading::stage_at))]
-fn stage_of(call: Asked<'_>) -> Result<LentStage<'_>, XdrFault>
+fn stage_of(call: ProcedureCall<'_>) -> Result<LentStage<'_>, XdrFault>
     ensures step { Gives lent_stage result (stage_at call.entry.xid call.entry.arguments.now) }
     ensures body { IfOk result (λ s. length s.body.now ≡ 4096) }
 {
-    let Asked { xid, arguments } = call;
+    let ProcedureCall { xid, arguments } = call;
     let mut reader = Reader::new(arguments);
     let written = written(&mut reader)?;
     let body = body(&mut reader)?;
@@ -275,10 +275,10 @@ fn stage_of(call: Asked<'_>) -> Result<LentStage<'_>, XdrFault>
 
 /// The COMMIT of a call's arguments.
 #[tactic(auto, unfolding(crate::specs::Reading::commit_at))]
-fn commit_of(call: Asked<'_>) -> Result<Commit, XdrFault>
+fn commit_of(call: ProcedureCall<'_>) -> Result<Commit, XdrFault>
     ensures { Gives (λ c. c) result (commit_at call.entry.xid call.entry.arguments.now) }
 {
-    let Asked { xid, arguments } = call;
+    let ProcedureCall { xid, arguments } = call;
     let mut reader = Reader::new(arguments);
     let front = front_of(&mut reader)?;
     let base = base(&mut reader)?;
@@ -292,10 +292,10 @@ fn commit_of(call: Asked<'_>) -> Result<Commit, XdrFault>
 
 /// The push of a call's arguments.
 #[tactic(auto, unfolding(crate::specs::Reading::push_at))]
-fn push_of(call: Asked<'_>) -> Result<Pushed, XdrFault>
+fn push_of(call: ProcedureCall<'_>) -> Result<Pushed, XdrFault>
     ensures { Gives (λ p. p) result (push_at call.entry.xid call.entry.arguments.now) }
 {
-    let Asked { xid, arguments } = call;
+    let ProcedureCall { xid, arguments } = call;
     let mut reader = Reader::new(arguments);
     let front = front_of(&mut reader)?;
     if !reader.boolean()? {

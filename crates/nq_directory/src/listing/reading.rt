@@ -24,7 +24,7 @@ use std::alloc::Global;
 
 /// A call of a procedure as it stands in a datagram.
 #[derive(Clone, Copy)]
-struct Asked<'a> {
+struct ProcedureCall<'a> {
     xid: u32,
     arguments: &'a [u8],
 }
@@ -101,7 +101,7 @@ fn told_to(inc: u32, results: &[u8], names: Vec<FileName>) -> Option<PageTold>
 
 /// The call of a procedure of the program that a datagram is.
 #[tactic(auto, unfolding(crate::specs::Reading::call_in))]
-fn call_of(procedure: u32, datagram: &[u8]) -> Option<Asked<'_>>
+fn call_of(procedure: u32, datagram: &[u8]) -> Option<ProcedureCall<'_>>
     ensures { lent_call result ≡ call_in procedure datagram.now }
 {
     let message = match decode_in_place(datagram) {
@@ -116,7 +116,7 @@ fn call_of(procedure: u32, datagram: &[u8]) -> Option<Asked<'_>>
 
 /// A call, where it is of this procedure.
 #[tactic(auto, unfolding(crate::specs::Reading::call_as))]
-fn called(procedure: u32, call: LentCall<'_>) -> Option<Asked<'_>>
+fn called(procedure: u32, call: LentCall<'_>) -> Option<ProcedureCall<'_>>
     ensures { lent_call result ≡ call_as procedure (record { head = call.entry.head; rpcvers = call.entry.rpcvers; arguments = call.entry.arguments.now }) }
 {
     let LentCall {
@@ -131,7 +131,7 @@ fn called(procedure: u32, call: LentCall<'_>) -> Option<Asked<'_>>
     {
         return None;
     }
-    Some(Asked {
+    Some(ProcedureCall {
         xid: head.xid,
         arguments,
     })
@@ -282,10 +282,10 @@ fn told(results: &[u8], names: Vec<FileName>) -> Result<(u32, PageTold), Garbage
 
 /// The READDIRLOOK of a call's arguments.
 #[tactic(auto, unfolding(crate::specs::Reading::read_dir_at))]
-fn read_dir_of(call: Asked<'_>) -> Result<ReadDir, Garbage>
+fn read_dir_of(call: ProcedureCall<'_>) -> Result<ReadDir, Garbage>
     ensures { Gives (λ r. r) result (read_dir_at call.entry.xid call.entry.arguments.now) }
 {
-    let Asked { xid, arguments } = call;
+    let ProcedureCall { xid, arguments } = call;
     let mut reader = Reader::new(arguments);
     let who = who(&mut reader)?;
     let prefix = prefix(&mut reader)?;
@@ -303,10 +303,10 @@ fn read_dir_of(call: Asked<'_>) -> Result<ReadDir, Garbage>
 
 /// The DIREVICTED or DIRVACATED of a call's arguments.
 #[tactic(auto, unfolding(crate::specs::Reading::dir_tag_at))]
-fn dir_tag_of(call: Asked<'_>) -> Result<DirTag, Garbage>
+fn dir_tag_of(call: ProcedureCall<'_>) -> Result<DirTag, Garbage>
     ensures { Gives (λ t. t) result (dir_tag_at call.entry.xid call.entry.arguments.now) }
 {
-    let Asked { xid, arguments } = call;
+    let ProcedureCall { xid, arguments } = call;
     let mut reader = Reader::new(arguments);
     let who = who(&mut reader)?;
     let prefix = prefix(&mut reader)?;

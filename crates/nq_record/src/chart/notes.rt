@@ -6,7 +6,7 @@ use crate::chart::frame::clock_at;
 use crate::chart::layout::Layout;
 use crate::chart::pages::Page;
 use crate::chart::parts::Part;
-use crate::chart::rows::Step;
+use crate::chart::rows::ChartStep;
 use crate::chart::style::LINE;
 
 /// The class of a note.
@@ -32,7 +32,7 @@ pub(crate) fn names(page: &mut Page, chart: &Chart, layout: &Layout) {
 }
 
 /// The name of a moment, over a thin line.
-fn name(page: &mut Page, width: u64, row: &ChartRow, step: Step) {
+fn name(page: &mut Page, width: u64, row: &ChartRow, step: ChartStep) {
     page.put_within(
         "<path class=\"r\" d=\"M0 #H#\"/><text class=\"d\" x=\"8\" y=\"#\">",
         &[step.top, width, step.arrive.saturating_add(12)],
@@ -42,7 +42,7 @@ fn name(page: &mut Page, width: u64, row: &ChartRow, step: Step) {
 }
 
 /// What the clocks show.
-fn clocks(page: &mut Page, row: &ChartRow, step: Step) {
+fn clocks(page: &mut Page, row: &ChartRow, step: ChartStep) {
     for (place, shown) in row.clocks.iter().enumerate() {
         if let Some(time) = shown {
             clock(page, place, *time, step);
@@ -51,7 +51,7 @@ fn clocks(page: &mut Page, row: &ChartRow, step: Step) {
 }
 
 /// What the clock of a party shows.
-fn clock(page: &mut Page, place: usize, time: u64, step: Step) {
+fn clock(page: &mut Page, place: usize, time: u64, step: ChartStep) {
     page.fill(
         "<text class=\"d e\" x=\"#\" y=\"#\">#</text>",
         &[clock_at(place), step.arrive.saturating_add(12), time],
@@ -70,7 +70,7 @@ pub(crate) fn notes(page: &mut Page, chart: &Chart, layout: &Layout) {
 }
 
 /// The dot on the line of the party that acts.
-fn dot(page: &mut Page, row: &ChartRow, post: Post, step: Step) {
+fn dot(page: &mut Page, row: &ChartRow, post: Post, step: ChartStep) {
     let class = match row.notes.first() {
         Some(note) => class(note.sign),
         None => "d",
@@ -83,7 +83,7 @@ fn dot(page: &mut Page, row: &ChartRow, post: Post, step: Step) {
 }
 
 /// The notes on a side, one below the other.
-fn side_notes(page: &mut Page, row: &ChartRow, side: Side, post: Post, step: Step) {
+fn side_notes(page: &mut Page, row: &ChartRow, side: Side, post: Post, step: ChartStep) {
     let mut y = step.arrive.saturating_add(12);
     for shown in &row.notes {
         if shown.side == side {

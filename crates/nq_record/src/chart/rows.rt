@@ -6,7 +6,7 @@ use crate::making::Maker;
 
 /// A moment on the page. All is in pixels from the upper edge.
 #[derive(Clone, Copy)]
-pub(crate) struct Step {
+pub(crate) struct ChartStep {
     /// Where it begins.
     pub(crate) top: u64,
     /// Where packets arrive.
@@ -18,7 +18,7 @@ pub(crate) struct Step {
 /// The moments on the page.
 #[derive(Drop)]
 pub(crate) struct Steps {
-    pub(crate) steps: Vec<Step>,
+    pub(crate) steps: Vec<ChartStep>,
     /// Where the last one ends.
     pub(crate) end: u64,
 }
@@ -31,14 +31,14 @@ impl Steps {
         for row in &chart.rows {
             let arrive = top.saturating_add(6);
             let send = arrive.saturating_add(height(row));
-            maker.push(&mut steps, Step { top, arrive, send });
+            maker.push(&mut steps, ChartStep { top, arrive, send });
             top = send.saturating_add(6);
         }
         Steps { steps, end: top }
     }
 
     /// A moment.
-    pub(crate) fn get(&self, row: usize) -> Option<Step> {
+    pub(crate) fn get(&self, row: usize) -> Option<ChartStep> {
         match self.steps.get(row) {
             Some(step) => Some(*step),
             None => None,
