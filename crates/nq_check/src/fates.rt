@@ -30,6 +30,14 @@ pub(crate) struct Fates {
     pub(crate) stored: Vec<bool>,
 }
 
+/// The entries of a journal, the links among them, and what became of its delayed writes.
+#[derive(Drop)]
+pub(crate) struct Linked<'a> {
+    pub(crate) whole: &'a [Entry],
+    pub(crate) tables: &'a LinkTables,
+    pub(crate) fates: &'a Fates,
+}
+
 /// The place that stands for none.
 const NOWHERE: usize = usize::MAX;
 
@@ -53,10 +61,12 @@ pub(crate) fn fate_at(fates: &Fates, place: usize) -> usize {
     place_in(&fates.covered, place)
 }
 
-/// Whether an entry is a write whose number is below another.
-fn is_before(entry: &Entry, first: Number) -> bool {
-    match entry {
-        Entry::W { number, .. } => *number < first,
+/// Whether an entry is a write with a number below the first that an S or L covers.
+fn is_before(entry: &Entry, covering: &Entry) -> bool {
+    match (entry, covering) {
+        (Entry::W { number, .. }, Entry::S { first, .. } | Entry::L { first, .. }) => {
+            *number < *first
+        }
         _ => false,
     }
 }
@@ -117,7 +127,6 @@ fn settle(
     tables: &LinkTables,
     whole: &[Entry],
     from: usize,
-    first: Number,
     place: usize,
     entry: &Entry,
 ) {
@@ -126,7 +135,7 @@ fn settle(
         let Some(other) = whole.get(at - 1) else {
             return;
         };
-        if is_before(other, first) || place_in(covered, at - 1) != NOWHERE {
+        if is_before(other, entry) || place_in(covered, at - 1) != NOWHERE {
             return;
         }
         if covers(entry, other) {
@@ -182,7 +191,7 @@ fn settle_all(
     match entry {
         Entry::S { first, last, .. } | Entry::L { first, last, .. } => {
             let from = last_covered(tables, places, whole, place, entry);
-            settle(covered, tables, whole, from, *first, place, entry);
+            settle(covered, tables, whole, from, place, entry);
             settle_near(
                 covered,
                 tables,

@@ -8,6 +8,7 @@ ghost use Rattle.nq_check.specs.Tables.{AreTables};
 ghost use Rattle.nq_check.specs.Verdict.{IsVerdict, verdict};
 
 use crate::endings::is_cut_off;
+use crate::fates::Linked;
 use crate::fronts::{Fronts, find_fronts};
 use crate::legal::is_legal;
 use crate::rules::{Judged, Rule};
@@ -52,7 +53,14 @@ fn keeps(
     let before = &whole[..place];
     let after = &whole[place + 1..];
     match rule {
-        Rule::Legal => is_legal(tables, &fronts.fates, whole, place, entry),
+        Rule::Legal => {
+            let linked = Linked {
+                whole,
+                tables,
+                fates: &fronts.fates,
+            };
+            is_legal(&linked, place, entry)
+        }
         Rule::Ordered => is_in_order(whole, before, entry, after),
         Rule::Accounted => is_accounted_at(whole, before, entry),
         Rule::Reported => {

@@ -10,7 +10,7 @@ ghost use Rattle.nq_check.specs.declared.rules.Rule.{Rule};
 ghost use Rattle.nq_model.specs.laws.JournalTest.{is_answer};
 
 use crate::along::call_near;
-use crate::fates::Fates;
+use crate::fates::{Fates, Linked};
 use crate::puts::is_put_kept;
 use crate::syncs::{AskedCall, is_resize_kept, is_sync_kept};
 use crate::tables::LinkTables;
@@ -21,38 +21,26 @@ use std::alloc::Global;
 
 /// Whether what an ok says is seen to be kept, with a look at few entries.
 fn is_seen_kept(
-    tables: &LinkTables,
-    fates: &Fates,
+    linked: &Linked,
     trail: &Trail,
-    whole: &[Entry],
     place: usize,
     entry: &Entry,
     asked: &AskedCall,
 ) -> bool
-    requires ready { IsReady whole.now place tables.now trail.now.delays }
-    requires there { slice_get whole.now place ≡ Some entry.now }
+    requires ready { IsReady linked.now.whole.now place linked.now.tables.now trail.now.delays }
+    requires there { slice_get linked.now.whole.now place ≡ Some entry.now }
     requires answer { is_answer asked.now.who.now asked.now.q entry.now ≡ true }
-    ensures { IsTrue result → is_kept (reverse whole.now) (reverse (take place whole.now)) asked.now.who.now asked.now.q asked.now.call ≡ true }
+    ensures { IsTrue result → is_kept (reverse linked.now.whole.now) (reverse (take place linked.now.whole.now)) asked.now.who.now asked.now.q
+        asked.now.call ≡ true }
 {
     let Some(told) = asked.call else {
         return false;
     };
     match told {
-        Told::Put { .. } => {
-            is_put_kept(
-                tables,
-                fates,
-                &trail.hints,
-                whole,
-                place,
-                entry,
-                asked.who,
-                asked.q,
-            )
-        }
-        Told::Sync { file } => is_sync_kept(tables, fates, trail, whole, place, asked.who, file),
+        Told::Put { .. } => is_put_kept(linked, &trail.hints, place, entry, asked.who, asked.q),
+        Told::Sync { file } => is_sync_kept(linked, trail, place, asked.who, file),
         Told::Resize { file, .. } | Told::Remove { file } => {
-            is_resize_kept(tables, fates, trail, whole, place, asked, file)
+            is_resize_kept(linked, trail, place, asked, file)
         }
         _ => false,
     }
@@ -82,7 +70,12 @@ fn is_kept_at(
                 q: *q,
                 call: call_near(&tables.calls, whole, place, who, *q),
             };
-            is_seen_kept(tables, fates, trail, whole, place, entry, &asked)
+            let linked = Linked {
+                whole,
+                tables,
+                fates,
+            };
+            is_seen_kept(&linked, trail, place, entry, &asked)
                 || is_kept(whole, &whole[..place], who, *q, &asked.call)
         }
         _ => true,

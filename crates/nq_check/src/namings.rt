@@ -32,6 +32,14 @@ pub(crate) struct Namings {
     pub(crate) front: usize,
 }
 
+/// An A `lost`: the call that it answers, and the spans that it names.
+#[derive(Drop)]
+struct LostAnswer<'a> {
+    who: &'a Who,
+    q: u64,
+    spans: &'a Spans,
+}
+
 /// The key of a loss: its numbers, as an incarnation counts them.
 pub(crate) fn loss_key(who: &Who, first: Number, last: Number) -> EntryKey
     ensures { result ≡ loss_spot who.now first last }
@@ -126,22 +134,21 @@ fn name_all_anew(
     Ok(true)
 }
 
-/// Names what the A of a call names at a place, with these spans.
+/// Names what the A at a place names.
 fn names_lost(
     names: &mut Names,
     tables: &LinkTables,
     whole: &[Entry],
     place: usize,
-    who: &Who,
-    q: u64,
-    spans: &Spans,
+    answer: &LostAnswer,
 ) -> Result<bool, NoMemory>
     requires tables { AreTables whole.now tables.now }
     requires within { place < length whole.now }
-    ensures { IfOk result (λ yes. IsTrue yes → NamesLost whole.now place who.now q spans.now.items names.old.named.entries names.new.named.entries) }
+    ensures { IfOk result (λ yes. IsTrue yes → NamesLost whole.now place answer.now.who.now answer.now.q answer.now.spans.now.items
+        names.old.named.entries names.new.named.entries) }
 {
-    let call = call_along(&tables.calls, whole, who, q);
-    name_all_anew(names, whole, place, who, &call, spans)
+    let call = call_along(&tables.calls, whole, answer.who, answer.q);
+    name_all_anew(names, whole, place, answer.who, &call, answer.spans)
 }
 
 /// Takes in the entry at a place. False where it is an A `lost` of which it is not known that it names losses anew.
@@ -170,7 +177,10 @@ fn names_anew(
             who,
             q,
             said: Said::Lost(spans),
-        } => { names_lost(names, tables, whole, place, who, *q, spans) }
+        } => {
+            let answer = LostAnswer { who, q: *q, spans };
+            names_lost(names, tables, whole, place, &answer)
+        }
         _ => Ok(true),
     }
 }

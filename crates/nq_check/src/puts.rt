@@ -9,9 +9,8 @@ ghost use Rattle.nq_check.specs.declared.rules.Rule.TheVariants.{Ordered};
 ghost use Rattle.nq_model.specs.laws.JournalTest.{is_answer, is_stored, is_through, somewhere};
 
 use crate::along::{back_from, is_before_near};
-use crate::fates::{Fates, fate_at};
+use crate::fates::{Linked, fate_at};
 use crate::links::head_at;
-use crate::tables::LinkTables;
 use crate::trail::Hints;
 use nq_base::{Entry, Who};
 use nq_rules::entries::{is_call, is_through, is_write_by};
@@ -19,24 +18,17 @@ use nq_rules::keys::{KeyKind, call_key};
 use nq_rules::sought::Sought;
 
 /// Whether a write is through, or an S before a place covers it. The entry that is its fate is looked at first.
-fn is_through_or_stored(
-    tables: &LinkTables,
-    fates: &Fates,
-    whole: &[Entry],
-    place: usize,
-    at: usize,
-    write: &Entry,
-) -> bool
-    requires tables { AreTables whole.now tables.now }
-    requires within { place < length whole.now }
-    ensures { result ≡ (is_through write.now || is_stored (reverse (take place whole.now)) write.now) }
+fn is_through_or_stored(linked: &Linked, place: usize, at: usize, write: &Entry) -> bool
+    requires tables { AreTables linked.now.whole.now linked.now.tables.now }
+    requires within { place < length linked.now.whole.now }
+    ensures { result ≡ (is_through write.now || is_stored (reverse (take place linked.now.whole.now)) write.now) }
 {
     is_through(write)
         || is_before_near(
-            &tables.covers,
-            whole,
+            &linked.tables.covers,
+            linked.whole,
             place,
-            fate_at(fates, at),
+            fate_at(linked.fates, at),
             Sought::Store(write),
         )
 }
@@ -44,24 +36,24 @@ fn is_through_or_stored(
 /// Whether the last write of an incarnation before the A of its `put` is the write of that call, and is through or stored
 /// before the A.
 pub(crate) fn is_put_kept(
-    tables: &LinkTables,
-    fates: &Fates,
+    linked: &Linked,
     hints: &Hints,
-    whole: &[Entry],
     place: usize,
     entry: &Entry,
     by: &Who,
     n: u64,
 ) -> bool
-    requires tables { AreTables whole.now tables.now }
-    requires there { (place < length whole.now) × (slice_get whole.now place ≡ Some entry.now) }
+    requires tables { AreTables linked.now.whole.now linked.now.tables.now }
+    requires there { (place < length linked.now.whole.now) × (slice_get linked.now.whole.now place ≡ Some entry.now) }
     requires answer { is_answer by.now n entry.now ≡ true }
-    requires ordered { KeepsBelow Ordered whole.now (place + 1) }
-    ensures { IsTrue result → somewhere (is_put_kept (reverse (take place whole.now)) by.now n) (reverse (take place whole.now)) ≡ true }
+    requires ordered { KeepsBelow Ordered linked.now.whole.now (place + 1) }
+    ensures { IsTrue result → somewhere (is_put_kept (reverse (take place linked.now.whole.now)) by.now n)
+        (reverse (take place linked.now.whole.now)) ≡ true }
 {
+    let whole = linked.whole;
     let key = call_key(by, n);
     let call = back_from(
-        &tables.calls,
+        &linked.tables.calls,
         KeyKind::Calls,
         key,
         whole,
@@ -76,5 +68,5 @@ pub(crate) fn is_put_kept(
     if !is_call(&whole[call - 1], by, n) || !is_write_by(written, by) {
         return false;
     }
-    is_through_or_stored(tables, fates, whole, place, write, written)
+    is_through_or_stored(linked, place, write, written)
 }

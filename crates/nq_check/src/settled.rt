@@ -9,11 +9,10 @@ ghost use Rattle.nq_model.specs.laws.ReportedTest.{names};
 ghost use Rattle.nq_model.specs.laws.SynchronizedTest.{are_stored_or_told, is_named_loss, is_stored_or_told};
 
 use crate::along::{back_from, entry_at, is_there};
-use crate::fates::{Fates, fate_at};
-use crate::links::{Heads, Links, head_at};
+use crate::fates::{Linked, fate_at};
+use crate::links::{Links, head_at};
 use crate::namings::loss_key;
 use crate::reports::names;
-use crate::tables::LinkTables;
 use nq_base::{Entry, FileId, Loss, Who};
 use nq_rules::entries::loss_covers;
 use nq_rules::keys::{KeyKind, file_key};
@@ -28,38 +27,24 @@ pub(crate) struct Settling<'a> {
 }
 
 /// Whether an entry before an answer, at the place that is kept for a loss, names the loss.
-fn is_named_at(
-    tables: &LinkTables,
-    named: &Heads,
-    whole: &[Entry],
-    answered: &[Entry],
-    by: &Who,
-    loss: &Loss,
-) -> bool
-    requires tables { AreTables whole.now tables.now }
-    ensures { IsTrue result → exists (names (reverse whole.now) by.now loss.now) (reverse answered.now) ≡ true }
+fn is_named_at(linked: &Linked, answered: &[Entry], by: &Who, loss: &Loss) -> bool
+    requires tables { AreTables linked.now.whole.now linked.now.tables.now }
+    ensures { IsTrue result → exists (names (reverse linked.now.whole.now) by.now loss.now) (reverse answered.now) ≡ true }
 {
-    let at = head_at(named, loss_key(by, loss.first, loss.last));
+    let at = head_at(&linked.fates.named, loss_key(by, loss.first, loss.last));
     if at == 0 {
         return false;
     }
     match entry_at(answered, at - 1) {
-        Some(entry) => names(tables, whole, by, loss, entry),
+        Some(entry) => names(linked.tables, linked.whole, by, loss, entry),
         None => false,
     }
 }
 
 /// Whether an entry is an L that covers a write, and an entry before the answer is known to name it.
-fn is_named_loss(
-    tables: &LinkTables,
-    named: &Heads,
-    whole: &[Entry],
-    answered: &[Entry],
-    write: &Entry,
-    entry: &Entry,
-) -> bool
-    requires tables { AreTables whole.now tables.now }
-    ensures { IsTrue result → is_named_loss (reverse whole.now) (reverse answered.now) write.now entry.now ≡ true }
+fn is_named_loss(linked: &Linked, answered: &[Entry], write: &Entry, entry: &Entry) -> bool
+    requires tables { AreTables linked.now.whole.now linked.now.tables.now }
+    ensures { IsTrue result → is_named_loss (reverse linked.now.whole.now) (reverse answered.now) write.now entry.now ≡ true }
 {
     match entry {
         Entry::L {
@@ -78,7 +63,7 @@ fn is_named_loss(
             if !loss_covers(entry, write) {
                 return false;
             }
-            is_named_at(tables, named, whole, answered, who, &loss)
+            is_named_at(linked, answered, who, &loss)
         }
         _ => false,
     }
@@ -86,22 +71,20 @@ fn is_named_loss(
 
 /// Whether an S among the `stores` covers a write, or an L that is told.
 fn is_settled(
-    tables: &LinkTables,
-    fates: &Fates,
-    whole: &[Entry],
+    linked: &Linked,
     stores: &[Entry],
     answered: &[Entry],
     fate: usize,
     write: &Entry,
 ) -> bool
-    requires tables { AreTables whole.now tables.now }
-    ensures { IsTrue result → is_stored_or_told (reverse whole.now) (reverse stores.now) (reverse answered.now) write.now ≡ true }
+    requires tables { AreTables linked.now.whole.now linked.now.tables.now }
+    ensures { IsTrue result → is_stored_or_told (reverse linked.now.whole.now) (reverse stores.now) (reverse answered.now) write.now ≡ true }
 {
     if is_there(stores, fate, Sought::Store(write)) {
         return true;
     }
-    match entry_at(whole, fate) {
-        Some(entry) => is_named_loss(tables, &fates.named, whole, answered, write, entry),
+    match entry_at(linked.whole, fate) {
+        Some(entry) => is_named_loss(linked, answered, write, entry),
         None => false,
     }
 }
@@ -109,29 +92,28 @@ fn is_settled(
 /// Whether each of the delayed writes that have to be settled is stored, by an S among the `stores`, or told. Those before
 /// another place are known to be.
 pub(crate) fn are_settled(
-    tables: &LinkTables,
-    fates: &Fates,
+    linked: &Linked,
     delays: &Links,
-    whole: &[Entry],
     stores: &[Entry],
     known: usize,
     these: &Settling,
 ) -> bool
-    requires tables { AreTables whole.now tables.now }
-    requires linked { IsLinked Delays whole.now these.now.place delays.now.heads.entries delays.now.earlier.items }
-    requires within { these.now.place < length whole.now }
-    requires known { (known ≤ these.now.place) × (are_stored_or_told (reverse whole.now) (reverse stores.now) (reverse (take known whole.now))
-        these.now.who.now these.now.file ≡ true) }
-    ensures { IsTrue result → are_stored_or_told (reverse whole.now) (reverse stores.now) (reverse (take these.now.place whole.now)) these.now.who.now
-        these.now.file ≡ true }
+    requires tables { AreTables linked.now.whole.now linked.now.tables.now }
+    requires delays { IsLinked Delays linked.now.whole.now these.now.place delays.now.heads.entries delays.now.earlier.items }
+    requires within { these.now.place < length linked.now.whole.now }
+    requires known { (known ≤ these.now.place) × (are_stored_or_told (reverse linked.now.whole.now) (reverse stores.now)
+        (reverse (take known linked.now.whole.now)) these.now.who.now these.now.file ≡ true) }
+    ensures { IsTrue result → are_stored_or_told (reverse linked.now.whole.now) (reverse stores.now) (reverse (take these.now.place linked.now.whole.now))
+        these.now.who.now these.now.file ≡ true }
 {
+    let whole = linked.whole;
     let place = these.place;
     let answered = &whole[..place];
     let key = file_key(these.who, these.file);
     let mut at = back_from(delays, KeyKind::Delays, key, whole, place, place);
     while at > known {
-        let fate = fate_at(fates, at - 1);
-        if !is_settled(tables, fates, whole, stores, answered, fate, &whole[at - 1]) {
+        let fate = fate_at(linked.fates, at - 1);
+        if !is_settled(linked, stores, answered, fate, &whole[at - 1]) {
             return false;
         }
         at = back_from(delays, KeyKind::Delays, key, whole, place, at - 1);

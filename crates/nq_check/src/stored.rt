@@ -2,14 +2,14 @@
 
 ghost use Rattle.std.specs.Prelude.{◌≡◌, [], ◌∷◌, ◌++◌, IfOk, IfSome, OnOk, Some, reverse};
 ghost use Rattle.std.specs.List.{slice_get};
-ghost use Rattle.nq_check.specs.Fronts.{KeepsBelow};
+ghost use Rattle.nq_check.specs.Fronts.{AreKnown, KeepsBelow};
 ghost use Rattle.nq_check.specs.Stored.{AreStored, is_delayed};
 ghost use Rattle.nq_check.specs.Tables.{AreTables};
 ghost use Rattle.nq_check.specs.declared.rules.Rule.{Rule};
 ghost use Rattle.nq_model.specs.laws.JournalTest.{is_stored};
 
 use crate::along::{is_somewhere, is_there};
-use crate::fates::{Fates, fate_at, place_in};
+use crate::fates::{Linked, fate_at, place_in};
 use crate::tables::LinkTables;
 use nq_base::{Entry, NoMemory};
 use nq_rules::sought::Sought;
@@ -113,26 +113,18 @@ pub(crate) fn find_stored(
 }
 
 /// Whether an S covers the write at a place.
-pub(crate) fn is_stored(
-    tables: &LinkTables,
-    fates: &Fates,
-    whole: &[Entry],
-    at: usize,
-    write: &Entry,
-) -> bool
-    requires tables { AreTables whole.now tables.now }
-    requires accounted { KeepsBelow Rule.Accounted whole.now fates.now.accounted }
-    requires stored { AreStored whole.now fates.now.stored.items }
-    requires there { slice_get whole.now at ≡ Some write.now }
-    ensures { result ≡ is_stored (reverse whole.now) write.now }
+pub(crate) fn is_stored(linked: &Linked, at: usize, write: &Entry) -> bool
+    requires known { AreKnown linked.now.whole.now linked.now.tables.now linked.now.fates.now }
+    requires there { slice_get linked.now.whole.now at ≡ Some write.now }
+    ensures { result ≡ is_stored (reverse linked.now.whole.now) write.now }
 {
-    match told_at(&fates.stored, at) {
+    match told_at(&linked.fates.stored, at) {
         Some(told) => told,
         None => seek_stored(
-            tables,
-            fates.accounted,
-            fate_at(fates, at),
-            whole,
+            linked.tables,
+            linked.fates.accounted,
+            fate_at(linked.fates, at),
+            linked.whole,
             at,
             write,
         ),

@@ -8,10 +8,9 @@ ghost use Rattle.nq_model.specs.laws.JournalTest.{somewhere};
 ghost use Rattle.nq_model.specs.laws.SynchronizedTest.{are_stored_or_told, is_settled_resize};
 
 use crate::along::{back_from, call_along};
-use crate::fates::Fates;
+use crate::fates::Linked;
 use crate::links::head_at;
 use crate::settled::{Settling, are_settled};
-use crate::tables::LinkTables;
 use crate::trail::Trail;
 use nq_base::{Entry, FileId, Said, Told, Who};
 use nq_rules::entries::is_resize_by;
@@ -53,35 +52,30 @@ fn is_sizing_of(on: FileId, call: Option<Told>) -> bool
 }
 
 /// The call to which an entry says ok, if it is such an answer of an incarnation.
-fn call_of_ok(tables: &LinkTables, whole: &[Entry], by: &Who, entry: &Entry) -> Option<Told>
-    requires tables { AreTables whole.now tables.now }
-    ensures { result ≡ call_of_ok (reverse whole.now) by.now entry.now }
+fn call_of_ok(linked: &Linked, by: &Who, entry: &Entry) -> Option<Told>
+    requires tables { AreTables linked.now.whole.now linked.now.tables.now }
+    ensures { result ≡ call_of_ok (reverse linked.now.whole.now) by.now entry.now }
 {
     match entry {
         Entry::A {
             who,
             q,
             said: Said::Ok,
-        } if *by == *who => call_along(&tables.calls, whole, who, *q),
+        } if *by == *who => call_along(&linked.tables.calls, linked.whole, who, *q),
         _ => None,
     }
 }
 
 /// A place up to which an earlier `sync` has shown that delayed writes are stored or told.
-fn synced_before(
-    tables: &LinkTables,
-    trail: &Trail,
-    whole: &[Entry],
-    place: usize,
-    by: &Who,
-    on: FileId,
-) -> usize
-    requires ready { IsReady whole.now place tables.now trail.now.delays }
+fn synced_before(linked: &Linked, trail: &Trail, place: usize, by: &Who, on: FileId) -> usize
+    requires ready { IsReady linked.now.whole.now place linked.now.tables.now trail.now.delays }
     ensures low { result ≤ place }
-    ensures known { are_stored_or_told (reverse whole.now) (reverse whole.now) (reverse (take result whole.now)) by.now on ≡ true }
+    ensures known { are_stored_or_told (reverse linked.now.whole.now) (reverse linked.now.whole.now)
+        (reverse (take result linked.now.whole.now)) by.now on ≡ true }
 {
+    let whole = linked.whole;
     let at = head_at(&trail.hints.synced, file_key(by, on));
-    if at < place && is_sync_of(on, call_of_ok(tables, whole, by, &whole[at])) {
+    if at < place && is_sync_of(on, call_of_ok(linked, by, &whole[at])) {
         return at;
     }
     0
@@ -89,21 +83,22 @@ fn synced_before(
 
 /// A place up to which an earlier `resize` or `remove` has shown that delayed writes are stored before another place, or told.
 fn resized_before(
-    tables: &LinkTables,
+    linked: &Linked,
     trail: &Trail,
-    whole: &[Entry],
     resize: usize,
     place: usize,
     by: &Who,
     on: FileId,
 ) -> usize
-    requires ready { IsReady whole.now place tables.now trail.now.delays }
+    requires ready { IsReady linked.now.whole.now place linked.now.tables.now trail.now.delays }
     requires upto { resize ≤ place }
     ensures low { result ≤ place }
-    ensures known { are_stored_or_told (reverse whole.now) (reverse (take resize whole.now)) (reverse (take result whole.now)) by.now on ≡ true }
+    ensures known { are_stored_or_told (reverse linked.now.whole.now) (reverse (take resize linked.now.whole.now))
+        (reverse (take result linked.now.whole.now)) by.now on ≡ true }
 {
+    let whole = linked.whole;
     let at = head_at(&trail.hints.resized, file_key(by, on));
-    if at < resize && is_sizing_of(on, call_of_ok(tables, whole, by, &whole[at])) {
+    if at < resize && is_sizing_of(on, call_of_ok(linked, by, &whole[at])) {
         return at;
     }
     0
@@ -111,44 +106,42 @@ fn resized_before(
 
 /// Whether each delayed write of an incarnation on a file before the A of its `sync` is stored or told.
 pub(crate) fn is_sync_kept(
-    tables: &LinkTables,
-    fates: &Fates,
+    linked: &Linked,
     trail: &Trail,
-    whole: &[Entry],
     place: usize,
     by: &Who,
     on: FileId,
 ) -> bool
-    requires ready { IsReady whole.now place tables.now trail.now.delays }
-    ensures { IsTrue result → are_stored_or_told (reverse whole.now) (reverse whole.now) (reverse (take place whole.now)) by.now on ≡ true }
+    requires ready { IsReady linked.now.whole.now place linked.now.tables.now trail.now.delays }
+    ensures { IsTrue result → are_stored_or_told (reverse linked.now.whole.now) (reverse linked.now.whole.now)
+        (reverse (take place linked.now.whole.now)) by.now on ≡ true }
 {
-    let known = synced_before(tables, trail, whole, place, by, on);
+    let known = synced_before(linked, trail, place, by, on);
     let these = Settling {
         who: by,
         file: on,
         place,
     };
-    are_settled(tables, fates, &trail.delays, whole, whole, known, &these)
+    are_settled(linked, &trail.delays, linked.whole, known, &these)
 }
 
 /// Whether the last entry of a call before its A is its Z, and each delayed write on the file before the A is
 /// stored before the Z, or told.
 pub(crate) fn is_resize_kept(
-    tables: &LinkTables,
-    fates: &Fates,
+    linked: &Linked,
     trail: &Trail,
-    whole: &[Entry],
     place: usize,
     asked: &AskedCall,
     on: FileId,
 ) -> bool
-    requires ready { IsReady whole.now place tables.now trail.now.delays }
-    ensures { IsTrue result → somewhere (is_settled_resize (reverse whole.now) (reverse (take place whole.now)) asked.now.who.now asked.now.q on)
-        (reverse (take place whole.now)) ≡ true }
+    requires ready { IsReady linked.now.whole.now place linked.now.tables.now trail.now.delays }
+    ensures { IsTrue result → somewhere (is_settled_resize (reverse linked.now.whole.now) (reverse (take place linked.now.whole.now)) asked.now.who.now
+        asked.now.q on) (reverse (take place linked.now.whole.now)) ≡ true }
 {
+    let whole = linked.whole;
     let key = call_key(asked.who, asked.q);
     let at = back_from(
-        &tables.calls,
+        &linked.tables.calls,
         KeyKind::Calls,
         key,
         whole,
@@ -158,19 +151,11 @@ pub(crate) fn is_resize_kept(
     if at == 0 || !is_resize_by(&whole[at - 1], asked.who, asked.q) {
         return false;
     }
-    let known = resized_before(tables, trail, whole, at - 1, place, asked.who, on);
+    let known = resized_before(linked, trail, at - 1, place, asked.who, on);
     let these = Settling {
         who: asked.who,
         file: on,
         place,
     };
-    are_settled(
-        tables,
-        fates,
-        &trail.delays,
-        whole,
-        &whole[..at - 1],
-        known,
-        &these,
-    )
+    are_settled(linked, &trail.delays, &whole[..at - 1], known, &these)
 }

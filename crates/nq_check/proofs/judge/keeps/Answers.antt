@@ -8,6 +8,13 @@ returns-then-place-front_of c =
     let kept = c.front_of.ensures c.args.whole.now c.requires.fronts in
     sym (kept c.args.place c.args.entry.now c.if-place-front_of.true c.requires.there.1)
 
+pub is_legal-requires-clause-known : goal.is_legal-requires-clause-known
+is_legal-requires-clause-known c = record {
+  tables = c.requires.tables;
+  accounted = c.requires.fronts.accounted;
+  stored = c.requires.fronts.stored;
+}
+
 pub returns-in-Legal : goal.returns-in-Legal
 returns-in-Legal c = rw c.in-Legal.is c.is_legal.ensures
 

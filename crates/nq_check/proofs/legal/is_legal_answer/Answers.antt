@@ -8,7 +8,7 @@ use Rattle.nq_check.proofs.legal.is_legal_answer.Goals as goal
 
 pub loop-at-init : goal.loop-at-init
 loop-at-init c =
-    let whole = c.args.whole.now in
+    let whole = c.args.linked.now.whole.now in
     let who = c.args.by.now in
     let q = c.args.n in
     let key = c.call_key-key.result in
@@ -21,7 +21,7 @@ loop-at-init c =
 
 pub loop-at-preserved : goal.loop-at-preserved
 loop-at-preserved c =
-    let whole = c.args.whole.now in
+    let whole = c.args.linked.now.whole.now in
     let who = c.args.by.now in
     let q = c.args.n in
     let v = c.args.v in

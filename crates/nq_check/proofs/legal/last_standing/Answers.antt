@@ -7,7 +7,7 @@ use Rattle.nq_check.proofs.legal.last_standing.Goals as goal
 
 pub stands-requires-clause-there : goal.stands-requires-clause-there
 stands-requires-clause-there c =
-    let whole = c.args.whole.now in
+    let whole = c.args.linked.now.whole.now in
     let at = c.loop-at.at in
     let up : 0 < at = c.loop-at-test.true in
     let within : c.args.place < length whole = c.requires.within in
@@ -16,7 +16,7 @@ stands-requires-clause-there c =
 
 pub returns-then-stands-clause-there : goal.returns-then-stands-clause-there
 returns-then-stands-clause-there c =
-    let whole = c.args.whole.now in
+    let whole = c.args.linked.now.whole.now in
     let read = c.args.read.now in
     let at = c.loop-at.at in
     let up : 0 < at = c.loop-at-test.true in
@@ -29,7 +29,7 @@ returns-then-stands-clause-there c =
 
 pub loop-at-preserved : goal.loop-at-preserved
 loop-at-preserved c =
-    let whole = c.args.whole.now in
+    let whole = c.args.linked.now.whole.now in
     let place = c.args.place in
     let before = reverse (take place whole) in
     let read = c.args.read.now in

@@ -6,7 +6,7 @@ use Rattle.nq_check.proofs.legal.standing_value.Goals as goal
 
 pub returns-then-is_between : goal.returns-then-is_between
 returns-then-is_between c =
-    let whole = c.args.whole.now in
+    let whole = c.args.linked.now.whole.now in
     let place = c.args.place in
     let read = c.args.read.now in
     let within : place < length whole = c.requires.within in
@@ -16,7 +16,7 @@ returns-then-is_between c =
 
 pub returns-then-at-eq0 : goal.returns-then-at-eq0
 returns-then-at-eq0 c =
-    let whole = c.args.whole.now in
+    let whole = c.args.linked.now.whole.now in
     let place = c.args.place in
     let read = c.args.read.now in
     let within : place < length whole = c.requires.within in
@@ -27,7 +27,7 @@ returns-then-at-eq0 c =
 
 pub returns : goal.returns
 returns c =
-    let whole = c.args.whole.now in
+    let whole = c.args.linked.now.whole.now in
     let place = c.args.place in
     let read = c.args.read.now in
     let at = c.last_standing-at.result in

@@ -6,7 +6,7 @@ use Rattle.nq_check.proofs.puts.is_put_kept.Goals as goal
 
 pub returns : goal.returns
 returns c =
-    let whole = c.args.whole.now in
+    let whole = c.args.linked.now.whole.now in
     let place = c.args.place in
     let call = c.back_from-call.result in
     let write = c.head_at-write.result in

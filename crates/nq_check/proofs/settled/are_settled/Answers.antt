@@ -6,7 +6,7 @@ use Rattle.nq_check.proofs.settled.are_settled.Goals as goal
 
 pub loop-at-init : goal.loop-at-init
 loop-at-init c =
-    let whole = c.args.whole.now in
+    let whole = c.args.linked.now.whole.now in
     let place = c.args.these.now.place in
     let from = c.back_from-at.result in
     let within : place < length whole = c.requires.within in (
@@ -18,7 +18,7 @@ loop-at-init c =
 
 pub loop-at-preserved : goal.loop-at-preserved
 loop-at-preserved c =
-    let whole = c.args.whole.now in
+    let whole = c.args.linked.now.whole.now in
     let place = c.args.these.now.place in
     let at = c.loop-at.at in
     let above : c.args.known < at = c.loop-at-test.true in
@@ -36,7 +36,7 @@ loop-at-preserved c =
 
 pub returns : goal.returns
 returns c =
-    let whole = c.args.whole.now in
+    let whole = c.args.linked.now.whole.now in
     let place = c.args.these.now.place in
     let at = c.loop-at.at in
     let low : at ≤ c.args.known = c.loop-at-test.false in

@@ -10,7 +10,7 @@ use Rattle.nq_check.proofs.settled.is_named_loss.Goals as goal
 
 pub returns-else-not-loss_covers : goal.returns-else-not-loss_covers
 returns-else-not-loss_covers c =
-    let whole = reverse c.args.whole.now in
+    let whole = reverse c.args.linked.now.whole.now in
     let answered = reverse c.args.answered.now in
     let write = c.args.write.now in
     let s = c.in-L in

@@ -10,12 +10,12 @@ pub returns-then-is_there : goal.returns-then-is_there
 returns-then-is_there c =
     let yes : IsTrue c.is_there.result = search rules in
     λ t. or_here (is_stored (reverse c.args.stores.now) c.args.write.now)
-    (exists (is_named_loss (reverse c.args.whole.now) (reverse c.args.answered.now) c.args.write.now) (reverse c.args.whole.now))
+    (exists (is_named_loss (reverse c.args.linked.now.whole.now) (reverse c.args.answered.now) c.args.write.now) (reverse c.args.linked.now.whole.now))
     (c.is_there.ensures yes)
 
 pub returns-in-Some : goal.returns-in-Some
 returns-in-Some c =
-    let whole = c.args.whole.now in
+    let whole = c.args.linked.now.whole.now in
     let named = is_named_loss (reverse whole) (reverse c.args.answered.now) c.args.write.now in
     λ t. or_there (is_stored (reverse c.args.stores.now) c.args.write.now) (exists named (reverse whole))
     (exists_there named whole c.args.fate c.in-Some.entry.now c.in-Some.ensures (c.is_named_loss.ensures t))

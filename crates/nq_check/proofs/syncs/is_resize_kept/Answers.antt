@@ -5,7 +5,7 @@ use Rattle.nq_check.proofs.syncs.is_resize_kept.Goals as goal
 
 pub returns : goal.returns
 returns c =
-    let whole = c.args.whole.now in
+    let whole = c.args.linked.now.whole.now in
     let place = c.args.place in
     let at = c.back_from-at.result in
     let some = c.if-at-eq0.false in

@@ -6,7 +6,7 @@ use Rattle.nq_check.proofs.syncs.synced_before.Goals as goal
 
 pub returns-then-is_sync_of-clause-known : goal.returns-then-is_sync_of-clause-known
 returns-then-is_sync_of-clause-known c =
-    let whole = c.args.whole.now in
+    let whole = c.args.linked.now.whole.now in
     let at = c.head_at-at.result in
     let entry = c.index-whole-at.result in
     let below : at < c.args.place = c.if-at-place.true in
