@@ -6,7 +6,8 @@ use Rattle.nq_clock.specs.Clocks.{ClockTold, ReadsOnce}
 use Rattle.nq_serving.specs.Leaving.{IsLeftAt, IsLeftBehind, LeavesOnly, LeavesReceiving, LeavesBehind, LeavesStages}
 use Rattle.nq_link.specs.Links.{Letter, LinkTold}
 use Rattle.nq_serving.specs.Extending.{Extension}
-use Rattle.nq_serving.specs.ServerTurn.{Given, ticks, Moment, Receives, Takes, TakesCame, TakesFrom, TakesLetter, TakesOf, answered, datagram}
+use Rattle.nq_serving.specs.ServerTurn.{Given, ticks, Receives, Takes, TakesCame, TakesFrom, TakesLetter, TakesOf, answered, datagram}
+use Rattle.nq_serving.specs.declared.node.Node.{Node}
 use Rattle.nq_serving.specs.ServerTurn.{given_by, goes_on}
 use Rattle.nq_serving.specs.ServerTurn.{step_on, taken, tick_due}
 use Rattle.nq_base.specs.declared.Party.{Party}
@@ -24,7 +25,7 @@ abbrev pub Tells : Option Kept → Type 0
 Tells told = (kept : Kept) × (told ≡ Some kept)
 
 module _ {K : Type 0} (content : K → Option Kept) (faults : K → ℕ) where
-  step-tells : (given : Given) (how : Received) (at after : Moment K) → goes_on how ≡ Ok tt
+  step-tells : (given : Given) (how : Received) (at after : Node K) → goes_on how ≡ Ok tt
       → IsTaken (step_on given at) how (content at.server.keeper) (content after.server.keeper) (faults at.server.keeper)
       (faults after.server.keeper) at.server after.server at.out after.out at.log after.log
       → (kept : Kept) → content at.server.keeper ≡ Some kept → Tells (content after.server.keeper)
@@ -35,7 +36,7 @@ module _ {K : Type 0} (content : K → Option Kept) (faults : K → ℕ) where
   step-tells given Received.Spent at after so t kept told = absurd (cc)
 
   -- a keeper tells after a step that did not stop the turn
-  pub taken_tells : (given : Option Given) (at after : Moment K) → Takes content faults given (Ok tt) at after
+  pub taken_tells : (given : Option Given) (at after : Node K) → Takes content faults given (Ok tt) at after
       → (kept : Kept) → content at.server.keeper ≡ Some kept → Tells (content after.server.keeper)
   taken_tells None at after t kept told = subst (λ m. Tells (content m.server.keeper)) (sym t.1) (kept, told)
   taken_tells (Some given) at after t kept told = step-tells given t.how at after (sym t.so) t.takes kept told
@@ -48,7 +49,7 @@ answer-tells (Err keep.Failed) told tells before count so r = absurd (cc)
 answer-tells (Err keep.Memory) told tells before count so r = absurd (cc)
 
 module _ {K : Type 0} (content : K → Option Kept) (faults : K → ℕ) (extension : Extension) where
-  own-tells : (own : Bool) (host : ℕ) (bytes : List ℕ) (at after : Moment K) → TakesOf content faults extension own host bytes (Ok tt) at after
+  own-tells : (own : Bool) (host : ℕ) (bytes : List ℕ) (at after : Node K) → TakesOf content faults extension own host bytes (Ok tt) at after
       → (kept : Kept) → content at.server.keeper ≡ Some kept → Tells (content after.server.keeper)
   own-tells true host bytes at after a kept told = (
     kept,
@@ -57,13 +58,13 @@ module _ {K : Type 0} (content : K → Option Kept) (faults : K → ℕ) (extens
   )
   own-tells false host bytes at after t kept told = taken_tells content faults (Some (datagram host bytes)) at after t kept told
 
-  letter-tells : (letter : Letter) (at after : Moment K) → TakesLetter content faults extension letter (Ok tt) at after
+  letter-tells : (letter : Letter) (at after : Node K) → TakesLetter content faults extension letter (Ok tt) at after
       → (kept : Kept) → content at.server.keeper ≡ Some kept → Tells (content after.server.keeper)
   letter-tells (Party.Server, bytes) at after t kept told = taken_tells content faults None at after t kept told
   letter-tells (Party.Client host, bytes) at after t kept told = own-tells (extension.owns bytes) host bytes at after t kept told
 
   -- the same behind a datagram that came, if one did
-  pub came_tells : (came : Option Letter) (at after : Moment K) → TakesCame content faults extension came (Ok tt) at after
+  pub came_tells : (came : Option Letter) (at after : Node K) → TakesCame content faults extension came (Ok tt) at after
       → (kept : Kept) → content at.server.keeper ≡ Some kept → Tells (content after.server.keeper)
   came_tells None at after t kept told = taken_tells content faults None at after t kept told
   came_tells (Some letter) at after t kept told = letter-tells letter at after t kept told
@@ -73,7 +74,7 @@ module _ {K : Type 0} (content : K → Option Kept) (faults : K → ℕ) (follow
     (parts : (first middle last : K)
     (found : Option Kept) → follows first middle → follows middle last → leaves first last found → leaves first middle found ⊎ leaves middle last found) where
   -- one step leaves what was kept before it or after it
-  pub step_leaves : (given : Given) (at after : Moment K) → follows at.server.keeper after.server.keeper
+  pub step_leaves : (given : Given) (at after : Node K) → follows at.server.keeper after.server.keeper
       → LeavesStep (step_on given at) (content at.server.keeper) (leaves at.server.keeper after.server.keeper)
       → LeavesOnly content follows leaves at.server.keeper after.server.keeper (IsLeftAt content (Some given) at)
   step_leaves given at after same step kept told first found before left = split (parts first at.server.keeper after.server.keeper found before same left)
@@ -88,7 +89,7 @@ module _ {K : Type 0} (content : K → Option Kept) (faults : K → ℕ) (follow
       split (inr here) = inr (one (step kept told found here))
 
   -- the same of a tick that is due
-  pub tick_leaves : (reading : ℕ) (at after : Moment K) → nat_lt at.server.beside.time reading ≡ true → follows at.server.keeper after.server.keeper
+  pub tick_leaves : (reading : ℕ) (at after : Node K) → nat_lt at.server.beside.time reading ≡ true → follows at.server.keeper after.server.keeper
       → LeavesStep (step_on (ticks reading) at) (content at.server.keeper) (leaves at.server.keeper after.server.keeper)
       → LeavesOnly content follows leaves at.server.keeper after.server.keeper (IsLeftAt content (tick_due at.server.beside.time reading) at)
   tick_leaves reading at after above same step =
@@ -97,7 +98,7 @@ module _ {K : Type 0} (content : K → Option Kept) (faults : K → ℕ) (follow
 
   -- an extension leaves what was kept
   pub answer_leaves : (at after : K) → follows at after → LeavesOne (content at) (leaves at after)
-      → (moment : Moment K) → moment.server.keeper ≡ at → LeavesOnly content follows leaves at after (IsLeftAt content None moment)
+      → (moment : Node K) → moment.server.keeper ≡ at → LeavesOnly content follows leaves at after (IsLeftAt content None moment)
   answer_leaves at after same one moment is kept told first found before left = split (parts first at after found before same left)
     where
       split : leaves first at found ⊎ leaves at after found → leaves first at found ⊎ (found ≡ content moment.server.keeper)
@@ -109,12 +110,12 @@ module _ {K : Type 0} (content : K → Option Kept) (faults : K → ℕ) (extens
     (parts : (first middle last : K)
     (found : Option Kept) → follows first middle → follows middle last → leaves first last found → leaves first middle found ⊎ leaves middle last found) where
   -- where nothing was taken in, nothing else is left
-  pub still_leaves : (received : Result Bool Fault) (link link' : LinkTold) (at : Moment K) → Receives content faults extension received link link' at at
+  pub still_leaves : (received : Result Bool Fault) (link link' : LinkTold) (at : Node K) → Receives content faults extension received link link' at at
       → LeavesReceiving content faults extension follows leaves received link link' at at
   still_leaves received link link' at r = record { receives = r; left = λ kept told first found before left. inl left }
 
   -- a datagram came, and was taken in or refused
-  pub came_leaves : (made : Result Unit Fault) (letter : Letter) (link link' : LinkTold) (at after : Moment K)
+  pub came_leaves : (made : Result Unit Fault) (letter : Letter) (link link' : LinkTold) (at after : Node K)
       → TakesFrom content faults extension (Some letter) made link link' at after
       → LeavesOnly content follows leaves at.server.keeper after.server.keeper (IsLeftAt content (given_by extension letter) at)
       → LeavesReceiving content faults extension follows leaves (taken made) link link' at after
@@ -126,7 +127,7 @@ module _ {K : Type 0} (content : K → Option Kept) (faults : K → ℕ) (extens
   came_leaves (Err Fault.NoAnswer) letter link link' at after from left = record { receives = (Some letter, from); left = left }
 
   -- the turn stopped at its tick
-  pub stopped_leaves : (why : Fault) (reading : ℕ) (clock clock' : ClockTold) (link : LinkTold) (at after : Moment K)
+  pub stopped_leaves : (why : Fault) (reading : ℕ) (clock clock' : ClockTold) (link : LinkTold) (at after : Node K)
       → ReadsOnce reading clock clock' → Takes content faults (tick_due at.server.beside.time reading) (Err why) at after
       → LeavesOnly content follows leaves at.server.keeper after.server.keeper (IsLeftAt content (tick_due at.server.beside.time reading) at)
       → LeavesStages content faults extension follows leaves (Err why) clock clock' link link at after
@@ -142,7 +143,7 @@ module _ {K : Type 0} (content : K → Option Kept) (faults : K → ℕ) (extens
 
   -- the turn went on after its tick
   pub went_on_leaves : (ended : Result Bool Fault) (ticked : Bool) (reading : ℕ) (clock clock' : ClockTold) (link link' : LinkTold)
-      (at between after : Moment K)
+      (at between after : Node K)
       → ReadsOnce reading clock clock' → Takes content faults (tick_due at.server.beside.time reading) (Ok tt) at between
       → ticked ≡ nat_lt at.server.beside.time reading
       → LeavesOnly content follows leaves at.server.keeper between.server.keeper (IsLeftAt content (tick_due at.server.beside.time reading) at)

@@ -13,7 +13,8 @@ use Rattle.nq_keeper.specs.Keeping.{Reads}
 use Rattle.nq_keeper.specs.declared.KeepFault.{KeepFault}
 use Rattle.nq_keeper.specs.declared.KeepFault.TheVariants as keep
 use Rattle.nq_serving.specs.Extending.{Extension}
-use Rattle.nq_serving.specs.ServerTurn.{CountsKeep, CountsLink, Given, GoesOn, Moment, Receives, Sends, SendsOut, ServesTurn, Stages, Takes}
+use Rattle.nq_serving.specs.ServerTurn.{CountsKeep, CountsLink, Given, GoesOn, Receives, Sends, SendsOut, ServesTurn, Stages, Takes}
+use Rattle.nq_serving.specs.declared.node.Node.{Node}
 use Rattle.nq_serving.specs.ServerTurn.{TakesCame, TakesLetter, TakesOf, answered, datagram, goes_on, step_on, tick_due}
 use Rattle.nq_base.specs.declared.ending.fault.Fault.{Fault}
 use Rattle.nq_serving.proofs.ServerTurns.{not_link}
@@ -90,7 +91,7 @@ not-spent (Err keep.Failed) same = absurd (cc)
 module _ {K : Type 0} (content : K → Option Kept) (faults : K → ℕ) where
   -- ---- what the server is given
 
-  given-keep : (given : Option Given) (goes : Result Unit Fault) (at after : Moment K) → Takes content faults given goes at after
+  given-keep : (given : Option Given) (goes : Result Unit Fault) (at after : Node K) → Takes content faults given goes at after
       → CountsKeep goes (faults at.server.keeper) (faults after.server.keeper)
   given-keep None goes at after t = rw (t.0, t.1) refl
   given-keep (Some given) goes at after s =
@@ -98,14 +99,14 @@ module _ {K : Type 0} (content : K → Option Kept) (faults : K → ℕ) where
       (faults after.server.keeper)
       at.server after.server at.out after.out at.log after.log s.takes)
 
-  given-few : (given : Option Given) (goes : Result Unit Fault) (at after : Moment K) → Takes content faults given goes at after
+  given-few : (given : Option Given) (goes : Result Unit Fault) (at after : Node K) → Takes content faults given goes at after
       → after.server.taken ≤ at.server.taken + 1
   given-few None goes at after t = rw t.1 (omega arith)
   given-few (Some given) goes at after s =
       step-few s.how (step_on given at) (content at.server.keeper) (content after.server.keeper) (faults at.server.keeper) (faults after.server.keeper)
       at.server after.server at.out after.out at.log after.log s.takes
 
-  given-spent : (given : Option Given) (at after : Moment K) → Takes content faults given (Err Fault.Spent) at after
+  given-spent : (given : Option Given) (at after : Node K) → Takes content faults given (Err Fault.Spent) at after
       → at.server.taken ≡ most_taken_by_server
   given-spent None at after t = let same = t.0 in absurd (cc)
   given-spent (Some given) at after s = s.spent.0 (only-spent s.how (sym s.so))
@@ -113,55 +114,55 @@ module _ {K : Type 0} (content : K → Option Kept) (faults : K → ℕ) where
 module _ {K : Type 0} (content : K → Option Kept) (faults : K → ℕ) (extension : Extension) where
   -- ---- a datagram that came
 
-  own-keep : (own : Bool) (host : ℕ) (bytes : List ℕ) (goes : Result Unit Fault) (at after : Moment K)
+  own-keep : (own : Bool) (host : ℕ) (bytes : List ℕ) (goes : Result Unit Fault) (at after : Node K)
       → TakesOf content faults extension own host bytes goes at after → CountsKeep goes (faults at.server.keeper) (faults after.server.keeper)
   own-keep true host bytes goes at after a =
       rw a.so (answer-keep a.made (content at.server.keeper) (content after.server.keeper) (faults at.server.keeper) (faults after.server.keeper) a.reads)
   own-keep false host bytes goes at after t = given-keep content faults (Some (datagram host bytes)) goes at after t
 
-  letter-keep : (letter : Letter) (goes : Result Unit Fault) (at after : Moment K) → TakesLetter content faults extension letter goes at after
+  letter-keep : (letter : Letter) (goes : Result Unit Fault) (at after : Node K) → TakesLetter content faults extension letter goes at after
       → CountsKeep goes (faults at.server.keeper) (faults after.server.keeper)
   letter-keep (Party.Server, bytes) goes at after t = given-keep content faults None goes at after t
   letter-keep (Party.Client host, bytes) goes at after t = own-keep (extension.owns bytes) host bytes goes at after t
 
-  came-keep : (came : Option Letter) (goes : Result Unit Fault) (at after : Moment K) → TakesCame content faults extension came goes at after
+  came-keep : (came : Option Letter) (goes : Result Unit Fault) (at after : Node K) → TakesCame content faults extension came goes at after
       → CountsKeep goes (faults at.server.keeper) (faults after.server.keeper)
   came-keep None goes at after t = given-keep content faults None goes at after t
   came-keep (Some letter) goes at after t = letter-keep letter goes at after t
 
-  own-few : (own : Bool) (host : ℕ) (bytes : List ℕ) (goes : Result Unit Fault) (at after : Moment K)
+  own-few : (own : Bool) (host : ℕ) (bytes : List ℕ) (goes : Result Unit Fault) (at after : Node K)
       → TakesOf content faults extension own host bytes goes at after → after.server.taken ≤ at.server.taken + 1
   own-few true host bytes goes at after a = let same = a.untouched.taken in omega arith
   own-few false host bytes goes at after t = given-few content faults (Some (datagram host bytes)) goes at after t
 
-  letter-few : (letter : Letter) (goes : Result Unit Fault) (at after : Moment K) → TakesLetter content faults extension letter goes at after
+  letter-few : (letter : Letter) (goes : Result Unit Fault) (at after : Node K) → TakesLetter content faults extension letter goes at after
       → after.server.taken ≤ at.server.taken + 1
   letter-few (Party.Server, bytes) goes at after t = given-few content faults None goes at after t
   letter-few (Party.Client host, bytes) goes at after t = own-few (extension.owns bytes) host bytes goes at after t
 
-  came-few : (came : Option Letter) (goes : Result Unit Fault) (at after : Moment K) → TakesCame content faults extension came goes at after
+  came-few : (came : Option Letter) (goes : Result Unit Fault) (at after : Node K) → TakesCame content faults extension came goes at after
       → after.server.taken ≤ at.server.taken + 1
   came-few None goes at after t = given-few content faults None goes at after t
   came-few (Some letter) goes at after t = letter-few letter goes at after t
 
-  own-spent : (own : Bool) (host : ℕ) (bytes : List ℕ) (at after : Moment K)
+  own-spent : (own : Bool) (host : ℕ) (bytes : List ℕ) (at after : Node K)
       → TakesOf content faults extension own host bytes (Err Fault.Spent) at after → at.server.taken ≡ most_taken_by_server
   own-spent true host bytes at after a = absurd (not-spent a.made (sym a.so))
   own-spent false host bytes at after t = given-spent content faults (Some (datagram host bytes)) at after t
 
-  letter-spent : (letter : Letter) (at after : Moment K) → TakesLetter content faults extension letter (Err Fault.Spent) at after
+  letter-spent : (letter : Letter) (at after : Node K) → TakesLetter content faults extension letter (Err Fault.Spent) at after
       → at.server.taken ≡ most_taken_by_server
   letter-spent (Party.Server, bytes) at after t = given-spent content faults None at after t
   letter-spent (Party.Client host, bytes) at after t = own-spent (extension.owns bytes) host bytes at after t
 
-  came-spent : (came : Option Letter) (at after : Moment K) → TakesCame content faults extension came (Err Fault.Spent) at after
+  came-spent : (came : Option Letter) (at after : Node K) → TakesCame content faults extension came (Err Fault.Spent) at after
       → at.server.taken ≡ most_taken_by_server
   came-spent None at after t = given-spent content faults None at after t
   came-spent (Some letter) at after t = letter-spent letter at after t
 
   -- ---- receiving
 
-  received-keep : (received : Result Bool Fault) (link link' : LinkTold) (at after : Moment K) → Receives content faults extension received link link' at after
+  received-keep : (received : Result Bool Fault) (link link' : LinkTold) (at after : Node K) → Receives content faults extension received link link' at after
       → CountsKeep received (faults at.server.keeper) (faults after.server.keeper)
   received-keep (Ok some) link link' at after r = came-keep r.0 (Ok tt) at after r.2.takes
   received-keep (Err Fault.Link) link link' at after r = rw r.same refl
@@ -170,7 +171,7 @@ module _ {K : Type 0} (content : K → Option Kept) (faults : K → ℕ) (extens
   received-keep (Err Fault.Spent) link link' at after r = came-keep r.0 (Err Fault.Spent) at after r.1.takes
   received-keep (Err Fault.NoAnswer) link link' at after r = came-keep r.0 (Err Fault.NoAnswer) at after r.1.takes
 
-  received-link : (received : Result Bool Fault) (link link' : LinkTold) (at after : Moment K) → Receives content faults extension received link link' at after
+  received-link : (received : Result Bool Fault) (link link' : LinkTold) (at after : Node K) → Receives content faults extension received link link' at after
       → CountsLink received link.faults link'.faults
   received-link (Ok some) link link' at after r = r.2.count
   received-link (Err Fault.Link) link link' at after r = r.count
@@ -179,7 +180,7 @@ module _ {K : Type 0} (content : K → Option Kept) (faults : K → ℕ) (extens
   received-link (Err Fault.Spent) link link' at after r = r.1.count
   received-link (Err Fault.NoAnswer) link link' at after r = r.1.count
 
-  received-few : (received : Result Bool Fault) (link link' : LinkTold) (at after : Moment K) → Receives content faults extension received link link' at after
+  received-few : (received : Result Bool Fault) (link link' : LinkTold) (at after : Node K) → Receives content faults extension received link link' at after
       → after.server.taken ≤ at.server.taken + 1
   received-few (Ok some) link link' at after r = came-few r.0 (Ok tt) at after r.2.takes
   received-few (Err Fault.Link) link link' at after r = rw r.same (omega arith)
@@ -190,21 +191,21 @@ module _ {K : Type 0} (content : K → Option Kept) (faults : K → ℕ) (extens
 
   -- ---- behind the receive
 
-  sends-keep : (received ended : Result Bool Fault) (ticked : Bool) (link link' : LinkTold) (after : Moment K) (before : ℕ)
+  sends-keep : (received ended : Result Bool Fault) (ticked : Bool) (link link' : LinkTold) (after : Node K) (before : ℕ)
       → Sends received ended ticked link link' after → CountsKeep received before (faults after.server.keeper)
       → CountsKeep ended before (faults after.server.keeper)
   sends-keep (Err why) ended ticked link link' after before s counts = rw s.0 counts
   sends-keep (Ok came) ended ticked link link' after before s counts =
       sent-keep after.out.datagrams (ticked || came) ended link link' before (faults after.server.keeper) s counts
 
-  sends-link : (received ended : Result Bool Fault) (ticked : Bool) (link between link' : LinkTold) (after : Moment K)
+  sends-link : (received ended : Result Bool Fault) (ticked : Bool) (link between link' : LinkTold) (after : Node K)
       → Sends received ended ticked between link' after → CountsLink received link.faults between.faults
       → CountsLink ended link.faults link'.faults
   sends-link (Err why) ended ticked link between link' after s counts = rw (s.0, s.1) counts
   sends-link (Ok came) ended ticked link between link' after s counts =
       subst (λ n. CountsLink ended n link'.faults) counts (sent-link after.out.datagrams (ticked || came) ended between link' s)
 
-  sends-spent : (received : Result Bool Fault) (ticked : Bool) (between link link' : LinkTold) (at after : Moment K)
+  sends-spent : (received : Result Bool Fault) (ticked : Bool) (between link link' : LinkTold) (at after : Node K)
       → Receives content faults extension received link between at after → Sends received (Err Fault.Spent) ticked between link' after
       → at.server.taken ≡ most_taken_by_server
   sends-spent (Ok came) ticked between link link' at after r s = absurd s
@@ -216,7 +217,7 @@ module _ {K : Type 0} (content : K → Option Kept) (faults : K → ℕ) (extens
 
   -- ---- behind the tick
 
-  rest-keep : (goes : Result Unit Fault) (ended : Result Bool Fault) (ticked : Bool) (link link' : LinkTold) (at after : Moment K) (before : ℕ)
+  rest-keep : (goes : Result Unit Fault) (ended : Result Bool Fault) (ticked : Bool) (link link' : LinkTold) (at after : Node K) (before : ℕ)
       → GoesOn content faults extension goes ended ticked link link' at after → CountsKeep goes before (faults at.server.keeper)
       → CountsKeep ended before (faults after.server.keeper)
   rest-keep (Err why) ended ticked link link' at after before g counts =
@@ -225,7 +226,7 @@ module _ {K : Type 0} (content : K → Option Kept) (faults : K → ℕ) (extens
       sends-keep g.0 ended ticked g.1 link' after before g.3
       (subst (λ n. CountsKeep g.0 n (faults after.server.keeper)) counts (received-keep g.0 link g.1 at after g.2))
 
-  rest-link : (goes : Result Unit Fault) (ended : Result Bool Fault) (ticked : Bool) (link link' : LinkTold) (at after : Moment K)
+  rest-link : (goes : Result Unit Fault) (ended : Result Bool Fault) (ticked : Bool) (link link' : LinkTold) (at after : Node K)
       → (goes ≡ Err Fault.Link → ⊥) → GoesOn content faults extension goes ended ticked link link' at after → CountsLink ended link.faults link'.faults
   rest-link (Err Fault.Link) ended ticked link link' at after not g = absurd (not refl)
   rest-link (Err Fault.Keep) ended ticked link link' at after not g = rw (g.0, g.1) refl
@@ -235,12 +236,12 @@ module _ {K : Type 0} (content : K → Option Kept) (faults : K → ℕ) (extens
   rest-link (Ok tt) ended ticked link link' at after not g =
       sends-link g.0 ended ticked link g.1 link' after g.3 (received-link g.0 link g.1 at after g.2)
 
-  rest-few : (goes : Result Unit Fault) (ended : Result Bool Fault) (ticked : Bool) (link link' : LinkTold) (at after : Moment K)
+  rest-few : (goes : Result Unit Fault) (ended : Result Bool Fault) (ticked : Bool) (link link' : LinkTold) (at after : Node K)
       → GoesOn content faults extension goes ended ticked link link' at after → after.server.taken ≤ at.server.taken + 1
   rest-few (Err why) ended ticked link link' at after g = rw g.2 (omega arith)
   rest-few (Ok tt) ended ticked link link' at after g = received-few g.0 link g.1 at after g.2
 
-  rest-spent : (goes : Result Unit Fault) (ticked : Bool) (link link' : LinkTold) (at after : Moment K)
+  rest-spent : (goes : Result Unit Fault) (ticked : Bool) (link link' : LinkTold) (at after : Node K)
       → GoesOn content faults extension goes (Err Fault.Spent) ticked link link' at after → (goes ≡ Err Fault.Spent) ⊎ (at.server.taken ≡ most_taken_by_server)
   rest-spent (Err Fault.Link) ticked link link' at after g = let same = g.0 in absurd (cc)
   rest-spent (Err Fault.Keep) ticked link link' at after g = let same = g.0 in absurd (cc)
@@ -251,27 +252,27 @@ module _ {K : Type 0} (content : K → Option Kept) (faults : K → ℕ) (extens
 
   -- ---- the whole turn
 
-  stages-keep : (ended : Result Bool Fault) (clock clock' : ClockTold) (link link' : LinkTold) (at after : Moment K)
+  stages-keep : (ended : Result Bool Fault) (clock clock' : ClockTold) (link link' : LinkTold) (at after : Node K)
       → Stages content faults extension ended clock clock' link link' at after → CountsKeep ended (faults at.server.keeper) (faults after.server.keeper)
   stages-keep ended clock clock' link link' at after s =
       rest-keep s.goes ended (nat_lt at.server.beside.time s.reading) link link' s.between after (faults at.server.keeper) s.rest
       (given-keep content faults (tick_due at.server.beside.time s.reading) s.goes at s.between s.ticks)
 
-  stages-link : (ended : Result Bool Fault) (clock clock' : ClockTold) (link link' : LinkTold) (at after : Moment K)
+  stages-link : (ended : Result Bool Fault) (clock clock' : ClockTold) (link link' : LinkTold) (at after : Node K)
       → Stages content faults extension ended clock clock' link link' at after → CountsLink ended link.faults link'.faults
   stages-link ended clock clock' link link' at after s =
       let due = tick_due at.server.beside.time s.reading in
       rest-link s.goes ended (nat_lt at.server.beside.time s.reading) link link' s.between after
       (λ same. not_link content faults due at s.between (subst (λ goes. Takes content faults due goes at s.between) same s.ticks)) s.rest
 
-  stages-few : (ended : Result Bool Fault) (clock clock' : ClockTold) (link link' : LinkTold) (at after : Moment K)
+  stages-few : (ended : Result Bool Fault) (clock clock' : ClockTold) (link link' : LinkTold) (at after : Node K)
       → Stages content faults extension ended clock clock' link link' at after → after.server.taken ≤ at.server.taken + 2
   stages-few ended clock clock' link link' at after s =
       let first = given-few content faults (tick_due at.server.beside.time s.reading) s.goes at s.between s.ticks in
       let rest = rest-few s.goes ended (nat_lt at.server.beside.time s.reading) link link' s.between after s.rest in
       omega arith
 
-  stages-spent : (ended : Result Bool Fault) (clock clock' : ClockTold) (link link' : LinkTold) (at after : Moment K) → ended ≡ Err Fault.Spent
+  stages-spent : (ended : Result Bool Fault) (clock clock' : ClockTold) (link link' : LinkTold) (at after : Node K) → ended ≡ Err Fault.Spent
       → Stages content faults extension ended clock clock' link link' at after → (taken : ℕ) × (taken ≡ most_taken_by_server) × (taken ≤ at.server.taken + 1)
   stages-spent ended clock clock' link link' at after is s =
       let ticked = nat_lt at.server.beside.time s.reading in

@@ -7,7 +7,8 @@ use Rattle.nq_serving.specs.Extending.{Extension}
 use Rattle.nq_serving.proofs.Leaves.{Tells, came_tells, taken_tells}
 use Rattle.nq_serving.proofs.ServerTurns.{not_link}
 use Rattle.nq_link.specs.Links.{LinkTold}
-use Rattle.nq_serving.specs.ServerTurn.{Given, GoesOn, Moment, Receives, Sends, Takes, tick_due}
+use Rattle.nq_serving.specs.ServerTurn.{Given, GoesOn, Receives, Sends, Takes, tick_due}
+use Rattle.nq_serving.specs.declared.node.Node.{Node}
 use Rattle.nq_base.specs.declared.ending.fault.Fault.{Fault}
 
 -- what stopped a turn behind which others go on is the link
@@ -20,7 +21,7 @@ by-link policy Fault.NoAnswer ended so is = let no = so ∙ ap (behind_turn poli
 
 module _ {K : Type 0} (content : K → Option Kept) (faults : K → ℕ) (policy : LinkPolicy) (extension : Extension) where
   -- nothing was taken in where the link failed
-  missed : (why : Fault) (link link' : LinkTold) (at after : Moment K) → why ≡ Fault.Link → Receives content faults extension (Err why) link link' at after
+  missed : (why : Fault) (link link' : LinkTold) (at after : Node K) → why ≡ Fault.Link → Receives content faults extension (Err why) link link' at after
       → after ≡ at
   missed Fault.Link link link' at after is r = r.same
   missed Fault.Keep link link' at after is r = absurd (cc)
@@ -28,14 +29,14 @@ module _ {K : Type 0} (content : K → Option Kept) (faults : K → ℕ) (policy
   missed Fault.Spent link link' at after is r = absurd (cc)
   missed Fault.NoAnswer link link' at after is r = absurd (cc)
 
-  received-tells : (received ended : Result Bool Fault) (ticked : Bool) (link link' last : LinkTold) (at after : Moment K) → Ok tt ≡ behind_turn policy ended
+  received-tells : (received ended : Result Bool Fault) (ticked : Bool) (link link' last : LinkTold) (at after : Node K) → Ok tt ≡ behind_turn policy ended
       → Receives content faults extension received link link' at after → Sends received ended ticked link' last after
       → (kept : Kept) → content at.server.keeper ≡ Some kept → Tells (content after.server.keeper)
   received-tells (Ok some) ended ticked link link' last at after so r s kept told = came_tells content faults extension r.0 at after r.2.takes kept told
   received-tells (Err why) ended ticked link link' last at after so r s kept told =
       subst (λ m. Tells (content m.server.keeper)) (sym (missed why link link' at after (by-link policy why ended so s.0) r)) (kept, told)
 
-  behind-tells : (goes : Result Unit Fault) (ended : Result Bool Fault) (ticked : Bool) (link link' : LinkTold) (first at after : Moment K)
+  behind-tells : (goes : Result Unit Fault) (ended : Result Bool Fault) (ticked : Bool) (link link' : LinkTold) (first at after : Node K)
       (given : Option Given)
       → Ok tt ≡ behind_turn policy ended
       → GoesOn content faults extension goes ended ticked link link' at after → Takes content faults given goes first at

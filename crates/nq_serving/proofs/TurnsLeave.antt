@@ -1,7 +1,6 @@
 -- What a stop within the boot and the turns of a server leaves.
 use Rattle.std.proofs.Common.{◌≡◌, ◌⊎◌, ◌<◌, ℕ, Bool, zero, suc, [], Option, None, Result, Ok, Err, inl, inr, refl, sym, subst}
 use Rattle.std.specs.Option.{ForSome}
-use Rattle.nq_base.specs.Entries.{EntryList}
 use Rattle.nq_keeper.specs.Booting.{LeavesThen}
 use Rattle.nq_serving.specs.LeavingTurns.{AreInOrder, IsLeftInGoes, IsLeftInTurns, IsLeftTaking, LeavesRunning, LeavesRuns, LeavesTaking, LeavesTurns}
 use Rattle.nq_serving.specs.Turning.{Goes, Standing, behind_turn, standing}
@@ -16,7 +15,9 @@ use Rattle.nq_model.specs.protocol.Kept.{Kept}
 use Rattle.nq_model.specs.protocol.ServerStep.{boot, booted}
 use Rattle.nq_serving.proofs.Leaves.{Tells}
 use Rattle.nq_clock.specs.Clocks.{ClockTold}
-use Rattle.nq_serving.specs.Leaving.{IsSettled, LeavesOnly, LeavesTurn}
+use Rattle.nq_serving.specs.Leaving.{IsSettled, LeavesOnly, LeavesStages}
+use Rattle.nq_serving.specs.declared.node.Node.{Node}
+use Rattle.nq_server.specs.Stepping.{next_of}
 use Rattle.nq_link.specs.Links.{LinkTold}
 use Rattle.nq_server.specs.Holding.{Boots, Holding, keeper_in}
 use Rattle.nq_server.specs.declared.server.BootFault.{BootFault}
@@ -34,16 +35,28 @@ pub record GoneOn {K : Type 0} (content : K → Option Kept) (faults : K → ℕ
 
 module _ {K : Type 0} (content : K → Option Kept) (faults : K → ℕ) (policy : LinkPolicy) (extension : Extension) (follows : K → K → Type 0) (leaves : K → K
     → Option Kept → Type 0) where
-  -- one turn
-  pub taking : (turn : Result Bool Fault) (ended : Result Unit Fault) (log entered : EntryList) (at after : Standing K) → ended ≡ behind_turn policy turn
-      → log.entries ≡ []
-      → LeavesTurn content faults extension follows leaves turn at.next after.next at.clock after.clock at.link after.link at.server after.server log entered
-      → IsSettled content leaves after.server.keeper → LeavesTaking content faults policy extension follows leaves ended at after
-  taking turn ended log entered at after so silent t settled = record {
-    taken = record { turn = turn; so = so; log = log; silent = silent; entered = entered; took = t.taken };
-    only = t.left;
-    settled = settled;
-  }
+  -- one turn of a node that has begun it
+  pub taking : (turn : Result Bool Fault) (ended : Result Unit Fault) (server : Holding K) (next : ℕ) (clock clock' : ClockTold) (link link' : LinkTold)
+      (begun after : Node K)
+      → begun.server ≡ server → begun.out.first ≡ next → begun.out.datagrams ≡ [] → begun.log.entries ≡ [] → ended ≡ behind_turn policy turn
+      → LeavesStages content faults extension follows leaves turn clock clock' link link' begun after → IsSettled content leaves after.server.keeper
+      → LeavesTaking content faults policy extension follows leaves ended (standing server next clock link)
+      (standing after.server (next_of after.out) clock' link')
+  taking turn ended server next clock clock' link link' begun after same first empty silent so t settled =
+      subst (λ s. LeavesTaking content faults policy extension follows leaves ended (standing s next clock link)
+      (standing after.server (next_of after.out) clock' link')) same
+      (record {
+        taken = record {
+          turn = turn;
+          so = so;
+          log = begun.log;
+          silent = silent;
+          entered = after.log;
+          took = record { out = begun.out; out' = after.out; first = first; empty = empty; last = refl; stages = t.stages };
+        };
+        only = t.left;
+        settled = settled;
+      })
 
   pub gone_none : (at : Standing K) → follows at.server.keeper at.server.keeper → IsSettled content leaves at.server.keeper
       → GoneOn content faults policy extension follows leaves zero at at
@@ -102,6 +115,27 @@ module _ {K : Type 0} (content : K → Option Kept) (faults : K → ℕ) (policy
       let b = subst (λ r. Boots longest time r (content keeper) (content (keeper_in r)) (faults keeper) (faults (keeper_in r))) is boots in
       leaves_booted longest turns time keeper ended left clock clock' link link' server (b.0, b.1, subst (λ r. follows keeper (keeper_in r)) is same)
       (subst (λ r. LeavesThen (λ kept. booted kept longest) (content keeper) (leaves keeper (keeper_in r))) is stops) took
+
+  -- the turns of a node that has this server, and whose first datagram gets the number 0
+  pub running : (turns : ℕ) (server from : Holding K) (next : ℕ) (ended : Result Unit Fault) (left : K) (clock : ClockTold) (link : LinkTold)
+      (last : Standing K)
+      → from ≡ server → next ≡ 0 → left ≡ last.server.keeper → follows from.keeper last.server.keeper
+      → LeavesTurns content faults policy extension follows leaves turns ended (standing from next clock link) last
+      → LeavesRunning content faults policy extension follows leaves turns server ended left clock last.clock link last.link
+  running turns server from next ended left clock link last is first keeper same turned =
+      subst (λ s. LeavesRunning content faults policy extension follows leaves turns s ended left clock last.clock link last.link) is
+      (ran (subst (λ n. LeavesTurns content faults policy extension follows leaves turns ended (standing from n clock link) last) first turned))
+    where
+      ran : LeavesTurns content faults policy extension follows leaves turns ended (standing from 0 clock link) last
+          → LeavesRunning content faults policy extension follows leaves turns from ended left clock last.clock link last.link
+      ran t = record {
+        ran = record { last = last; taken = t.taken; same = same; keeper = keeper; clocks = refl; links = refl };
+        only =
+            subst (λ k. LeavesOnly content follows leaves from.keeper k (IsLeftInTurns content faults policy extension turns ended
+            (standing from 0 clock link) last t.taken)) (sym keeper) t.only;
+        order = t.order;
+        settled = subst (λ k. IsSettled content leaves k) (sym keeper) t.settled;
+      }
 
   -- where none booted, the keeper is left, and no turn was taken
   not-booted : (longest turns time : ℕ) (keeper : K) (why : Fault) (left : K) (clock : ClockTold) (link : LinkTold)

@@ -9,15 +9,16 @@ use Rattle.nq_model.specs.protocol.Kept.{Kept}
 use Rattle.nq_clock.specs.Clocks.{ClockTold}
 use Rattle.nq_link.specs.Links.{Letter, LinkTold}
 use Rattle.nq_serving.specs.Extending.{Extension}
-use Rattle.nq_serving.specs.ServerTurn.{Given, GoesOn, Moment, Receives, ServesTurn, Stages, given_of, step_on, tick_due}
+use Rattle.nq_serving.specs.ServerTurn.{Given, GoesOn, Receives, ServesTurn, Stages, given_of, step_on, tick_due}
+use Rattle.nq_serving.specs.declared.node.Node.{Node}
 use Rattle.nq_server.specs.Holding.{Holding}
 
 -- this is found as the step of what a server was given makes it of this kept state
-abbrev pub IsMade : {K : Type 0} → Given → (at : Moment K) → (kept : Kept) → (found : Option Kept) → Type 0
+abbrev pub IsMade : {K : Type 0} → Given → (at : Node K) → (kept : Kept) → (found : Option Kept) → Type 0
 IsMade given at kept found = found ≡ Some (step_on given at kept).server.kept
 
 -- this is found as before a server took in what it was given, or as its step makes it, whether the step was done or failed
-abbrev pub IsLeftAt : {K : Type 0} → (content : K → Option Kept) → Option Given → (at : Moment K) → (found : Option Kept) → Type 0
+abbrev pub IsLeftAt : {K : Type 0} → (content : K → Option Kept) → Option Given → (at : Node K) → (found : Option Kept) → Type 0
 IsLeftAt content None at found = found ≡ content at.server.keeper
 IsLeftAt content (Some given) at found =
     (found ≡ content at.server.keeper) ⊎ ((kept : Kept) × (content at.server.keeper ≡ Some kept) × IsMade given at kept found)
@@ -25,7 +26,7 @@ IsLeftAt content (Some given) at found =
 -- the datagram that the stage that receives took in, if one came
 abbrev pub came_in : {K : Type 0} → (content : K → Option Kept) → (faults : K → ℕ) → (extension : Extension) → (received : Result Bool Fault) →
     (link link' : LinkTold)
-    → (at after : Moment K) → Receives content faults extension received link link' at after → Option Letter
+    → (at after : Node K) → Receives content faults extension received link link' at after → Option Letter
 came_in content faults extension (Ok some) link link' at after receives = receives.0
 came_in content faults extension (Err Fault.Link) link link' at after receives = None
 came_in content faults extension (Err Fault.Keep) link link' at after receives = receives.0
@@ -36,14 +37,14 @@ came_in content faults extension (Err Fault.NoAnswer) link link' at after receiv
 -- this is found as before the datagram that came, or as after it
 abbrev pub IsLeftReceiving : {K : Type 0} → (content : K → Option Kept) → (faults : K → ℕ) → (extension : Extension) → (received : Result Bool Fault) →
     (link link' : LinkTold)
-    → (at after : Moment K) → Receives content faults extension received link link' at after → (found : Option Kept) → Type 0
+    → (at after : Node K) → Receives content faults extension received link link' at after → (found : Option Kept) → Type 0
 IsLeftReceiving content faults extension received link link' at after receives found =
     IsLeftAt content (given_of extension (came_in content faults extension received link link' at after receives)) at found
 
 -- the same behind the tick; nothing is taken in where the tick stopped the turn
 abbrev pub IsLeftBehind : {K : Type 0} → (content : K → Option Kept) → (faults : K → ℕ) → (extension : Extension) → (goes : Result Unit Fault) →
     (ended : Result Bool Fault)
-    → (ticked : Bool) → (link link' : LinkTold) → (at after : Moment K) → GoesOn content faults extension goes ended ticked link link' at after
+    → (ticked : Bool) → (link link' : LinkTold) → (at after : Node K) → GoesOn content faults extension goes ended ticked link link' at after
     → (found : Option Kept) → Type 0
 IsLeftBehind content faults extension (Err why) ended ticked link link' at after rest found = ⊥
 IsLeftBehind content faults extension (Ok done) ended ticked link link' at after rest found =
@@ -52,7 +53,7 @@ IsLeftBehind content faults extension (Ok done) ended ticked link link' at after
 -- this is found as at a moment of these stages: before or after the tick, if one was due, or before or after the datagram, if one came
 abbrev pub IsLeftInStages : {K : Type 0} → (content : K → Option Kept) → (faults : K → ℕ) → (extension : Extension) → (ended : Result Bool Fault) →
     (clock clock' : ClockTold)
-    → (link link' : LinkTold) → (at after : Moment K) → Stages content faults extension ended clock clock' link link' at after → (found : Option Kept) → Type 0
+    → (link link' : LinkTold) → (at after : Node K) → Stages content faults extension ended clock clock' link link' at after → (found : Option Kept) → Type 0
 IsLeftInStages content faults extension ended clock clock' link link' at after stages found =
     IsLeftAt content (tick_due at.server.beside.time stages.reading) at found
     ⊎ IsLeftBehind content faults extension stages.goes ended (nat_lt at.server.beside.time stages.reading) link link' stages.between after stages.rest found
@@ -81,7 +82,7 @@ IsSettled content leaves at = LeavesOne (content at) (leaves at at)
 -- the stage that receives, and what a stop within it leaves
 pub record LeavesReceiving {K : Type 0} (content : K → Option Kept) (faults : K → ℕ) (extension : Extension) (follows : K → K → Type 0) (leaves : K → K
     → Option Kept
-    → Type 0) (received : Result Bool Fault) (link link' : LinkTold) (at after : Moment K) : Type 0 where
+    → Type 0) (received : Result Bool Fault) (link link' : LinkTold) (at after : Node K) : Type 0 where
   pub receives : Receives content faults extension received link link' at after
   pub left : LeavesOnly content follows leaves at.server.keeper after.server.keeper (IsLeftReceiving content faults extension received link link' at after
       receives)
@@ -89,7 +90,7 @@ pub record LeavesReceiving {K : Type 0} (content : K → Option Kept) (faults : 
 -- what comes after the tick, and what a stop within it leaves
 pub record LeavesBehind {K : Type 0} (content : K → Option Kept) (faults : K → ℕ) (extension : Extension) (follows : K → K → Type 0) (leaves : K → K
     → Option Kept → Type 0)
-    (goes : Result Unit Fault) (ended : Result Bool Fault) (ticked : Bool) (link link' : LinkTold) (at after : Moment K) : Type 0 where
+    (goes : Result Unit Fault) (ended : Result Bool Fault) (ticked : Bool) (link link' : LinkTold) (at after : Node K) : Type 0 where
   pub rest : GoesOn content faults extension goes ended ticked link link' at after
   pub left : LeavesOnly content follows leaves at.server.keeper after.server.keeper (IsLeftBehind content faults extension goes ended ticked link link' at
       after rest)
@@ -97,17 +98,7 @@ pub record LeavesBehind {K : Type 0} (content : K → Option Kept) (faults : K �
 -- the stages of a turn, and what a stop within them leaves
 pub record LeavesStages {K : Type 0} (content : K → Option Kept) (faults : K → ℕ) (extension : Extension) (follows : K → K → Type 0) (leaves : K → K
     → Option Kept → Type 0)
-    (ended : Result Bool Fault) (clock clock' : ClockTold) (link link' : LinkTold) (at after : Moment K) : Type 0 where
+    (ended : Result Bool Fault) (clock clock' : ClockTold) (link link' : LinkTold) (at after : Node K) : Type 0 where
   pub stages : Stages content faults extension ended clock clock' link link' at after
   pub left : LeavesOnly content follows leaves at.server.keeper after.server.keeper (IsLeftInStages content faults extension ended clock clock' link link' at
       after stages)
-
--- A turn that ended so. Whatever a stop within it leaves is kept as before it, as after its tick, or as after its datagram; a step that
--- failed may have been kept
-pub record LeavesTurn {K : Type 0} (content : K → Option Kept) (faults : K → ℕ) (extension : Extension) (follows : K → K → Type 0) (leaves : K → K
-    → Option Kept → Type 0)
-    (ended : Result Bool Fault) (next next' : ℕ) (clock clock' : ClockTold) (link link' : LinkTold) (server server' : Holding K)
-    (log log' : EntryList) : Type 0 where
-  pub taken : ServesTurn content faults extension ended next next' clock clock' link link' server server' log log'
-  pub left : LeavesOnly content follows leaves server.keeper server'.keeper (IsLeftInTurn content faults extension ended next next' clock clock' link link'
-      server server' log log' taken)

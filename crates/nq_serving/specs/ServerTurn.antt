@@ -18,17 +18,12 @@ use Rattle.nq_model.specs.protocol.ServerStep.{receive, tick}
 use Rattle.nq_clock.specs.Clocks.{ClockTold, ReadsOnce}
 use Rattle.nq_link.specs.Links.{Hears, Letter, LinkTold, Posts, ReceivesOnce, most_bytes}
 use Rattle.nq_serving.specs.Extending.{AddsReply, Extension}
+use Rattle.nq_serving.specs.declared.node.Node.{Node}
 use Rattle.nq_server.specs.Holding.{Holding, IsTaken, IsUntouched}
 use Rattle.nq_server.specs.State.{server_of}
 use Rattle.nq_server.specs.Stepping.{next_of}
 use Rattle.nq_server.specs.declared.Received.{Received}
 use Rattle.nq_wire.specs.Outbox.{Datagrams}
-
--- a server with the outbox and the journal that it is lent, at a moment of a turn
-pub record Moment (K : Type 0) : Type 0 where
-  pub server : Holding K
-  pub out : Datagrams
-  pub log : EntryList
 
 -- what a turn gives a server: a tick of its clock, which then shows this time, or a datagram of a host
 pub data Given : Type 0 where
@@ -36,7 +31,7 @@ pub data Given : Type 0 where
   datagram : (host : ℕ) (bytes : List ℕ) → Given
 
 -- the step of the protocol that this makes of a kept state
-abbrev pub step_on : {K : Type 0} → Given → Moment K → Kept → ServerStep
+abbrev pub step_on : {K : Type 0} → Given → Node K → Kept → ServerStep
 step_on (ticks now) at kept = tick (server_of at.server.beside kept) now
 step_on (datagram host bytes) at kept = receive (server_of at.server.beside kept) host (next_of at.out) (datagram_in bytes)
 
@@ -48,7 +43,7 @@ goes_on Received.Spent = Err Fault.Spent
 goes_on other = Ok tt
 
 -- the server made the step of what it was given, or refused it
-pub record Steps {K : Type 0} (content : K → Option Kept) (faults : K → ℕ) (given : Given) (goes : Result Unit Fault) (at after : Moment K) : Type 0 where
+pub record Steps {K : Type 0} (content : K → Option Kept) (faults : K → ℕ) (given : Given) (goes : Result Unit Fault) (at after : Node K) : Type 0 where
   pub how : Received
   pub so : goes ≡ goes_on how
   pub takes : IsTaken (step_on given at) how (content at.server.keeper) (content after.server.keeper) (faults at.server.keeper)
@@ -63,7 +58,7 @@ answered (Err keep.Memory) = Err Fault.Memory
 
 -- an extension answered a datagram of a host, or could not: nothing is changed but that its reply is to be sent
 pub record Answers {K : Type 0} (content : K → Option Kept) (faults : K → ℕ) (extension : Extension) (host : ℕ) (bytes : List ℕ)
-    (goes : Result Unit Fault) (at after : Moment K) : Type 0 where
+    (goes : Result Unit Fault) (at after : Node K) : Type 0 where
   pub made : Result Unit KeepFault
   pub so : goes ≡ answered made
   pub first : after.out.first ≡ at.out.first
@@ -74,7 +69,7 @@ pub record Answers {K : Type 0} (content : K → Option Kept) (faults : K → �
   pub silent : after.log ≡ at.log
 
 -- the server took in what it was given, if it was given anything
-abbrev pub Takes : {K : Type 0} → (content : K → Option Kept) → (faults : K → ℕ) → Option Given → Result Unit Fault → (at after : Moment K) → Type 0
+abbrev pub Takes : {K : Type 0} → (content : K → Option Kept) → (faults : K → ℕ) → Option Given → Result Unit Fault → (at after : Node K) → Type 0
 Takes content faults None goes at after = (goes ≡ Ok tt) × (after ≡ at)
 Takes content faults (Some given) goes at after = Steps content faults given goes at after
 
@@ -101,12 +96,12 @@ given_of extension (Some letter) = given_by extension letter
 
 -- a host's datagram was answered by the extension where it is its own; else the server took it in, or refused it
 abbrev pub TakesOf : {K : Type 0} → (content : K → Option Kept) → (faults : K → ℕ) → Extension → (own : Bool) → (host : ℕ) → (bytes : List ℕ)
-    → Result Unit Fault → (at after : Moment K) → Type 0
+    → Result Unit Fault → (at after : Node K) → Type 0
 TakesOf content faults extension true host bytes goes at after = Answers content faults extension host bytes goes at after
 TakesOf content faults extension false host bytes goes at after = Takes content faults (Some (datagram host bytes)) goes at after
 
 -- so was a datagram that came; one that the server itself sent is nothing to both
-abbrev pub TakesLetter : {K : Type 0} → (content : K → Option Kept) → (faults : K → ℕ) → Extension → Letter → Result Unit Fault → (at after : Moment K)
+abbrev pub TakesLetter : {K : Type 0} → (content : K → Option Kept) → (faults : K → ℕ) → Extension → Letter → Result Unit Fault → (at after : Node K)
     → Type 0
 TakesLetter content faults extension (Party.Server, bytes) goes at after = Takes content faults None goes at after
 TakesLetter content faults extension (Party.Client host, bytes) goes at after =
@@ -114,13 +109,13 @@ TakesLetter content faults extension (Party.Client host, bytes) goes at after =
 
 -- likewise, if one came
 abbrev pub TakesCame : {K : Type 0} → (content : K → Option Kept) → (faults : K → ℕ) → Extension → Option Letter → Result Unit Fault
-    → (at after : Moment K) → Type 0
+    → (at after : Node K) → Type 0
 TakesCame content faults extension None goes at after = Takes content faults None goes at after
 TakesCame content faults extension (Some letter) goes at after = TakesLetter content faults extension letter goes at after
 
 -- one receive was asked for and gave a datagram or none, and this was taken in, answered or refused
 pub record TakesFrom {K : Type 0} (content : K → Option Kept) (faults : K → ℕ) (extension : Extension) (came : Option Letter) (goes : Result Unit Fault)
-    (link link' : LinkTold) (at after : Moment K) : Type 0 where
+    (link link' : LinkTold) (at after : Node K) : Type 0 where
   pub hears : Hears most_bytes came link.waiting link'.waiting
   pub sent : link'.sent ≡ link.sent
   pub receives : ReceivesOnce link link'
@@ -128,7 +123,7 @@ pub record TakesFrom {K : Type 0} (content : K → Option Kept) (faults : K → 
   pub takes : TakesCame content faults extension came goes at after
 
 -- one receive failed
-pub record Misses {K : Type 0} (link link' : LinkTold) (at after : Moment K) : Type 0 where
+pub record Misses {K : Type 0} (link link' : LinkTold) (at after : Node K) : Type 0 where
   pub waiting : link'.waiting ≡ link.waiting
   pub sent : link'.sent ≡ link.sent
   pub receives : ReceivesOnce link link'
@@ -137,7 +132,7 @@ pub record Misses {K : Type 0} (link link' : LinkTold) (at after : Moment K) : T
 
 -- the stage that receives, by whether a datagram came or why the turn stops
 abbrev pub Receives : {K : Type 0} → (content : K → Option Kept) → (faults : K → ℕ) → Extension → Result Bool Fault → (link link' : LinkTold)
-    → (at after : Moment K) → Type 0
+    → (at after : Node K) → Type 0
 Receives content faults extension (Ok some) link link' at after =
     (came : Option Letter) × (some ≡ is_some came) × TakesFrom content faults extension came (Ok tt) link link' at after
 Receives content faults extension (Err Fault.Link) link link' at after = Misses link link' at after
@@ -156,13 +151,13 @@ SendsOut letters moved (Err Fault.Link) link link' = Posts Sent.Failed letters l
 SendsOut letters moved (Err other) link link' = ⊥
 
 -- after the receive: the turn stops, or it sends all that the server put into the outbox
-abbrev pub Sends : {K : Type 0} → (received ended : Result Bool Fault) → (ticked : Bool) → (link link' : LinkTold) → (after : Moment K) → Type 0
+abbrev pub Sends : {K : Type 0} → (received ended : Result Bool Fault) → (ticked : Bool) → (link link' : LinkTold) → (after : Node K) → Type 0
 Sends (Err why) ended ticked link link' after = (ended ≡ Err why) × (link' ≡ link)
 Sends (Ok came) ended ticked link link' after = SendsOut after.out.datagrams (ticked || came) ended link link'
 
 -- after the tick: the turn stops, or it receives and sends
 abbrev pub GoesOn : {K : Type 0} → (content : K → Option Kept) → (faults : K → ℕ) → Extension → (goes : Result Unit Fault) → (ended : Result Bool Fault)
-    → (ticked : Bool) → (link link' : LinkTold) → (at after : Moment K) → Type 0
+    → (ticked : Bool) → (link link' : LinkTold) → (at after : Node K) → Type 0
 GoesOn content faults extension (Err why) ended ticked link link' at after = (ended ≡ Err why) × (link' ≡ link) × (after ≡ at)
 GoesOn content faults extension (Ok done) ended ticked link link' at after =
     (received : Result Bool Fault) × (between : LinkTold)
@@ -172,11 +167,11 @@ GoesOn content faults extension (Ok done) ended ticked link link' at after =
 -- The stages of a turn in their order. The clock is read exactly once. Exactly one receive is asked for where the tick did not stop the
 -- turn, and none where it did. The turn ended with whether the clock rose or a datagram came, or with why it stopped
 pub record Stages {K : Type 0} (content : K → Option Kept) (faults : K → ℕ) (extension : Extension) (ended : Result Bool Fault) (clock clock' : ClockTold)
-    (link link' : LinkTold) (at after : Moment K) : Type 0 where
+    (link link' : LinkTold) (at after : Node K) : Type 0 where
   pub reading : ℕ
   pub read : ReadsOnce reading clock clock'
   pub goes : Result Unit Fault
-  pub between : Moment K
+  pub between : Node K
   pub ticks : Takes content faults (tick_due at.server.beside.time reading) goes at between
   pub rest : GoesOn content faults extension goes ended (nat_lt at.server.beside.time reading) link link' between after
 

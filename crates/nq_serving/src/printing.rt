@@ -8,8 +8,8 @@ ghost use Rattle.nq_serving.specs.declared.turning.LinkPolicy.{LinkPolicy};
 ghost use Rattle.nq_clock.specs.Clocks.{clock_told};
 ghost use Rattle.nq_link.specs.Links.{link_told};
 
-use crate::serving::boot_and_run;
-use crate::turning::LinkPolicy;
+use crate::serving::{Boot, boot_and_run};
+use crate::turning::{LinkPolicy, Turns};
 use crate::watching::Nobody;
 use nq_base::NoMemory;
 use nq_base::ending::{Ended, Ending, Fault};
@@ -58,17 +58,16 @@ pub fn serve<K: Keeper, L: Link, C: Clock, S: Sink>(
             left: keeper,
         };
     };
-    let ran = boot_and_run(
-        alloc,
+    let boot = Boot {
         keeper,
-        now,
-        LinkPolicy::Stop,
-        turns as u64,
         longest,
-        link,
-        clock,
-        &mut Nobody,
-    );
+        now,
+    };
+    let to_take = Turns {
+        most: turns as u64,
+        policy: LinkPolicy::Stop,
+    };
+    let ran = boot_and_run(alloc, boot, to_take, link, clock, &mut Nobody);
     Ended {
         end: tell(out, ran.end, line.as_bytes()),
         left: ran.left,

@@ -11,7 +11,8 @@ ghost use Rattle.nq_link.specs.Links.{link_told};
 ghost use Rattle.nq_server.specs.Holding.{keeper_in};
 
 use crate::extending::Extension;
-use crate::turning::{LinkPolicy, take_turns};
+use crate::node::Node;
+use crate::turning::{LinkPolicy, Turns, take_turns};
 use crate::watching::Watcher;
 use nq_base::Ticks;
 use nq_base::ending::{Ended, Fault};
@@ -57,57 +58,53 @@ pub fn keep_serving<K: Keeper, L: Link, C: Clock, W: Watcher<L> + Extension>(
         (L.faults link.old) (L.faults link.new) }
 {
     let now = clock.now();
-    boot_and_run(
-        alloc,
+    let boot = Boot {
         keeper,
-        now,
-        LinkPolicy::GoOn,
-        turns,
         longest,
-        link,
-        clock,
-        watcher,
-    )
+        now,
+    };
+    let to_take = Turns {
+        most: turns,
+        policy: LinkPolicy::GoOn,
+    };
+    boot_and_run(alloc, boot, to_take, link, clock, watcher)
 }
 
-/// Boots a server over a keeper at this time, and takes turns of it, at most so many.
+/// What a server boots from.
+#[derive(Drop)]
+pub(crate) struct Boot<K> {
+    pub(crate) keeper: K,
+    /// The longest term that it grants: 5 to 600 ticks.
+    pub(crate) longest: u32,
+    pub(crate) now: Ticks,
+}
+
+/// Boots a server, and takes turns of it.
 pub(crate) fn boot_and_run<K: Keeper, L: Link, C: Clock, W: Watcher<L> + Extension>(
     alloc: Global,
-    keeper: K,
-    now: Ticks,
-    policy: LinkPolicy,
-    turns: u64,
-    longest: u32,
+    boot: Boot<K>,
+    turns: Turns,
     link: &mut L,
     clock: &mut C,
     watcher: &mut W,
 ) -> Ended<Result<(), Fault>, K>
-    requires long { 5 ≤ longest }
-    requires short { longest ≤ 600 }
-    requires early { now < 2 ^ 62 }
-    ensures runs { LeavesRuns K.content K.faults policy (extension_told W.owns W.replies) K.follows K.leaves longest turns now keeper result.end result.left
+    requires long { 5 ≤ boot.longest }
+    requires short { boot.longest ≤ 600 }
+    requires early { boot.now < 2 ^ 62 }
+    ensures runs { LeavesRuns K.content K.faults turns.policy (extension_told W.owns W.replies) K.follows K.leaves boot.longest turns.most boot.now
+        boot.keeper result.end result.left
         (clock_told C.floor C.readings C.reads clock.old) (clock_told C.floor C.readings C.reads clock.new)
         (link_told L.sent L.waiting L.faults L.receives link.old)
         (link_told L.sent L.waiting L.faults L.receives link.new) }
-    ensures follows { K.follows keeper result.left }
+    ensures follows { K.follows boot.keeper result.left }
 {
-    match Server::boot(alloc, keeper, longest, now) {
+    match Server::boot(alloc, boot.keeper, boot.longest, boot.now) {
         Ok(server) => {
-            let mut server = server;
-            let mut next = 0;
-            let ended = take_turns(
-                alloc,
-                &mut server,
-                link,
-                clock,
-                &mut next,
-                watcher,
-                policy,
-                turns,
-            );
+            let mut node = Node::new(alloc, server);
+            let ended = take_turns(alloc, &mut node, link, clock, watcher, turns);
             Ended {
                 end: ended,
-                left: server.into_keeper(),
+                left: node.server.into_keeper(),
             }
         }
         Err(fault) => not_booted(fault),

@@ -4,18 +4,17 @@ ghost use Rattle.std.specs.Prelude.{◌≡◌};
 ghost use Rattle.nq_serving.specs.LeavingTurns.{LeavesTaking, LeavesTurns};
 ghost use Rattle.nq_serving.specs.Extending.{extension_told};
 ghost use Rattle.nq_serving.specs.Turning.{behind_link, behind_turn, standing};
+ghost use Rattle.nq_server.specs.Stepping.{next_of};
 ghost use Rattle.nq_clock.specs.Clocks.{clock_told};
 ghost use Rattle.nq_link.specs.Links.{link_told};
 
 use crate::extending::Extension;
-use crate::node::serve_turn;
+use crate::node::{Node, serve_turn};
 use crate::watching::Watcher;
-use nq_base::Journal;
 use nq_base::ending::Fault;
 use nq_clock::Clock;
 use nq_keeper::Keeper;
 use nq_link::Link;
-use nq_server::Server;
 use std::alloc::Global;
 
 /// What a turn that the link stopped means for those behind it.
@@ -27,27 +26,34 @@ pub enum LinkPolicy {
     GoOn,
 }
 
-/// Takes so many turns of a server, up to the first that ends them.
+/// Which turns are to be taken.
+#[derive(Clone, Copy)]
+pub(crate) struct Turns {
+    /// So many at most.
+    pub(crate) most: u64,
+    pub(crate) policy: LinkPolicy,
+}
+
+/// Takes turns of a server, up to the first that ends them.
 pub(crate) fn take_turns<K: Keeper, L: Link, C: Clock, W: Watcher<L> + Extension>(
     alloc: Global,
-    server: &mut Server<K>,
+    node: &mut Node<K>,
     link: &mut L,
     clock: &mut C,
-    next: &mut u64,
     watcher: &mut W,
-    policy: LinkPolicy,
-    turns: u64,
+    turns: Turns,
 ) -> Result<(), Fault>
-    ensures turns { LeavesTurns K.content K.faults policy (extension_told W.owns W.replies) K.follows K.leaves turns result
-        (standing server.old next.old (clock_told C.floor C.readings C.reads clock.old)
+    ensures turns { LeavesTurns K.content K.faults turns.policy (extension_told W.owns W.replies) K.follows K.leaves turns.most result
+        (standing node.old.server (next_of node.old.out) (clock_told C.floor C.readings C.reads clock.old)
         (link_told L.sent L.waiting L.faults L.receives link.old))
-        (standing server.new next.new (clock_told C.floor C.readings C.reads clock.new)
+        (standing node.new.server (next_of node.new.out) (clock_told C.floor C.readings C.reads clock.new)
         (link_told L.sent L.waiting L.faults L.receives link.new)) }
-    ensures follows { K.follows server.old.keeper server.new.keeper }
+    ensures follows { K.follows node.old.server.keeper node.new.server.keeper }
 {
-    server.pause();
-    for _turn in 0..turns {
-        match take_turn(alloc, server, link, clock, next, watcher, policy) {
+    let Turns { most, policy } = turns;
+    node.server.pause();
+    for _turn in 0..most {
+        match take_turn(alloc, node, link, clock, watcher, policy) {
             Ok(()) => {}
             Err(why) => return Err(why),
         }
@@ -55,27 +61,31 @@ pub(crate) fn take_turns<K: Keeper, L: Link, C: Clock, W: Watcher<L> + Extension
     Ok(())
 }
 
-/// Takes one turn of a server, with a journal that is dropped behind it.
+/// Takes one turn of a server, with a journal of its own.
 fn take_turn<K: Keeper, L: Link, C: Clock, W: Watcher<L> + Extension>(
     alloc: Global,
-    server: &mut Server<K>,
+    node: &mut Node<K>,
     link: &mut L,
     clock: &mut C,
-    next: &mut u64,
     watcher: &mut W,
     policy: LinkPolicy,
 ) -> Result<(), Fault>
     ensures turn { LeavesTaking K.content K.faults policy (extension_told W.owns W.replies) K.follows K.leaves result
-        (standing server.old next.old (clock_told C.floor C.readings C.reads clock.old)
+        (standing node.old.server (next_of node.old.out) (clock_told C.floor C.readings C.reads clock.old)
         (link_told L.sent L.waiting L.faults L.receives link.old))
-        (standing server.new next.new (clock_told C.floor C.readings C.reads clock.new)
+        (standing node.new.server (next_of node.new.out) (clock_told C.floor C.readings C.reads clock.new)
         (link_told L.sent L.waiting L.faults L.receives link.new)) }
-    ensures follows { K.follows server.old.keeper server.new.keeper }
+    ensures follows { K.follows node.old.server.keeper node.new.server.keeper }
 {
-    let mut log = Journal::new(alloc).unwrap();
-    let turn = serve_turn(alloc, server, watcher, link, clock, next, &mut log);
-    server.pause();
-    watcher.turned(link, server.time(), server.table().len(), &log);
+    node.begin(alloc);
+    let turn = serve_turn(alloc, node, watcher, link, clock);
+    node.server.pause();
+    watcher.turned(
+        link,
+        node.server.time(),
+        node.server.table().len(),
+        &node.log,
+    );
     behind_turn(policy, turn)
 }
 

@@ -11,7 +11,7 @@ returns-in-Ok-clause-goes g c =
         Ok c.in-Ok.came,
         link_of c.take_from-received.new.link,
         c.in-Ok.ensures.receives.receives,
-        subst (λ moved. SendsOut c.take_from-received.new.out.datagrams moved c.send_out.result
+        subst (λ moved. SendsOut c.take_from-received.new.node.out.datagrams moved c.send_out.result
             (link_of c.take_from-received.new.link)
             (link_of c.send_out.new.link))
             c.either.ensures c.send_out.ensures,

@@ -1,7 +1,6 @@
 use Rattle.std.proofs.Common.{rules, Ok, Err, false, sym, subst, take}
 use Rattle.nq_serving.specs.Leaving.{LeavesReceiving}
 use Rattle.nq_link.specs.Links.{LinkTold, link_told, most_bytes}
-use Rattle.nq_serving.specs.ServerTurn.{Moment}
 use Rattle.nq_base.specs.declared.ending.fault.Fault.{Fault}
 use Rattle.nq_serving.proofs.Leaves.{came_leaves, still_leaves}
 use Rattle.nq_link.proofs.Letters.{heard}
@@ -11,31 +10,27 @@ use Rattle.nq_serving.proofs.node.take_through.Goals as goal
 pub returns-in-Nothing-clause-receives : goal.returns-in-Nothing-clause-receives
 returns-in-Nothing-clause-receives g c =
     let link_of = link_told g.L.Link.sent g.L.Link.waiting g.L.Link.faults g.L.Link.receives in
-    let at : Moment g.row.K.Denot = record { server = c.args.server.now; out = c.args.out.now; log = c.args.log.now } in
     still_leaves g.K.Keeper.content g.K.Keeper.faults (extension_told g.E.Extension.owns g.E.Extension.replies) g.K.Keeper.follows g.K.Keeper.leaves
     g.met.K.Keeper.follows_on g.met.K.Keeper.parts (Ok false)
-    (link_of c.args.link.now) (link_of c.receive.new.self) at (search rules)
+    (link_of c.args.link.now) (link_of c.receive.new.self) c.args.node.now (search rules)
 
 pub returns-in-Failed-clause-receives : goal.returns-in-Failed-clause-receives
 returns-in-Failed-clause-receives g c =
     let link_of = link_told g.L.Link.sent g.L.Link.waiting g.L.Link.faults g.L.Link.receives in
-    let at : Moment g.row.K.Denot = record { server = c.args.server.now; out = c.args.out.now; log = c.args.log.now } in
     still_leaves g.K.Keeper.content g.K.Keeper.faults (extension_told g.E.Extension.owns g.E.Extension.replies) g.K.Keeper.follows g.K.Keeper.leaves
     g.met.K.Keeper.follows_on g.met.K.Keeper.parts
-    (Err Fault.Link) (link_of c.args.link.now) (link_of c.receive.new.self) at (search rules)
+    (Err Fault.Link) (link_of c.args.link.now) (link_of c.receive.new.self) c.args.node.now (search rules)
 
 pub returns-in-Datagram-clause-receives : goal.returns-in-Datagram-clause-receives
 returns-in-Datagram-clause-receives g c =
     let link_of = link_told g.L.Link.sent g.L.Link.waiting g.L.Link.faults g.L.Link.receives in
     let link : LinkTold = link_of c.args.link.now in
     let link' : LinkTold = link_of c.receive.new.self in
-    let at : Moment g.row.K.Denot = record { server = c.args.server.now; out = c.args.out.now; log = c.args.log.now } in
-    let after : Moment g.row.K.Denot = record { server = c.take_in.new.server; out = c.take_in.new.out; log = c.take_in.new.log } in
     subst (λ r. LeavesReceiving g.K.Keeper.content g.K.Keeper.faults (extension_told g.E.Extension.owns g.E.Extension.replies) g.K.Keeper.follows
-    g.K.Keeper.leaves r link link' at after) (sym c.taken.ensures)
+    g.K.Keeper.leaves r link link' c.args.node.now c.take_in.new.node) (sym c.taken.ensures)
     (came_leaves g.K.Keeper.content g.K.Keeper.faults (extension_told g.E.Extension.owns g.E.Extension.replies) g.K.Keeper.follows g.K.Keeper.leaves
     g.met.K.Keeper.follows_on g.met.K.Keeper.parts
-    c.take_in.result (c.in-Datagram.sender, take c.in-Datagram.length c.receive.new.into) link link' at after
+    c.take_in.result (c.in-Datagram.sender, take c.in-Datagram.length c.receive.new.into) link link' c.args.node.now c.take_in.new.node
     (record {
       hears =
           heard most_bytes c.in-Datagram.length c.in-Datagram.sender (g.L.Link.waiting c.args.link.now) (g.L.Link.waiting c.receive.new.self) c.args.buffer.now
