@@ -3,6 +3,7 @@ pub mod ByFront
 pub mod Called
 pub mod Dots
 pub mod Entries
+pub mod Files
 pub mod Halving
 pub mod Heard
 pub mod Order

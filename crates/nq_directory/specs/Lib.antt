@@ -1,4 +1,5 @@
 pub mod Asking
+pub mod Files
 pub mod Fronts
 pub mod Laws
 pub mod Lent

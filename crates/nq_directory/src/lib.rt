@@ -3,12 +3,14 @@
 #![tactic(auto)]
 
 mod fronts;
+mod leaf;
 mod listed;
 pub mod listing;
 pub mod name_cache;
 mod names;
 mod prefix;
 
+pub use leaf::BegunLeaf;
 pub use listed::DirNames;
 pub use names::FileName;
 pub use prefix::{Prefix, directory_of};

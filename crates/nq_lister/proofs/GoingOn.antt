@@ -7,8 +7,9 @@ use Rattle.std.proofs.lemmas.Bool.Decides.{nat_tests}
 use Rattle.nq_directory.specs.Asking.{last_id}
 use Rattle.nq_directory.specs.Messages.{most_names}
 use Rattle.nq_directory.specs.declared.FileName.{FileName}
-use Rattle.nq_lister.proofs.Files.{same-behind}
-use Rattle.nq_lister.specs.Listing.{PagesGoOn, is_behind, name_of, names_behind, names_beyond}
+use Rattle.nq_directory.proofs.Files.{all-further, same-behind}
+use Rattle.nq_directory.specs.Files.{name_of}
+use Rattle.nq_lister.specs.Listing.{PagesGoOn, begins_with, is_behind, names_behind, names_beyond}
 use Rattle.nq_model.proofs.Finding.{decided}
 use Rattle.nq_model.specs.protocol.Change.{AreApart}
 use Rattle.nq_model.specs.protocol.Kept.{File}
@@ -41,9 +42,6 @@ behind-above prefix after f h = elim (decided (nat_lt after f.id)) [
   | inr e ↦ let no = rw e at h in absurd (cc)
 ]
 
-all-above : (a b : ℕ) (files : List File) → a ≤ b → All (λ (x : File). b < x.id) files → All (λ (x : File). a < x.id) files
-all-above a b files le above k d lt = let own = above k d lt in omega arith
-
 -- behind the first name stand the names behind its id
 rest-behind : (prefix : List ℕ) (after : ℕ) (e : FileName) (rest : List FileName) (files : List File) → AreApart files
     → names_behind prefix after files ≡ e ∷ rest → rest ≡ names_behind prefix e.file files
@@ -54,7 +52,7 @@ rest-behind prefix after e rest (f ∷ files) apart is = elim (decided (is_behin
       let parts = heads (name_of f) e (names_behind prefix after files) rest found in
       let up : after < f.id = behind-above prefix after f h in
       sym parts.1
-      ∙ same-behind prefix after f.id files (all-above after f.id files (omega arith) apart.0) apart.0
+      ∙ same-behind (begins_with prefix) after f.id files (all-further after f.id files (omega arith) apart.0) apart.0
       ∙ sym (not-behind prefix f.id f files (omega arith))
       ∙ ap (λ (n : FileName). names_behind prefix n.file (f ∷ files)) parts.0
   | inr h ↦

@@ -1,4 +1,3 @@
-pub mod Files
 pub mod GoingOn
 pub mod Keeping
 pub mod Telling

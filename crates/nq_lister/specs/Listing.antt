@@ -1,14 +1,14 @@
 -- What a server that is left running answers to a READDIRLOOK: without a lease, the files whose names begin with its prefix.
 use Rattle.std.specs.List.{starts_with}
-use Rattle.std.specs.Prelude.{◌≡◌, ℕ, ◌==◌, ◌&&◌, Bool, true, false, List, [], ◌∷◌, ◌++◌, Option, Some, None, filter, is_some, length, nat_eq, nat_lt, take}
-use Rattle.nq_base.specs.declared.FileRow.{FileRow}
+use Rattle.std.specs.Prelude.{◌≡◌, ℕ, ◌==◌, ◌&&◌, Bool, true, false, List, [], ◌++◌, Option, Some, None, is_some, nat_eq, nat_lt}
 use Rattle.nq_base.specs.declared.Who.{Who}
 use Rattle.nq_directory.specs.Asking.{last_id}
-use Rattle.nq_directory.specs.Messages.{Answer, Listing, answer_bytes, most_names, page, wait}
+use Rattle.nq_directory.specs.Files.{Leaf, is_own_behind, leaf_of, own_behind}
+use Rattle.nq_directory.specs.Messages.{Answer, Listing, answer_bytes, page, wait}
 use Rattle.nq_directory.specs.Reading.{read_dir_in}
 use Rattle.nq_directory.specs.declared.FileName.{FileName}
 use Rattle.nq_directory.specs.declared.listing.messages.ReadDir.{ReadDir}
-use Rattle.nq_model.specs.protocol.Change.{IsWithinBounds, file_after, row_of_found}
+use Rattle.nq_model.specs.protocol.Change.{IsWithinBounds}
 use Rattle.nq_model.specs.protocol.Kept.{File, Kept, host_row}
 use Rattle.nq_model.specs.protocol.Profile.{most_hosts}
 use Rattle.nq_model.specs.protocol.Server.{Phase, Server, recovering, serving}
@@ -21,24 +21,19 @@ begins_with prefix name = starts_with nat_eq name prefix
 
 -- whether a file's name begins with a prefix, and its id is above this one
 abbrev pub is_behind : (prefix : List ℕ) → (after : ℕ) → File → Bool
-is_behind prefix after f = nat_lt after f.id && begins_with prefix f.name
-
--- a file with its name
-abbrev pub name_of : File → FileName
-name_of f = record { file = f.id; name = f.name }
-
--- files with their names
-abbrev pub names_of : List File → List FileName
-names_of [] = []
-names_of (f ∷ fs) = name_of f ∷ names_of fs
+is_behind prefix after f = is_own_behind (begins_with prefix) after f
 
 -- the files behind an id whose names begin with a prefix, by id
 abbrev pub names_behind : (prefix : List ℕ) → (after : ℕ) → List File → List FileName
-names_behind prefix after files = names_of (filter (is_behind prefix after) files)
+names_behind prefix after files = own_behind (begins_with prefix) after files
+
+-- a page without a lease as it is told
+abbrev pub listing_of : Leaf → Listing
+listing_of l = record { names = l.names; more = l.more; grant = None }
 
 -- a page of these: at most 32 files, whether the list goes on behind them, and no lease
 abbrev pub page_of : List FileName → Listing
-page_of names = record { names = take most_names names; more = nat_lt most_names (length names); grant = None }
+page_of names = listing_of (leaf_of names)
 
 -- ---- answers
 
@@ -68,45 +63,6 @@ reply_in s host bytes = reply_to s host (read_dir_in bytes)
 -- the datagrams that are answered so: each READDIRLOOK
 abbrev pub is_lookup : (bytes : List ℕ) → Bool
 is_lookup bytes = is_some (read_dir_in bytes)
-
--- ---- reading
-
--- a page as far as it was read: its names, whether the list goes on behind them, and the id of the file that was read last
-pub record ReadPage : Type 0 where
-  pub names : List FileName
-  pub more : Bool
-  pub last : ℕ
-
--- nothing was read behind this id
-abbrev pub nothing_read : (after : ℕ) → ReadPage
-nothing_read after = record { names = []; more = false; last = after }
-
--- it has the names among these files from behind this id on, up to the file that was read last
-pub record IsUpTo (files : List File) (prefix : List ℕ) (start : ℕ) (p : ReadPage) : Type 0 where
-  pub names : names_behind prefix start files ≡ p.names ++ names_behind prefix p.last files
-  pub on : p.more ≡ false
-
--- a page as it was read
-abbrev pub listing_of : ReadPage → Listing
-listing_of p = record { names = p.names; more = p.more; grant = None }
-
--- it is the page behind this id, or it was read up to the last file
-abbrev pub IsRead : (whole : Bool) → (files : List File) → (prefix : List ℕ) → (start : ℕ) → ReadPage → Type 0
-IsRead true files prefix start p = listing_of p ≡ page_of (names_behind prefix start files)
-IsRead false files prefix start p = IsUpTo files prefix start p
-
--- the row of the next file that is kept behind an id, if there is one
-abbrev pub IsNext : Kept → (after : ℕ) → Option FileRow → Type 0
-IsNext kept after row = row ≡ row_of_found (file_after after kept.files)
-
--- what reading the next file does, whatever is kept
-abbrev pub ReadsOn : (whole : Bool) → (prefix : List ℕ) → (next : Option FileRow) → (old new : ReadPage) → Type 0
-ReadsOn whole prefix next old new =
-    (kept : Kept) (start : ℕ)
-    → IsWithinBounds kept
-    → IsNext kept old.last next
-    → IsUpTo kept.files prefix start old
-    → IsRead whole kept.files prefix start new
 
 -- ---- pages one behind the other
 

@@ -2,14 +2,16 @@
 
 ghost use Rattle.std.specs.Prelude.{◌≡◌, Some, IfOk, true};
 ghost use Rattle.std.specs.Option.{ForSome};
+ghost use Rattle.nq_directory.specs.Files.{leaf_of};
 ghost use Rattle.nq_directory.specs.Messages.{answer_bytes, page};
 ghost use Rattle.nq_lister.specs.Listing.{is_attached, is_lookup, listing_of, names_behind, page_of, reply_in, reply_to, told_by};
 ghost use Rattle.nq_server.specs.State.{server_of};
 ghost use Rattle.nq_serving.specs.Extending.{AddsReply, ReadsOnly};
 
-use crate::pages::BegunPage;
+use crate::pages::read_on;
 use nq_base::{Host, NoMemory, Party, Who};
-use nq_directory::listing::{BegunPage as BegunReply, ReadDir, later_bytes, read_read_dir};
+use nq_directory::BegunLeaf;
+use nq_directory::listing::{BegunPage, ReadDir, later_bytes, read_read_dir};
 use nq_keeper::{KeepFault, Keeper};
 use nq_server::Server;
 use nq_serving::Extension;
@@ -140,15 +142,15 @@ fn page_reply<K: Keeper>(
 
 /// The bytes of a reply with this page.
 #[tactic(auto, unfolding(nq_directory::specs::Messages::answer_bytes, nq_directory::specs::Messages::results))]
-fn page_bytes(alloc: Global, request: &ReadDir, begun: &BegunPage) -> Result<Vec<u8>, NoMemory>
-    ensures { IfOk result (λ v. v.items ≡ answer_bytes request.now.xid request.now.who.inc (page (listing_of begun.now))) }
+fn page_bytes(alloc: Global, request: &ReadDir, begun: &BegunLeaf) -> Result<Vec<u8>, NoMemory>
+    ensures { IfOk result (λ v. v.items ≡ answer_bytes request.now.xid request.now.who.inc (page (listing_of begun.now.leaf))) }
 {
-    let reply = BegunReply::new(
+    let reply = BegunPage::new(
         alloc,
         request.xid,
         request.who.inc.0,
-        &begun.names,
-        begun.more,
+        begun.names(),
+        begun.more(),
     )?;
     Ok(reply.end(&None))
 }
@@ -158,16 +160,16 @@ fn read_page<K: Keeper>(
     alloc: Global,
     server: &mut Server<K>,
     request: &ReadDir,
-) -> Result<BegunPage, KeepFault>
-    ensures told { ForSome (K.content server.old.keeper) (λ kept. IfOk result (λ p. listing_of p
-        ≡ page_of (names_behind request.now.prefix request.now.after kept.files))) }
+) -> Result<BegunLeaf, KeepFault>
+    ensures told { ForSome (K.content server.old.keeper) (λ kept. IfOk result (λ p. p.leaf
+        ≡ leaf_of (names_behind request.now.prefix request.now.after kept.files))) }
     ensures reads { ReadsOnly K.content K.faults K.follows K.leaves result server.old server.new }
 {
     server.pause();
-    let mut page = BegunPage::new(alloc, request.after)?;
+    let mut page = BegunLeaf::new(alloc, request.after)?;
     'files: for _file in 0..=MOST_FILES {
         let next = server.next_file(page.last())?;
-        if page.read(&request.prefix, next) {
+        if read_on(&mut page, &request.prefix, next) {
             return Ok(page);
         }
     }

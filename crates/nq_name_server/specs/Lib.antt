@@ -1,8 +1,8 @@
 pub mod Around
+pub mod Changing
 pub mod Lasting
 pub mod Outer
 pub mod Outside
-pub mod Pages
 pub mod Sending
 pub mod Served
 pub mod Serving

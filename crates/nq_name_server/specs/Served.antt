@@ -1,12 +1,13 @@
 -- What a server keeps of the leases on directories, in memory alone: from one boot to the next.
-use Rattle.std.specs.Prelude.{ℕ, Bool, List, [], ◌∷◌, Option, filter, length, take, nat_lt, ◌&&◌}
+use Rattle.std.specs.Prelude.{ℕ, Bool, List, [], Option}
 use Rattle.std.specs.List.{position}
 use Rattle.nq_directory.specs.declared.FileName.{FileName}
 use Rattle.nq_directory.specs.Prefix.{directory}
-use Rattle.nq_directory.specs.Messages.{most_names}
+use Rattle.nq_directory.specs.Files.{is_own_behind, leaf_of, own_behind}
 use Rattle.nq_model.specs.protocol.Kept.{File}
 use Rattle.nq_model.specs.protocol.Profile.{same_bytes}
 use Rattle.nq_model.specs.protocol.Table.{Table, empty_table}
+pub use Rattle.nq_directory.specs.Files.{Leaf, name_of, names_of}
 
 -- a lease table in which the number of a directory stands for a file, the directories by their numbers, the number of the next
 -- DIREVICTED, the longest term of the boot, and the time
@@ -36,31 +37,18 @@ number_of prefix directories = position (λ d. same_bytes d prefix) directories
 
 -- ---- pages
 
+-- whether a name is one of a directory
+abbrev pub is_in : (prefix name : List ℕ) → Bool
+is_in prefix name = same_bytes (directory name) prefix
+
 -- whether a file is in a directory, with an id above this one
 abbrev pub is_behind : (prefix : List ℕ) → (after : ℕ) → File → Bool
-is_behind prefix after f = nat_lt after f.id && same_bytes (directory f.name) prefix
-
--- a file with its name
-abbrev pub name_of : File → FileName
-name_of f = record { file = f.id; name = f.name }
-
--- files with their names
-abbrev pub names_of : List File → List FileName
-names_of [] = []
-names_of (f ∷ fs) = name_of f ∷ names_of fs
+is_behind prefix after f = is_own_behind (is_in prefix) after f
 
 -- the files of a directory behind an id, by id
 abbrev pub names_behind : (prefix : List ℕ) → (after : ℕ) → List File → List FileName
-names_behind prefix after files = names_of (filter (is_behind prefix after) files)
+names_behind prefix after files = own_behind (is_in prefix) after files
 
--- a page of a directory without its lease: at most 32 files, and whether the list goes on behind them
-pub record Leaf : Type 0 where
-  pub names : List FileName
-  pub more : Bool
-
--- the page of a directory behind an id
-abbrev pub leaf_of : List FileName → Leaf
-leaf_of names = record { names = take most_names names; more = nat_lt most_names (length names) }
-
+-- the page of a directory behind an id, without its lease
 abbrev pub leaf_behind : (prefix : List ℕ) → (after : ℕ) → List File → Leaf
 leaf_behind prefix after files = leaf_of (names_behind prefix after files)

@@ -5,7 +5,8 @@ ghost use Rattle.nq_datagrams.specs.Incoming.{datagram_in};
 ghost use Rattle.nq_model.specs.protocol.Change.{IsWithinBounds};
 ghost use Rattle.nq_model.specs.protocol.Kept.{Kept, find_file};
 ghost use Rattle.nq_name_server.specs.Outside.{changes_as, changes_by, changes_of, own_changes};
-ghost use Rattle.nq_name_server.specs.Pages.{IsNext, changed_by};
+ghost use Rattle.nq_directory.specs.Files.{IsNext};
+ghost use Rattle.nq_name_server.specs.Changing.{changed_by};
 ghost use Rattle.nq_name_server.specs.declared.change.MayChange.{MayChange};
 
 use nq_base::{FileId, FileRow, Host, NoMemory, Request, Spare, Who};

@@ -16,5 +16,5 @@ pub mod run;
 mod server;
 
 pub use change::{DirChange, MayChange, below, may_change, removed};
-pub use leaf::BegunLeaf;
+pub use leaf::read_leaf;
 pub use server::NameServer;

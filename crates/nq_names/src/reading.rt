@@ -3,17 +3,17 @@
 ghost use Rattle.std.specs.Prelude.{◌≡◌, IfOk};
 ghost use Rattle.std.specs.Option.{ForSome};
 ghost use Rattle.nq_datagrams.specs.Incoming.{datagram_in};
+ghost use Rattle.nq_directory.specs.Files.{IsNext};
 ghost use Rattle.nq_model.specs.protocol.Kept.{host_row};
 ghost use Rattle.nq_name_server.specs.Outside.{changes_as};
-ghost use Rattle.nq_name_server.specs.Pages.{IsNext};
 ghost use Rattle.nq_name_server.specs.Served.{leaf_behind};
 ghost use Rattle.nq_names.specs.Taking.{ReadsKept};
 
 use crate::world::NameWorld;
 use nq_base::{FileId, FileRow, Host, Inc};
-use nq_directory::Prefix;
+use nq_directory::{BegunLeaf, Prefix};
 use nq_keeper::{KeepFault, Keeper};
-use nq_name_server::{BegunLeaf, DirChange, MayChange, below, may_change, removed};
+use nq_name_server::{DirChange, MayChange, below, may_change, read_leaf, removed};
 
 /// The most files that a server keeps.
 const MOST_FILES: u32 = 256;
@@ -49,7 +49,7 @@ impl<K: Keeper> NameWorld<K> {
         let mut leaf = BegunLeaf::new(self.alloc, after)?;
         'files: for _file in 0..=MOST_FILES {
             let next = self.next_file(leaf.last())?;
-            if leaf.read(prefix, next) {
+            if read_leaf(&mut leaf, prefix, next) {
                 return Ok(leaf);
             }
         }

@@ -13,9 +13,10 @@ ghost use Rattle.nq_world.specs.Playing.{GoesOn, Plays};
 
 use crate::world::NameWorld;
 use nq_base::{Host, NoMemory};
+use nq_directory::BegunLeaf;
 use nq_directory::listing::{ReadDir, read_read_dir};
 use nq_keeper::{KeepFault, Keeper};
-use nq_name_server::{BegunLeaf, DirChange};
+use nq_name_server::DirChange;
 
 impl<K: Keeper> NameWorld<K> {
     /// The server's side takes in a host's packet that is none of the inner world.

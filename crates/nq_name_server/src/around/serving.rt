@@ -10,9 +10,9 @@ ghost use Rattle.nq_name_server.specs.Serving.{holds_up, puts_off, reads_dir, ti
 
 use crate::around::around::Around;
 use crate::change::DirChange;
-use crate::leaf::BegunLeaf;
 use crate::server::{NUMBERS_END, NameServer};
 use nq_base::{Host, NoMemory, Party, Ticks};
+use nq_directory::BegunLeaf;
 use nq_directory::listing::{DirTag, ReadDir, later_bytes, read_dir_vacated};
 
 impl Around {
@@ -45,8 +45,13 @@ impl Around {
         if !self.may_lease() {
             return Err(NoMemory::Memory);
         }
-        self.server
-            .read_dir(self.alloc, request, &leaf.names, leaf.more, &mut self.due)?;
+        self.server.read_dir(
+            self.alloc,
+            request,
+            leaf.names(),
+            leaf.more(),
+            &mut self.due,
+        )?;
         self.sender = Party::Server;
         Ok(())
     }

@@ -1,8 +1,9 @@
 use Rattle.std.proofs.Common.{◌≡◌, ◌∙◌, Option, Result, Ok, Err, rules, subst, sym}
 use Rattle.nq_base.specs.declared.FileRow.{FileRow}
 use Rattle.nq_keeper.specs.declared.KeepFault.{KeepFault}
-use Rattle.nq_lister.specs.Listing.{IsNext, IsRead}
-use Rattle.nq_lister.specs.declared.pages.BegunPage.{BegunPage}
+use Rattle.nq_directory.specs.Files.{IsNext, IsRead}
+use Rattle.nq_directory.specs.declared.BegunLeaf.{BegunLeaf}
+use Rattle.nq_lister.specs.Listing.{begins_with}
 use Rattle.nq_lister.proofs.Keeping.{failed_as, read_as, reads_behind}
 use Rattle.nq_serving.specs.Extending.{ReadsOnly}
 use Rattle.nq_lister.proofs.answering.read_page.Goals as goal
@@ -14,19 +15,19 @@ returns-in_err-next-clause-reads g c =
     let is : c.from_residual-in_err-next.result ≡ Err why = search rules in
     let one : ReadsOnly {A = Option FileRow} g.K.Keeper.content g.K.Keeper.faults g.K.Keeper.follows g.K.Keeper.leaves (Err why) c.files.server c.next_file.new.self =
     record { untouched = said.untouched; reads = said.reads; same = said.follows; left = said.leaves } in
-    let other : ReadsOnly {A = BegunPage} g.K.Keeper.content g.K.Keeper.faults g.K.Keeper.follows g.K.Keeper.leaves (Err why) c.files.server c.next_file.new.self =
-    failed_as g.K.Keeper.content g.K.Keeper.faults g.K.Keeper.follows g.K.Keeper.leaves (Option FileRow) BegunPage why c.files.server c.next_file.new.self one in
-    let all : ReadsOnly {A = BegunPage} g.K.Keeper.content g.K.Keeper.faults g.K.Keeper.follows g.K.Keeper.leaves (Err why) c.args.server.now c.next_file.new.self =
+    let other : ReadsOnly {A = BegunLeaf} g.K.Keeper.content g.K.Keeper.faults g.K.Keeper.follows g.K.Keeper.leaves (Err why) c.files.server c.next_file.new.self =
+    failed_as g.K.Keeper.content g.K.Keeper.faults g.K.Keeper.follows g.K.Keeper.leaves (Option FileRow) BegunLeaf why c.files.server c.next_file.new.self one in
+    let all : ReadsOnly {A = BegunLeaf} g.K.Keeper.content g.K.Keeper.faults g.K.Keeper.follows g.K.Keeper.leaves (Err why) c.args.server.now c.next_file.new.self =
     reads_behind g.K.Keeper.content g.K.Keeper.faults g.K.Keeper.follows g.K.Keeper.leaves tt (Err why) c.args.server.now c.files.server c.next_file.new.self g.met.K.Keeper.follows_on g.met.K.Keeper.parts
     c.files.invariant.still other in
-    subst (λ (r : Result BegunPage KeepFault). ReadsOnly g.K.Keeper.content g.K.Keeper.faults g.K.Keeper.follows g.K.Keeper.leaves r c.args.server.now c.next_file.new.self) (sym is) all
+    subst (λ (r : Result BegunLeaf KeepFault). ReadsOnly g.K.Keeper.content g.K.Keeper.faults g.K.Keeper.follows g.K.Keeper.leaves r c.args.server.now c.next_file.new.self) (sym is) all
 
-pub returns-then-read-clause-reads : goal.returns-then-read-clause-reads
-returns-then-read-clause-reads g c =
+pub returns-then-read_on-clause-reads : goal.returns-then-read_on-clause-reads
+returns-then-read_on-clause-reads g c =
     let said = c.in_ok-next.ensures in
     let one : ReadsOnly {A = Option FileRow} g.K.Keeper.content g.K.Keeper.faults g.K.Keeper.follows g.K.Keeper.leaves (Ok c.in_ok-next.next) c.files.server c.next_file.new.self =
     record { untouched = said.untouched; reads = said.reads; same = said.follows; left = said.leaves } in
-    read_as g.K.Keeper.content g.K.Keeper.faults g.K.Keeper.follows g.K.Keeper.leaves c.in_ok-next.next c.read.new.self c.args.server.now c.next_file.new.self
+    read_as g.K.Keeper.content g.K.Keeper.faults g.K.Keeper.follows g.K.Keeper.leaves c.in_ok-next.next c.read_on.new.page c.args.server.now c.next_file.new.self
     (reads_behind g.K.Keeper.content g.K.Keeper.faults g.K.Keeper.follows g.K.Keeper.leaves tt (Ok c.in_ok-next.next) c.args.server.now c.files.server c.next_file.new.self g.met.K.Keeper.follows_on
     g.met.K.Keeper.parts c.files.invariant.still one)
 
@@ -43,6 +44,6 @@ files-preserved g c =
       far = λ kept is.
           let within = g.met.K.Keeper.within c.args.server.now.keeper kept is in
           let next = subst (λ a. IsNext kept a c.in_ok-next.next) c.last.ensures (said.told kept (inv.still.reads.0 ∙ is)) in
-          subst (λ b. IsRead b kept.files c.args.request.now.prefix c.args.request.now.after c.read.new.self) c.if-read.false
-          (c.read.ensures kept c.args.request.now.after within next (inv.far kept is));
+          subst (λ b. IsRead b kept.files (begins_with c.args.request.now.prefix) c.args.request.now.after c.read_on.new.page) c.if-read_on.false
+          (c.read_on.ensures kept c.args.request.now.after within next (inv.far kept is));
     }

@@ -1,7 +1,7 @@
 use Rattle.std.proofs.Common.{◌≡◌, ◌-◌, ◌==◌, ◌∙◌, false, subst, sym, true}
 use Rattle.nq_model.proofs.Finding.{is-other, same-number}
 use Rattle.nq_name_server.proofs.Files.{removes-none, removes-other, removes-own}
-use Rattle.nq_name_server.specs.Pages.{IsNext}
+use Rattle.nq_directory.specs.Files.{IsNext}
 use Rattle.nq_name_server.proofs.change.removed.Goals as goal
 
 pub returns-in_default : goal.returns-in_default

@@ -1,5 +1,6 @@
 use Rattle.std.proofs.Common.{◌∙◌, ap, subst, sym}
-use Rattle.nq_name_server.specs.Pages.{IsNext, changed_by}
+use Rattle.nq_directory.specs.Files.{IsNext}
+use Rattle.nq_name_server.specs.Changing.{changed_by}
 use Rattle.nq_names.proofs.world.NameWorld.changes.Goals as goal
 
 pub returns-in-Nothing-clause-told : goal.returns-in-Nothing-clause-told

@@ -1,5 +1,6 @@
 use Rattle.std.specs.Option.{ForSome}
-use Rattle.nq_name_server.specs.Pages.{IsUpTo}
+use Rattle.nq_directory.specs.Files.{IsUpTo}
+use Rattle.nq_name_server.specs.Served.{is_in}
 use Rattle.nq_names.proofs.Keeping.{StillReads}
 use Rattle.nq_names.proofs.world.NameWorld.leaf.Given as goal
 
@@ -7,5 +8,5 @@ use Rattle.nq_names.proofs.world.NameWorld.leaf.Given as goal
 abbrev pub invariant-files : goal.invariant-files
 invariant-files g l = record {
   still : StillReads g.K.Keeper.content g.K.Keeper.faults g.K.Keeper.follows l.fn.self l.self;
-  far : ForSome (g.K.Keeper.content l.fn.self.inner.server.keeper) (λ kept. IsUpTo kept.files l.prefix l.fn.after l.leaf);
+  far : ForSome (g.K.Keeper.content l.fn.self.inner.server.keeper) (λ kept. IsUpTo kept.files (is_in l.prefix) l.fn.after l.leaf);
 }
