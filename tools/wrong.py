@@ -10,7 +10,7 @@
 It takes the libraries that `rt ci` left in crates/*/out, so run that before. Edits of a crate that touch different functions are tried together,
 in a check of these functions; one that is still proved there is tried alone, and then in a check of the whole crate. For each edit it says
 at which function and clauses the prover stopped, and `elsewhere` where these are other ones than wrong.edits says.
-It ends with status 1 where an edit is still proved, could not be tried, or was refused elsewhere.
+It ends with status 1 where an edit is still proved, could not be tried, was refused elsewhere, or only since a proof names what it took away.
 """
 
 import argparse
@@ -219,9 +219,10 @@ def verdict_of(edit, said):
     goals, _ = stopped_at(edit, said)
     if goals is None:
         return "STILL PROVED", False
-    told = f" at {function_of(edit)}: {', '.join(goals)}" if goals else f" at {function_of(edit)}, where its proof names what is gone"
+    if not goals:
+        return f"refused at {function_of(edit)} only since its proof names what is gone", False
     place = place_told(edit, goals)
-    return f"refused{', ' + place if place else ''}{told}", not place
+    return f"refused{', ' + place if place else ''} at {function_of(edit)}: {', '.join(goals)}", not place
 
 
 def try_in_crate(over, edit):
