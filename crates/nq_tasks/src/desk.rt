@@ -1,9 +1,9 @@
 //! The asks that a host has taken out and not answered yet.
 
-ghost use Rattle.std.specs.Option.{ForSome};
 ghost use Rattle.std.specs.Prelude.{◌≡◌, ◌++◌, Option, Some, None, is_none, is_some, option_map};
-ghost use Rattle.nq_tasks.specs.Desk.{Desks, closed, resumed, set_aside, somebodys, told_of, unanswered, waiter_of};
-ghost use Rattle.nq_tasks.specs.Work.{Answers, Asked, IsOf};
+ghost use Rattle.nq_asks.specs.declared.lines.AnswerKind.{AnswerKind};
+ghost use Rattle.nq_tasks.specs.Desk.{Desks, Moves, asker_of, closed, place_of, resumed, set_aside, somebodys, told_of, unanswered, waiter_of};
+ghost use Rattle.nq_tasks.specs.Work.{Answers, Ends, IsOf, TakesAnswer, Works};
 ghost use Rattle.nq_tasks.specs.declared.work.AskReply.{AskReply};
 ghost use Rattle.nq_tasks.specs.declared.work.Came.{Came};
 
@@ -28,7 +28,7 @@ struct Ender {
 }
 
 /// What a host has to do: the work for one ask, or for none; what was put aside for it; the ask that is next; and the one that wants it to end.
-/// Contracts see whose they are, and the numbers of the asks.
+/// Contracts see whose they are, the numbers of the asks, and what is done.
 /// Where its answer comes an ask leaves the desk; that none is begun over another one, whoever uses it has to see to.
 #[derive(Drop)]
 pub struct Desk {
@@ -55,7 +55,7 @@ impl Model for Desk {
 
 /// An ask is answered once: behind its answer it is no more among those that were taken out and are not answered yet, and all others are.
 pub fn asks_are_answered_once()
-    ensures { (desk : Desks) (asked : Asked) (reply : AskReply) → desk.work ≡ Some asked → IsOf asked reply
+    ensures { (desk : Desks) (work : Works) (reply : AskReply) → desk.work ≡ Some work → IsOf work.asked reply
         → unanswered desk ≡ somebodys (Some (told_of (reply.place, reply.number))) ++ unanswered (closed (Came.Over reply) desk) }
 {}
 
@@ -102,7 +102,9 @@ impl Desk {
     }
 
     /// The place of whoever is next; that of nobody, where nobody is.
-    pub fn next_place(&self) -> usize {
+    pub fn next_place(&self) -> usize
+        ensures { result ≡ place_of self.now.held }
+    {
         match &self.held {
             Some(held) => held.place,
             None => NOBODY,
@@ -110,7 +112,9 @@ impl Desk {
     }
 
     /// The place of whoever asked what was put aside; that of nobody, where nobody did.
-    pub fn aside_place(&self) -> usize {
+    pub fn aside_place(&self) -> usize
+        ensures { result ≡ place_of (asker_of self.now.aside) }
+    {
         match &self.aside {
             Some(work) => work.place(),
             None => NOBODY,
@@ -174,7 +178,7 @@ impl Desk {
 
     /// Puts aside what is at work, if nothing is put aside yet, and begins to store what is delayed of a file.
     pub fn put_aside(&mut self, file: FileId)
-        ensures { self.new ≡ set_aside self.old }
+        ensures { self.new ≡ set_aside file self.old }
     {
         if self.aside.is_none() {
             self.aside = self.work.take();
@@ -182,7 +186,7 @@ impl Desk {
         self.work = Some(Work::sync(self.alloc, file));
     }
 
-    /// Who waits, and the number of the ask: whoever asked what is at work, or else is next.
+    /// Who waits, and the number of the ask, where something is at work: whoever asked it or, where nobody did, is next.
     pub fn waiter(&self) -> Option<(usize, u32)>
         ensures { option_map told_of result ≡ waiter_of self.now }
     {
@@ -198,9 +202,7 @@ impl Desk {
 
     /// Hands the answer to its call to what is at work. Where that is over, nothing is at work.
     pub fn take_answer(&mut self, answer: &Answer) -> Came
-        ensures own { ForSome self.old.work (λ asked. Answers asked result) }
-        ensures none { self.old.work ≡ None → result ≡ Came.On }
-        ensures next { self.new ≡ closed result self.old }
+        ensures { Moves (TakesAnswer answer.now result) result self.old.work self.old self.new }
     {
         let came = match &mut self.work {
             Some(work) => work.take_answer(answer),
@@ -211,9 +213,7 @@ impl Desk {
 
     /// Hands a datagram to what is at work, which may be the page of its list. Where that is over, nothing is at work.
     pub fn take_page(&mut self, who: Who, datagram: &[u8]) -> Came
-        ensures own { ForSome self.old.work (λ asked. Answers asked result) }
-        ensures none { self.old.work ≡ None → result ≡ Came.On }
-        ensures next { self.new ≡ closed result self.old }
+        ensures { Moves (λ old new. (new ≡ old) × Answers old.asked result) result self.old.work self.old self.new }
     {
         let came = match &mut self.work {
             Some(work) => work.take_page(who, datagram),
@@ -224,9 +224,7 @@ impl Desk {
 
     /// What is at work is over, since memory was wanting.
     pub fn lack(&mut self) -> Came
-        ensures own { ForSome self.old.work (λ asked. Answers asked result) }
-        ensures none { self.old.work ≡ None → result ≡ Came.On }
-        ensures next { self.new ≡ closed result self.old }
+        ensures { Moves (λ old new. (new ≡ old) × Ends old.asked AnswerKind.Refused result) result self.old.work self.old self.new }
     {
         let came = match &self.work {
             Some(work) => work.lacks(),

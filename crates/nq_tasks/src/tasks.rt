@@ -1,5 +1,8 @@
 //! What is done for an ask: a call, a whole file, a list of names, or tidying up.
 
+ghost use Rattle.std.specs.Prelude.{◌≡◌, IfOk, Some};
+ghost use Rattle.nq_tasks.specs.Work.{Steps, asked_by};
+
 use nq_base::{Answer, Call, NoMemory};
 use nq_script::parse_call;
 use nq_script::words::{WordCursor, is};
@@ -56,7 +59,9 @@ impl Task {
     /// # Errors
     ///
     /// Want of memory, and that there is no call.
-    pub fn asks(&self, alloc: Global) -> Result<Call, NoMemory> {
+    pub fn asks(&self, alloc: Global) -> Result<Call, NoMemory>
+        ensures { IfOk result (λ call. asked_by self.now ≡ Some call) }
+    {
         match self {
             Task::Call(call) => call.copied(alloc),
             Task::Store(storing) => storing.asks(alloc),
@@ -67,7 +72,9 @@ impl Task {
     }
 
     /// Hands the answer to what is done.
-    pub fn take_answer(&mut self, answer: &Answer) -> Stepped {
+    pub fn take_answer(&mut self, answer: &Answer) -> Stepped
+        ensures { Steps result answer.now self.old self.new }
+    {
         match self {
             Task::Call(_) => Stepped::Called,
             Task::Store(storing) => Stepped::Stored(storing.take_answer(answer)),

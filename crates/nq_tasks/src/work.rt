@@ -1,8 +1,14 @@
 //! What a host does for one ask, call by call.
 
-ghost use Rattle.std.specs.Prelude.{◌≡◌, ◌≤◌, ◌↔◌, IfSome, IsSome, length};
-ghost use Rattle.nq_tasks.specs.Work.{Answers, nobodys};
+ghost use Rattle.std.specs.Prelude.{◌≡◌, ◌≤◌, ◌↔◌, IfOk, IfSome, IsSome, Some, length};
+ghost use Rattle.nq_asks.specs.declared.lines.AnswerKind.{AnswerKind};
+ghost use Rattle.nq_tasks.specs.Work.{Answers, ComesOfGetting, ComesOfStoring, ComesOfTidying};
+ghost use Rattle.nq_tasks.specs.Work.{Ends, GoesOrRefuses, TakesAnswer, asked_by, kind_by, nobodys, syncs};
+ghost use Rattle.nq_tasks.specs.declared.tasks.Task.{Task};
+ghost use Rattle.nq_tasks.specs.declared.work.Came.{Came};
 ghost use Rattle.nq_whole.specs.Heads.{most_bytes};
+ghost use Rattle.nq_whole.specs.declared.storing.StoringStep.{StoringStep};
+ghost use Rattle.nq_whole.specs.declared.tidying.Rest.{Rest};
 
 use crate::asks::{Ask, Made};
 use crate::listing::{Listed, Listing};
@@ -56,7 +62,7 @@ pub struct AskReply {
     pub is_removal: bool,
 }
 
-/// An ask at work. Contracts see who asked, and the number of the ask.
+/// An ask at work. Contracts see who asked, the number of the ask, and what is done call by call.
 #[derive(Drop)]
 pub struct Work {
     alloc: Global,
@@ -71,11 +77,11 @@ pub struct Work {
 }
 
 impl Model for Work {
-    ghost use Rattle.nq_tasks.specs.Work.{Asked};
+    ghost use Rattle.nq_tasks.specs.Work.{Works};
 
-    ghost Value = { Asked };
+    ghost Value = { Works };
 
-    ghost view = { λ w. record { place = w.place; number = w.number } };
+    ghost view = { λ w. record { asked = record { place = w.place; number = w.number }; task = w.task } };
 }
 
 /// The request of this number for the next page of a list, where that is due at this time.
@@ -107,7 +113,7 @@ fn listing_of(alloc: Global, text: &[u8]) -> Option<Listing> {
 impl Work {
     /// The work of a task.
     fn of(alloc: Global, place: usize, number: u32, task: Task) -> Work
-        ensures { result ≡ record { place = place; number = number } }
+        ensures { result ≡ record { asked = record { place = place; number = number }; task = task } }
     {
         Work {
             alloc,
@@ -123,7 +129,7 @@ impl Work {
 
     /// The work for an ask that stores no file; None where it names none.
     pub fn new(alloc: Global, place: usize, ask: &Ask) -> Option<Work>
-        ensures { IfSome result (λ work. work ≡ record { place = place; number = ask.now.number }) }
+        ensures { IfSome result (λ work. work.asked ≡ record { place = place; number = ask.now.number }) }
     {
         if let Some(listing) = listing_of(alloc, &ask.text) {
             return Some(Work::list(alloc, place, ask.number, listing));
@@ -134,7 +140,7 @@ impl Work {
 
     /// The work of a list.
     fn list(alloc: Global, place: usize, number: u32, listing: Listing) -> Work
-        ensures { result ≡ record { place = place; number = number } }
+        ensures { result ≡ record { asked = record { place = place; number = number }; task = Task.List } }
     {
         let mut work = Work::of(alloc, place, number, Task::List);
         work.listing = Some(listing);
@@ -143,7 +149,9 @@ impl Work {
 
     /// The work of storing the bytes of an ask, of which there are not too many.
     pub fn store(alloc: Global, place: usize, ask: Ask, made: Made) -> Option<Work>
-        ensures asked { IfSome result (λ work. work ≡ record { place = place; number = ask.number }) }
+        ensures asked { IfSome result (λ work. work.asked ≡ record { place = place; number = ask.number }) }
+        ensures begins { IfSome result (λ work.
+            work.task ≡ Task.Store (record { name = made.name; own = made.own; bytes = ask.body.items; step = StoringStep.Making })) }
         ensures fits { IsSome result ↔ (length ask.body.items ≤ most_bytes) }
     {
         let Ask {
@@ -162,7 +170,7 @@ impl Work {
 
     /// The work of tidying up behind a store, which nobody asked for.
     pub fn tidy(alloc: Global, made: Made) -> Work
-        ensures { result ≡ nobodys }
+        ensures { result ≡ record { asked = nobodys; task = Task.Tidy (record { own = made.own; name = made.name; rest = Rest.Owning }) } }
     {
         let tidying = Tidying::new(made.own, made.name);
         let mut work = Work::of(alloc, NOBODY, 0, Task::Tidy(tidying));
@@ -172,21 +180,21 @@ impl Work {
 
     /// The work of storing what is delayed of a file, which nobody asked for.
     pub fn sync(alloc: Global, file: FileId) -> Work
-        ensures { result ≡ nobodys }
+        ensures { result ≡ syncs file }
     {
         Work::of(alloc, NOBODY, 0, Task::Call(Call::Sync { file }))
     }
 
     /// Who asked; `NOBODY` where nobody did.
     pub fn place(&self) -> usize
-        ensures { result ≡ self.now.place }
+        ensures { result ≡ self.now.asked.place }
     {
         self.place
     }
 
     /// The number of the ask.
     pub fn number(&self) -> u32
-        ensures { result ≡ self.now.number }
+        ensures { result ≡ self.now.asked.number }
     {
         self.number
     }
@@ -196,7 +204,9 @@ impl Work {
     /// # Errors
     ///
     /// Want of memory, and that there is no call.
-    pub fn asks(&self) -> Result<Call, NoMemory> {
+    pub fn asks(&self) -> Result<Call, NoMemory>
+        ensures { IfOk result (λ call. asked_by self.now.task ≡ Some call) }
+    {
         self.task.asks(self.alloc)
     }
 
@@ -226,8 +236,8 @@ impl Work {
 
     /// Takes a datagram, which may be the page of its list that was asked for.
     pub fn take_page(&mut self, who: Who, datagram: &[u8]) -> Came
-        ensures same { self.new ≡ self.old }
-        ensures own { Answers self.old result }
+        ensures same { self.new.asked ≡ self.old.asked }
+        ensures own { Answers self.old.asked result }
     {
         let listed = match &mut self.listing {
             Some(listing) => listing.take_page(self.alloc, who, datagram),
@@ -259,7 +269,7 @@ impl Work {
 
     /// It is over, with this answer and no bytes.
     fn ends(&self, kind: AnswerKind, text: Vec<u8>) -> Came
-        ensures { Answers self.now result }
+        ensures { Ends self.now.asked kind result }
     {
         Came::Over(AskReply {
             place: self.place,
@@ -290,29 +300,28 @@ impl Work {
 
     /// It is over, with these words.
     fn says(&self, kind: AnswerKind, words: &[u8]) -> Came
-        ensures { Answers self.now result }
+        ensures { Ends self.now.asked kind result }
     {
         self.ends(kind, self.words(words))
     }
 
     /// It is over since memory was wanting.
     pub fn lacks(&self) -> Came
-        ensures { Answers self.now result }
+        ensures { Ends self.now.asked AnswerKind.Refused result }
     {
         self.says(AnswerKind::Refused, NO_MEMORY)
     }
 
     /// It is over, with an answer in words.
     fn tells(&self, kind: AnswerKind, answer: &Answer) -> Came
-        ensures { Answers self.now result }
+        ensures { Ends self.now.asked kind result }
     {
         self.ends(kind, self.text(answer))
     }
 
     /// Takes the answer to the call.
     pub fn take_answer(&mut self, answer: &Answer) -> Came
-        ensures same { self.new ≡ self.old }
-        ensures own { Answers self.old result }
+        ensures { TakesAnswer answer.now result self.old self.new }
     {
         match self.task.take_answer(answer) {
             Stepped::Called => self.answered(answer),
@@ -325,7 +334,7 @@ impl Work {
 
     /// A call has its answer.
     fn answered(&self, answer: &Answer) -> Came
-        ensures { Answers self.now result }
+        ensures { Ends self.now.asked (kind_by answer.now) result }
     {
         match answer {
             Answer::Ok(_) => self.tells(AnswerKind::Done, answer),
@@ -335,7 +344,7 @@ impl Work {
 
     /// What tidying says.
     fn tidied(&self, told: TidyingSays) -> Came
-        ensures { Answers self.now result }
+        ensures { ComesOfTidying told result }
     {
         match told {
             TidyingSays::Goes => Came::On,
@@ -359,7 +368,7 @@ impl Work {
     /// What storing says.
     fn stored(&mut self, said: StoringSays, answer: &Answer) -> Came
         ensures same { self.new ≡ self.old }
-        ensures own { Answers self.old result }
+        ensures comes { ComesOfStoring self.old.asked said result }
     {
         match said {
             StoringSays::Goes => Came::On,
@@ -379,7 +388,7 @@ impl Work {
     /// It is over, for the reason that is known, or else with this answer.
     fn refuses(&mut self, answer: &Answer) -> Came
         ensures same { self.new ≡ self.old }
-        ensures own { Answers self.old result }
+        ensures own { Ends self.old.asked AnswerKind.Refused result }
     {
         if self.why.is_empty() {
             return self.tells(AnswerKind::Refused, answer);
@@ -390,8 +399,9 @@ impl Work {
 
     /// What getting says.
     fn got(&mut self, got: GettingSays, answer: &Answer) -> Came
-        ensures same { self.new ≡ self.old }
-        ensures own { Answers self.old result }
+        ensures same { self.new.asked ≡ self.old.asked }
+        ensures goes { result ≡ Came.On → self.new ≡ self.old }
+        ensures comes { ComesOfGetting self.old.asked got result }
     {
         match got {
             GettingSays::Goes => Came::On,
@@ -406,7 +416,7 @@ impl Work {
     /// Getting has begun anew.
     fn begins_anew(&mut self) -> Came
         ensures same { self.new ≡ self.old }
-        ensures own { Answers self.old result }
+        ensures own { GoesOrRefuses self.old.asked result }
     {
         self.anew = self.anew.saturating_add(1);
         if self.anew > MOST_ANEW {
@@ -418,7 +428,7 @@ impl Work {
 
     /// The bytes that it got. No call is made behind it.
     fn take_bytes(&mut self) -> Vec<u8>
-        ensures { self.new ≡ self.old }
+        ensures { self.new.asked ≡ self.old.asked }
     {
         let nothing = Task::Call(Call::Sync { file: FileId(0) });
         mem::replace(&mut self.task, nothing).into_bytes(self.alloc)
@@ -426,8 +436,8 @@ impl Work {
 
     /// All bytes are there. No call is made behind it.
     fn gives(&mut self) -> Came
-        ensures same { self.new ≡ self.old }
-        ensures own { Answers self.old result }
+        ensures same { self.new.asked ≡ self.old.asked }
+        ensures own { Ends self.old.asked AnswerKind.Bytes result }
     {
         let bytes = match &mut self.listing {
             Some(listing) => listing.take_lines(self.alloc),
