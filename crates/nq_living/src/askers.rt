@@ -1,6 +1,6 @@
 //! Those who ask a host.
 
-ghost use Rattle.std.specs.Prelude.{List, Option, Some};
+ghost use Rattle.std.specs.Prelude.{ℕ, List, Option, Some, option_map};
 ghost use Rattle.nq_base.specs.declared.Answer.{Answer};
 ghost use Rattle.nq_base.specs.declared.Call.{Call};
 ghost use Rattle.nq_base.specs.declared.Entry.{Entry};
@@ -26,6 +26,9 @@ pub trait Askers {
 
     /// Whether the second is the first one after it was told that a step of the client made these entries.
     ghost notes: { Self → List Entry → Self → Type 0 };
+
+    /// Whether the second is the first one after it has taken what came of a list, if anything did, and wants this request sent, if any.
+    ghost pages: { Self → Option (List ℕ) → Self → Type 0 };
 
     /// Whether the second is the first one after it did something else.
     ghost stirs: { Self → Self → Type 0 };
@@ -53,7 +56,7 @@ pub trait Askers {
 
     /// Takes the page of a list that came, if any, and tells which one is asked for next.
     fn turn_page(&mut self, now: u64, page: Option<Vec<u8>>) -> Paged
-        ensures { stirs self.old self.new };
+        ensures { pages self.old (option_map (λ request. request.items) result.request) self.new };
 
     /// Whether somebody wants the host to end.
     fn wants_end(&self) -> bool;

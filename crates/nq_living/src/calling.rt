@@ -3,7 +3,7 @@
 ghost use Rattle.std.specs.Prelude.{◌≡◌, Option, Some, true};
 ghost use Rattle.nq_clock.specs.Clocks.{clock_told};
 ghost use Rattle.nq_link.specs.Links.{link_told};
-ghost use Rattle.nq_living.specs.Living.{Hands, Lived, Makes, final, is_ready, life};
+ghost use Rattle.nq_living.specs.Living.{Hands, Lived, Makes, final, is_ready, life, over_by};
 
 use crate::askers::Askers;
 use crate::host::{Host, first_delayed, is_ready};
@@ -25,7 +25,7 @@ pub(crate) fn call_on<L: Line, C: Clock, A: Askers>(
     clock: &mut C,
     askers: &mut A,
 ) -> bool
-    ensures { Lived A.gives A.takes A.notes A.stirs
+    ensures { Lived A.gives A.takes A.notes A.pages A.stirs
         (life host.old (clock_told C.floor C.readings C.reads clock.old) (link_told L.sent L.waiting L.faults L.receives link.old) askers.old)
         (life host.new (clock_told C.floor C.readings C.reads clock.new) (link_told L.sent L.waiting L.faults L.receives link.new) askers.new) }
 {
@@ -49,7 +49,7 @@ fn call_next<L: Line, C: Clock, A: Askers>(
     askers: &mut A,
 ) -> bool
     requires { is_ready host.old.client.client ≡ true }
-    ensures { Lived A.gives A.takes A.notes A.stirs
+    ensures { Lived A.gives A.takes A.notes A.pages A.stirs
         (life host.old (clock_told C.floor C.readings C.reads clock.old) (link_told L.sent L.waiting L.faults L.receives link.old) askers.old)
         (life host.new (clock_told C.floor C.readings C.reads clock.new) (link_told L.sent L.waiting L.faults L.receives link.new) askers.new) }
 {
@@ -91,7 +91,9 @@ pub(crate) fn make<L: Line, C: Clock, A: Askers>(
 }
 
 /// Why no more can be asked behind this answer, if that is so.
-fn why_over(answer: &Answer) -> Option<Fault> {
+fn why_over(answer: &Answer) -> Option<Fault>
+    ensures { result ≡ over_by answer.now }
+{
     match answer {
         Answer::Memory => Some(Fault::Memory),
         Answer::Spent => Some(Fault::Spent),

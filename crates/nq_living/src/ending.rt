@@ -25,7 +25,7 @@ pub(crate) fn end_on<L: Line, C: Clock, A: Askers>(
     clock: &mut C,
     askers: &mut A,
 ) -> bool
-    ensures { Lived A.gives A.takes A.notes A.stirs
+    ensures { Lived A.gives A.takes A.notes A.pages A.stirs
         (life host.old (clock_told C.floor C.readings C.reads clock.old) (link_told L.sent L.waiting L.faults L.receives link.old) askers.old)
         (life host.new (clock_told C.floor C.readings C.reads clock.new) (link_told L.sent L.waiting L.faults L.receives link.new) askers.new) }
 {
@@ -44,7 +44,7 @@ fn store_all<L: Line, C: Clock, A: Askers>(
     clock: &mut C,
     askers: &mut A,
 )
-    ensures { Lived A.gives A.takes A.notes A.stirs
+    ensures { Lived A.gives A.takes A.notes A.pages A.stirs
         (life host.old (clock_told C.floor C.readings C.reads clock.old) (link_told L.sent L.waiting L.faults L.receives link.old) askers.old)
         (life host.new (clock_told C.floor C.readings C.reads clock.new) (link_told L.sent L.waiting L.faults L.receives link.new) askers.new) }
 {
@@ -66,7 +66,7 @@ fn store_on<L: Line, C: Clock, A: Askers>(
     clock: &mut C,
     askers: &mut A,
 )
-    ensures { Lived A.gives A.takes A.notes A.stirs
+    ensures { Lived A.gives A.takes A.notes A.pages A.stirs
         (life host.old (clock_told C.floor C.readings C.reads clock.old) (link_told L.sent L.waiting L.faults L.receives link.old) askers.old)
         (life host.new (clock_told C.floor C.readings C.reads clock.new) (link_told L.sent L.waiting L.faults L.receives link.new) askers.new) }
 {
@@ -84,7 +84,7 @@ fn store_now<L: Line, C: Clock, A: Askers>(
     askers: &mut A,
 )
     requires { is_ready host.old.client.client ≡ true }
-    ensures { Lived A.gives A.takes A.notes A.stirs
+    ensures { Lived A.gives A.takes A.notes A.pages A.stirs
         (life host.old (clock_told C.floor C.readings C.reads clock.old) (link_told L.sent L.waiting L.faults L.receives link.old) askers.old)
         (life host.new (clock_told C.floor C.readings C.reads clock.new) (link_told L.sent L.waiting L.faults L.receives link.new) askers.new) }
 {

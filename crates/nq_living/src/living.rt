@@ -1,9 +1,10 @@
 //! A host that lives, round by round.
 
-ghost use Rattle.std.specs.Prelude.{ℕ, List, Option};
+ghost use Rattle.std.specs.Option.{ForSome};
+ghost use Rattle.std.specs.Prelude.{option_map};
 ghost use Rattle.nq_clock.specs.Clocks.{clock_told};
 ghost use Rattle.nq_link.specs.Links.{link_told};
-ghost use Rattle.nq_living.specs.Living.{Lived, Posts, PostsOne, TurnsPage, life};
+ghost use Rattle.nq_living.specs.Living.{EndsFor, Lived, Posts, PostsOne, TurnsPage, life};
 
 use crate::askers::Askers;
 use crate::calling::call_on;
@@ -32,6 +33,7 @@ pub enum End {
 /// Lives for so many rounds, or until it is told to end, or no more can be asked. In each round it takes in what came from the server, hears
 /// those who ask, and makes their calls. Its client, its clock, its link and those who ask are then as after the steps of a fold: turns, and
 /// calls behind a turn that has read the clock, each made once where no other call was under way; each answer goes to those who gave the call.
+/// Where it ends as halted, `halt` says why: what the last turn or call found wanting.
 pub fn live<L: Line, C: Clock, A: Askers>(
     alloc: Global,
     host: &mut Host,
@@ -40,9 +42,10 @@ pub fn live<L: Line, C: Clock, A: Askers>(
     askers: &mut A,
     rounds: u64,
 ) -> End
-    ensures { Lived A.gives A.takes A.notes A.stirs
+    ensures lives { Lived A.gives A.takes A.notes A.pages A.stirs
         (life host.old (clock_told C.floor C.readings C.reads clock.old) (link_told L.sent L.waiting L.faults L.receives link.old) askers.old)
         (life host.new (clock_told C.floor C.readings C.reads clock.new) (link_told L.sent L.waiting L.faults L.receives link.new) askers.new) }
+    ensures why { EndsFor result host.new.halt }
 {
     let mut is_busy = false;
     for _round in 0..rounds {
@@ -62,9 +65,10 @@ fn live_on<L: Line, C: Clock, A: Askers>(
     askers: &mut A,
     is_busy: &mut bool,
 ) -> Option<End>
-    ensures { Lived A.gives A.takes A.notes A.stirs
+    ensures lives { Lived A.gives A.takes A.notes A.pages A.stirs
         (life host.old (clock_told C.floor C.readings C.reads clock.old) (link_told L.sent L.waiting L.faults L.receives link.old) askers.old)
         (life host.new (clock_told C.floor C.readings C.reads clock.new) (link_told L.sent L.waiting L.faults L.receives link.new) askers.new) }
+    ensures why { ForSome result (λ end. EndsFor end host.new.halt) }
 {
     if !askers.wait(*is_busy) {
         return Some(End::Deaf);
@@ -88,7 +92,7 @@ fn round<L: Line, C: Clock, A: Askers>(
     clock: &mut C,
     askers: &mut A,
 ) -> bool
-    ensures { Lived A.gives A.takes A.notes A.stirs
+    ensures { Lived A.gives A.takes A.notes A.pages A.stirs
         (life host.old (clock_told C.floor C.readings C.reads clock.old) (link_told L.sent L.waiting L.faults L.receives link.old) askers.old)
         (life host.new (clock_told C.floor C.readings C.reads clock.new) (link_told L.sent L.waiting L.faults L.receives link.new) askers.new) }
 {
@@ -106,7 +110,7 @@ fn any(heard: bool, called: bool, over: bool, wet: bool) -> bool {
 
 /// Hands over the page of a list that came, and sends the request for the next one that is due. Whether something is over.
 fn turn_page<L: Line, A: Askers>(host: &Host, link: &mut L, askers: &mut A) -> bool
-    ensures { TurnsPage A.stirs (link_told L.sent L.waiting L.faults L.receives link.old) (link_told L.sent L.waiting L.faults L.receives link.new)
+    ensures { TurnsPage A.pages (link_told L.sent L.waiting L.faults L.receives link.old) (link_told L.sent L.waiting L.faults L.receives link.new)
         askers.old askers.new }
 {
     let page = link.take_page();
@@ -117,7 +121,7 @@ fn turn_page<L: Line, A: Askers>(host: &Host, link: &mut L, askers: &mut A) -> b
 
 /// Sends a request for a page to the server, if there is one.
 fn post<L: Line>(link: &mut L, request: &Option<Vec<u8>>)
-    ensures { (request : Option (List ℕ)) × Posts request (link_told L.sent L.waiting L.faults L.receives link.old)
+    ensures { Posts (option_map (λ request. request.items) request.now) (link_told L.sent L.waiting L.faults L.receives link.old)
         (link_told L.sent L.waiting L.faults L.receives link.new) }
 {
     match request {

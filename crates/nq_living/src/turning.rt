@@ -3,7 +3,7 @@
 ghost use Rattle.std.specs.Prelude.{◌≡◌, Option};
 ghost use Rattle.nq_clock.specs.Clocks.{clock_told};
 ghost use Rattle.nq_link.specs.Links.{link_told};
-ghost use Rattle.nq_living.specs.Living.{Hands, Lived, brought, life};
+ghost use Rattle.nq_living.specs.Living.{Hands, Lived, brought, life, stopped_by};
 
 use crate::askers::Askers;
 use crate::host::Host;
@@ -25,7 +25,7 @@ pub fn hear<L: Line, C: Clock, A: Askers>(
     clock: &mut C,
     askers: &mut A,
 )
-    ensures { Lived A.gives A.takes A.notes A.stirs
+    ensures { Lived A.gives A.takes A.notes A.pages A.stirs
         (life host.old (clock_told C.floor C.readings C.reads clock.old) (link_told L.sent L.waiting L.faults L.receives link.old) askers.old)
         (life host.new (clock_told C.floor C.readings C.reads clock.new) (link_told L.sent L.waiting L.faults L.receives link.new) askers.new) }
 {
@@ -45,7 +45,7 @@ fn turn<L: Line, C: Clock, A: Askers>(
     clock: &mut C,
     askers: &mut A,
 )
-    ensures { Lived A.gives A.takes A.notes A.stirs
+    ensures { Lived A.gives A.takes A.notes A.pages A.stirs
         (life host.old (clock_told C.floor C.readings C.reads clock.old) (link_told L.sent L.waiting L.faults L.receives link.old) askers.old)
         (life host.new (clock_told C.floor C.readings C.reads clock.new) (link_told L.sent L.waiting L.faults L.receives link.new) askers.new) }
 {
@@ -65,7 +65,8 @@ fn turn<L: Line, C: Clock, A: Askers>(
 
 /// Hands over the answer that a turn brought. Why no more can be asked, if that is so.
 fn hand<A: Askers>(askers: &mut A, ended: Result<Option<Answer>, Fault>) -> Option<Fault>
-    ensures { Hands A.takes (brought ended) askers.old askers.new }
+    ensures hands { Hands A.takes (brought ended) askers.old askers.new }
+    ensures halts { result ≡ stopped_by ended }
 {
     match ended {
         Ok(Some(answer)) => {

@@ -69,6 +69,8 @@ impl Askers for Hosting {
 
     ghost notes = { λ _ _ _. ⊤ };
 
+    ghost pages = { λ _ _ _. ⊤ };
+
     ghost stirs = { λ _ _. ⊤ };
 
     fn wait(&mut self, is_busy: bool) -> bool {

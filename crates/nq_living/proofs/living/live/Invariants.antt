@@ -7,5 +7,5 @@ abbrev pub invariant-loop-round : goal.invariant-loop-round
 invariant-loop-round g l =
     let clock_of = clock_told g.C.Clock.floor g.C.Clock.readings g.C.Clock.reads in
     let link_of = link_told g.L.Link.sent g.L.Link.waiting g.L.Link.faults g.L.Link.receives in
-    Lived g.A.Askers.gives g.A.Askers.takes g.A.Askers.notes g.A.Askers.stirs (life l.fn.host (clock_of l.fn.clock) (link_of l.fn.link) l.fn.askers)
+    Lived g.A.Askers.gives g.A.Askers.takes g.A.Askers.notes g.A.Askers.pages g.A.Askers.stirs (life l.fn.host (clock_of l.fn.clock) (link_of l.fn.link) l.fn.askers)
     (life l.host (clock_of l.clock) (link_of l.link) l.askers)

@@ -13,8 +13,8 @@ returns g c =
     let tended = record heard { askers = c.tend-has_heard.new.self } in
     let called = (life c.call_on-has_called.new.host (clock_of c.call_on-has_called.new.clock) (link_of c.call_on-has_called.new.link) c.call_on-has_called.new.askers) in
     let page = link_of c.turn_page-is_over.new.link in
-    then g.A.Askers.gives g.A.Askers.takes g.A.Askers.notes g.A.Askers.stirs start called (record called { link = page; askers = c.turn_page-is_over.new.askers })
-    (then g.A.Askers.gives g.A.Askers.takes g.A.Askers.notes g.A.Askers.stirs start tended called
-    (then g.A.Askers.gives g.A.Askers.takes g.A.Askers.notes g.A.Askers.stirs start heard tended c.hear.ensures (stirred_by g.A.Askers.gives g.A.Askers.takes g.A.Askers.notes g.A.Askers.stirs heard c.tend-has_heard.new.self c.tend-has_heard.ensures))
+    then g.A.Askers.gives g.A.Askers.takes g.A.Askers.notes g.A.Askers.pages g.A.Askers.stirs start called (record called { link = page; askers = c.turn_page-is_over.new.askers })
+    (then g.A.Askers.gives g.A.Askers.takes g.A.Askers.notes g.A.Askers.pages g.A.Askers.stirs start tended called
+    (then g.A.Askers.gives g.A.Askers.takes g.A.Askers.notes g.A.Askers.pages g.A.Askers.stirs start heard tended c.hear.ensures (stirred_by g.A.Askers.gives g.A.Askers.takes g.A.Askers.notes g.A.Askers.pages g.A.Askers.stirs heard c.tend-has_heard.new.self c.tend-has_heard.ensures))
     c.call_on-has_called.ensures)
-    (turned_page g.A.Askers.gives g.A.Askers.takes g.A.Askers.notes g.A.Askers.stirs called page c.turn_page-is_over.new.askers c.turn_page-is_over.ensures)
+    (turned_page g.A.Askers.gives g.A.Askers.takes g.A.Askers.notes g.A.Askers.pages g.A.Askers.stirs called page c.turn_page-is_over.new.askers c.turn_page-is_over.ensures)

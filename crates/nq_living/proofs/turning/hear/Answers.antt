@@ -8,7 +8,7 @@ pub returns-then-is_some : goal.returns-then-is_some
 returns-then-is_some g c =
     let clock_of = clock_told g.C.Clock.floor g.C.Clock.readings g.C.Clock.reads in
     let link_of = link_told g.L.Link.sent g.L.Link.waiting g.L.Link.faults g.L.Link.receives in
-    then g.A.Askers.gives g.A.Askers.takes g.A.Askers.notes g.A.Askers.stirs (life c.args.host.now (clock_of c.args.clock.now) (link_of c.args.link.now) c.args.askers.now)
+    then g.A.Askers.gives g.A.Askers.takes g.A.Askers.notes g.A.Askers.pages g.A.Askers.stirs (life c.args.host.now (clock_of c.args.clock.now) (link_of c.args.link.now) c.args.askers.now)
     (life c.loop-turn.host (clock_of c.loop-turn.clock) (link_of c.loop-turn.link) c.loop-turn.askers)
     (life c.turn.new.host (clock_of c.turn.new.clock) (link_of c.turn.new.link) c.turn.new.askers) c.loop-turn.invariant c.turn.ensures
 
@@ -16,6 +16,6 @@ pub loop-turn-preserved : goal.loop-turn-preserved
 loop-turn-preserved g c =
     let clock_of = clock_told g.C.Clock.floor g.C.Clock.readings g.C.Clock.reads in
     let link_of = link_told g.L.Link.sent g.L.Link.waiting g.L.Link.faults g.L.Link.receives in
-    then g.A.Askers.gives g.A.Askers.takes g.A.Askers.notes g.A.Askers.stirs (life c.args.host.now (clock_of c.args.clock.now) (link_of c.args.link.now) c.args.askers.now)
+    then g.A.Askers.gives g.A.Askers.takes g.A.Askers.notes g.A.Askers.pages g.A.Askers.stirs (life c.args.host.now (clock_of c.args.clock.now) (link_of c.args.link.now) c.args.askers.now)
     (life c.loop-turn.host (clock_of c.loop-turn.clock) (link_of c.loop-turn.link) c.loop-turn.askers)
     (life c.turn.new.host (clock_of c.turn.new.clock) (link_of c.turn.new.link) c.turn.new.askers) c.loop-turn.invariant c.turn.ensures
