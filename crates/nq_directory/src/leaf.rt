@@ -1,7 +1,8 @@
 //! Pages of names without a lease, which are read file by file.
 
-ghost use Rattle.std.specs.Prelude.{◌≡◌, ℕ, Bool, List, IfOk, IfSome};
+ghost use Rattle.std.specs.Prelude.{◌≡◌, ◌≤◌, ℕ, Bool, List, IfOk, IfSome, length};
 ghost use Rattle.nq_directory.specs.Files.{ReadsOn, nothing_read};
+ghost use Rattle.nq_directory.specs.Messages.{most_names};
 
 use crate::listing::MOST_NAMES;
 use crate::names::FileName;
@@ -48,9 +49,10 @@ impl BegunLeaf {
         })
     }
 
-    /// The names that were read.
+    /// The names that were read, which are no more than a page has.
     pub fn names(&self) -> &[FileName]
-        ensures { result.now ≡ self.now.leaf.names }
+        ensures names { result.now ≡ self.now.leaf.names }
+        ensures few { length result.now ≤ most_names }
     {
         &self.names
     }
