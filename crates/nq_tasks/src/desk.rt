@@ -213,7 +213,7 @@ impl Desk {
 
     /// Hands a datagram to what is at work, which may be the page of its list. Where that is over, nothing is at work.
     pub fn take_page(&mut self, who: Who, datagram: &[u8]) -> Came
-        ensures { Moves (λ old new. (new ≡ old) × Answers old.asked result) result self.old.work self.old self.new }
+        ensures { Moves (λ old new. (new.asked ≡ old.asked) × Answers old.asked result) result self.old.work self.old self.new }
     {
         let came = match &mut self.work {
             Some(work) => work.take_page(who, datagram),
