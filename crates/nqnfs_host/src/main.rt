@@ -232,40 +232,80 @@ fn live(
     diary: Diary,
     door: UnixListener,
 ) -> Ending {
-    let (number, inc) = (who.host.0, who.inc.0);
-    let Some(ledger) = Ledger::open(rt, folder) else {
-        let _told = eprintln!(rt; "nqnfs_host: the file {folder}/made cannot be read");
-        return Ending::KeepFault;
-    };
     let mut link = link;
-    let Ok(door) = Door::open(rt, &mut link, door) else {
-        return told(rt, Ending::LinkFault, "its sockets cannot be waited for");
+    let (host, inc) = (who.host, who.inc);
+    match hosting_of(rt, folder, who, &mut link, diary, door) {
+        Ok(mut hosting) => live_with(rt, folder, Who { host, inc }, &mut link, &mut hosting),
+        Err(ending) => ending,
+    }
+}
+
+/// What a host works with, or how the program ends without it, which was said.
+fn hosting_of(
+    rt: &HostRuntime,
+    folder: &str,
+    who: Who,
+    link: &mut HostLink,
+    diary: Diary,
+    door: UnixListener,
+) -> Result<Hosting, Ending> {
+    let ledger = ledger_of(rt, folder)?;
+    let notes = notes_of(rt, diary)?;
+    let Ok(door) = Door::open(rt, link, door) else {
+        return Err(told(rt, Ending::LinkFault, "its sockets cannot be waited for"));
     };
+    match rt.clone() {
+        Ok(asked) => Ok(Hosting::new(asked, who, door, notes, ledger)),
+        Err(_) => Err(told_memory(rt)),
+    }
+}
+
+/// The ledger of a host, or how the program ends without it, which was said.
+fn ledger_of(rt: &HostRuntime, folder: &str) -> Result<Ledger, Ending> {
+    match Ledger::open(rt, folder) {
+        Some(ledger) => Ok(ledger),
+        None => {
+            let _told = eprintln!(rt; "nqnfs_host: the file {folder}/made cannot be read");
+            Err(Ending::KeepFault)
+        }
+    }
+}
+
+/// What notes turns in a diary, or how the program ends without it, which was said.
+fn notes_of(rt: &HostRuntime, diary: Diary) -> Result<Notes, Ending> {
+    match rt.clone() {
+        Ok(noting) => Ok(Notes::new(noting, diary)),
+        Err(_) => Err(told_memory(rt)),
+    }
+}
+
+/// Begins, works until it is told to end, and gives the leases back.
+fn live_with(
+    rt: &HostRuntime,
+    folder: &str,
+    who: Who,
+    link: &mut HostLink,
+    hosting: &mut Hosting,
+) -> Ending {
     let Ok(watch) = rt.clone() else {
         return told_memory(rt);
     };
-    let Ok(noting) = rt.clone() else {
-        return told_memory(rt);
-    };
-    let Ok(asked) = rt.clone() else {
-        return told_memory(rt);
-    };
-    let notes = Notes::new(noting, diary);
-    let mut hosting = Hosting::new(asked, who, door, notes, ledger);
     let mut clock = StdClock::new(watch);
-    let who = Who {
-        host: Host(number),
-        inc: Inc(inc),
-    };
-    match begin(rt.alloc(), who, &mut link, &mut clock, &mut hosting) {
+    match begin(rt.alloc(), who, link, &mut clock, hosting) {
         Some(client) => {
-            let _told = println!(rt;
-                "nqnfs_host 1: host {number}, incarnation {inc}, asked at {folder}/asks"
-            );
-            attend(rt, folder, client, &mut link, &mut clock, &mut hosting)
+            tell_begun(rt, folder, client.who());
+            attend(rt, folder, client, link, &mut clock, hosting)
         }
         None => told_memory(rt),
     }
+}
+
+/// Tells that a host has begun, and where it is asked.
+fn tell_begun(rt: &HostRuntime, folder: &str, who: Who) {
+    let (number, inc) = (who.host.0, who.inc.0);
+    let _told = println!(rt;
+        "nqnfs_host 1: host {number}, incarnation {inc}, asked at {folder}/asks"
+    );
 }
 
 /// Works, and gives the leases back in the end.

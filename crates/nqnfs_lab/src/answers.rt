@@ -56,17 +56,16 @@ impl Made {
 
     /// Adds how a schedule was bent.
     pub(crate) fn bent(&mut self, bent: Bent) -> Result<(), AllocError> {
-        let Bent {
-            text,
-            origins,
-            left,
-            ..
-        } = bent;
-        let origin = origins_of(self.alloc, &origins)?;
+        self.origins(&bent)?;
+        self.text("schedule", bent.text)
+    }
+
+    /// Adds where the events of a bent schedule come from, and which were left out.
+    fn origins(&mut self, bent: &Bent) -> Result<(), AllocError> {
+        let origin = origins_of(self.alloc, &bent.origins)?;
         self.value("origin", origin)?;
-        let left = left_of(self.alloc, &left)?;
-        self.value("left_out", left)?;
-        self.text("schedule", text)
+        let left = left_of(self.alloc, &bent.left)?;
+        self.value("left_out", left)
     }
 
     /// Adds that no schedule was bent.

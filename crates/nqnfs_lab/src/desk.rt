@@ -56,24 +56,32 @@ impl<'a> Desk<'a> {
 
     /// Whether a request names this machine and port as its host and, if it has one, as its origin.
     fn is_own(&self, request: &Request<Bytes>) -> Result<bool, AllocError> {
-        let alloc = self.rt.alloc();
-        let port = self.port;
-        let number = format!(in alloc; "127.0.0.1:{port}")?;
-        let name = format!(in alloc; "localhost:{port}")?;
         let headers = request.headers();
         let is_host = match headers.get(HOST) {
-            Some(host) => host.as_bytes() == number.as_bytes()
-                || host.as_bytes() == name.as_bytes(),
+            Some(host) => self.is_here(host.as_bytes())?,
             None => false,
         };
         let is_origin = match headers.get(ORIGIN) {
-            Some(origin) => match origin.as_bytes().strip_prefix(b"http://") {
-                Some(host) => host == number.as_bytes() || host == name.as_bytes(),
-                None => false,
-            },
+            Some(origin) => self.is_from_here(origin.as_bytes())?,
             None => true,
         };
         Ok(is_host && is_origin && request.uri().host().is_none())
+    }
+
+    /// Whether an origin is this machine and port.
+    fn is_from_here(&self, origin: &[u8]) -> Result<bool, AllocError> {
+        match origin.strip_prefix(b"http://") {
+            Some(host) => self.is_here(host),
+            None => Ok(false),
+        }
+    }
+
+    /// Whether a host is this machine and port.
+    fn is_here(&self, host: &[u8]) -> Result<bool, AllocError> {
+        let port = self.port;
+        let number = format!(in self.rt.alloc(); "127.0.0.1:{port}")?;
+        let name = format!(in self.rt.alloc(); "localhost:{port}")?;
+        Ok(host == number.as_bytes() || host == name.as_bytes())
     }
 
     /// A file of the page.

@@ -36,43 +36,50 @@ pub(crate) fn serve_all(
     listener.set_nonblocking(true)?;
     let mut peers = Vec::new(rt.alloc());
     for _ in 0..u64::MAX {
-        let mut is_quiet = true;
-        if let Some(peer) = accepted(rt, listener)? {
-            if peers.len() < MOST_PEERS && peers.push(peer).is_ok() {
-                is_quiet = false;
-            }
-        }
-        for peer in peers.iter_mut() {
-            if take_turn(peer, desk) {
-                is_quiet = false;
-            }
-        }
-        peers.retain(|peer: &Peer| !peer.is_over);
-        if is_quiet {
+        let has_come = take_in(rt, listener, &mut peers)?;
+        let has_moved = take_turns(&mut peers, desk);
+        if !has_come && !has_moved {
             thread::sleep(rt, Duration::from_millis(1));
         }
     }
     Ok(())
 }
 
-/// The next peer, if one waits.
-fn accepted(rt: &HostRuntime, listener: &TcpListener) -> io::Result<Option<Peer>> {
+/// Takes in the next peer, if one waits and there is a place; whether it did.
+fn take_in(rt: &HostRuntime, listener: &TcpListener, peers: &mut Vec<Peer>) -> io::Result<bool> {
     match listener.accept() {
         Ok((stream, _address)) => {
-            if stream.set_nonblocking(true).is_err() {
-                return Ok(None);
+            if peers.len() >= MOST_PEERS || stream.set_nonblocking(true).is_err() {
+                return Ok(false);
             }
             let connection = Connection::new(rt.alloc(), RandomState::new(rt)?, Config::default());
-            Ok(Some(Peer {
-                stream,
-                connection,
-                quiet: 0,
-                is_over: false,
-            }))
+            Ok(add(peers, stream, connection))
         }
         Err(error) if error.kind() == ErrorKind::OutOfMemory => Err(error),
-        Err(_) => Ok(None),
+        Err(_) => Ok(false),
     }
+}
+
+/// Adds a peer; whether there was memory for it.
+fn add(peers: &mut Vec<Peer>, stream: TcpStream, connection: Connection) -> bool {
+    let peer = Peer {
+        stream,
+        connection,
+        quiet: 0,
+        is_over: false,
+    };
+    peers.push(peer).is_ok()
+}
+
+/// Serves each peer once, and lets those go that are over; whether something moved.
+fn take_turns(peers: &mut Vec<Peer>, desk: &mut Desk<'_>) -> bool {
+    let mut has_moved = false;
+    for peer in peers.iter_mut() {
+        let here = take_turn(peer, desk);
+        has_moved = here || has_moved;
+    }
+    peers.retain(|peer: &Peer| !peer.is_over);
+    has_moved
 }
 
 /// Reads from a peer, answers and writes, once each; whether something moved.

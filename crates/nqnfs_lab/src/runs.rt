@@ -132,13 +132,11 @@ pub(crate) fn bend_text(
 {
     let alloc = watch.alloc();
     let (end, printed) = replayed(alloc, text)?;
-    let script = match (end, parse(alloc, text)) {
-        (Ending::Done, Ok(script)) => script,
-        (Ending::Done, Err(_)) => return Err(Untold::Memory),
-        _ => return Ok(Bending::Faulty(ToldRun::without_journal(alloc, end, printed))),
+    let Ending::Done = end else {
+        return Ok(Bending::Faulty(ToldRun::without_journal(alloc, end, printed)));
     };
     watch.check()?;
-    let bent = bend(alloc, &script, bends, then, watch)?;
+    let bent = bent_of(watch, text, bends, then)?;
     if bent.text.len() > MOST_BYTES {
         return Err(Untold::Time);
     }
@@ -147,18 +145,34 @@ pub(crate) fn bend_text(
     Ok(Bending::Bent { bent, told })
 }
 
+/// A schedule as it bends.
+fn bent_of(watch: &mut Watch<'_>, text: &[u8], bends: &[Bend], then: Then) -> Result<Bent, Untold>
+    requires { length text.now < 2 ^ 31 }
+{
+    let alloc = watch.alloc();
+    match parse(alloc, text) {
+        Ok(script) => Ok(bend(alloc, &script, bends, then, watch)?),
+        Err(_) => Err(Untold::Memory),
+    }
+}
+
 /// How the replay of a schedule ends, and what it prints.
 fn replayed(alloc: Global, text: &[u8]) -> Result<(Ending, Vec<u8>), NoMemory> {
-    let mut source = MemSource::new(text.to_vec(alloc)?, Vec::new(alloc));
     let mut sink = MemSink::new(alloc, MOST_BYTES, Vec::new(alloc))?;
-    let end = match read_script(alloc, &mut source, &mut sink, MOST_BYTES) {
+    let end = replay_into(alloc, text, &mut sink)?;
+    Ok((end, sink.bytes().to_vec(alloc)?))
+}
+
+/// Replays a schedule; how that ends.
+fn replay_into(alloc: Global, text: &[u8], sink: &mut MemSink) -> Result<Ending, NoMemory> {
+    let mut source = MemSource::new(text.to_vec(alloc)?, Vec::new(alloc));
+    match read_script(alloc, &mut source, sink, MOST_BYTES) {
         Ok(script) => {
             let keeper = ListKeeper::new(alloc, Vec::new(alloc))?;
-            replay(alloc, keeper, &script, &mut sink).end
+            Ok(replay(alloc, keeper, &script, sink).end)
         }
-        Err(end) => end,
-    };
-    Ok((end, sink.bytes().to_vec(alloc)?))
+        Err(end) => Ok(end),
+    }
 }
 
 /// What is said of a journal.

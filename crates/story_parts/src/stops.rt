@@ -161,24 +161,31 @@ impl Bench {
 
     /// Opens images of what a stop at a call may leave.
     fn stop_at(&self, rt: &HostRuntime, noted: &NotingDisk, call: usize, tally: &mut Tally) {
-        let alloc = rt.alloc();
         let Some(moment) = noted.moments.get(call) else {
             return;
         };
-        let mut image = copy_of(alloc, &self.first);
+        let mut image = copy_of(rt.alloc(), &self.first);
         if self.values == 0 {
             let came = noted.writes.get(..moment.before).unwrap_or(&[]);
             write_whole(&mut image, came, ALL);
-            tally.count(&kept_of(alloc, &in_file(rt, &image, &[])));
-            return;
+            tally.count(&kept_of(rt.alloc(), &in_file(rt, &image, &[])));
+        } else {
+            let settled = noted.writes.get(..moment.settled).unwrap_or(&[]);
+            write_whole(&mut image, settled, ALL);
+            let open = noted.writes.get(moment.settled..moment.with_it);
+            self.stop_within(rt.alloc(), &image, open.unwrap_or(&[]), call, tally);
         }
-        let Moment {
-            settled,
-            with_it,
-            ..
-        } = *moment;
-        write_whole(&mut image, noted.writes.get(..settled).unwrap_or(&[]), ALL);
-        let open = noted.writes.get(settled..with_it).unwrap_or(&[]);
+    }
+
+    /// Opens images to which sets of these writes came, whole or torn.
+    fn stop_within(
+        &self,
+        alloc: Global,
+        image: &[u8],
+        open: &[Write],
+        call: usize,
+        tally: &mut Tally,
+    ) {
         let (sets, torn) = match open {
             [] => (1, 0),
             [only] if only.bytes.len() == 1 => (2, self.values),
@@ -186,18 +193,48 @@ impl Bench {
             _ => (2, MANY),
         };
         for set in 0..sets {
-            let mut image = copy_of(alloc, &image);
             // The last set has all writes.
-            write_whole(&mut image, open, if set + 1 == sets { ALL } else { set });
-            tally.count(&kept_in(alloc, &image));
+            count_whole(
+                alloc,
+                image,
+                open,
+                if set + 1 == sets { ALL } else { set },
+                tally,
+            );
         }
         let mut random = (call & 0xffff_ffff) as u32;
         for number in 0..torn {
-            let mut image = copy_of(alloc, &image);
-            write_torn(&mut image, open, &mut random, (number & 0xff) as u8);
-            tally.count(&kept_in(alloc, &image));
+            count_torn(
+                alloc,
+                image,
+                open,
+                &mut random,
+                (number & 0xff) as u8,
+                tally,
+            );
         }
     }
+}
+
+/// Counts for what an image stands to which these of the writes came whole.
+fn count_whole(alloc: Global, image: &[u8], open: &[Write], came: usize, tally: &mut Tally) {
+    let mut image = copy_of(alloc, image);
+    write_whole(&mut image, open, came);
+    tally.count(&kept_in(alloc, &image));
+}
+
+/// Counts for what an image stands to which the writes came torn.
+fn count_torn(
+    alloc: Global,
+    image: &[u8],
+    open: &[Write],
+    random: &mut u32,
+    byte: u8,
+    tally: &mut Tally,
+) {
+    let mut image = copy_of(alloc, image);
+    write_torn(&mut image, open, random, byte);
+    tally.count(&kept_in(alloc, &image));
 }
 
 /// For what an image stands.

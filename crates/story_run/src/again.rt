@@ -24,24 +24,34 @@ const MOST_BYTES: usize = 4_194_304;
 /// Prints whether a schedule, behind which its journal and counts stand, gives that journal again, and then the counts, but for packets
 /// and losses.
 pub(crate) fn tell_again(rt: &HostRuntime, text: &str) -> Option<()> {
-    let alloc = rt.alloc();
     let (schedule, behind) = text.split_once(END)?;
     let (journal, counts) = behind.split_once(END)?;
-    let schedule = ended(alloc, schedule)?;
-    let journal = ended(alloc, journal)?;
-    let stepped = stepped(alloc, &schedule)?;
-    let replayed = replayed(alloc, schedule)?;
-    println!(rt; "replayed {}", word(replayed.bytes() == journal.as_slice())).ok()?;
-    println!(rt; "stepped {}", word(stepped.bytes() == journal.as_slice())).ok()?;
+    let schedule = ended(rt.alloc(), schedule)?;
+    let journal = ended(rt.alloc(), journal)?;
+    tell_runs(rt, schedule, &journal)?;
+    tell_counts(rt, counts)
+}
+
+/// Prints whether a schedule gives this journal, by the command and event by event.
+fn tell_runs(rt: &HostRuntime, schedule: Vec<u8>, journal: &[u8]) -> Option<()> {
+    let stepped = stepped(rt.alloc(), &schedule)?;
+    let replayed = replayed(rt.alloc(), schedule)?;
+    tell_same(rt, "replayed", replayed.bytes() == journal)?;
+    tell_same(rt, "stepped", stepped.bytes() == journal)
+}
+
+/// Prints whether what was done gave the same.
+fn tell_same(rt: &HostRuntime, deed: &str, is_same: bool) -> Option<()> {
+    let what = if is_same { "the same" } else { "another" };
+    println!(rt; "{deed} {what}").ok()
+}
+
+/// Prints counts, but for packets and losses.
+fn tell_counts(rt: &HostRuntime, counts: &str) -> Option<()> {
     let (first, _rest) = counts
         .split_once(" packets ")
         .unwrap_or((counts.trim(), ""));
     println!(rt; "{first}").ok()
-}
-
-/// Whether two things are one, in words.
-fn word(same: bool) -> &'static str {
-    if same { "the same" } else { "another" }
 }
 
 /// A text with its end.

@@ -68,7 +68,6 @@ pub(crate) fn play_all(rt: &HostRuntime) -> Ending {
 /// Plays a scene over a disk on which these bytes were left, if it goes on with them, and prints what comes of it. Gives the bytes that it
 /// leaves, or None where something was not printed.
 fn tell(rt: &HostRuntime, line: &str, left: Vec<u8>) -> Option<Vec<u8>> {
-    let alloc = rt.alloc();
     let (told, input) = line.split_once(": ").unwrap_or((line, ""));
     println!(rt; "- {told}").ok()?;
     let (scene, said) = told.split_once(' ').unwrap_or((told, ""));
@@ -76,13 +75,30 @@ fn tell(rt: &HostRuntime, line: &str, left: Vec<u8>) -> Option<Vec<u8>> {
         tell_watched(rt, scene, said)?;
         return Some(left);
     }
+    tell_played(rt, scene, said, input, left)
+}
+
+/// Plays a scene in which words are said, and prints what comes of it. Gives the bytes that it leaves on the disk.
+fn tell_played(
+    rt: &HostRuntime,
+    scene: &str,
+    said: &str,
+    input: &str,
+    left: Vec<u8>,
+) -> Option<Vec<u8>> {
+    let alloc = rt.alloc();
     let words = words_of(alloc, said);
     let mut source = MemSource::new(text_of(alloc, input), failing(alloc, scene, "unread"));
     let mut out = MemSink::new(alloc, MOST_PRINTED, failing(alloc, scene, "unput")).ok()?;
     let played = play(alloc, scene, &words, &mut source, &mut out, left).ok()?;
     tell_printed(rt, scene, out.bytes(), played.sent)?;
-    println!(rt; "status {}", played.ended.end).ok()?;
+    tell_status(rt, played.ended.end)?;
     played.ended.left.bytes().to_vec(alloc).ok()
+}
+
+/// Prints the status with which a scene ended.
+fn tell_status(rt: &HostRuntime, status: u8) -> Option<()> {
+    println!(rt; "status {status}").ok()
 }
 
 /// Prints what a scene printed, or what is told in its place.

@@ -87,8 +87,19 @@ fn tell_survey(rt: &HostRuntime, survey: &Survey) {
 /// Takes so many turns of a server over an image that is made for it, and prints what somebody is told who looks on, and whether all
 /// turns were taken.
 pub(crate) fn tell_watched(rt: &HostRuntime, scene: &str, turns: &str) -> Option<()> {
-    let alloc = rt.alloc();
     let turns = u32::from_str_radix(turns, 10).unwrap_or(0);
+    let all = serve_watched(rt, scene, turns)?;
+    let end = if all {
+        "all turns were taken"
+    } else {
+        "the server stopped"
+    };
+    println!(rt; "{end}").ok()
+}
+
+/// Takes so many turns of a server while somebody looks on; whether all were taken.
+fn serve_watched(rt: &HostRuntime, scene: &str, turns: u32) -> Option<bool> {
+    let alloc = rt.alloc();
     let post = Rc::new(alloc, RefCell::new(post_of(alloc, scene).ok()?)).ok()?;
     let mut link = CountedLink::new(PostLink::new(post, Party::Server, false).refusing());
     let mut onlooker = Onlooker {
@@ -105,17 +116,8 @@ pub(crate) fn tell_watched(rt: &HostRuntime, scene: &str, turns: &str) -> Option
         &mut StoryClock::to(LAST),
         &mut onlooker,
     );
-    let all = match served {
-        Ok(ran) => ran.end.is_ok(),
-        Err(_) => false,
-    };
-    println!(rt;
-        "{}",
-        if all {
-            "all turns were taken"
-        } else {
-            "the server stopped"
-        }
-    )
-    .ok()
+    match served {
+        Ok(ran) => Some(ran.end.is_ok()),
+        Err(_) => Some(false),
+    }
 }

@@ -82,36 +82,47 @@ struct Desk {
     is_well: bool,
 }
 
+/// What is asked again and again.
+#[derive(Drop)]
+struct Question {
+    datagram: Vec<u8>,
+    is_push: bool,
+    is_write: bool,
+}
+
+impl Question {
+    fn of(alloc: Global, ask: &str) -> Option<Question> {
+        let is_push = ask == "push";
+        Some(Question {
+            datagram: asked(alloc, ask)?,
+            is_push,
+            is_write: is_push || ask == "write",
+        })
+    }
+
+    /// Makes it the one of another time: a write has a sequence of its own, and a push rests on the one before.
+    fn renew(&mut self, time: u32) {
+        if self.is_write {
+            let sequence = time.wrapping_add(1000).to_be_bytes();
+            write_over(&mut self.datagram, SEQUENCE, &sequence);
+        }
+        if self.is_push {
+            write_over(&mut self.datagram, BASE, &time.to_be_bytes());
+        }
+    }
+}
+
 /// Asks one thing so many times; None where there is no such word, memory is wanting, or the server does not answer OK.
 pub(crate) fn often(alloc: Global, ask: &str, way: &str, times: u32) -> Option<u64> {
-    let mut datagram = asked(alloc, ask)?;
+    let mut question = Question::of(alloc, ask)?;
     let (files, rows) = cut(way, '-');
-    let is_push = ask == "push";
-    let is_write = is_push || ask == "write";
     let mut desk = Desk::new(alloc)?;
     desk.fill(
         number_of(files),
         number_of(rows),
-        if is_push { 2 } else { 1 },
+        if question.is_push { 2 } else { 1 },
     );
-    let mut sum: u64 = 0;
-    for time in 0..times {
-        if time % REQUESTS == 0 {
-            desk.log = Journal::new(alloc).unwrap();
-        }
-        if is_write {
-            write_over(
-                &mut datagram,
-                SEQUENCE,
-                &time.wrapping_add(1000).to_be_bytes(),
-            );
-        }
-        if is_push {
-            write_over(&mut datagram, BASE, &time.to_be_bytes());
-        }
-        sum = sum.wrapping_add(desk.take_in(0, &datagram));
-    }
-    if desk.is_well { Some(sum) } else { None }
+    desk.answer(&mut question, times)
 }
 
 impl Desk {
@@ -150,6 +161,19 @@ impl Desk {
     fn ask(&mut self, host: u32, procedure: u32, arguments: &[u32]) {
         let datagram = call_of(self.alloc, procedure, arguments);
         self.take_in(host, &datagram);
+    }
+
+    /// How many bytes it answers in all; None where one answer does not say OK.
+    fn answer(&mut self, question: &mut Question, times: u32) -> Option<u64> {
+        let mut sum: u64 = 0;
+        for time in 0..times {
+            if time % REQUESTS == 0 {
+                self.log = Journal::new(self.alloc).unwrap();
+            }
+            question.renew(time);
+            sum = sum.wrapping_add(self.take_in(0, &question.datagram));
+        }
+        if self.is_well { Some(sum) } else { None }
     }
 
     /// How many bytes the server answers that say OK.
