@@ -1,5 +1,5 @@
 -- The arguments of the procedures as bytes: one spelling for each request that has one.
-use Rattle.std.specs.Prelude.{◌≡◌, ℕ, ◌+◌, ◌^◌, ◌<◌, List, [], ◌++◌, length, Option, Some, None, IfSome}
+use Rattle.std.specs.Prelude.{◌≡◌, Bool, true, false, ℕ, ◌+◌, ◌^◌, ◌<◌, List, [], ◌++◌, length, Option, Some, None, IfSome}
 use Rattle.nq_base.specs.Name.{IsName}
 use Rattle.nq_base.specs.declared.PushBase.{PushBase}
 use Rattle.nq_base.specs.declared.Request.{Request}
@@ -40,6 +40,19 @@ arguments (Vacated who file tag) = head who ++ word file ++ tag_bytes tag
 arguments (Evicted who file tag) = head who ++ word file ++ tag_bytes tag
 arguments (Resize who seq call file blocks) = head who ++ hyper seq ++ hyper call ++ word file ++ word blocks
 arguments (Remove who seq call file) = head who ++ hyper seq ++ hyper call ++ word file
+
+-- whether a request reads or writes a block
+abbrev pub is_of_block : Request → Bool
+is_of_block (Read who call file block want) = true
+is_of_block (Write who seq file block first last push body) = true
+is_of_block other = false
+
+-- whether a request makes a file, gives it another length, or takes it away
+abbrev pub is_of_length : Request → Bool
+is_of_length (Create who seq name blocks) = true
+is_of_length (Resize who seq call file blocks) = true
+is_of_length (Remove who seq call file) = true
+is_of_length other = false
 
 -- how many bytes they take
 abbrev pub arguments_len : Request → ℕ

@@ -1,10 +1,10 @@
 //! Writing arguments.
 
-ghost use Rattle.std.specs.Prelude.{◌≡◌, ◌+◌, ◌≤◌, ◌++◌, length, IfSome, IfOk, OnOk, OnErr, IsOk};
+ghost use Rattle.std.specs.Prelude.{◌≡◌, ◌+◌, ◌≤◌, ◌++◌, true, length, IfSome, IfOk, OnOk, OnErr, IsOk};
 ghost use Rattle.nq_xdr.specs.Item.{word, hyper};
 ghost use Rattle.nq_wire.specs.Parts.{head, base_bytes, optional, optional_len, IsWho, IsPushBase};
 ghost use Rattle.nq_wire.specs.Procedure.{number_of};
-ghost use Rattle.nq_wire.specs.Request.{procedure_of, arguments, arguments_len, IsRequest, HasSpelling, IsArguments};
+ghost use Rattle.nq_wire.specs.Request.{procedure_of, arguments, arguments_len, is_of_block, is_of_length, IsRequest, HasSpelling, IsArguments};
 
 use crate::parts::encoding::{
     name_len, put_body, put_name, put_optional_base, put_optional_want, put_tag, put_want, put_who,
@@ -107,17 +107,32 @@ fn put_request(request: &Request, out: &mut Writer)
             put_who(who, out);
             put_name(name, out);
         }
-        Request::Create {
-            who,
-            seq,
-            name,
-            blocks,
-        } => {
-            put_sequence(who, seq.0, out);
-            put_name(name, out);
-            out.put_u32(*blocks);
-        }
         Request::GetAttr { who, file } => put_file(who, file.0, out),
+        Request::GetLease { who, file, want } => {
+            put_file(who, file.0, out);
+            put_want(want, out);
+        }
+        Request::Vacated { who, file, tag } | Request::Evicted { who, file, tag } => {
+            put_file(who, file.0, out);
+            put_tag(tag, out);
+        }
+        Request::Read { .. } | Request::Write { .. } => put_of_block(request, out),
+        Request::Create { .. } | Request::Resize { .. } | Request::Remove { .. } => {
+            put_of_length(request, out)
+        }
+    }
+}
+
+/// Writes the arguments of a request that reads or writes a block. There is room.
+#[tactic(auto, unfolding(crate::specs::Request::arguments))]
+fn put_of_block(request: &Request, out: &mut Writer)
+    requires block { is_of_block request.now ≡ true }
+    requires room { arguments_len request.now ≤ out.old.spare }
+    ensures written { out.new.bytes ≡ out.old.bytes ++ arguments request.now }
+    ensures fits { IsRequest request.now }
+    ensures spare { out.old.spare ≤ out.new.spare + arguments_len request.now }
+{
+    match request {
         Request::Read {
             who,
             call,
@@ -144,13 +159,29 @@ fn put_request(request: &Request, out: &mut Writer)
             put_span(first.0, last.0, push, out);
             put_body(body, out);
         }
-        Request::GetLease { who, file, want } => {
-            put_file(who, file.0, out);
-            put_want(want, out);
-        }
-        Request::Vacated { who, file, tag } | Request::Evicted { who, file, tag } => {
-            put_file(who, file.0, out);
-            put_tag(tag, out);
+        _ => unreachable!(),
+    }
+}
+
+/// Writes the arguments of a request that makes a file, gives it another length, or takes it away. There is room.
+#[tactic(auto, unfolding(crate::specs::Request::arguments))]
+fn put_of_length(request: &Request, out: &mut Writer)
+    requires length { is_of_length request.now ≡ true }
+    requires room { arguments_len request.now ≤ out.old.spare }
+    ensures written { out.new.bytes ≡ out.old.bytes ++ arguments request.now }
+    ensures fits { IsRequest request.now }
+    ensures spare { out.old.spare ≤ out.new.spare + arguments_len request.now }
+{
+    match request {
+        Request::Create {
+            who,
+            seq,
+            name,
+            blocks,
+        } => {
+            put_sequence(who, seq.0, out);
+            put_name(name, out);
+            out.put_u32(*blocks);
         }
         Request::Resize {
             who,
@@ -171,6 +202,7 @@ fn put_request(request: &Request, out: &mut Writer)
             put_of_call(who, seq.0, *call, out);
             out.put_u32(file.0);
         }
+        _ => unreachable!(),
     }
 }
 
