@@ -136,21 +136,29 @@ fn are_stored_or_told(
     all
 }
 
+/// A call that gives a file another length: whose, its number, and the file.
+#[derive(Clone, Copy)]
+struct Resizing<'a> {
+    by: &'a Who,
+    n: u64,
+    on: FileId,
+}
+
 /// Whether an entry is the Z of a call, and each such write is settled before it.
 fn is_settled_resize(
     whole: &[Entry],
     stores: &[Entry],
     answered: &[Entry],
-    by: &Who,
-    n: u64,
-    on: FileId,
+    call: Resizing<'_>,
     entry: &Entry,
 ) -> bool
-    ensures { result ≡ is_settled_resize (reverse whole.now) (reverse answered.now) by.now n on entry.now (reverse stores.now) }
+    ensures { result ≡ is_settled_resize (reverse whole.now) (reverse answered.now) call.entry.by.now call.entry.n call.entry.on entry.now (reverse stores.now) }
 {
     match entry {
         Entry::Z { who, q, .. } => {
-            *by == *who && n == *q && are_stored_or_told(whole, stores, answered, by, on)
+            *call.by == *who
+                && call.n == *q
+                && are_stored_or_told(whole, stores, answered, call.by, call.on)
         }
         _ => false,
     }
@@ -163,7 +171,8 @@ fn is_resize_kept(whole: &[Entry], before: &[Entry], by: &Who, n: u64, on: FileI
 {
     let mut found = false;
     for (place, entry) in before.iter().enumerate() {
-        let here = is_settled_resize(whole, &before[..place], before, by, n, on, entry);
+        let call = Resizing { by, n, on };
+        let here = is_settled_resize(whole, &before[..place], before, call, entry);
         found = here || found;
     }
     found

@@ -93,7 +93,8 @@ pub(crate) fn hear(
     log: &mut Journal,
 ) -> Result<(), Fault>
     requires empty { out.old.datagrams ≡ [] }
-    ensures acts { ActsAt host (λ c. hears_in c number datagram.now) result clients.old.items clients.new.items out.new.datagrams log.old.entries log.new.entries }
+    ensures acts { ActsAt host (λ c. hears_in c number datagram.now) result clients.old.items clients.new.items
+        out.new.datagrams log.old.entries log.new.entries }
     ensures hosts { length clients.new.items ≡ length clients.old.items }
 {
     let place = host.0 as usize;

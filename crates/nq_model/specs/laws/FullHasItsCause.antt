@@ -1,5 +1,5 @@
 -- `dirtyfull` has its cause, in every run.
-use Rattle.std.specs.Prelude.{◌≡◌, ◌≤◌, ℕ, List, Some, slice_get, ⊤}
+use Rattle.std.specs.Prelude.{◌≡◌, ◌≤◌, List, Some, slice_get, ⊤}
 use Rattle.nq_base.specs.declared.Entry.{Entry}
 use Rattle.nq_base.specs.declared.Entry.TheVariants.{A}
 use Rattle.nq_base.specs.declared.Event.{Event}

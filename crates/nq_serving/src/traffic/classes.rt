@@ -3,7 +3,8 @@
 ghost use Rattle.std.specs.Prelude.{◌≡◌, Ok};
 ghost use Rattle.nq_xdr.specs.Lent.{lent_message, lent_outcome};
 ghost use Rattle.nq_xdr.specs.Reading.{word_at};
-ghost use Rattle.nq_serving.specs.Classes.{call_class, class_heard, class_said, heard_as, number_read, outcome_class, results_class, said_as, status_class, status_in};
+ghost use Rattle.nq_serving.specs.Classes.{call_class, class_heard, class_said, heard_as, number_read, outcome_class, results_class};
+ghost use Rattle.nq_serving.specs.Classes.{said_as, status_class, status_in};
 
 use nq_datagrams::PROGRAM;
 use nq_xdr::Reader;
