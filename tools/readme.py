@@ -2,7 +2,7 @@
 """Tries what the pages say: runs their commands in a fresh clone, compares what these print, and follows the links.
 
     readme.py            runs the commands of README.md, docs/ and examples/README.md, but for the slow ones
-    readme.py --slow     runs the slow ones too, those that prove for long
+    readme.py --slow     runs `rt ci` there, and then the slow ones too, which want what it builds; one that serves is stopped after a while
     readme.py --links    follows the links, and runs no command
 
 It always asks `crates.py --check` and `terms.py --check`, whether crates.txt and the modules of the examples are as they have to be.
@@ -17,9 +17,13 @@ import argparse
 import glob
 import os
 import re
+import signal
 import subprocess
 import sys
 import tempfile
+
+# After so many seconds a slow command that goes on is stopped.
+SERVES = 60
 
 TOP = os.path.normpath(os.path.join(os.path.dirname(os.path.abspath(__file__)), ".."))
 BLOCK = re.compile(r"^```([^\n]*)\n(.*?)^```$", re.MULTILINE | re.DOTALL)
@@ -55,13 +59,19 @@ def wrong_links(page):
     return [link for link in links if not os.path.exists(os.path.join(here, link))]
 
 
-def fault_of(command, shown, clone):
-    """What is wrong with a command, or None."""
-    done = subprocess.run(["bash", "-c", command], cwd=clone, capture_output=True, text=True)
-    if done.returncode != 0:
-        return f"ends with status {done.returncode}:\n{done.stderr[-2000:]}"
-    if shown is not None and done.stdout != shown:
-        return f"prints\n{done.stdout}and the page shows\n{shown}"
+def fault_of(command, shown, clone, slow):
+    """What is wrong with a command, or None. A slow one that goes on serves: it has to have printed something."""
+    how = {"cwd": clone, "stdout": subprocess.PIPE, "stderr": subprocess.PIPE, "text": True, "start_new_session": True}
+    with subprocess.Popen(["bash", "-c", command], **how) as run:
+        try:
+            printed, complaint = run.communicate(timeout=SERVES if slow else None)
+        except subprocess.TimeoutExpired:
+            os.killpg(run.pid, signal.SIGKILL)
+            return None if run.communicate()[0] else "prints nothing"
+    if run.returncode != 0:
+        return f"ends with status {run.returncode}:\n{complaint[-2000:]}"
+    if shown is not None and printed != shown:
+        return f"prints\n{printed}and the page shows\n{shown}"
     return None
 
 
@@ -84,13 +94,15 @@ def main():
         with tempfile.TemporaryDirectory() as folder:
             clone = os.path.join(folder, "clone")
             subprocess.run(["git", "clone", "--quiet", TOP, clone], check=True)
+            if said.slow:
+                subprocess.run([".ci/run"], cwd=clone, check=True, stdout=subprocess.DEVNULL)
             for page in pages():
                 for command, slow, shown in commands_of(page):
                     if slow and not said.slow:
                         print(f"{page}: left out, slow: {command.strip()}")
                         continue
                     print(f"{page}: {command.strip()}", flush=True)
-                    fault = fault_of(command, shown, clone)
+                    fault = fault_of(command, shown, clone, slow)
                     if fault is not None:
                         faults.append(f"{page}: {command.strip()}\n{fault}")
     print("\n".join(faults) if faults else "all is as the pages say")
